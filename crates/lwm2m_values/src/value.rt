@@ -1,0 +1,47 @@
+ghost use Rattle.std.specs.Prelude.{◌≡◌, IfOk};
+ghost use Rattle.lwm2m_values.specs.Value.{kind_of};
+
+use crate::kind::ValueKind;
+use crate::text::Text;
+use octets::Bytes;
+use std::alloc::AllocError;
+
+/// A value of a resource or of a resource instance, by its kind.
+#[derive(Clone, Debug, Drop)]
+pub enum Value {
+    /// UTF-8 text.
+    Text(Text),
+    /// An Integer.
+    Whole(i64),
+    /// A Boolean.
+    Flag(bool),
+    /// Bytes.
+    Opaque(Bytes),
+    /// Seconds since 1970-01-01 UTC.
+    Moment(i64),
+    /// An object's number, then an instance's.
+    Link(u16, u16),
+}
+
+impl Value {
+    /// The kind of the value.
+    pub fn kind(&self) -> ValueKind
+        ensures { result ≡ kind_of self.now }
+    {
+        match self {
+            Value::Text(_) => ValueKind::Text,
+            Value::Whole(_) => ValueKind::Whole,
+            Value::Flag(_) => ValueKind::Flag,
+            Value::Opaque(_) => ValueKind::Opaque,
+            Value::Moment(_) => ValueKind::Moment,
+            Value::Link(_, _) => ValueKind::Link,
+        }
+    }
+
+    /// A copy, which equals its source.
+    pub fn copy(&self) -> Result<Value, AllocError>
+        ensures { IfOk result (λ v. v ≡ self.now) }
+    {
+        self.clone()
+    }
+}

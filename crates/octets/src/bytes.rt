@@ -1,0 +1,95 @@
+ghost use Rattle.std.specs.Prelude.{◌≡◌, ◌==◌, ◌↔◌, List, [], length, IfOk, IsTrue};
+
+use std::alloc::{AllocError, Global};
+use std::marker::Model;
+
+/// Bytes that are owned: a token, an option's value, a payload, a datagram.
+///
+/// Contracts see the list of the bytes, and nothing of the memory that holds them.
+#[derive(Clone, Debug, Drop)]
+pub struct Bytes {
+    items: Vec<u8>,
+}
+
+impl Model for Bytes {
+    ghost use Rattle.std.specs.Prelude.{List, ℕ};
+
+    ghost Value = { List ℕ };
+
+    ghost view = { λ b. b.items.items };
+}
+
+impl Bytes {
+    /// No bytes.
+    pub fn new(alloc: Global) -> Bytes
+        ensures { result ≡ [] }
+    {
+        Bytes {
+            items: Vec::new(alloc),
+        }
+    }
+
+    /// A copy of these bytes.
+    pub fn from_slice(alloc: Global, bytes: &[u8]) -> Result<Bytes, AllocError>
+        ensures { IfOk result (λ b. b ≡ bytes.now) }
+    {
+        Ok(Bytes {
+            items: Vec::from_slice(alloc, bytes)?,
+        })
+    }
+
+    /// The bytes of a vector, which keeps its memory.
+    pub fn from_vec(items: Vec<u8>) -> Bytes
+        ensures { result ≡ items.items }
+    {
+        Bytes { items }
+    }
+
+    /// The vector that holds the bytes.
+    pub fn into_vec(self) -> Vec<u8>
+        ensures { result.items ≡ self }
+    {
+        self.items
+    }
+
+    /// The bytes, lent.
+    pub fn as_slice(&self) -> &[u8]
+        ensures { result.now ≡ self.now }
+    {
+        self.items.as_slice()
+    }
+
+    /// How many bytes there are.
+    pub fn len(&self) -> usize
+        ensures { result ≡ length self.now }
+    {
+        self.items.len()
+    }
+
+    /// Whether there is no byte.
+    pub fn is_empty(&self) -> bool
+        ensures { IsTrue result ↔ (length self.now ≡ 0) }
+    {
+        self.items.len() == 0
+    }
+}
+
+impl PartialEq for Bytes {
+    ghost use Rattle.std.specs.Prelude.{◌==◌};
+    ghost use Rattle.std.specs.Cmp.{partial_equiv_from_equiv};
+    ghost use Rattle.std.specs.Cmp.Lexicographic.{pointwise, nat_list_eq_equiv};
+
+    ghost eq = { pointwise ◌==◌ };
+
+    ghost laws = { partial_equiv_from_equiv nat_list_eq_equiv };
+
+    fn eq(&self, other: &Bytes) -> bool {
+        self.as_slice() == other.as_slice()
+    }
+}
+
+impl Eq for Bytes {
+    ghost use Rattle.std.specs.Cmp.Lexicographic.{nat_list_eq_equiv};
+
+    ghost laws = { nat_list_eq_equiv };
+}
