@@ -1,5 +1,12 @@
--- Values: their kinds, and their code, by which a finite map can hold them.
-use Rattle.std.specs.Prelude.{◌≡◌, ℕ, ℤ, List, Bool, ◌⊎◌, refl}
+-- Values: their kinds, which are good, their plain text, and their code, by which a finite map can hold them.
+use Rattle.std.specs.Prelude.{◌≡◌, ℕ, ◌<◌, ◌≤◌, ℤ, pos, List, [], ◌∷◌, ◌++◌, length, Bool, if◌then◌else◌, ◌⊎◌, refl}
+use Rattle.std.specs.Prelude.{neg_ℤ, FitsSigned}
+use Rattle.std.specs.Int.{w64}
+use Rattle.std.specs.Str.{IsUtf8}
+use Rattle.std.specs.Str.Parse.{IsNumeral, digits_value}
+use Rattle.std.specs.Fmt.{decimal, signed_decimal}
+use Rattle.base64.specs.GeneralPurpose.{encode_of, IsBytes}
+use Rattle.base64.specs.Engines.{standard}
 use Rattle.std.proofs.Common.{inl, inr}
 use Rattle.std.specs.Coded.{Coded, code_by, coded×, coded⊎, coded_ℕ, coded_ℤ, coded_bool, coded_list}
 use Rattle.lwm2m_values.specs.declared.value.Value.{Value}
@@ -16,6 +23,50 @@ kind_of (Flag _) = kind.Flag
 kind_of (Opaque _) = kind.Opaque
 kind_of (Moment _) = kind.Moment
 kind_of (Link _ _) = kind.Link
+
+-- a good value: one within the limits of its kind (OMA LwM2M 1.1 Core, data types; the two lengths are this profile's)
+abbrev pub IsGood : Value → Type 0
+IsGood (Text t) = IsUtf8 t × (length t ≤ 255)
+IsGood (Whole z) = FitsSigned w64 z
+IsGood (Flag _) = Unit {0}
+IsGood (Opaque b) = IsBytes b × (length b ≤ 1024)
+IsGood (Moment z) = FitsSigned w64 z
+IsGood (Link o i) = (o < 65536) × (i < 65536)
+
+-- one decimal digit or more, which write this number; the first may be 0
+abbrev pub IsDecimal : ℕ → List ℕ → Type 0
+IsDecimal n t = IsNumeral 10 t × (digits_value 10 t ≡ n)
+
+-- such digits, alone or behind a minus sign
+abbrev pub IsSigned : ℤ → List ℕ → Type 0
+IsSigned z t = ((n : ℕ) × IsDecimal n t × (z ≡ pos n))
+    ⊎ ((n : ℕ) × (digits : List ℕ) × (t ≡ 45 ∷ digits) × IsDecimal n digits × (z ≡ neg_ℤ (pos n)))
+
+-- two numbers with a colon between them
+abbrev pub IsPair : ℕ → ℕ → List ℕ → Type 0
+IsPair o i t = (a : List ℕ) × (b : List ℕ) × (t ≡ a ++ 58 ∷ b) × IsDecimal o a × IsDecimal i b
+
+-- `1` or `0`
+abbrev pub flag_text : Bool → List ℕ
+flag_text b = (if b then 49 else 48) ∷ []
+
+-- this is a plain text of the value (OMA LwM2M 1.1 Core, plain text; base64 by RFC 4648 section 4)
+abbrev pub IsText : Value → List ℕ → Type 0
+IsText (Text bytes) t = t ≡ bytes
+IsText (Whole z) t = IsSigned z t
+IsText (Flag b) t = t ≡ flag_text b
+IsText (Opaque bytes) t = t ≡ encode_of standard bytes
+IsText (Moment z) t = IsSigned z t
+IsText (Link o i) t = IsPair o i t
+
+-- the shortest plain text of the value: no needless sign, no needless zero
+abbrev pub text_of : Value → List ℕ
+text_of (Text bytes) = bytes
+text_of (Whole z) = signed_decimal z
+text_of (Flag b) = flag_text b
+text_of (Opaque bytes) = encode_of standard bytes
+text_of (Moment z) = signed_decimal z
+text_of (Link o i) = decimal o ++ 58 ∷ decimal i
 
 abbrev pub Split : Type 0
 Split = List ℕ ⊎ (ℤ ⊎ (Bool ⊎ (List ℕ ⊎ (ℤ ⊎ (ℕ × ℕ)))))

@@ -1,5 +1,5 @@
-ghost use Rattle.std.specs.Prelude.{◌≡◌, IfOk};
-ghost use Rattle.lwm2m_values.specs.Value.{kind_of};
+ghost use Rattle.std.specs.Prelude.{◌≡◌, ◌↔◌, IfOk, IsTrue};
+ghost use Rattle.lwm2m_values.specs.Value.{kind_of, IsGood};
 
 use crate::kind::ValueKind;
 use crate::text::Text;
@@ -7,7 +7,7 @@ use octets::Bytes;
 use std::alloc::AllocError;
 
 /// A value of a resource or of a resource instance, by its kind.
-#[derive(Clone, Debug, Drop)]
+#[derive(Clone, Debug, Drop, PartialEq, Eq)]
 pub enum Value {
     /// UTF-8 text.
     Text(Text),
@@ -35,6 +35,29 @@ impl Value {
             Value::Opaque(_) => ValueKind::Opaque,
             Value::Moment(_) => ValueKind::Moment,
             Value::Link(_, _) => ValueKind::Link,
+        }
+    }
+
+    /// Whether the value keeps to the lengths of its kind: a Text 255 bytes, an Opaque 1,024.
+    pub fn is_good(&self) -> bool
+        ensures { IsTrue result ↔ IsGood self.now }
+    {
+        match self {
+            Value::Text(text) => text.as_str().len() <= 255,
+            Value::Opaque(bytes) => {
+                let bytes = bytes.as_slice();
+                bytes.len() <= 1024
+            }
+            Value::Whole(number) | Value::Moment(number) => {
+                // A number that is read is known to be in its type's range.
+                let _number = *number;
+                true
+            }
+            Value::Flag(_) => true,
+            Value::Link(object, instance) => {
+                let (_object, _instance) = (*object, *instance);
+                true
+            }
         }
     }
 

@@ -1,0 +1,6 @@
+pub mod OptionLists
+pub mod Amounts
+pub mod Completeness
+pub mod OneReading
+pub mod Decoding
+pub mod Soundness

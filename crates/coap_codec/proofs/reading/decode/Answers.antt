@@ -1,0 +1,11 @@
+use Rattle.coap_codec.proofs.Decoding.{is_only, is_refused, is_reading}
+use Rattle.coap_codec.proofs.reading.decode.Goals as goal
+
+pub returns-clause-only : goal.returns-clause-only
+returns-clause-only c = is_only _ _ c.read.ensures.found c.read.ensures.fault
+
+pub returns-clause-refused : goal.returns-clause-refused
+returns-clause-refused c = is_refused _ _ c.read.ensures.found c.read.ensures.fault
+
+pub returns-clause-reading : goal.returns-clause-reading
+returns-clause-reading c = is_reading _ _ c.read.ensures.found c.read.ensures.fault

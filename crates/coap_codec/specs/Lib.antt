@@ -1,0 +1,4 @@
+pub mod Message
+pub mod Fault
+pub mod Reading
+pub mod Number

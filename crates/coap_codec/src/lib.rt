@@ -1,0 +1,26 @@
+//! CoAP messages and their bytes (RFC 7252 section 3): what a datagram says, the one fault of a
+//! datagram that says nothing, and the bytes of a message.
+#![tactic(auto)]
+
+mod fault;
+mod front;
+mod kind;
+mod laws;
+mod message;
+mod number;
+mod option;
+mod reading;
+mod writing;
+
+pub use fault::CoapFault;
+pub use front::header;
+pub use kind::Kind;
+pub use laws::one_reading;
+pub use message::Message;
+pub use number::{uint, uint_bytes};
+pub use option::{Opt, Options};
+pub use reading::decode;
+pub use writing::encode;
+
+#[cfg(test)]
+mod tests;

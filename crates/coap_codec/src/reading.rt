@@ -1,0 +1,170 @@
+ghost use Rattle.std.specs.Prelude.{◌≡◌, ◌≢◌, ◌≤◌, ◌<◌, ◌+◌, ◌*◌, ◌++◌, ◌∷◌, [], length, drop, IfOk, IfErr, IfSome, IfNone, IsErrAnd, MatchResult, Some, None, Ok, Err};
+ghost use Rattle.coap_codec.specs.Message.{Parts, MayFollow, IsOptionList, Spells, kind_number, two_bytes, nibble_of, extension_of, option_bytes, options_bytes, payload_bytes};
+ghost use Rattle.coap_codec.specs.Fault.{token_length, header_fault, width, amount, option_fault, BreaksOff, HasFault};
+ghost use Rattle.coap_codec.specs.Reading.{reading_of};
+
+use crate::front::kind_of;
+use crate::{CoapFault, Kind, Message, Opt, Options};
+use octets::Bytes;
+use std::alloc::Global;
+
+/// The header of a message, its token, and what stands behind them.
+#[derive(Drop)]
+struct Start<'a> {
+    kind: Kind,
+    code: u8,
+    mid: u16,
+    token: &'a [u8],
+    rest: &'a [u8],
+}
+
+/// The number that a nibble and the bytes behind it stand for, and what stands behind those.
+fn amount_at(nibble: u8, bytes: &[u8]) -> Option<(u32, &[u8])>
+    requires { nibble < 15 }
+    ensures parts { IfSome result (λ x. bytes.now ≡ extension_of x.0 ++ x.1.now) }
+    ensures nibble { IfSome result (λ x. nibble_of x.0 ≡ nibble) }
+    ensures amount { IfSome result (λ x. x.0 ≡ amount nibble bytes.now) }
+    ensures rest { IfSome result (λ x. x.1.now ≡ drop (width nibble) bytes.now) }
+    ensures wide { IfSome result (λ x. width nibble ≤ length bytes.now) }
+    ensures small { IfSome result (λ x. x.0 ≤ 65804) }
+    ensures cut { IfNone result (length bytes.now < width nibble) }
+{
+    if nibble < 13 {
+        return Some((u32::from(nibble), bytes));
+    }
+    if nibble == 13 {
+        let [first, rest @ ..] = bytes else {
+            return None;
+        };
+        return Some((13 + u32::from(*first), rest));
+    }
+    let [first, second, rest @ ..] = bytes else {
+        return None;
+    };
+    Some((269 + 256 * u32::from(*first) + u32::from(*second), rest))
+}
+
+/// The header and the token.
+fn start_of(bytes: &[u8]) -> Result<Start<'_>, CoapFault>
+    ensures sound { IfOk result (λ s. header_fault bytes.now ≡ None) }
+    ensures parts { IfOk result
+        (λ s. bytes.now ≡ ((64 + 16 * kind_number s.kind + length s.token.now) ∷ s.code ∷ two_bytes s.mid) ++ (s.token.now ++ s.rest.now)) }
+    ensures rest { IfOk result (λ s. s.rest.now ≡ drop (4 + token_length bytes.now) bytes.now) }
+    ensures token { IfOk result (λ s. length s.token.now ≤ 8) }
+    ensures empty { IfOk result (λ s. s.code ≡ 0 → (s.token.now ≡ []) × (s.rest.now ≡ [])) }
+    ensures range { IfOk result (λ s. (s.code < 256) × (s.mid < 65536)) }
+    ensures fault { IfErr result (λ f. header_fault bytes.now ≡ Some f) }
+{
+    let [first, code, high, low, rest @ ..] = bytes else {
+        return Err(CoapFault::Short);
+    };
+    let length = usize::from(*first % 16);
+    if *first / 64 != 1 {
+        return Err(CoapFault::Version);
+    }
+    if length > 8 {
+        return Err(CoapFault::TokenLength);
+    }
+    if *code == 0 && (length != 0 || !rest.is_empty()) {
+        return Err(CoapFault::EmptyWithData);
+    }
+    if rest.len() < length {
+        return Err(CoapFault::OptionCut);
+    }
+    let (token, rest) = rest.split_at(length);
+    Ok(Start {
+        kind: kind_of(*first / 16 % 4),
+        code: *code,
+        mid: 256 * u16::from(*high) + u16::from(*low),
+        token,
+        rest,
+    })
+}
+
+/// The option of this first byte, behind one of this number, and what stands behind it.
+fn option_at(alloc: Global, number: u16, first: u8, bytes: &[u8]) -> Result<(Opt, &[u8]), CoapFault>
+    ensures follows { IfOk result (λ x. MayFollow number x.0) }
+    ensures parts { IfOk result (λ x. first ∷ bytes.now ≡ option_bytes number x.0 ++ x.1.now) }
+    ensures fault { IfErr result (λ f. f ≢ CoapFault.Memory → option_fault number first bytes.now ≡ Some f) }
+{
+    let high = first / 16;
+    let low = first % 16;
+    if high == 15 || low == 15 {
+        return Err(CoapFault::OptionReserved);
+    }
+    let Some((delta, rest)) = amount_at(high, bytes) else {
+        return Err(CoapFault::OptionCut);
+    };
+    let number = u32::from(number) + delta;
+    if number > 65535 {
+        return Err(CoapFault::OptionNumber);
+    }
+    let Some((length, rest)) = amount_at(low, rest) else {
+        return Err(CoapFault::OptionCut);
+    };
+    let length = length as usize;
+    if rest.len() < length {
+        return Err(CoapFault::OptionCut);
+    }
+    let (value, rest) = rest.split_at(length);
+    let value = Bytes::from_slice(alloc, value)?;
+    let number = number as u16;
+    Ok((Opt { number, value }, rest))
+}
+
+/// The options, and the payload behind them.
+fn options_at(alloc: Global, bytes: &[u8]) -> Result<(Vec<Opt>, &[u8]), CoapFault>
+    ensures follow { IfOk result (λ x. IsOptionList 0 x.0.items) }
+    ensures parts { IfOk result (λ x. bytes.now ≡ options_bytes 0 x.0.items ++ payload_bytes x.1.now) }
+    ensures fault { IfErr result (λ f. f ≢ CoapFault.Memory → BreaksOff 0 bytes.now f) }
+{
+    let mut found = Vec::new(alloc);
+    let mut number: u16 = 0;
+    let mut rest = bytes;
+    while let [first, after @ ..] = rest {
+        if *first == 255 {
+            if after.is_empty() {
+                return Err(CoapFault::PayloadEmpty);
+            }
+            return Ok((found, after));
+        }
+        let (option, behind) = option_at(alloc, number, *first, after)?;
+        number = option.number;
+        found.push(option)?;
+        rest = behind;
+    }
+    Ok((found, rest))
+}
+
+/// The message that bytes spell (RFC 7252 section 3), or the first fault of bytes that spell none;
+/// each byte is looked at once.
+pub fn decode(alloc: Global, bytes: &[u8]) -> Result<Message, CoapFault>
+    ensures found { IfOk result (λ m. Spells bytes.now m) }
+    ensures only { (m : Parts) → Spells bytes.now m → MatchResult result (λ x. x ≡ m) (λ f. f ≡ CoapFault.Memory) }
+    ensures fault { IfErr result (λ f. f ≢ CoapFault.Memory → HasFault bytes.now f) }
+    ensures refused { (f : CoapFault) → HasFault bytes.now f → IsErrAnd result (λ g. g ≢ CoapFault.Memory → g ≡ f) }
+    ensures reading { MatchResult result
+        (λ m. reading_of bytes.now ≡ Ok m)
+        (λ f. f ≢ CoapFault.Memory → reading_of bytes.now ≡ Err f) }
+{
+    read(alloc, bytes)
+}
+
+/// The same; that there is no other reading is `decode`'s to say.
+fn read(alloc: Global, bytes: &[u8]) -> Result<Message, CoapFault>
+    ensures found { IfOk result (λ m. Spells bytes.now m) }
+    ensures fault { IfErr result (λ f. f ≢ CoapFault.Memory → HasFault bytes.now f) }
+{
+    let start = start_of(bytes)?;
+    let (options, payload) = options_at(alloc, start.rest)?;
+    let token = Bytes::from_slice(alloc, start.token)?;
+    let payload = Bytes::from_slice(alloc, payload)?;
+    Ok(Message::of_parts(
+        start.kind,
+        start.code,
+        start.mid,
+        token,
+        Options::from_vec(options),
+        payload,
+    ))
+}

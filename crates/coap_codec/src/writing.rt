@@ -1,0 +1,104 @@
+ghost use Rattle.std.specs.Prelude.{◌≡◌, ◌≤◌, ◌<◌, ◌+◌, ◌*◌, ◌++◌, ◌∷◌, [], length, IfOk, OnOk};
+ghost use Rattle.coap_codec.specs.Message.{Spells, MayFollow, IsOptionList, kind_number, header_bytes, nibble_of, extension_of, option_bytes, options_bytes, payload_bytes, spelling};
+
+use crate::{Kind, Message, Opt};
+use std::alloc::{AllocError, Global};
+
+/// The bytes of a message (RFC 7252 section 3).
+pub fn encode(alloc: Global, message: &Message) -> Result<Vec<u8>, AllocError>
+    ensures spells { IfOk result (λ v. Spells v.items message.now) }
+    ensures spelling { IfOk result (λ v. v.items ≡ spelling message.now) }
+{
+    let mut out = Vec::new(alloc);
+    put_header(&mut out, message)?;
+    out.extend_from_slice(message.token().as_slice())?;
+    put_options(&mut out, message.options().as_slice())?;
+    put_payload(&mut out, message.payload().as_slice())?;
+    Ok(out)
+}
+
+/// The two bits of a type.
+fn kind_bits(kind: Kind) -> u8
+    ensures bits { result ≡ kind_number kind }
+    ensures small { result < 4 }
+{
+    match kind {
+        Kind::Con => 0,
+        Kind::Non => 1,
+        Kind::Ack => 2,
+        Kind::Rst => 3,
+    }
+}
+
+/// The four bytes of the header.
+fn put_header(out: &mut Vec<u8>, message: &Message) -> Result<(), AllocError>
+    ensures { OnOk result (out.new.items ≡ out.old.items ++ header_bytes message.now) }
+{
+    let _known = message.options();
+    let first = 64 + 16 * kind_bits(message.kind()) + message.token().len() as u8;
+    let mid = message.mid();
+    out.extend_from_slice(&[first, message.code(), (mid / 256) as u8, (mid % 256) as u8])
+}
+
+/// The nibble of a delta or a length.
+fn nibble(n: u32) -> u8
+    ensures nibble { result ≡ nibble_of n }
+    ensures small { result < 15 }
+{
+    if n < 13 {
+        return n as u8;
+    }
+    if n < 269 { 13 } else { 14 }
+}
+
+/// The bytes that extend a delta or a length.
+fn put_extension(out: &mut Vec<u8>, n: u32) -> Result<(), AllocError>
+    requires { n ≤ 65804 }
+    ensures { OnOk result (out.new.items ≡ out.old.items ++ extension_of n) }
+{
+    if n < 13 {
+        return Ok(());
+    }
+    if n < 269 {
+        return out.extend_from_slice(&[(n - 13) as u8]);
+    }
+    let behind = n - 269;
+    out.extend_from_slice(&[(behind / 256) as u8, (behind % 256) as u8])
+}
+
+/// An option behind one of this number.
+fn put_option(out: &mut Vec<u8>, number: u16, option: &Opt) -> Result<(), AllocError>
+    requires { MayFollow number option.now }
+    ensures { OnOk result (out.new.items ≡ out.old.items ++ option_bytes number option.now) }
+{
+    let delta = u32::from(option.number - number);
+    let length = option.value.len() as u32;
+    out.push(16 * nibble(delta) + nibble(length))?;
+    put_extension(out, delta)?;
+    put_extension(out, length)?;
+    out.extend_from_slice(option.value.as_slice())
+}
+
+/// The options, the first one's number from 0.
+fn put_options(out: &mut Vec<u8>, options: &[Opt]) -> Result<(), AllocError>
+    requires { IsOptionList 0 options.now }
+    ensures { OnOk result (out.new.items ≡ out.old.items ++ options_bytes 0 options.now) }
+{
+    let mut number: u16 = 0;
+    for option in options {
+        put_option(out, number, option)?;
+        number = option.number;
+    }
+    Ok(())
+}
+
+/// The marker and the payload, or nothing.
+fn put_payload(out: &mut Vec<u8>, payload: &[u8]) -> Result<(), AllocError>
+    ensures { OnOk result (out.new.items ≡ out.old.items ++ payload_bytes payload.now) }
+{
+    if payload.is_empty() {
+        return Ok(());
+    }
+    out.push(255)?;
+    out.extend_from_slice(payload)
+}

@@ -1,0 +1,55 @@
+ghost use Rattle.std.specs.Prelude.{◌≡◌, ℕ, ◌<◌, ℤ, FitsSigned, Some, IfSome, IsSomeAnd, MatchOption, List, ◌∷◌, ◌++◌};
+ghost use Rattle.std.specs.Str.{IsUtf8};
+ghost use Rattle.std.specs.Str.Parse.{AllDigits};
+ghost use Rattle.std.specs.Int.{w64};
+ghost use Rattle.lwm2m_values.specs.Value.{IsDecimal, IsSigned, IsPair};
+
+/// The number below 65,536 that decimal digits write. There is no sign.
+pub(crate) fn half_of(text: &str) -> Option<u16>
+    ensures found { IfSome result (λ n. IsDecimal n text.now) }
+    ensures only { (n : ℕ) → n < 65536 → IsDecimal n text.now → result ≡ Some n }
+{
+    if text.starts_with('+') {
+        return None;
+    }
+    text.parse::<u16>().ok()
+}
+
+/// The text that bytes are, where they are UTF-8.
+pub(crate) fn utf8_of(bytes: &[u8]) -> Option<&str>
+    ensures { MatchOption result (¬ (IsUtf8 bytes.now)) (λ s. (s.now ≡ bytes.now) × IsUtf8 bytes.now) }
+{
+    str::from_utf8(bytes).ok()
+}
+
+/// The number of 64 bits that a text writes: decimal digits, with a minus sign in front or none.
+pub(crate) fn number_of(text: &[u8]) -> Option<i64>
+    ensures found { IfSome result (λ z. IsSigned z text.now) }
+    ensures only { (z : ℤ) → FitsSigned w64 z → IsSigned z text.now → result ≡ Some z }
+{
+    let text = utf8_of(text)?;
+    if text.starts_with('+') {
+        return None;
+    }
+    text.parse::<i64>().ok()
+}
+
+/// The texts before and behind the first colon.
+fn halves_of(text: &[u8]) -> Option<(&str, &str)>
+    ensures found { IfSome result (λ p. text.now ≡ p.0.now ++ 58 ∷ p.1.now) }
+    ensures only { (a b : List ℕ) → AllDigits 10 a → AllDigits 10 b → text.now ≡ a ++ 58 ∷ b
+        → IsSomeAnd result (λ p. (p.0.now ≡ a) × (p.1.now ≡ b)) }
+{
+    utf8_of(text)?.split_once(':')
+}
+
+/// The two numbers below 65,536 that a text writes with a colon between them.
+pub(crate) fn pair_of(text: &[u8]) -> Option<(u16, u16)>
+    ensures found { IfSome result (λ p. IsPair p.0 p.1 text.now) }
+    ensures only { (o i : ℕ) → o < 65536 → i < 65536 → IsPair o i text.now → result ≡ Some (o, i) }
+{
+    let (object, instance) = halves_of(text)?;
+    let object = half_of(object)?;
+    let instance = half_of(instance)?;
+    Some((object, instance))
+}

@@ -1,0 +1,110 @@
+ghost use Rattle.std.specs.Prelude.{◌≡◌, ◌≢◌, ℕ, ◌≤◌, List, Err, length, Some, IfSome, IfOk, IfErr, IsErr, MatchResult, Bool};
+ghost use Rattle.std.specs.Str.{IsUtf8};
+ghost use Rattle.base64.specs.GeneralPurpose.{encode_of, IsBytes};
+ghost use Rattle.base64.specs.Engines.{standard};
+ghost use Rattle.lwm2m_values.specs.declared.fault.ValueFault.TheVariants.{BadValue, Memory};
+ghost use Rattle.lwm2m_values.specs.declared.value.Value.{Value};
+ghost use Rattle.lwm2m_values.specs.Value.{kind_of, IsGood, IsText, flag_text, text_of};
+
+use crate::fault::ValueFault;
+use crate::kind::ValueKind;
+use crate::numerals::{number_of, pair_of};
+use crate::text::Text;
+use crate::value::Value;
+use base64::DecodeAllocError;
+use base64::engine::general_purpose::STANDARD;
+use octets::Bytes;
+use std::alloc::{AllocError, Global};
+
+/// The text that bytes are, where they are UTF-8 and at most 255.
+pub(crate) fn string_of(alloc: Global, bytes: &[u8]) -> Result<Text, ValueFault>
+    ensures found { IfOk result (λ t. (t ≡ bytes.now) × IsUtf8 bytes.now × (length bytes.now ≤ 255)) }
+    ensures only { IsUtf8 bytes.now → length bytes.now ≤ 255 → IfErr result (λ f. f ≡ Memory) }
+{
+    if bytes.len() > 255 {
+        return Err(ValueFault::BadValue);
+    }
+    let Ok(text) = str::from_utf8(bytes) else {
+        return Err(ValueFault::BadValue);
+    };
+    Ok(Text::from_str(alloc, text)?)
+}
+
+/// The flag that is written `0` or `1`.
+fn flag_of(text: &[u8]) -> Option<bool>
+    ensures found { IfSome result (λ b. text.now ≡ flag_text b) }
+    ensures only { (b : Bool) → text.now ≡ flag_text b → result ≡ Some b }
+{
+    match text {
+        b"0" => Some(false),
+        b"1" => Some(true),
+        _ => None,
+    }
+}
+
+/// The bytes, at most 1,024, whose base64 the text is.
+fn opaque_of(alloc: Global, text: &[u8]) -> Result<Bytes, ValueFault>
+    ensures found { IfOk result (λ b. (text.now ≡ encode_of standard b) × IsBytes b × (length b ≤ 1024)) }
+    ensures only { (b : List ℕ) → IsBytes b → length b ≤ 1024 → text.now ≡ encode_of standard b
+        → MatchResult result (λ x. x ≡ b) (λ f. f ≡ Memory) }
+{
+    let bytes = match STANDARD.decode(alloc, text) {
+        Ok(bytes) => bytes,
+        Err(DecodeAllocError::OutOfMemory) => return Err(ValueFault::Memory),
+        Err(DecodeAllocError::DecodeError(_)) => return Err(ValueFault::BadValue),
+    };
+    if bytes.len() > 1024 {
+        return Err(ValueFault::BadValue);
+    }
+    Ok(Bytes::from_vec(bytes))
+}
+
+/// The good value of this kind whose plain text this is.
+pub fn read_text(alloc: Global, kind: ValueKind, text: &[u8]) -> Result<Value, ValueFault>
+    ensures found { IfOk result (λ v. IsGood v × (kind_of v ≡ kind) × IsText v text.now) }
+    // There is no other such value, and where there is one it is read, unless memory runs out.
+    ensures only { (v : Value) → IsGood v → kind_of v ≡ kind → IsText v text.now
+        → MatchResult result (λ x. x ≡ v) (λ f. f ≡ Memory) }
+    ensures refused { IfErr result (λ f. f ≢ Memory → (v : Value) → IsGood v → kind_of v ≡ kind → ¬ (IsText v text.now)) }
+{
+    match kind {
+        ValueKind::Text => Ok(Value::Text(string_of(alloc, text)?)),
+        ValueKind::Whole => number_of(text)
+            .map(Value::Whole)
+            .ok_or(ValueFault::BadValue),
+        ValueKind::Flag => flag_of(text).map(Value::Flag).ok_or(ValueFault::BadValue),
+        ValueKind::Opaque => Ok(Value::Opaque(opaque_of(alloc, text)?)),
+        ValueKind::Moment => number_of(text)
+            .map(Value::Moment)
+            .ok_or(ValueFault::BadValue),
+        ValueKind::Link => match pair_of(text) {
+            Some((object, instance)) => Ok(Value::Link(object, instance)),
+            None => Err(ValueFault::BadValue),
+        },
+    }
+}
+
+fn shortest_text(alloc: Global, value: &Value) -> Result<Bytes, AllocError>
+    ensures { IfOk result (λ b. b ≡ text_of value.now) }
+{
+    let text = match value {
+        Value::Text(text) => return Bytes::from_slice(alloc, text.as_str().as_bytes()),
+        Value::Whole(number) | Value::Moment(number) => number.to_string(alloc)?,
+        Value::Flag(flag) => String::from_str(alloc, if *flag { "1" } else { "0" })?,
+        Value::Opaque(bytes) => STANDARD.encode(alloc, bytes.as_slice())?,
+        Value::Link(object, instance) => format!(in alloc; "{object}:{instance}")?,
+    };
+    Ok(Bytes::from_vec(text.into_bytes()))
+}
+
+/// The shortest plain text of a value: no needless sign, no needless zero. Of a good value it is read again.
+#[tactic(auto, using(crate::proofs::OneText::text_written))]
+pub fn write_text(alloc: Global, value: &Value) -> Result<Bytes, AllocError>
+    ensures shortest { IfOk result (λ b. b ≡ text_of value.now) }
+    ensures read_again { IsGood value.now → IfOk result (λ b. IsText value.now b) }
+{
+    shortest_text(alloc, value)
+}
+
+#[cfg(test)]
+mod tests;

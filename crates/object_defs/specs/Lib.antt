@@ -1,0 +1,4 @@
+pub mod Base
+pub mod Catalogue
+pub mod Decimal
+pub mod Path

@@ -1,0 +1,16 @@
+//! Objects, their resources and the paths to them (OMA LwM2M 1.1 Core).
+#![tactic(auto)]
+
+mod base;
+mod catalog;
+mod decimal;
+mod definition;
+mod path;
+
+pub use catalog::Catalog;
+pub use decimal::decimal_number;
+pub use definition::{ObjectDef, Ops, ResourceDef, Resources};
+pub use path::{FullPath, InstancePath, Path, ResourcePath};
+
+#[cfg(test)]
+mod tests;

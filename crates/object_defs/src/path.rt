@@ -1,0 +1,97 @@
+ghost use Rattle.std.specs.Prelude.{◌≡◌};
+ghost use Rattle.object_defs.specs.Path.{full_path, part_of, single_of};
+
+/// A path to an object, an object instance, a resource or a resource instance (a part), by their
+/// numbers (OMA LwM2M 1.1 Core).
+#[derive(Clone, Copy, Debug, PartialEq, Eq)]
+pub enum Path {
+    /// Object.
+    Object(u16),
+    /// Object and instance.
+    Instance(u16, u16),
+    /// Object, instance and resource.
+    Resource(u16, u16, u16),
+    /// Object, instance, resource and resource instance.
+    Part(u16, u16, u16, u16),
+}
+
+/// The path to one value: a resource's single value, or one of its parts. In order of the
+/// numbers, the single value before the parts.
+#[derive(Clone, Copy, Debug, PartialEq, Eq, PartialOrd, Ord)]
+pub struct FullPath {
+    /// The object's number.
+    pub object: u16,
+    /// The object instance's number.
+    pub instance: u16,
+    /// The resource's number.
+    pub resource: u16,
+    /// The resource instance's number, or none for the single value.
+    pub part: Option<u16>,
+}
+
+/// The path to a resource.
+#[derive(Clone, Copy, Debug, PartialEq, Eq)]
+pub struct ResourcePath {
+    /// The object's number.
+    pub object: u16,
+    /// The object instance's number.
+    pub instance: u16,
+    /// The resource's number.
+    pub resource: u16,
+}
+
+impl ResourcePath {
+    /// The path to the single value of the resource.
+    pub fn single(self) -> FullPath
+        ensures { result ≡ single_of self }
+    {
+        FullPath {
+            object: self.object,
+            instance: self.instance,
+            resource: self.resource,
+            part: None,
+        }
+    }
+
+    /// The path to the part of this number.
+    pub fn part(self, part: u16) -> FullPath
+        ensures { result ≡ part_of self part }
+    {
+        FullPath {
+            part: Some(part),
+            ..self.single()
+        }
+    }
+}
+
+/// The path to an object instance, in order of the numbers.
+#[derive(Clone, Copy, Debug, PartialEq, Eq, PartialOrd, Ord)]
+pub struct InstancePath {
+    /// The object's number.
+    pub object: u16,
+    /// The instance's number.
+    pub instance: u16,
+}
+
+impl Path {
+    /// The path to one value that a path of three or four numbers is.
+    pub fn full(self) -> Option<FullPath>
+        ensures { result ≡ full_path self }
+    {
+        match self {
+            Path::Object(_) | Path::Instance(_, _) => None,
+            Path::Resource(object, instance, resource) => Some(FullPath {
+                object,
+                instance,
+                resource,
+                part: None,
+            }),
+            Path::Part(object, instance, resource, part) => Some(FullPath {
+                object,
+                instance,
+                resource,
+                part: Some(part),
+            }),
+        }
+    }
+}
