@@ -1,10 +1,10 @@
 -- what bytes spell, or where they break off, is what reading them finds
-use Rattle.std.proofs.Common.{◌≡◌, ◌≢◌, ℕ, ◌+◌, ◌-◌, ◌*◌, ◌/◌, ◌%◌, ◌<◌, ◌≤◌, zero, suc, List, [], ◌∷◌, ◌++◌, length, take, drop, refl, ap, sym, ◌∙◌, append_assoc, arith, Option, Some, None, Result, Ok, Err, Bool, true, false, ltb, eqb, length-append}
+use Rattle.std.proofs.Common.{◌≡◌, ℕ, ◌+◌, ◌-◌, ◌*◌, ◌/◌, ◌%◌, ◌<◌, ◌≤◌, zero, suc, List, [], ◌∷◌, ◌++◌, length, take, drop, refl, ap, sym, ◌∙◌, append_assoc, arith, Some, None, Result, Ok, Err, length-append}
 use Rattle.std.proofs.Math.Seq.{take-append_seam, drop-append_seam}
-use Rattle.std.proofs.lemmas.Bool.{cases_lt, lt-ltb, le-ltb, ne_eqb}
+use Rattle.std.proofs.lemmas.Bool.{le-ltb, ne_eqb}
 use Rattle.coap_codec.specs.declared.option.Opt.{Opt}
 use Rattle.coap_codec.specs.declared.fault.CoapFault.{CoapFault}
-use Rattle.coap_codec.specs.Message.{MayFollow, IsOptionList, nibble_of, extension_of, option_bytes, options_bytes, payload_bytes}
+use Rattle.coap_codec.specs.Message.{IsOptionList, nibble_of, extension_of, options_bytes, payload_bytes}
 use Rattle.coap_codec.specs.Fault.{width, amount, option_fault, place_fault, last_number}
 use Rattle.coap_codec.specs.Reading.{Found, option_here, behind_option, with_option, read_place, read_options}
 use Rattle.coap_codec.proofs.Amounts.{nibble_below, width_length, amount_again, rest_again}

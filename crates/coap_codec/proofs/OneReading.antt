@@ -1,15 +1,15 @@
 -- what bytes spell is what reading them gives, and so is their fault: so neither has a second, and there are never both
-use Rattle.std.proofs.Common.{◌≡◌, ◌≢◌, ℕ, ◌+◌, ◌-◌, ◌*◌, ◌/◌, ◌%◌, ◌<◌, ◌≤◌, zero, suc, List, [], ◌∷◌, ◌++◌, length, take, drop, slice_index, refl, ap, sym, ◌∙◌, inl, inr, append_assoc, arith, Option, Some, None, Result, Ok, Err, MatchOption, Bool, true, false, not, ltb, eqb, length-append, length-drop}
+use Rattle.std.proofs.Common.{◌≡◌, ℕ, ◌+◌, ◌*◌, ◌/◌, ◌%◌, ◌<◌, ◌≤◌, zero, suc, List, [], ◌∷◌, ◌++◌, length, take, drop, refl, ap, ◌∙◌, arith, Option, Some, None, Ok, Err, MatchOption, false, ltb, length-append, length-drop}
 use Rattle.std.proofs.Math.Seq.{take-append_seam, drop-append_seam, drop-append-add}
-use Rattle.std.proofs.lemmas.Bool.{cases_lt, lt-ltb, le-ltb, ne_eqb, eq-eqb}
+use Rattle.std.proofs.lemmas.Bool.{le-ltb, ne_eqb, eq-eqb}
 use Rattle.coap_codec.specs.declared.kind.Kind.{Kind}
 use Rattle.coap_codec.specs.declared.kind.Kind.TheVariants.{Con, Non, Ack, Rst}
 use Rattle.coap_codec.specs.declared.option.Opt.{Opt}
 use Rattle.coap_codec.specs.declared.fault.CoapFault.{CoapFault}
-use Rattle.coap_codec.specs.Message.{Parts, IsWellFormed, Spells, spelling, header_bytes, kind_number, two_bytes, IsOptionList, options_bytes, payload_bytes}
-use Rattle.coap_codec.specs.Fault.{token_length, header_fault, place_fault, last_number, BreaksOff, HasFault}
-use Rattle.coap_codec.specs.Reading.{Found, kind_of, read_options, message_of, read_behind, reading_of}
-use Rattle.coap_codec.proofs.Completeness.{with_all, with_all-ok, with_all-err, read_all, read_payload, read_fault}
+use Rattle.coap_codec.specs.Message.{Parts, IsWellFormed, Spells, spelling, kind_number, options_bytes, payload_bytes}
+use Rattle.coap_codec.specs.Fault.{token_length, header_fault, last_number, BreaksOff, HasFault}
+use Rattle.coap_codec.specs.Reading.{kind_of, read_options, message_of, read_behind, reading_of}
+use Rattle.coap_codec.proofs.Completeness.{with_all-ok, with_all-err, read_all, read_payload, read_fault}
 
 kind_number_below : (k : Kind) → kind_number k < 4
 kind_number_below Con = omega arith

@@ -1,9 +1,9 @@
 -- one more option behind a list of options
-use Rattle.std.proofs.Common.{◌≡◌, ℕ, ◌+◌, ◌*◌, List, [], ◌∷◌, ◌++◌, refl, ap, sym, ◌∙◌, append_assoc, Some, None, Bool, true, false, eqb}
+use Rattle.std.proofs.Common.{◌≡◌, ℕ, List, [], ◌∷◌, ◌++◌, refl, ap, sym, ◌∙◌, append_assoc, Some, false, eqb}
 use Rattle.coap_codec.specs.declared.option.Opt.{Opt}
 use Rattle.coap_codec.specs.declared.fault.CoapFault.{CoapFault}
 use Rattle.coap_codec.specs.Message.{IsOptionList, MayFollow, option_bytes, options_bytes}
-use Rattle.coap_codec.specs.Fault.{last_number, option_fault, place_fault, BreaksOff}
+use Rattle.coap_codec.specs.Fault.{last_number, option_fault, BreaksOff}
 
 pub IsOptionList-push : (number : ℕ) (os : List Opt) (o : Opt) → IsOptionList number os → MayFollow (last_number number os) o → IsOptionList number (os ++ o ∷ [])
 IsOptionList-push number [] o list follows = (follows, tt)

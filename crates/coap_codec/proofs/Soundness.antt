@@ -1,14 +1,14 @@
 -- what reading bytes finds is what they spell, or where they break off
-use Rattle.std.proofs.Common.{◌≡◌, ◌≢◌, ℕ, ◌+◌, ◌-◌, ◌*◌, ◌/◌, ◌%◌, ◌<◌, ◌≤◌, ◌⊎◌, inl, inr, zero, suc, List, [], ◌∷◌, ◌++◌, length, take, drop, slice_index, refl, ap, sym, ◌∙◌, append_assoc, arith, Option, Some, None, Result, Ok, Err, MatchResult, MatchOption, Bool, true, false, cond, not, ◌&&◌, ◌||◌, ltb, eqb, length-append, length-drop, All}
+use Rattle.std.proofs.Common.{◌≡◌, ◌≢◌, ℕ, ◌+◌, ◌-◌, ◌*◌, ◌/◌, ◌%◌, ◌<◌, ◌≤◌, inl, inr, zero, suc, List, [], ◌∷◌, ◌++◌, length, take, drop, refl, ap, sym, ◌∙◌, append_assoc, arith, Option, Some, None, Result, Ok, Err, MatchResult, MatchOption, Bool, true, false, cond, not, ◌&&◌, ◌||◌, ltb, eqb, length-drop, All}
 use Rattle.std.proofs.lemmas.Result.{MatchResult-at_ok, MatchResult-at_err}
 use Rattle.std.proofs.lemmas.List.{take-append-drop, length-take-le}
 use Rattle.std.proofs.lemmas.List.Elements.{All-head, All-tail, All-drop}
-use Rattle.std.proofs.lemmas.Bool.{cases_Bool, cases_lt, lt-ltb, le-ltb, ltb-false, eqb-true, eqb-false, ne_eqb, eq-eqb}
+use Rattle.std.proofs.lemmas.Bool.{cases_Bool, cases_lt, lt-ltb, ltb-false, eqb-true, eqb-false}
 use Rattle.coap_codec.specs.declared.option.Opt.{Opt}
 use Rattle.coap_codec.specs.declared.fault.CoapFault.{CoapFault}
 use Rattle.coap_codec.specs.declared.fault.CoapFault.TheVariants.{PayloadEmpty}
-use Rattle.coap_codec.specs.Message.{Parts, IsWellFormed, MayFollow, IsOptionList, Spells, kind_number, nibble_of, extension_of, two_bytes, option_bytes, options_bytes, payload_bytes}
-use Rattle.coap_codec.specs.Fault.{width, amount, option_fault, place_fault, last_number, token_length, header_fault, BreaksOff, HasFault}
+use Rattle.coap_codec.specs.Message.{Parts, MayFollow, IsOptionList, Spells, kind_number, nibble_of, extension_of, option_bytes, options_bytes, payload_bytes}
+use Rattle.coap_codec.specs.Fault.{width, amount, option_fault, place_fault, token_length, header_fault, BreaksOff, HasFault}
 use Rattle.coap_codec.specs.Reading.{Found, kind_of, option_here, behind_option, with_option, read_place, read_options, message_of, read_behind, reading_of}
 use Rattle.coap_codec.proofs.Amounts.{by_size}
 use Rattle.coap_codec.proofs.Completeness.{Stands}

@@ -1,4 +1,4 @@
-use Rattle.std.specs.Prelude.{◌≡◌, ℕ, ◌+◌, ◌*◌, ◌/◌, ◌%◌, List, [], ◌∷◌, fold, nat_lt, if◌then◌else◌}
+use Rattle.std.specs.Prelude.{ℕ, ◌+◌, ◌*◌, ◌/◌, ◌%◌, List, [], ◌∷◌, fold, nat_lt, if◌then◌else◌}
 
 -- the number that bytes spell, the high byte first (RFC 7252 section 3.2)
 abbrev pub big_endian : List ℕ → ℕ

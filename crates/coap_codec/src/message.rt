@@ -49,14 +49,7 @@ impl Message {
         if token.len() > 8 || (code == 0 && !bare) || !is_option_list(options.as_slice()) {
             return None;
         }
-        Some(Message {
-            kind,
-            code,
-            mid,
-            token,
-            options,
-            payload,
-        })
+        Some(Message::of_parts(kind, code, mid, token, options, payload))
     }
 
     /// The message of parts that are known to be well formed.

@@ -72,6 +72,6 @@ impl Options {
     pub fn is_empty(&self) -> bool
         ensures { IsTrue result ↔ (length self.now ≡ 0) }
     {
-        self.items.len() == 0
+        self.items.is_empty()
     }
 }

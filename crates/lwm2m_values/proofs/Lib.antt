@@ -1,2 +1,10 @@
 pub mod Digits
+pub mod Integers
 pub mod OneText
+pub mod OneRecord
+pub mod Nodes
+pub mod OneTlv
+pub mod ReadTlv
+pub mod Shortest
+pub mod NoShorter
+pub mod OneBytes

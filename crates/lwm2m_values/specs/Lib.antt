@@ -1,1 +1,3 @@
+pub mod Tlv
+pub mod Tree
 pub mod Value

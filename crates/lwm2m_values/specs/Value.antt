@@ -1,7 +1,7 @@
--- Values: their kinds, which are good, their plain text, and their code, by which a finite map can hold them.
-use Rattle.std.specs.Prelude.{◌≡◌, ℕ, ◌<◌, ◌≤◌, ℤ, pos, List, [], ◌∷◌, ◌++◌, length, Bool, if◌then◌else◌, ◌⊎◌, refl}
+-- Values: their kinds, which are good, their plain text, their bytes, and their code, by which a finite map can hold them.
+use Rattle.std.specs.Prelude.{◌≡◌, ℕ, ◌<◌, ◌≤◌, ℤ, pos, negsuc, nat_lt, List, [], ◌∷◌, ◌++◌, length, Bool, if◌then◌else◌, ◌⊎◌, refl}
 use Rattle.std.specs.Prelude.{neg_ℤ, FitsSigned}
-use Rattle.std.specs.Int.{w64}
+use Rattle.std.specs.Int.{Width, w8, w16, w32, w64, to_be_bytes, cast_unsigned}
 use Rattle.std.specs.Str.{IsUtf8}
 use Rattle.std.specs.Str.Parse.{IsNumeral, digits_value}
 use Rattle.std.specs.Fmt.{decimal, signed_decimal}
@@ -67,6 +67,44 @@ text_of (Flag b) = flag_text b
 text_of (Opaque bytes) = encode_of standard bytes
 text_of (Moment z) = signed_decimal z
 text_of (Link o i) = decimal o ++ 58 ∷ decimal i
+
+-- these are the bytes of the number in two's complement of this width, the highest byte first
+abbrev pub IsIntegerOf : Width → ℤ → List ℕ → Type 0
+IsIntegerOf w z bytes = FitsSigned w z × (bytes ≡ to_be_bytes w (cast_unsigned w z))
+
+-- an Integer has 8, 16, 32 or 64 bits
+abbrev pub IsInteger : ℤ → List ℕ → Type 0
+IsInteger z bytes = IsIntegerOf w8 z bytes ⊎ (IsIntegerOf w16 z bytes ⊎ (IsIntegerOf w32 z bytes ⊎ IsIntegerOf w64 z bytes))
+
+-- these are bytes of the value, as TLV has them (OMA LwM2M 1.1 Core, data types)
+abbrev pub IsBytesOf : Value → List ℕ → Type 0
+IsBytesOf (Text text) bytes = bytes ≡ text
+IsBytesOf (Whole z) bytes = IsInteger z bytes
+IsBytesOf (Flag b) bytes = bytes ≡ (if b then 1 else 0) ∷ []
+IsBytesOf (Opaque content) bytes = bytes ≡ content
+IsBytesOf (Moment z) bytes = IsInteger z bytes
+IsBytesOf (Link o i) bytes = bytes ≡ to_be_bytes w16 o ++ to_be_bytes w16 i
+
+-- the number is from -half up to below half
+abbrev pub is_within : ℕ → ℤ → Bool
+is_within half (pos n) = nat_lt n half
+is_within half (negsuc n) = nat_lt n half
+
+-- the bytes of a number in the fewest of 8, 16, 32 and 64 bits
+abbrev pub shortest_integer : ℤ → List ℕ
+shortest_integer z =
+    if is_within 128 z then to_be_bytes w8 (cast_unsigned w8 z)
+    else (if is_within 32768 z then to_be_bytes w16 (cast_unsigned w16 z)
+    else (if is_within 2147483648 z then to_be_bytes w32 (cast_unsigned w32 z) else to_be_bytes w64 (cast_unsigned w64 z)))
+
+-- the shortest bytes of the value
+abbrev pub bytes_of : Value → List ℕ
+bytes_of (Text text) = text
+bytes_of (Whole z) = shortest_integer z
+bytes_of (Flag b) = (if b then 1 else 0) ∷ []
+bytes_of (Opaque content) = content
+bytes_of (Moment z) = shortest_integer z
+bytes_of (Link o i) = to_be_bytes w16 o ++ to_be_bytes w16 i
 
 abbrev pub Split : Type 0
 Split = List ℕ ⊎ (ℤ ⊎ (Bool ⊎ (List ℕ ⊎ (ℤ ⊎ (ℕ × ℕ)))))

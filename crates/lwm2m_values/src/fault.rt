@@ -33,3 +33,39 @@ impl<T: Drop> From<AllocFailed<T>> for ValueFault {
         ValueFault::Memory
     }
 }
+
+/// Why bytes were not read as TLV.
+#[derive(Clone, Copy, Debug, PartialEq, Eq, Error)]
+pub enum TlvFault {
+    /// A record goes past the end of what is around it.
+    #[error("a record is cut")]
+    Cut,
+    /// A record is of a type that may not stand there.
+    #[error("a record may not stand there")]
+    Nesting,
+    /// Memory ran out.
+    #[error("out of memory")]
+    Memory,
+}
+
+impl From<AllocError> for TlvFault {
+    ghost use Rattle.std.specs.Prelude.{◌≡◌};
+    ghost use Rattle.lwm2m_values.specs.declared.fault.TlvFault.TheVariants.{Memory};
+
+    ghost from_gives = { λ _ e. e ≡ Memory };
+
+    fn from(_e: AllocError) -> TlvFault {
+        TlvFault::Memory
+    }
+}
+
+impl<T: Drop> From<AllocFailed<T>> for TlvFault {
+    ghost use Rattle.std.specs.Prelude.{◌≡◌};
+    ghost use Rattle.lwm2m_values.specs.declared.fault.TlvFault.TheVariants.{Memory};
+
+    ghost from_gives = { λ _ e. e ≡ Memory };
+
+    fn from(_e: AllocFailed<T>) -> TlvFault {
+        TlvFault::Memory
+    }
+}

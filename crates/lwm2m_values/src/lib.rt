@@ -2,16 +2,27 @@
 #![tactic(auto)]
 
 mod fault;
+mod integer;
 mod kind;
 mod laws;
+mod level;
+mod node;
 mod numerals;
 mod plain;
+mod record;
 mod text;
+mod tlv;
+mod tlv_value;
+mod tlv_writer;
 mod value;
 
-pub use fault::ValueFault;
+pub use fault::{TlvFault, ValueFault};
 pub use kind::ValueKind;
-pub use laws::one_text_value;
+pub use laws::{one_text_value, one_tlv, one_value_of_bytes};
+pub use node::Node;
 pub use plain::{read_text, write_text};
 pub use text::Text;
+pub use tlv::read_tlv;
+pub use tlv_value::{bytes_of, value_of};
+pub use tlv_writer::{tlv_fits, write_tlv};
 pub use value::Value;

@@ -1,0 +1,2 @@
+mod Living
+mod Paths

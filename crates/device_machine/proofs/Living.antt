@@ -1,0 +1,145 @@
+-- What a device does depends on the recorded requests only by those that live.
+use Rattle.std.proofs.Common.{◌≡◌, ℕ, ◌+◌, ◌-◌, nat_lt, Bool, true, false, ◌&&◌, cond, List, [], ◌∷◌, ◌++◌, Option, None, Some, Result, Ok, Err, refl, sym, ap, subst, ◌∙◌, arith}
+use Rattle.std.specs.List.{filter, find}
+use Rattle.std.specs.Bool.{if◌then◌else◌}
+use Rattle.std.proofs.lemmas.Bool.Decides.{nat_tests}
+use Rattle.std.proofs.lemmas.List.Elements.{filter-append}
+use Rattle.coap_codec.specs.Message.{Parts}
+use Rattle.coap_codec.specs.Reading.{reading_of}
+use Rattle.coap_codec.specs.declared.kind.Kind.{Kind}
+use Rattle.coap_codec.specs.declared.kind.Kind.TheVariants.{Con, Non, Ack, Rst}
+use Rattle.coap_codec.specs.declared.fault.CoapFault.{CoapFault}
+use Rattle.device_machine.specs.declared.event.Event.{Event}
+use Rattle.device_machine.specs.declared.event.Event.TheVariants.{Recv, Put, Tick}
+use Rattle.device_machine.specs.declared.output.Output.{Output}
+use Rattle.device_machine.specs.declared.recorded.Recorded.{Recorded}
+use Rattle.device_machine.specs.Values.{misses, with_value_at}
+use Rattle.lwm2m_values.specs.declared.value.Value.{Value}
+use Rattle.object_defs.specs.Path.{full_path}
+use Rattle.object_defs.specs.declared.path.FullPath.{FullPath}
+use Rattle.device_machine.specs.State.{Kept, Flat, lifetime, is_live, living}
+use Rattle.device_machine.specs.Reactions.{Reaction, reply_to, kept_after, on_fresh, repeat_of, is_same, on_request, on_message, on_noise, on_datagram, has_account, claims_confirmable, is_request, reaction_to}
+
+-- a filter behind a weaker one
+pub filter-filter : {X : Type 0} (p q : X → Bool) → ((x : X) → q x ≡ true → p x ≡ true) → (xs : List X) → filter q (filter p xs) ≡ filter q xs
+filter-filter p q h [] = refl
+filter-filter p q h (x ∷ xs) =
+    elim (p x) as (λ b. (q x ≡ true → b ≡ true) → filter q (cond b (x ∷ filter p xs) (filter p xs)) ≡ cond (q x) (x ∷ filter q xs) (filter q xs)) [
+      | true ↦ λ k. ap (λ ys. cond (q x) (x ∷ ys) ys) (filter-filter p q h xs)
+      | false ↦ elim (q x) as (λ c. (c ≡ true → false ≡ true) → filter q (filter p xs) ≡ cond c (x ∷ filter q xs) (filter q xs)) [
+        | true ↦ λ k. let e : false ≡ true = k refl in cc
+        | false ↦ λ k. filter-filter p q h xs
+      ]
+    ] (h x)
+
+-- a search among those that pass a part of its test
+pub find-filter : {X : Type 0} (p q : X → Bool) (xs : List X) → find (λ x. p x && q x) (filter p xs) ≡ find (λ x. p x && q x) xs
+find-filter p q [] = refl
+find-filter p q (x ∷ xs) =
+    elim (p x) as (λ b. p x ≡ b → find (λ y. p y && q y) (cond b (x ∷ filter p xs) (filter p xs)) ≡ cond (p x && q x) (Some x) (find (λ y. p y && q y) xs)) [
+      | true ↦ λ e. ap (λ t. cond (p x && q x) (Some x) t) (find-filter p q xs)
+      | false ↦ λ e. rw e (find-filter p q xs)
+    ] refl
+
+-- what lives later lives now
+live_later : (clock n second life : ℕ) → nat_lt (clock + n - second) life ≡ true → nat_lt (clock - second) life ≡ true
+live_later clock n second life h = grind (arith, nat_tests)
+
+-- two reactions that look alike
+pub record Alike (a b : Reaction) : Type 0 where
+  pub outputs : a.outputs ≡ b.outputs
+  pub living_then : living a.flat ≡ living b.flat
+
+abbrev flat_of : Kept → List Recorded → Flat
+flat_of k xs = record { kept = k; recorded = xs }
+
+abbrev put_in : Kept → Option FullPath → Value → Kept
+put_in k place value =
+    record { accounts = k.accounts; catalogue = k.catalogue; store = with_value_at k.store place value; clock = k.clock; next_id = k.next_id }
+
+-- the same requests live
+abbrev SameLiving : ℕ → List Recorded → List Recorded → Type 0
+SameLiving clock xs ys = filter (λ r. is_live clock r) xs ≡ filter (λ r. is_live clock r) ys
+
+alike_choice : (b : Bool) (r s t u : Reaction) → Alike r s → Alike t u → Alike (if b then r else t) (if b then s else u)
+alike_choice true r s t u h k = h
+alike_choice false r s t u h k = k
+
+alike_quiet : (k : Kept) (xs ys : List Recorded) (o : List Output) → SameLiving k.clock xs ys → Alike (record { outputs = o; flat = flat_of k xs }) (record { outputs = o; flat = flat_of k ys })
+alike_quiet k xs ys o h = record { outputs = refl; living_then = ap (λ rs. flat_of k rs) h }
+
+repeat_same : (k : Kept) (xs ys : List Recorded) (server : ℕ) (m : Parts) → SameLiving k.clock xs ys → repeat_of (flat_of k xs) server m ≡ repeat_of (flat_of k ys) server m
+repeat_same k xs ys server m h =
+    sym (find-filter (λ r. is_live k.clock r) (λ r. is_same server m r) xs)
+    ∙ ap (λ rs. find (λ r. is_live k.clock r && is_same server m r) rs) h
+    ∙ find-filter (λ r. is_live k.clock r) (λ r. is_same server m r) ys
+
+same_pushed : (clock : ℕ) (xs ys zs : List Recorded) → SameLiving clock xs ys → SameLiving clock (xs ++ zs) (ys ++ zs)
+same_pushed clock xs ys zs h =
+    filter-append (λ r. is_live clock r) xs zs ∙ ap (λ t. t ++ filter (λ r. is_live clock r) zs) h ∙ sym (filter-append (λ r. is_live clock r) ys zs)
+
+clock_after : (k : Kept) (kind : Kind) (reply : Option Parts) → (kept_after k kind reply).clock ≡ k.clock
+clock_after k Con reply = refl
+clock_after k Non None = refl
+clock_after k Non (Some reply) = refl
+clock_after k Ack reply = refl
+clock_after k Rst reply = refl
+
+same_at : (c d : ℕ) (xs ys : List Recorded) → c ≡ d → SameLiving d xs ys → SameLiving c xs ys
+same_at c d xs ys e h = subst (λ n. SameLiving n xs ys) (sym e) h
+
+alike_fresh : (k : Kept) (xs ys : List Recorded) (server : ℕ) (m : Parts) (reply : Option Parts) → SameLiving k.clock xs ys
+    → Alike (on_fresh (flat_of k xs) server m reply) (on_fresh (flat_of k ys) server m reply)
+alike_fresh k xs ys server m reply h =
+    record {
+      outputs = refl;
+      living_then = ap (λ rs. flat_of (kept_after k m.kind reply) rs) (same_at _ _ _ _ (clock_after k m.kind reply) (same_pushed k.clock xs ys _ h));
+    }
+
+alike_request : (k : Kept) (xs ys : List Recorded) (server : ℕ) (m : Parts) (o : Option Recorded) → SameLiving k.clock xs ys
+    → Alike (on_request (flat_of k xs) server m o) (on_request (flat_of k ys) server m o)
+alike_request k xs ys server m None h = alike_fresh k xs ys server m (reply_to k m m.kind) h
+alike_request k xs ys server m (Some r) h = alike_quiet k xs ys _ h
+
+alike_asked : (k : Kept) (xs ys : List Recorded) (server : ℕ) (m : Parts) → SameLiving k.clock xs ys
+    → Alike (on_request (flat_of k xs) server m (repeat_of (flat_of k xs) server m)) (on_request (flat_of k ys) server m (repeat_of (flat_of k ys) server m))
+alike_asked k xs ys server m h =
+    subst (λ o. Alike (on_request (flat_of k xs) server m (repeat_of (flat_of k xs) server m)) (on_request (flat_of k ys) server m o))
+    (repeat_same k xs ys server m h) (alike_request k xs ys server m (repeat_of (flat_of k xs) server m) h)
+
+alike_message : (k : Kept) (xs ys : List Recorded) (server : ℕ) (m : Parts) (kind : Kind) → SameLiving k.clock xs ys
+    → Alike (on_message (flat_of k xs) server m kind) (on_message (flat_of k ys) server m kind)
+alike_message k xs ys server m Con h = alike_choice (is_request m.code) _ _ _ _ (alike_asked k xs ys server m h) (alike_quiet k xs ys _ h)
+alike_message k xs ys server m Non h = alike_choice (is_request m.code) _ _ _ _ (alike_asked k xs ys server m h) (alike_quiet k xs ys _ h)
+alike_message k xs ys server m Ack h = alike_quiet k xs ys _ h
+alike_message k xs ys server m Rst h = alike_quiet k xs ys _ h
+
+alike_datagram : (k : Kept) (xs ys : List Recorded) (server : ℕ) (bytes : List ℕ) (reading : Result Parts CoapFault) → SameLiving k.clock xs ys
+    → Alike (on_datagram (flat_of k xs) server bytes reading) (on_datagram (flat_of k ys) server bytes reading)
+alike_datagram k xs ys server bytes (Ok m) h = alike_message k xs ys server m m.kind h
+alike_datagram k xs ys server bytes (Err fault) h = alike_choice (claims_confirmable bytes) _ _ _ _ (alike_quiet k xs ys _ h) (alike_quiet k xs ys _ h)
+
+alike_put : (k : Kept) (xs ys : List Recorded) (place : Option FullPath) (value : Value) → SameLiving k.clock xs ys
+    → Alike (record { outputs = []; flat = flat_of (put_in k place value) xs }) (record { outputs = []; flat = flat_of (put_in k place value) ys })
+alike_put k xs ys place value h = record { outputs = refl; living_then = ap (λ rs. flat_of (put_in k place value) rs) h }
+
+same_later : (clock n : ℕ) (xs ys : List Recorded) → SameLiving clock xs ys → SameLiving (clock + n) xs ys
+same_later clock n xs ys h =
+    let weaker : (r : Recorded) → is_live (clock + n) r ≡ true → is_live clock r ≡ true = λ r. live_later clock n r.second (lifetime r.kind) in
+    sym (filter-filter (λ r. is_live clock r) (λ r. is_live (clock + n) r) weaker xs)
+    ∙ ap (λ rs. filter (λ r. is_live (clock + n) r) rs) h
+    ∙ filter-filter (λ r. is_live clock r) (λ r. is_live (clock + n) r) weaker ys
+
+alike_event : (k : Kept) (xs ys : List Recorded) → SameLiving k.clock xs ys → (event : Event) → Alike (reaction_to (flat_of k xs) event) (reaction_to (flat_of k ys) event)
+alike_event k xs ys h (Recv server bytes) =
+    alike_choice (has_account k server) _ _ _ _ (alike_datagram k xs ys server bytes (reading_of bytes) h) (alike_quiet k xs ys _ h)
+alike_event k xs ys h (Put path value) =
+    alike_choice (misses k.catalogue k.store (full_path path) value) _ _ _ _ (alike_quiet k xs ys _ h) (alike_put k xs ys (full_path path) value h)
+alike_event k xs ys h (Tick n) =
+    record { outputs = refl; living_then = ap (λ rs. record { kept = record { accounts = k.accounts; catalogue = k.catalogue; store = k.store; clock = k.clock + n; next_id = k.next_id }; recorded = rs }) (same_later k.clock n xs ys h) }
+
+-- flat states in which the same requests live react alike
+pub alike : (f g : Flat) → living f ≡ living g → (event : Event) → Alike (reaction_to f event) (reaction_to g event)
+alike f g h event =
+    subst (λ k. filter (λ r. is_live f.kept.clock r) f.recorded ≡ filter (λ r. is_live k.clock r) g.recorded → Alike (reaction_to f event) (reaction_to (flat_of k g.recorded) event)) (ap (λ s. s.kept) h)
+    (λ same. alike_event f.kept f.recorded g.recorded same event) (ap (λ s. s.recorded) h)

@@ -1,0 +1,9 @@
+pub mod Answers
+pub mod Class
+pub mod Lines
+pub mod Operations
+pub mod Options
+pub mod Reactions
+pub mod Segments
+pub mod State
+pub mod Values

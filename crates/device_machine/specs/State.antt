@@ -1,0 +1,52 @@
+-- The flat state of a device, and when a device shows one.
+use Rattle.std.specs.Prelude.{◌≡◌, ℕ, ◌-◌, nat_lt, Bool, false, List, filter, Option, None, Some}
+use Rattle.coap_codec.specs.declared.kind.Kind.{Kind}
+use Rattle.coap_codec.specs.declared.kind.Kind.TheVariants.{Con, Non, Ack, Rst}
+use Rattle.instance_store.specs.Stored.{Stored, value_at}
+use Rattle.lwm2m_values.specs.declared.value.Value.{Value}
+use Rattle.object_defs.specs.declared.definition.ObjectDef.{ObjectDef}
+use Rattle.object_defs.specs.declared.path.FullPath.{FullPath}
+use Rattle.device_machine.specs.declared.recorded.Recorded.{Recorded}
+
+-- all of the flat state but the recorded requests: what every answer looks at
+pub record Kept : Type 0 where
+  pub accounts : List ℕ
+  pub catalogue : List ObjectDef
+  pub store : Stored
+  pub clock : ℕ
+  pub next_id : ℕ
+
+-- the flat state: what is kept, and all the requests since the start, oldest first
+pub record Flat : Type 0 where
+  pub kept : Kept
+  pub recorded : List Recorded
+
+-- for how many seconds a message ID is not used again: EXCHANGE_LIFETIME and NON_LIFETIME (RFC 7252 section 4.8.2)
+abbrev pub lifetime : Kind → ℕ
+lifetime Con = 247
+lifetime Non = 145
+lifetime Ack = 0
+lifetime Rst = 0
+
+-- the request's message ID is not free again yet
+abbrev pub is_live : ℕ → Recorded → Bool
+is_live clock r = nat_lt (clock - r.second) (lifetime r.kind)
+
+-- the flat state with those of the recorded requests that an answer can still depend on
+abbrev pub living : Flat → Flat
+living f = record { kept = f.kept; recorded = filter (λ r. is_live f.kept.clock r) f.recorded }
+
+-- what contracts see of a device: of the recorded requests, those that live
+pub record Shown : Type 0 where
+  pub spent : Bool
+  pub flat : Flat
+
+-- the device is not spent, and shows this flat state
+pub record Shows (device : Shown) (flat : Flat) : Type 0 where
+  pub ready : device.spent ≡ false
+  pub holds : device.flat ≡ living flat
+
+-- the value at a path that a device in this flat state has
+abbrev pub value_in : Kept → Option FullPath → Option Value
+value_in kept None = None
+value_in kept (Some p) = value_at kept.store p

@@ -1,0 +1,110 @@
+ghost use Rattle.std.specs.Prelude.{◌≡◌, ◌↔◌, [], IfOk, OnOk, IsTrue, Ok, Err};
+ghost use Rattle.std.specs.Option.{option_copied};
+ghost use Rattle.object_defs.specs.Path.{full_path};
+ghost use Rattle.device_machine.specs.Class.{start_of};
+ghost use Rattle.device_machine.specs.State.{Flat, Shows, value_in};
+ghost use Rattle.device_machine.specs.Reactions.{outputs_of, flat_after, is_refused, passes_end};
+
+use crate::event::Event;
+use crate::fault::StepFault;
+use crate::machine::Machine;
+use crate::output::Outputs;
+use crate::template::Template;
+use lwm2m_values::Value;
+use object_defs::Path;
+use std::alloc::AllocError;
+use std::marker::Model;
+
+/// An emulated device.
+///
+/// It shows a flat state, and its outputs and its next state are those that the tables give for
+/// each flat state that it shows. Want of memory alone makes it spent; a spent device refuses each
+/// event.
+#[derive(Drop)]
+pub struct Device {
+    machine: Machine,
+    spent: bool,
+}
+
+impl Model for Device {
+    ghost use Rattle.std.specs.Coded.{codes};
+    ghost use Rattle.instance_store.specs.Stored.{stored_code};
+    ghost use Rattle.device_machine.specs.Class.{start_of};
+    ghost use Rattle.device_machine.specs.State.{Shown, living};
+
+    ghost Value = { Shown };
+
+    ghost coded = { Prim.hlevel (codes, stored_code) };
+
+    ghost view = { λ d. record { spent = d.spent; flat = living d.machine } };
+}
+
+/// The last second that a device's clock can show.
+const LAST_SECOND: u64 = (1 << 63) - 1;
+
+/// Whether the event would take the clock past its last second.
+fn passes_end(clock: u64, event: &Event) -> bool
+    ensures { result ≡ passes_end clock event.now }
+{
+    match event {
+        Event::Recv { .. } | Event::Put { .. } => false,
+        Event::Tick(seconds) => clock > LAST_SECOND || LAST_SECOND - clock < u64::from(*seconds),
+    }
+}
+
+impl Device {
+    /// A device in the state in which a template starts.
+    pub fn start(template: &Template) -> Result<Device, AllocError>
+        ensures { IfOk result (λ d. Shows d (record { kept = start_of template.now; recorded = [] })) }
+    {
+        Ok(Device {
+            machine: template.start()?,
+            spent: false,
+        })
+    }
+
+    /// A copy, which shows what its source shows, and is spent where that is.
+    pub fn copy(&self) -> Result<Device, AllocError>
+        ensures { IfOk result (λ d. d ≡ self.now) }
+    {
+        Ok(Device {
+            machine: self.machine.copy()?,
+            spent: self.spent,
+        })
+    }
+
+    /// The second that the device's clock shows, from 0 at its start. What a spent device shows is
+    /// open.
+    pub fn clock(&self) -> u64
+        ensures { (f : Flat) → Shows self.now f → result ≡ f.kept.clock }
+    {
+        self.machine.clock()
+    }
+
+    /// Takes an event, and gives what the device puts out, in order.
+    ///
+    /// `Memory` leaves the device spent; `Spent` says that it was spent, and changes nothing.
+    pub fn step(&mut self, event: &Event) -> Result<Outputs, StepFault>
+        ensures outputs { (f : Flat) → Shows self.old f → IfOk result (λ o. o ≡ outputs_of f event.now) }
+        ensures shows { (f : Flat) → Shows self.old f → OnOk result (Shows self.new (flat_after f event.now)) }
+        ensures spent { (result ≡ Err StepFault.Spent) ↔ IsTrue (is_refused self.old event.now) }
+        ensures unchanged { result ≡ Err StepFault.Spent → self.new ≡ self.old }
+        ensures memory { result ≡ Err StepFault.Memory → IsTrue self.new.spent }
+    {
+        if self.spent || passes_end(self.machine.clock(), event) {
+            return Err(StepFault::Spent);
+        }
+        self.spent = true;
+        let outputs = self.machine.react(event)?;
+        self.spent = false;
+        Ok(outputs)
+    }
+
+    /// The value at a path of three or four numbers, lent. What a spent device lends is open.
+    pub fn value(&self, path: &Path) -> Option<&Value>
+        ensures { (f : Flat) → Shows self.now f → option_copied result ≡ value_in f.kept (full_path path.now) }
+    {
+        let path = path.full()?;
+        self.machine.store().get(path)
+    }
+}

@@ -1,0 +1,68 @@
+ghost use Rattle.std.specs.Prelude.{◌≡◌, ◌∷◌, [], IfOk};
+
+use octets::Bytes;
+use std::alloc::{AllocError, Global};
+use std::marker::Model;
+
+/// What a device does beside sending.
+#[derive(Clone, Copy, Debug, PartialEq, Eq)]
+pub enum Act {
+    /// A value that was to change does not fit: nothing changed.
+    Missed,
+}
+
+/// What a device puts out.
+#[derive(Clone, Debug, Drop)]
+pub enum Output {
+    /// A datagram is sent.
+    Send {
+        /// The Short Server ID of the server that it goes to.
+        server: u16,
+        /// The bytes of the datagram.
+        bytes: Bytes,
+    },
+    /// The device does this.
+    Act(Act),
+}
+
+/// The outputs of one event, in order. Contracts see their list.
+#[derive(Clone, Debug, Drop)]
+pub struct Outputs {
+    items: Vec<Output>,
+}
+
+impl Model for Outputs {
+    ghost use Rattle.std.specs.Prelude.{List};
+    ghost use Rattle.device_machine.specs.declared.output.Output.{Output};
+
+    ghost Value = { List Output };
+
+    ghost view = { λ o. o.items.items };
+}
+
+impl Outputs {
+    /// No output.
+    pub(crate) fn none(alloc: Global) -> Outputs
+        ensures { result ≡ [] }
+    {
+        Outputs {
+            items: Vec::new(alloc),
+        }
+    }
+
+    /// One output.
+    pub(crate) fn one(alloc: Global, output: Output) -> Result<Outputs, AllocError>
+        ensures { IfOk result (λ o. o ≡ output ∷ []) }
+    {
+        let mut items = Vec::with_capacity(alloc, 1)?;
+        items.push(output)?;
+        Ok(Outputs { items })
+    }
+
+    /// The outputs, lent, in order.
+    pub fn as_slice(&self) -> &[Output]
+        ensures { result.now ≡ self.now }
+    {
+        self.items.as_slice()
+    }
+}

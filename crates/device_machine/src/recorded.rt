@@ -1,0 +1,39 @@
+ghost use Rattle.std.specs.Prelude.{◌≡◌, IfOk};
+
+use coap_codec::Kind;
+use octets::Bytes;
+use std::alloc::AllocError;
+
+/// A request that was received.
+#[derive(Debug, Drop)]
+pub struct Recorded {
+    /// The Short Server ID of its server.
+    pub server: u16,
+    /// Its type, CON or NON.
+    pub kind: Kind,
+    /// Its message ID.
+    pub mid: u16,
+    /// The second in which it was received, by the device's clock.
+    pub second: u64,
+    /// The datagram that replied, or none where there was no reply.
+    pub reply: Option<Bytes>,
+}
+
+impl Recorded {
+    /// A copy, which equals its source.
+    pub(crate) fn copy(&self) -> Result<Recorded, AllocError>
+        ensures { IfOk result (λ r. r ≡ self.now) }
+    {
+        let reply = match &self.reply {
+            None => None,
+            Some(bytes) => Some(bytes.clone()?),
+        };
+        Ok(Recorded {
+            server: self.server,
+            kind: self.kind,
+            mid: self.mid,
+            second: self.second,
+            reply,
+        })
+    }
+}

@@ -1,0 +1,374 @@
+//! Datagrams to a small device and what it sends, from the standards and this profile.
+
+use crate::{Act, Device, Event, Output, Template, TemplateFault};
+use lwm2m_values::{Text, Value};
+use object_defs::Path;
+use octets::Bytes;
+use std::alloc::Global;
+use std::process::Abort;
+use std::test::Fail;
+
+/// A device of server 1 with Server, Device and Firmware Update.
+fn template(alloc: Global) -> Result<Template, Fail> {
+    let mut template = Template::new(alloc)?;
+    template.add_account(1)?;
+    template.add_instance(1, 0)?;
+    template.add_instance(3, 0)?;
+    template.add_instance(5, 0)?;
+    template.add_value(Path::Resource(1, 0, 0), Value::Whole(1))?;
+    template.add_value(Path::Resource(1, 0, 6), Value::Flag(false))?;
+    let bench = Value::Text(Text::from_str(alloc, "Bench")?);
+    template.add_value(Path::Resource(3, 0, 0), bench)?;
+    template.add_value(Path::Part(3, 0, 6, 0), Value::Whole(1))?;
+    template.add_value(Path::Part(3, 0, 6, 1), Value::Whole(5))?;
+    template.add_value(Path::Resource(3, 0, 9), Value::Whole(100))?;
+    Ok(template)
+}
+
+fn bytes_of(alloc: Global, text: &str) -> Result<Bytes, Fail> {
+    Ok(Bytes::from_vec(hex::decode(alloc, text)?))
+}
+
+/// What a device puts out on an event, in hexadecimal; empty where it puts out nothing.
+fn outputs(alloc: Global, device: &mut Device, event: &Event) -> Result<String, Fail> {
+    let outputs = device.step(event)?;
+    let mut text = String::new(alloc);
+    for output in outputs.as_slice() {
+        match output {
+            Output::Send { server: 1, bytes } => {
+                let line = hex::encode_upper(alloc, bytes.as_slice())?;
+                text.push_str(line.as_str())?;
+            }
+            Output::Send { .. } => return Err(Fail::from("another server")),
+            Output::Act(Act::Missed) => text.push_str("missed")?,
+        }
+    }
+    Ok(text)
+}
+
+/// What a device sends on a datagram.
+fn sent(alloc: Global, device: &mut Device, server: u16, datagram: Bytes) -> Result<String, Fail> {
+    let event = Event::Recv {
+        server,
+        bytes: datagram,
+    };
+    outputs(alloc, device, &event)
+}
+
+/// A fresh device for each datagram, so that the first message ID of a NON reply is 0.
+fn answers(rt: &impl Abort, alloc: Global, rows: &[(&str, &str)]) -> Result<(), Fail> {
+    let template = template(alloc)?;
+    for (request, reply) in rows {
+        let mut device = Device::start(&template)?;
+        let got = sent(alloc, &mut device, 1, bytes_of(alloc, request)?)?;
+        assert_eq!(rt; got.as_str(), *reply, "{request}");
+    }
+    Ok(())
+}
+
+#[test]
+fn reads_a_single_resource(rt: HostRuntime) -> Result<(), Fail> {
+    answers(
+        &rt,
+        rt.alloc(),
+        &[
+            // the battery level, and the same with the format of Accept 0
+            ("40010001B13301300139", "60450001C0FF313030"),
+            ("40010001B1330130013960", "60450001C0FF313030"),
+            // the manufacturer, with a token
+            ("42010002A1A2B13301300130", "62450002A1A2C0FF42656E6368"),
+            // the firmware update's state, URI and result are set at the start
+            ("40010003B13501300133", "60450003C0FF30"),
+            ("40010003B13501300131", "60450003C0"),
+            ("40010003B13501300135", "60450003C0FF30"),
+            // a Boolean
+            ("40010004B13101300136", "60450004C0FF30"),
+            // NON: the first message ID of the device is 0
+            ("50010006B13301300139", "50450000C0FF313030"),
+        ],
+    )
+}
+
+#[test]
+fn answers_at_the_message_layer(rt: HostRuntime) -> Result<(), Fail> {
+    answers(
+        &rt,
+        rt.alloc(),
+        &[
+            ("40000007", "70000007"),
+            ("50000007", ""),
+            ("60000007", ""),
+            ("70000007", ""),
+            ("30", ""),
+            ("", ""),
+            ("4F010008", "70000008"),
+            ("5F010008", ""),
+            ("40010009FF", "70000009"),
+            ("80010001", ""),
+            // a response in a CON, and in a NON
+            ("4045000AC0FF313030", "7000000A"),
+            ("5045000AC0FF313030", ""),
+        ],
+    )
+}
+
+#[test]
+fn judges_options(rt: HostRuntime) -> Result<(), Fail> {
+    answers(
+        &rt,
+        rt.alloc(),
+        &[
+            // Block2 is critical and not recognized
+            ("40010003B13301300139C106", "60820003"),
+            ("50010005B13301300139C106", ""),
+            // option 14 is elective
+            ("40010004B13301300139310A", "60450004C0FF313030"),
+            // option 280 is elective, 281 critical
+            ("40010062B13301300139E00000", "60450062C0FF313030"),
+            ("40010063B13301300139E00001", "60820063"),
+            // an elective option of thirteen bytes
+            (
+                "40010064B133013001394D0061616161616161616161616161",
+                "60450064C0FF313030",
+            ),
+            // Accept of three bytes; a second Accept; Uri-Host of no byte
+            ("40010005B1330130013963000000", "60820005"),
+            ("40010006B133013001396000", "60820006"),
+            ("4001000730813301300139", "60820007"),
+            // Accept with a leading zero asks for links
+            ("40010008B13301300139620028", "60A10008"),
+            // Accept of TLV is not served yet
+            ("40010009B13301300139622D16", "60860009"),
+        ],
+    )
+}
+
+#[test]
+fn refuses_in_the_order_of_the_lines(rt: HostRuntime) -> Result<(), Fail> {
+    answers(
+        &rt,
+        rt.alloc(),
+        &[
+            // Not Found: no path, five segments, leading zeros, a sign, a number of 17 bits
+            ("40010010", "60840010"),
+            ("40010011B1330130013901310131", "60840011"),
+            ("40010012B23030", "60840012"),
+            ("40010013B22B33", "60840013"),
+            ("40010014B53635353336", "60840014"),
+            // Method Not Allowed: method 0.05, and without a path Not Found comes first
+            ("40050026B133", "60850026"),
+            ("40050027", "60840027"),
+            ("40030028B133", "60850028"),
+            ("40040029B13301300139", "60850029"),
+            ("4002002AB133013001360130", "6085002A"),
+            // Unauthorized: object 0, before Not Found
+            ("40010024B1300130", "60810024"),
+            ("40010024B13001300130", "60810024"),
+            // not implemented yet: Discover, Write, Execute, Read of an instance and of a part
+            ("40010023B133013001396128", "60A10023"),
+            ("40030020B1330130023134FF2B30313A3030", "60A10020"),
+            ("40020021B13301300134", "60A10021"),
+            ("40010022B1330130", "60A10022"),
+            ("40010022B133013001360130", "60A10022"),
+            // Not Found: an object, an instance, a resource that is not defined, one not held
+            ("40010025B13901300130", "60840025"),
+            ("40010025B13301310139", "60840025"),
+            ("40010025B1330130023939", "60840025"),
+            ("40010025B13301300131", "60840025"),
+            ("40010025B13301300137", "60840025"),
+            // Method Not Allowed: an executable resource, and a write-only one
+            ("40010030B13301300134", "60850030"),
+            ("40010030B13501300130", "60850030"),
+            // a multiple resource that is held is not implemented yet
+            ("40010003B13301300136", "60A10003"),
+            // Not Acceptable
+            ("40010031B13301300139612A", "60860031"),
+        ],
+    )
+}
+
+#[test]
+fn counts_message_ids_of_non_confirmable_replies(rt: HostRuntime) -> Result<(), Fail> {
+    let alloc = rt.alloc();
+    let template = template(alloc)?;
+    let mut device = Device::start(&template)?;
+    let rows = [
+        ("50010006B13301300139", "50450000C0FF313030"),
+        ("40010007B13301300139", "60450007C0FF313030"),
+        ("50010008B13301300139C106", ""),
+        ("50010009B139", "50A10001"),
+        ("5001000AB13301300139", "50450002C0FF313030"),
+    ];
+    for (request, reply) in rows {
+        let got = sent(alloc, &mut device, 1, bytes_of(alloc, request)?)?;
+        assert_eq!(rt; got.as_str(), reply, "{request}");
+    }
+    // a server that is no account
+    let request = bytes_of(alloc, "40010001B13301300139")?;
+    assert_eq!(rt; sent(alloc, &mut device, 2, request)?.as_str(), "");
+    assert_eq!(rt; device.value(&Path::Instance(3, 0)).is_some(), false);
+    assert_eq!(rt; device.value(&Path::Part(3, 0, 6, 1)).is_some(), true);
+    match device.value(&Path::Resource(3, 0, 9)) {
+        Some(Value::Whole(level)) => assert_eq!(rt; *level, 100),
+        _ => return Err(Fail::from("no battery level")),
+    }
+    Ok(())
+}
+
+fn put(path: Path, number: i64) -> Event {
+    Event::Put {
+        path,
+        value: Value::Whole(number),
+    }
+}
+
+#[test]
+fn repeats_a_request_within_its_lifetime(rt: HostRuntime) -> Result<(), Fail> {
+    let alloc = rt.alloc();
+    let template = template(alloc)?;
+    let mut device = Device::start(&template)?;
+    let level = Path::Resource(3, 0, 9);
+    let con = Event::Recv {
+        server: 1,
+        bytes: bytes_of(alloc, "40010001B13301300139")?,
+    };
+    // other bytes, of the same type and message ID
+    let same_id = Event::Recv {
+        server: 1,
+        bytes: bytes_of(alloc, "40010001B139")?,
+    };
+    let non = Event::Recv {
+        server: 1,
+        bytes: bytes_of(alloc, "50010061B13301300139")?,
+    };
+    let rows = [
+        (&con, "60450001C0FF313030"),
+        (&put(level, 90), ""),
+        (&Event::Tick(246), ""),
+        (&con, "60450001C0FF313030"),
+        (&same_id, "60450001C0FF313030"),
+        (&Event::Tick(1), ""),
+        (&con, "60450001C0FF3930"),
+        (&non, "50450000C0FF3930"),
+        (&Event::Tick(144), ""),
+        (&non, ""),
+        (&Event::Tick(1), ""),
+        (&non, "50450001C0FF3930"),
+    ];
+    for (place, (event, wanted)) in rows.iter().enumerate() {
+        let got = outputs(alloc, &mut device, event)?;
+        assert_eq!(rt; got.as_str(), *wanted, "{place}");
+    }
+    assert_eq!(rt; device.clock(), 392);
+    // a copy goes its own way
+    let mut copy = device.copy()?;
+    let _ = outputs(alloc, &mut copy, &Event::Tick(1))?;
+    assert_eq!(rt; copy.clock(), 393);
+    assert_eq!(rt; device.clock(), 392);
+    Ok(())
+}
+
+#[test]
+fn puts_what_fits(rt: HostRuntime) -> Result<(), Fail> {
+    let alloc = rt.alloc();
+    let template = template(alloc)?;
+    let mut device = Device::start(&template)?;
+    let rows = [
+        (put(Path::Resource(3, 0, 9), 7), ""),
+        (put(Path::Resource(3, 0, 10), 7), ""),
+        (put(Path::Part(3, 0, 6, 65535), 7), ""),
+        // of another kind, not readable, set by the device itself, not defined
+        (put(Path::Resource(3, 0, 0), 7), "missed"),
+        (put(Path::Resource(3, 0, 4), 7), "missed"),
+        (put(Path::Resource(5, 0, 3), 7), "missed"),
+        (put(Path::Resource(3, 0, 99), 7), "missed"),
+        // two numbers, no part, no instance, no object
+        (put(Path::Instance(3, 0), 7), "missed"),
+        (put(Path::Resource(3, 0, 6), 7), "missed"),
+        (put(Path::Resource(3, 1, 9), 7), "missed"),
+        (put(Path::Resource(4, 0, 9), 7), "missed"),
+    ];
+    for (event, wanted) in &rows {
+        assert_eq!(rt;
+            outputs(alloc, &mut device, event)?.as_str(),
+            *wanted,
+            "{event:?}"
+        );
+    }
+    for part in 0..29 {
+        let got = outputs(alloc, &mut device, &put(Path::Part(3, 0, 6, part + 2), 7))?;
+        assert_eq!(rt; got.as_str(), "", "{part}");
+    }
+    // a 33rd part, and one that is there
+    let full = outputs(alloc, &mut device, &put(Path::Part(3, 0, 6, 100), 7))?;
+    assert_eq!(rt; full.as_str(), "missed");
+    let held = outputs(alloc, &mut device, &put(Path::Part(3, 0, 6, 0), 7))?;
+    assert_eq!(rt; held.as_str(), "");
+    Ok(())
+}
+
+#[test]
+fn answers_datagrams_of_any_length(rt: HostRuntime) -> Result<(), Fail> {
+    let alloc = rt.alloc();
+    let template = template(alloc)?;
+    for length in [65_535, 70_000] {
+        let mut device = Device::start(&template)?;
+        let mut datagram = Vec::from_elem(alloc, 0u8, length)?;
+        for (place, byte) in [0x40u8, 1, 0, 1, 0xFF].iter().enumerate() {
+            if let Some(at) = datagram.get_mut(place) {
+                *at = *byte;
+            }
+        }
+        let got = sent(alloc, &mut device, 1, Bytes::from_vec(datagram))?;
+        assert_eq!(rt; got.as_str(), "60840001");
+    }
+    Ok(())
+}
+
+#[test]
+fn template_refuses_in_order(rt: HostRuntime) -> Result<(), Fail> {
+    let alloc = rt.alloc();
+    let mut template = template(alloc)?;
+    assert_eq!(rt; template.add_account(0), Err(TemplateFault::Range));
+    assert_eq!(rt; template.add_account(65535), Err(TemplateFault::Range));
+    assert_eq!(rt; template.add_account(1), Err(TemplateFault::Duplicate));
+    assert_eq!(rt; template.add_account(2), Err(TemplateFault::Full));
+    assert_eq!(rt; template.add_instance(0, 0), Err(TemplateFault::Range));
+    assert_eq!(rt; template.add_instance(3, 1), Err(TemplateFault::Range));
+    assert_eq!(rt; template.add_instance(4, 65535), Err(TemplateFault::Range));
+    assert_eq!(rt; template.add_instance(4, 0), Err(TemplateFault::Missing));
+    assert_eq!(rt; template.add_instance(3, 0), Err(TemplateFault::Duplicate));
+    for instance in 1..64 {
+        template.add_instance(1, instance)?;
+    }
+    assert_eq!(rt; template.add_instance(1, 64), Err(TemplateFault::Full));
+    let rows = [
+        (Path::Instance(3, 0), TemplateFault::Range),
+        (Path::Resource(3, 0, 99), TemplateFault::Range),
+        (Path::Resource(3, 0, 4), TemplateFault::Range),
+        (Path::Resource(3, 0, 0), TemplateFault::Range),
+        (Path::Resource(3, 0, 6), TemplateFault::Range),
+        (Path::Part(3, 0, 9, 0), TemplateFault::Range),
+        (Path::Resource(5, 0, 3), TemplateFault::Range),
+        (Path::Resource(4, 0, 0), TemplateFault::Missing),
+        (Path::Resource(3, 1, 9), TemplateFault::Missing),
+        (Path::Resource(3, 0, 9), TemplateFault::Duplicate),
+        (Path::Part(3, 0, 6, 1), TemplateFault::Duplicate),
+    ];
+    for (path, fault) in rows {
+        assert_eq!(rt;
+            template.add_value(path, Value::Whole(7)),
+            Err(fault),
+            "{path:?}"
+        );
+    }
+    for part in 2..32 {
+        template.add_value(Path::Part(3, 0, 6, part), Value::Whole(7))?;
+    }
+    let last = template.add_value(Path::Part(3, 0, 6, 32), Value::Whole(7));
+    assert_eq!(rt; last, Err(TemplateFault::Full));
+    let copy = template.copy()?;
+    let device = Device::start(&copy)?;
+    assert_eq!(rt; device.value(&Path::Part(3, 0, 6, 31)).is_some(), true);
+    Ok(())
+}

@@ -1,0 +1,26 @@
+-- A clone of a value is that value.
+use Rattle.std.proofs.Common.{◌≡◌, List, [], ◌∷◌, refl, ap, sym, ◌∙◌, rules}
+use Rattle.std.specs.List.{AllZip}
+use Rattle.lwm2m_values.specs.declared.value.Value.{Value}
+use Rattle.lwm2m_values.specs.declared.value.Value.TheVariants.{Text, Whole, Flag, Opaque, Moment, Link}
+use Rattle.instance_store.specs.Numbers.{NumberSet, set_of}
+use Rattle.instance_store.specs.contracts.numbers.NumbersClone.TheImpl.{is_clone-value}
+use Rattle.lwm2m_values.specs.contracts.value.ValueClone.TheImpl.{by_variants}
+
+pub same_list : {X : Type 0} (C : X → X → Type 0) → ((x y : X) → C x y → y ≡ x) → (xs ys : List X) → AllZip C xs ys → ys ≡ xs
+same_list C same [] [] h = refl
+same_list C same [] (y ∷ ys) h = absurd h
+same_list C same (x ∷ xs) [] h = absurd h
+same_list C same (x ∷ xs) (y ∷ ys) h = λ i. same x y h.0 i ∷ same_list C same xs ys h.1 i
+
+pub same_value : (v w : Value) → by_variants v w → w ≡ v
+same_value (Text a) (Text b) h = search rules
+same_value (Whole a) (Whole b) h = search rules
+same_value (Flag a) (Flag b) h = search rules
+same_value (Opaque a) (Opaque b) h = ap Opaque (sym h.3 ∙ same_list _ (λ x y k. k) _ _ h.4.0 ∙ h.2)
+same_value (Moment a) (Moment b) h = search rules
+same_value (Link a x) (Link b y) h = search rules
+same_value v w h = absurd h
+
+pub same_numbers : (v w : NumberSet) → is_clone-value.it v w → w ≡ v
+same_numbers v w h = sym h.3 ∙ ap set_of (same_list _ (λ x y k. k) _ _ h.4.0) ∙ h.2

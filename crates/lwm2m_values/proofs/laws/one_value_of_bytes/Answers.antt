@@ -1,0 +1,5 @@
+use Rattle.lwm2m_values.proofs.OneBytes.{bytes_written, one_value_of_bytes, no_shorter_bytes}
+use Rattle.lwm2m_values.proofs.laws.one_value_of_bytes.Goals as goal
+
+pub returns : goal.returns
+returns c = record { written = bytes_written; one = one_value_of_bytes; shortest = no_shorter_bytes }

@@ -1,0 +1,73 @@
+ghost use Rattle.std.specs.Prelude.{◌≡◌, ◌≢◌, List, ℕ, length, Some, IfOk, IfErr, IsErrAnd, MatchResult};
+ghost use Rattle.lwm2m_values.specs.declared.fault.TlvFault.{TlvFault};
+ghost use Rattle.lwm2m_values.specs.declared.fault.TlvFault.TheVariants.{Memory};
+ghost use Rattle.lwm2m_values.specs.declared.level.Level.{Level};
+ghost use Rattle.lwm2m_values.specs.declared.level.Level.TheVariants.{Top};
+ghost use Rattle.lwm2m_values.specs.Tree.{Trees, tree_of, trees_of};
+ghost use Rattle.lwm2m_values.specs.Tlv.{IsNodes, IsTlv, Holds, HasFault, inside};
+
+use crate::fault::TlvFault;
+use crate::level::{Level, RecordType, may_stand};
+use crate::node::{Node, instance_node, multi_node, part_node, single_node};
+use crate::record::record_at;
+use octets::Bytes;
+use std::alloc::Global;
+
+/// The nodes whose records the bytes are, at this level.
+// Each call within goes to records that hold less, and no record may stand below the third level, so no input runs
+// the stack out.
+#[cycle(reading)]
+fn nodes_of(alloc: Global, level: Level, bytes: &[u8]) -> Result<Vec<Node>, TlvFault>
+    ensures found { IfOk result (λ v. IsNodes (trees_of v.items) level bytes.now) }
+    ensures fault { IfErr result (λ f. f ≢ Memory → HasFault level bytes.now f) }
+{
+    let mut nodes = Vec::new(alloc);
+    let mut rest = bytes;
+    while !rest.is_empty() {
+        let Some(record) = record_at(rest) else {
+            return Err(TlvFault::Cut);
+        };
+        if !may_stand(level, record.kind) {
+            return Err(TlvFault::Nesting);
+        }
+        let node = node_of(alloc, record.kind, record.id, record.content)?;
+        nodes.push(node)?;
+        rest = record.rest;
+    }
+    Ok(nodes)
+}
+
+/// The node of a record.
+#[cycle(reading)]
+fn node_of(alloc: Global, kind: RecordType, id: u16, content: &[u8]) -> Result<Node, TlvFault>
+    ensures found { IfOk result (λ n. Holds (tree_of n) kind id content.now) }
+    ensures fault { IfErr result (λ f. f ≢ Memory → (inner : Level) × (inside kind ≡ Some inner) × HasFault inner content.now f) }
+{
+    match kind {
+        RecordType::Instance => {
+            let children = nodes_of(alloc, Level::InInstance, content)?;
+            Ok(instance_node(id, children))
+        }
+        RecordType::Multi => {
+            let parts = nodes_of(alloc, Level::InMulti, content)?;
+            Ok(multi_node(id, parts))
+        }
+        RecordType::Part => Ok(part_node(id, Bytes::from_slice(alloc, content)?)),
+        RecordType::Single => Ok(single_node(id, Bytes::from_slice(alloc, content)?)),
+    }
+}
+
+/// The nodes whose TLV the bytes are.
+pub fn read_tlv(alloc: Global, bytes: &[u8]) -> Result<Vec<Node>, TlvFault>
+    ensures found { IfOk result (λ v. IsTlv (trees_of v.items) bytes.now) }
+    // There are no other nodes of these bytes, and where there are some they are read, unless memory runs out.
+    ensures only { (nodes : Trees) → IsTlv nodes bytes.now
+        → MatchResult result (λ v. trees_of v.items ≡ nodes) (λ f. f ≡ Memory) }
+    ensures fault { IfErr result (λ f. f ≢ Memory → HasFault Top bytes.now f) }
+    ensures refused { (f : TlvFault) → HasFault Top bytes.now f → IsErrAnd result (λ g. g ≢ Memory → g ≡ f) }
+{
+    nodes_of(alloc, Level::Top, bytes)
+}
+
+#[cfg(test)]
+mod tests;
