@@ -1,4 +1,4 @@
-ghost use Rattle.std.specs.Prelude.{◌≡◌, ◌≤◌, ◌<◌, ◌+◌, ◌*◌, ◌++◌, ◌∷◌, [], length, IfOk, OnOk};
+ghost use Rattle.std.specs.Prelude.{◌≡◌, ◌≤◌, ◌<◌, ◌+◌, ◌*◌, ◌++◌, length, IfOk, OnOk};
 ghost use Rattle.coap_codec.specs.Message.{Spells, MayFollow, IsOptionList, kind_number, header_bytes, nibble_of, extension_of, option_bytes, options_bytes, payload_bytes, spelling};
 
 use crate::{Kind, Message, Opt};

@@ -1,2 +1,3 @@
 mod Living
 mod Paths
+mod Repeating

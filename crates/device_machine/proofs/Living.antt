@@ -18,7 +18,7 @@ use Rattle.lwm2m_values.specs.declared.value.Value.{Value}
 use Rattle.object_defs.specs.Path.{full_path}
 use Rattle.object_defs.specs.declared.path.FullPath.{FullPath}
 use Rattle.device_machine.specs.State.{Kept, Flat, lifetime, is_live, living}
-use Rattle.device_machine.specs.Reactions.{Reaction, reply_to, kept_after, on_fresh, repeat_of, is_same, on_request, on_message, on_noise, on_datagram, has_account, claims_confirmable, is_request, reaction_to}
+use Rattle.device_machine.specs.Reactions.{Reaction, reply_to, kept_after, on_fresh, repeat_of, is_same, on_request, on_message, on_datagram, has_account, claims_confirmable, is_request, reaction_to}
 
 -- a filter behind a weaker one
 pub filter-filter : {X : Type 0} (p q : X → Bool) → ((x : X) → q x ≡ true → p x ≡ true) → (xs : List X) → filter q (filter p xs) ≡ filter q xs
@@ -42,7 +42,7 @@ find-filter p q (x ∷ xs) =
     ] refl
 
 -- what lives later lives now
-live_later : (clock n second life : ℕ) → nat_lt (clock + n - second) life ≡ true → nat_lt (clock - second) life ≡ true
+pub live_later : (clock n second life : ℕ) → nat_lt (clock + n - second) life ≡ true → nat_lt (clock - second) life ≡ true
 live_later clock n second life h = grind (arith, nat_tests)
 
 -- two reactions that look alike
@@ -78,7 +78,7 @@ same_pushed : (clock : ℕ) (xs ys zs : List Recorded) → SameLiving clock xs y
 same_pushed clock xs ys zs h =
     filter-append (λ r. is_live clock r) xs zs ∙ ap (λ t. t ++ filter (λ r. is_live clock r) zs) h ∙ sym (filter-append (λ r. is_live clock r) ys zs)
 
-clock_after : (k : Kept) (kind : Kind) (reply : Option Parts) → (kept_after k kind reply).clock ≡ k.clock
+pub clock_after : (k : Kept) (kind : Kind) (reply : Option Parts) → (kept_after k kind reply).clock ≡ k.clock
 clock_after k Con reply = refl
 clock_after k Non None = refl
 clock_after k Non (Some reply) = refl

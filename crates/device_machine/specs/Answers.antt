@@ -18,7 +18,7 @@ use Rattle.device_machine.specs.declared.answer.Answer.{Answer}
 use Rattle.device_machine.specs.declared.answer.Code.{Code}
 use Rattle.device_machine.specs.declared.answer.Code.TheVariants.{Content, Unauthorized, BadOption, NotFound, MethodNotAllowed, NotAcceptable, InternalServerError, NotImplemented}
 use Rattle.device_machine.specs.declared.operation.Operation.{Operation}
-use Rattle.device_machine.specs.declared.operation.Operation.TheVariants.{Read, Discover, WriteAttributes, WriteReplace, WritePartial, Create, Execute, Delete}
+use Rattle.device_machine.specs.declared.operation.Operation.TheVariants.{Read}
 use Rattle.device_machine.specs.Lines.{first_line}
 use Rattle.device_machine.specs.Operations.{operation_of}
 use Rattle.device_machine.specs.Options.{accept_of, has_query, segments_of}

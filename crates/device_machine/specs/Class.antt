@@ -1,19 +1,13 @@
 -- What a template holds, what it refuses, and the flat state that a device starts in.
-use Rattle.std.specs.Prelude.{ℕ, ◌==◌, nat_le, nat_lt, Bool, true, false, not, ◌&&◌, ◌||◌, List, [], ◌∷◌, ◌++◌, length, pos, Option, None, Some, is_some, is_none, if◌then◌else◌}
+use Rattle.std.specs.Prelude.{ℕ, ◌==◌, nat_le, Bool, not, ◌&&◌, ◌||◌, List, [], ◌∷◌, ◌++◌, length, pos, Option, None, Some, is_some, if◌then◌else◌}
 use Rattle.std.specs.List.{list_any}
-use Rattle.lwm2m_values.specs.declared.kind.ValueKind.{ValueKind}
-use Rattle.lwm2m_values.specs.declared.kind.ValueKind.TheVariants as kind
 use Rattle.lwm2m_values.specs.declared.value.Value.{Value}
-use Rattle.lwm2m_values.specs.declared.value.Value.TheVariants.{Text, Whole, Flag, Opaque, Moment, Link}
-use Rattle.object_defs.specs.Catalogue.{object_of, resource_in}
-use Rattle.object_defs.specs.Path.{full_path}
+use Rattle.lwm2m_values.specs.declared.value.Value.TheVariants.{Text, Whole}
+use Rattle.object_defs.specs.Catalogue.{object_of}
 use Rattle.object_defs.specs.declared.definition.ObjectDef.{ObjectDef}
-use Rattle.object_defs.specs.declared.definition.ResourceDef.{ResourceDef}
 use Rattle.object_defs.specs.declared.path.FullPath.{FullPath}
 use Rattle.object_defs.specs.declared.path.InstancePath.{InstancePath}
-use Rattle.object_defs.specs.declared.path.Path.{Path}
-use Rattle.object_defs.specs.declared.path.ResourcePath.{ResourcePath}
-use Rattle.instance_store.specs.Stored.{Stored, value_at, value_count, has_instance, instances_of, parts_of, with_value, with_instance}
+use Rattle.instance_store.specs.Stored.{Stored, value_at, value_count, has_instance, instances_of, with_value}
 use Rattle.device_machine.specs.declared.fault.TemplateFault.{TemplateFault}
 use Rattle.device_machine.specs.declared.fault.TemplateFault.TheVariants.{Range, Missing, Duplicate, Full}
 use Rattle.device_machine.specs.Lines.{first_line}

@@ -1,5 +1,6 @@
 pub mod Answers
 pub mod Class
+pub mod Laws
 pub mod Lines
 pub mod Operations
 pub mod Options

@@ -1,5 +1,5 @@
 -- What the answers of several functions need.
-use Rattle.std.proofs.Common.{◌≡◌, Result, Ok, Err, MatchResult, IfOk, OnErr, OnOk}
+use Rattle.std.proofs.Common.{Result, Ok, Err, MatchResult, IfOk, OnErr}
 
 pub on_err : {X E : Type 0} (r : Result X E) (P : Type 0) → P → OnErr r P
 on_err (Ok x) P p = tt

@@ -1,9 +1,8 @@
 -- Sets of numbers, as ascending lists.
-use Rattle.std.proofs.Common.{◌≡◌, ℕ, ◌<◌, ◌≤◌, ◌+◌, Bool, true, false, cond, not, ◌&&◌, ◌||◌, eqb, List, [], ◌∷◌, ◌++◌, map, take, drop, length, get_or, Option, None, Some, Result, Ok, Err, Ordering, refl, sym, ap, subst, ◌∙◌, arith, take-append-drop, MatchResult, inl, inr, ◌-◌}
-use Rattle.std.specs.Option.{is_some}
+use Rattle.std.proofs.Common.{◌≡◌, ℕ, ◌<◌, ◌≤◌, ◌+◌, Bool, true, false, cond, not, ◌||◌, eqb, List, [], ◌∷◌, ◌++◌, map, take, drop, length, get_or, Result, Ok, Err, refl, sym, ap, subst, ◌∙◌, arith, take-append-drop, inl, inr, ◌-◌}
 use Rattle.std.specs.Result.{is_ok}
-use Rattle.std.specs.List.{filter, list_any, insert, Contains}
-use Rattle.std.specs.List.Sorted.{IsStrictlySortedBy, IsStrictlyIncreasing, IsBinarySearchResult}
+use Rattle.std.specs.List.{filter, list_any, insert}
+use Rattle.std.specs.List.Sorted.{IsStrictlyIncreasing, IsBinarySearchResult}
 use Rattle.std.specs.Ordering.{nat_cmp, eq_by_cmp}
 use Rattle.std.specs.Cmp.{nat_cmp_total, eq_by_cmp_equiv}
 use Rattle.std.specs.Map.{keys_of}
@@ -18,7 +17,7 @@ use Rattle.std.proofs.lemmas.Map.Keys.{sorted_from_strictly_increasing, non_decr
 use Rattle.std.proofs.lemmas.Map.Lookups.{exact_unsigned}
 use Rattle.std.proofs.lemmas.Map.Views.{Contains-from_any, list_any-from_Contains}
 use Rattle.object_defs.proofs.MapLaws.{units, has_units, one_added, one_dropped, entries-from_entries}
-use Rattle.instance_store.specs.Numbers.{NumberSet, set_of}
+use Rattle.instance_store.specs.Numbers.{set_of}
 
 keys_of-units : (xs : List ℕ) → keys_of (units xs) ≡ xs
 keys_of-units [] = refl

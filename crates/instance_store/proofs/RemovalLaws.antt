@@ -1,5 +1,5 @@
 -- The values at or below a path, taken out one by one.
-use Rattle.std.proofs.Common.{◌≡◌, Bool, true, false, cond, not, List, [], ◌∷◌, Option, None, Some, Ordering, refl, sym, ap, subst, ◌∙◌}
+use Rattle.std.proofs.Common.{◌≡◌, Bool, true, false, cond, not, List, [], ◌∷◌, Option, None, Some, Ordering, refl, sym, ap, ◌∙◌}
 use Rattle.std.specs.Option.{IsSome}
 use Rattle.std.specs.List.{filter}
 use Rattle.std.specs.Ordering.{is_eq}
@@ -16,7 +16,7 @@ use Rattle.object_defs.specs.Path.{path_cmp}
 use Rattle.object_defs.proofs.MapLaws.{kept_keys}
 use Rattle.object_defs.proofs.PathOrder.{path_total, path_exact}
 use Rattle.instance_store.specs.Stored.{lies_in}
-use Rattle.instance_store.proofs.Intervals.{from, lying, nothing_left, started, Closed}
+use Rattle.instance_store.proofs.Intervals.{from}
 
 is_equal : (r : Ordering) → is_eq r ≡ true → r ≡ Equal
 is_equal Less h = cc

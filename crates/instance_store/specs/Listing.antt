@@ -1,5 +1,5 @@
 -- Where a listing below a path begins.
-use Rattle.std.specs.Prelude.{ℕ, List, map as map_list, None, Some}
+use Rattle.std.specs.Prelude.{List, map as map_list, None, Some}
 use Rattle.std.proofs.Common.{Bor}
 use Rattle.lwm2m_values.specs.declared.value.Value.{Value}
 use Rattle.object_defs.specs.declared.path.Path.{Path}

@@ -1,5 +1,5 @@
 -- What a store holds, and how a call changes it (OMA LwM2M 1.1 Core: objects, instances, resources and resource instances).
-use Rattle.std.specs.Prelude.{ℕ, ◌==◌, ◌&&◌, not, Bool, true, false, List, map, Option, None, Some, is_some, nat_le, length, refl}
+use Rattle.std.specs.Prelude.{ℕ, ◌==◌, ◌&&◌, not, Bool, false, List, map, Option, None, Some, is_some, nat_le, length, refl}
 use Rattle.std.specs.List.{filter, filter_map, dedup}
 use Rattle.std.specs.Coded.{Coded, code_by, coded×}
 use Rattle.std.specs.FinMap as map

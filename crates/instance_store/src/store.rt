@@ -78,6 +78,13 @@ impl Store {
         self.values.len()
     }
 
+    /// Whether there is no value.
+    pub fn is_empty(&self) -> bool
+        ensures { IsTrue result ↔ (value_count self.now ≡ 0) }
+    {
+        self.len() == 0
+    }
+
     /// Whether there is this instance.
     pub fn has_instance(&self, place: InstancePath) -> bool
         ensures { result ≡ has_instance self.now place }
@@ -215,18 +222,18 @@ impl Store {
         )
     }
 
-    /// The numbers of a resource's parts that have a value, ascending.
-    pub fn parts(&self, path: ResourcePath) -> Result<Vec<u16>, AllocError>
-        ensures { IfOk result (λ v. v.items ≡ parts_of self.now path) }
-    {
-        parts_in(self.alloc, &self.values, path)
-    }
-
     /// How many parts of a resource have a value.
     pub fn part_count(&self, path: ResourcePath) -> usize
         ensures { result ≡ length (parts_of self.now path) }
     {
         count_parts(&self.values, path)
+    }
+
+    /// The numbers of a resource's parts that have a value, ascending.
+    pub fn parts(&self, path: ResourcePath) -> Result<Vec<u16>, AllocError>
+        ensures { IfOk result (λ v. v.items ≡ parts_of self.now path) }
+    {
+        parts_in(self.alloc, &self.values, path)
     }
 
     /// The numbers of an object's instances, lent, ascending.

@@ -1,4 +1,4 @@
-use Rattle.std.proofs.Common.{◌≡◌, sym, ap, ◌∙◌, rules}
+use Rattle.std.proofs.Common.{sym, ap, ◌∙◌, rules}
 use Rattle.std.specs.FinMap.{remove}
 use Rattle.instance_store.specs.Numbers.{instances_from}
 use Rattle.instance_store.proofs.InstanceLaws.{one_place_less, no_place_less, numbers_at-some}

@@ -1,6 +1,6 @@
 -- The device's own requests and those of the flat state are alike: the same ones live.
-use Rattle.std.proofs.Common.{◌≡◌, refl, ap, ◌∙◌}
-use Rattle.device_machine.specs.State.{Flat, Shows, living}
+use Rattle.std.proofs.Common.{refl, ap, ◌∙◌}
+use Rattle.device_machine.specs.State.{living}
 use Rattle.device_machine.proofs.Living.{alike}
 use Rattle.device_machine.proofs.device.Device.step.Goals as goal
 

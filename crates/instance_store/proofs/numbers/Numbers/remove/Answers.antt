@@ -1,4 +1,4 @@
-use Rattle.std.proofs.Common.{◌≡◌, List, ℕ, not, eqb, ap, ◌∙◌, rules}
+use Rattle.std.proofs.Common.{◌≡◌, not, eqb, ap, ◌∙◌, rules}
 use Rattle.std.specs.List.{filter}
 use Rattle.std.specs.FinMap as map
 use Rattle.std.proofs.lemmas.Fn.{filter_same}

@@ -1,10 +1,7 @@
-use Rattle.std.proofs.Common.{◌≡◌, List, ℕ, ap, sym, ◌∙◌, rules}
+use Rattle.std.proofs.Common.{◌≡◌, ap, sym, ◌∙◌, rules}
 use Rattle.std.specs.FinMap as map
 use Rattle.std.proofs.lemmas.Map.Entries.{entries_from_clone}
-use Rattle.lwm2m_values.specs.declared.value.Value.{Value}
-use Rattle.object_defs.specs.declared.path.FullPath.{FullPath}
-use Rattle.instance_store.specs.Numbers.{NumberSet, instances_from}
-use Rattle.instance_store.specs.Stored.{Stored}
+use Rattle.instance_store.specs.Numbers.{instances_from}
 use Rattle.instance_store.proofs.Answers.{if_ok}
 use Rattle.instance_store.proofs.Clones.{same_value, same_numbers}
 use Rattle.instance_store.proofs.store.Store.copy.Goals as goal

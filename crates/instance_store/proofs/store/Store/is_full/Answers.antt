@@ -1,4 +1,4 @@
-use Rattle.std.proofs.Common.{◌≡◌, false, true, not, ◌&&◌, leb, length, sym, ap, ◌∙◌}
+use Rattle.std.proofs.Common.{◌≡◌, false, not, ◌&&◌, leb, length, ap, ◌∙◌}
 use Rattle.std.specs.Option.{is_some}
 use Rattle.object_defs.specs.Path.{part_of}
 use Rattle.instance_store.specs.Stored.{value_at, parts_of}

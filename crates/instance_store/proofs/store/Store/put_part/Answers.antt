@@ -1,7 +1,6 @@
 use Rattle.std.proofs.Common.{sym, ap, ◌∙◌}
 use Rattle.instance_store.specs.Numbers.{instances_from}
 use Rattle.instance_store.specs.Stored.{with_value, value_at}
-use Rattle.object_defs.specs.Path.{part_of}
 use Rattle.object_defs.proofs.MapLaws.{one_put, get_entries}
 use Rattle.object_defs.proofs.PathOrder.{path_total, path_exact}
 use Rattle.instance_store.proofs.store.Store.put_part.Goals as goal

@@ -1,0 +1,11 @@
+use Rattle.std.proofs.Common.{[]}
+use Rattle.device_machine.specs.Class.{Class, start_of}
+use Rattle.device_machine.specs.State.{Flat, Shows}
+use Rattle.lwbench.specs.Demo.{demo_class, demo_outputs}
+use Rattle.lwbench.proofs.demo.answer.Goals as goal
+
+pub returns-in-Ok : goal.returns-in-Ok
+unfolding demo_outputs
+returns-in-Ok c =
+    c.in-Ok.ensures.outputs (record { kept = start_of demo_class; recorded = [] })
+    (rw (← c.in_ok-template.ensures) c.in_ok-device.ensures)

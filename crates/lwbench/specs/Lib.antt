@@ -1,0 +1,4 @@
+pub mod Demo
+pub mod Fault
+pub mod Printed
+pub mod Status

@@ -1,0 +1,78 @@
+//! What the program answers to each of its words.
+ghost use Rattle.std.specs.Prelude.{◌≡◌, IfOk, OnOk};
+ghost use Rattle.std.specs.Result.{IsOkAnd};
+ghost use Rattle.std.specs.Io.KnownBytes.{Appends};
+ghost use Rattle.lwbench.specs.Demo.{demo_outputs};
+ghost use Rattle.hex.specs.Hex.{decode_of};
+ghost use Rattle.std.specs.String.{string_bytes};
+ghost use Rattle.lwbench.specs.Printed.{act_line, act_name, line_of, printed, send_line};
+ghost use Rattle.lwbench.specs.declared.status.Status.TheVariants.{Done};
+
+use crate::demo;
+use crate::fault::Fault;
+use crate::hex_text::{read_hex, write_hex};
+use crate::status::Status;
+use device_machine::{Act, Output};
+use std::alloc::{AllocError, Global};
+use std::io::Write;
+
+/// `one HEX`: what the DEMO device puts out for a datagram from its server, a line for each
+/// output, or `nothing`.
+pub fn one<W: Write>(alloc: Global, hex: &str, writer: &mut W) -> Result<Status, Fault>
+    ensures done { IfOk result (λ status. status ≡ Done) }
+    ensures written { OnOk result (IsOkAnd (decode_of hex.now) (λ bytes.
+        Appends (W.contents writer.old) (W.contents writer.new) (printed (demo_outputs bytes)))) }
+{
+    let outputs = demo::answer(alloc, read_hex(alloc, hex)?)?;
+    let text = text_of(alloc, outputs.as_slice())?;
+    writer.write_all(text.as_bytes())?;
+    writer.flush()?;
+    Ok(Status::Done)
+}
+
+/// The outputs, a line for each, or the line `nothing`.
+fn text_of(alloc: Global, outputs: &[Output]) -> Result<String, AllocError>
+    ensures { IfOk result (λ text. string_bytes text ≡ printed outputs.now) }
+{
+    if outputs.is_empty() {
+        return String::from_str(alloc, "nothing\n");
+    }
+    let mut text = String::new(alloc);
+    for output in outputs {
+        let line = line_of(alloc, output)?;
+        text.push_str(line.as_str())?;
+    }
+    Ok(text)
+}
+
+fn line_of(alloc: Global, output: &Output) -> Result<String, AllocError>
+    ensures { IfOk result (λ text. string_bytes text ≡ line_of output.now) }
+{
+    match output {
+        Output::Send { server, bytes } => {
+            let hex = write_hex(alloc, bytes.as_slice())?;
+            send_line(alloc, *server, hex.as_str())
+        }
+        Output::Act(act) => act_line(alloc, act_name(*act)),
+    }
+}
+
+fn send_line(alloc: Global, server: u16, hex: &str) -> Result<String, AllocError>
+    ensures { IfOk result (λ text. string_bytes text ≡ send_line server hex.now) }
+{
+    format!(in alloc; "send {server} {hex}\n")
+}
+
+fn act_line(alloc: Global, name: &str) -> Result<String, AllocError>
+    ensures { IfOk result (λ text. string_bytes text ≡ act_line name.now) }
+{
+    format!(in alloc; "act {name}\n")
+}
+
+fn act_name(act: Act) -> &'static str
+    ensures { result.now ≡ act_name act }
+{
+    match act {
+        Act::Missed => "missed",
+    }
+}

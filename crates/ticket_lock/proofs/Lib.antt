@@ -1,0 +1,10 @@
+pub mod Views
+pub mod Logs
+pub mod Aware
+pub mod Stages
+pub mod Steps
+pub mod Crowds
+pub mod Plays
+pub mod Seats
+pub mod Same
+pub mod Runs

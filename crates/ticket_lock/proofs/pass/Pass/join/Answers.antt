@@ -1,0 +1,33 @@
+use Rattle.std.proofs.Common.{rules, ◌≡◌, sym, ap, subst, true}
+use Rattle.ticket_lock.specs.Log.{own}
+use Rattle.ticket_lock.specs.Lock.{is_live}
+use Rattle.ticket_lock.specs.Names.{IsFaithful}
+use Rattle.ticket_lock.proofs.Plays.{joins, recalls}
+use Rattle.ticket_lock.proofs.Seats.{no_slot, aware_faithful, joined_lower, joined_upper}
+use Rattle.ticket_lock.proofs.pass.Pass.join.Goals as goal
+
+pub join_seat-requires : goal.join_seat-requires
+join_seat-requires g c = let p = c.args.self in let q = c.args.other in
+    (search rules, search rules, no_slot q.seat.me.1 q.bare, search rules, joins g.T.Logged.log _ p.seat.id p.seat.me.0 q.seat.id q.seat.me.0 p.at_rest q.at_rest c.requires.neighbours)
+
+pub load-requires : goal.load-requires
+load-requires g c = (search rules, search rules, recalls g.T.Logged.log _ _ _ _)
+
+pub returns-clause-joined : goal.returns-clause-joined
+returns-clause-joined g c = search rules
+
+pub returns-clause-own : goal.returns-clause-own
+returns-clause-own g c = let log = g.T.Logged.log in let now = c.load.ensures.2.0 in let m = c.join_seat.new.seat.me.0 in
+    let live : is_live m.stage ≡ true = ap (λ n. is_live n.0.stage) c.join_seat.ensures.2 in
+    let knows = c.load.ensures.2.1 live in
+    record { here = search rules; faithful = subst (IsFaithful log) (ap (λ n. n.0) (sym now)) (aware_faithful log knows.0 m knows.1) }
+
+pub returns-clause-lower : goal.returns-clause-lower
+returns-clause-lower g c = let log = g.T.Logged.log in let v = c.args.self.seat.me.0 in let w = c.args.other.seat.me.0 in let is = returns-clause-joined g c in λ n h.
+    subst (λ u. own log n u.front ≡ own log n v.front) (sym is)
+    (joined_lower log v w c.requires.neighbours c.requires.this.faithful c.requires.other.faithful (subst (IsFaithful log) is (returns-clause-own g c).faithful) n h)
+
+pub returns-clause-upper : goal.returns-clause-upper
+returns-clause-upper g c = let log = g.T.Logged.log in let v = c.args.self.seat.me.0 in let w = c.args.other.seat.me.0 in let is = returns-clause-joined g c in λ n h.
+    subst (λ u. own log n u.front ≡ own log n w.front) (sym is)
+    (joined_upper log v w c.requires.neighbours c.requires.this.faithful c.requires.other.faithful (subst (IsFaithful log) is (returns-clause-own g c).faithful) n h)

@@ -1,0 +1,87 @@
+-- What each step makes of the view of the pass that steps, and what it tells the pass.
+use Rattle.std.specs.Prelude.{◌≡◌, ◌≢◌, ℕ, ◌+◌, ◌-◌, ◌/◌, ◌≤◌, true, false, ◌||◌, if◌then◌else◌, List, [], ◌∷◌, ◌++◌, length, take, drop, Option, Some, None, nat_lt}
+use Rattle.atomic_table.specs.Table.{Me, Step}
+use Rattle.ticket_lock.specs.declared.rule.TheConstants.{NUMBERS, LAST}
+use Rattle.ticket_lock.specs.declared.rule.View.{View}
+use Rattle.ticket_lock.specs.declared.rule.Stage.{Stage}
+use Rattle.ticket_lock.specs.declared.rule.Stage.TheVariants.{Spent, Resting, Waiting, Inside}
+use Rattle.ticket_lock.specs.Log.{Reading, shares}
+use Rattle.ticket_lock.specs.Lock.{IsAware, is_live}
+
+-- the longer of two lists
+abbrev pub longer : {E : Type 0} → List E → List E → List E
+longer a b = if nat_lt (length a) (length b) then b else a
+
+module _ {T E S O : Type 0} where
+  -- a seat that is no pass any more
+  abbrev pub gone : View T E S O
+  gone = record { low = 0; count = 0; end = false; stage = Spent; front = []; subject = None; shares = [] }
+
+  abbrev pub ended : View T E S O → View T E S O
+  ended v = record v { end = true }
+
+  abbrev pub staged : View T E S O → Stage T → View T E S O
+  staged v stage = record v { stage = stage }
+
+  -- the lowest number alone
+  abbrev pub lower : View T E S O → View T E S O
+  lower v = record v { count = 1; shares = take 1 v.shares }
+
+  -- the numbers above the lowest
+  abbrev pub upper : View T E S O → View T E S O
+  upper v = record v { low = v.low + 1; count = v.count - 1; shares = drop 1 v.shares }
+
+  -- two neighbours as one pass
+  abbrev pub joined : View T E S O → View T E S O → View T E S O
+  joined v w = record {
+    low = v.low;
+    count = v.count + w.count;
+    end = v.end || w.end;
+    stage = Resting;
+    front = longer v.front w.front;
+    subject = v.subject;
+    shares = v.shares ++ w.shares;
+  }
+
+  -- the word `next` was found: the pass has seen the end where that is the last, and else all is as it was. Where it had seen the end, that is what it finds
+  abbrev pub Looked : Step (Option T) → Me (Option T) (View T E S O) → ℕ → Me (Option T) (View T E S O) → Type 0
+  Looked st m found n = (found ≤ LAST) × (found ≡ LAST → n ≡ (ended m.0, m.1)) × (found ≢ LAST → n ≡ m) × (m.0.end ≡ true → found ≡ LAST)
+
+  -- where the word `next` was the one expected, the pass has it as its ticket
+  abbrev pub Drew : Step (Option T) → Me (Option T) (View T E S O) → ℕ → Me (Option T) (View T E S O) → Type 0
+  Drew st m found n = (found ≡ st.first → n ≡ (staged m.0 (Waiting st.first), m.1)) × (found ≢ st.first → n ≡ m)
+
+module _ {T E S O : Type 0} (R : Reading T E S O) where
+  -- the first pass, which holds all numbers
+  abbrev pub whole : T → View T E S O
+  whole x = record {
+    low = 1;
+    count = NUMBERS;
+    end = false;
+    stage = Resting;
+    front = R.entries x;
+    subject = Some (R.subject x);
+    shares = shares R x 1 NUMBERS;
+  }
+
+  -- inside with the ticket t, the pass has seen the log of the value as found
+  abbrev pub arrived : View T E S O → ℕ → T → View T E S O
+  arrived v t x = record v { stage = Inside t x; front = R.entries x }
+
+  -- after the value was given back as x
+  abbrev pub given : View T E S O → T → View T E S O
+  given v x = record v { stage = Resting; front = R.entries x; shares = shares R x v.low v.count }
+
+  -- nothing changed, and the rule says this of the pass
+  abbrev pub Recalled : Step (Option T) → Me (Option T) (View T E S O) → ℕ → Me (Option T) (View T E S O) → Type 0
+  Recalled st m found n = (n ≡ m) × (is_live m.0.stage ≡ true → (value : T) × IsAware R value m.0)
+
+  -- where the word `serving` was twice the ticket, the pass is inside with the value
+  abbrev pub Entered : Step (Option T) → Me (Option T) (View T E S O) → ℕ → Me (Option T) (View T E S O) → Type 0
+  Entered st m found n =
+      (found ≡ st.first → (value : T) × IsAware R value m.0 × (n ≡ (arrived m.0 (st.first / 2) value, (0, Some value) ∷ m.1)))
+      × (found ≢ st.first → n ≡ m)
+
+  -- the value in the slot was given back
+  abbrev pub Left : Step (Option T) → Me (Option T) (View T E S O) → ℕ → Me (Option T) (View T E S O) → Type 0
+  Left st m found n = (value : T) → m.1 ≡ (0, Some value) ∷ [] → n ≡ (given m.0 value, [])
