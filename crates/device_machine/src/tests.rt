@@ -187,39 +187,52 @@ fn refuses_in_the_order_of_the_lines(rt: HostRuntime) -> Result<(), Fail> {
     )
 }
 
+/// What a device puts out where a value changes.
+fn put(alloc: Global, device: &mut Device, path: Path, number: i64) -> Result<String, Fail> {
+    let event = Event::Put {
+        path,
+        value: Value::Whole(number),
+    };
+    outputs(alloc, device, &event)
+}
+
+/// Sends each datagram in turn to one device, each after a number of seconds.
+fn exchange(
+    rt: &impl Abort,
+    alloc: Global,
+    device: &mut Device,
+    rows: &[(u32, &str, &str)],
+) -> Result<(), Fail> {
+    for (seconds, request, reply) in rows {
+        let quiet = outputs(alloc, device, &Event::Tick(*seconds))?;
+        assert_eq!(rt; quiet.as_str(), "");
+        let got = sent(alloc, device, 1, bytes_of(alloc, request)?)?;
+        assert_eq!(rt; got.as_str(), *reply, "{request} after {seconds} s");
+    }
+    Ok(())
+}
+
 #[test]
 fn counts_message_ids_of_non_confirmable_replies(rt: HostRuntime) -> Result<(), Fail> {
     let alloc = rt.alloc();
     let template = template(alloc)?;
     let mut device = Device::start(&template)?;
-    let rows = [
-        ("50010006B13301300139", "50450000C0FF313030"),
-        ("40010007B13301300139", "60450007C0FF313030"),
-        ("50010008B13301300139C106", ""),
-        ("50010009B139", "50A10001"),
-        ("5001000AB13301300139", "50450002C0FF313030"),
-    ];
-    for (request, reply) in rows {
-        let got = sent(alloc, &mut device, 1, bytes_of(alloc, request)?)?;
-        assert_eq!(rt; got.as_str(), reply, "{request}");
-    }
-    // a server that is no account
-    let request = bytes_of(alloc, "40010001B13301300139")?;
-    assert_eq!(rt; sent(alloc, &mut device, 2, request)?.as_str(), "");
-    assert_eq!(rt; device.value(&Path::Instance(3, 0)).is_some(), false);
-    assert_eq!(rt; device.value(&Path::Part(3, 0, 6, 1)).is_some(), true);
-    match device.value(&Path::Resource(3, 0, 9)) {
-        Some(Value::Whole(level)) => assert_eq!(rt; *level, 100),
-        _ => return Err(Fail::from("no battery level")),
-    }
+    exchange(
+        &rt,
+        alloc,
+        &mut device,
+        &[
+            (0, "50010006B13301300139", "50450000C0FF313030"),
+            (0, "40010007B13301300139", "60450007C0FF313030"),
+            (0, "50010008B13301300139C106", ""),
+            (0, "50010009B139", "50A10001"),
+            (0, "5001000AB13301300139", "50450002C0FF313030"),
+        ],
+    )?;
+    let stranger = bytes_of(alloc, "40010001B13301300139")?;
+    let got = sent(alloc, &mut device, 2, stranger)?;
+    assert_eq!(rt; got.as_str(), "");
     Ok(())
-}
-
-fn put(path: Path, number: i64) -> Event {
-    Event::Put {
-        path,
-        value: Value::Whole(number),
-    }
 }
 
 #[test]
@@ -227,84 +240,82 @@ fn repeats_a_request_within_its_lifetime(rt: HostRuntime) -> Result<(), Fail> {
     let alloc = rt.alloc();
     let template = template(alloc)?;
     let mut device = Device::start(&template)?;
-    let level = Path::Resource(3, 0, 9);
-    let con = Event::Recv {
-        server: 1,
-        bytes: bytes_of(alloc, "40010001B13301300139")?,
-    };
-    // other bytes, of the same type and message ID
-    let same_id = Event::Recv {
-        server: 1,
-        bytes: bytes_of(alloc, "40010001B139")?,
-    };
-    let non = Event::Recv {
-        server: 1,
-        bytes: bytes_of(alloc, "50010061B13301300139")?,
-    };
-    let rows = [
-        (&con, "60450001C0FF313030"),
-        (&put(level, 90), ""),
-        (&Event::Tick(246), ""),
-        (&con, "60450001C0FF313030"),
-        (&same_id, "60450001C0FF313030"),
-        (&Event::Tick(1), ""),
-        (&con, "60450001C0FF3930"),
-        (&non, "50450000C0FF3930"),
-        (&Event::Tick(144), ""),
-        (&non, ""),
-        (&Event::Tick(1), ""),
-        (&non, "50450001C0FF3930"),
-    ];
-    for (place, (event, wanted)) in rows.iter().enumerate() {
-        let got = outputs(alloc, &mut device, event)?;
-        assert_eq!(rt; got.as_str(), *wanted, "{place}");
-    }
-    assert_eq!(rt; device.clock(), 392);
-    // a copy goes its own way
-    let mut copy = device.copy()?;
-    let _ = outputs(alloc, &mut copy, &Event::Tick(1))?;
-    assert_eq!(rt; copy.clock(), 393);
+    let first = sent(
+        alloc,
+        &mut device,
+        1,
+        bytes_of(alloc, "40010001B13301300139")?,
+    )?;
+    assert_eq!(rt; first.as_str(), "60450001C0FF313030");
+    let changed = put(alloc, &mut device, Path::Resource(3, 0, 9), 90)?;
+    assert_eq!(rt; changed.as_str(), "");
+    exchange(
+        &rt,
+        alloc,
+        &mut device,
+        &[
+            // the same again, and other bytes of the same type and message ID
+            (246, "40010001B13301300139", "60450001C0FF313030"),
+            (0, "40010001B139", "60450001C0FF313030"),
+            (1, "40010001B13301300139", "60450001C0FF3930"),
+            // NON
+            (0, "50010061B13301300139", "50450000C0FF3930"),
+            (144, "50010061B13301300139", ""),
+            (1, "50010061B13301300139", "50450001C0FF3930"),
+        ],
+    )?;
     assert_eq!(rt; device.clock(), 392);
     Ok(())
 }
 
 #[test]
-fn puts_what_fits(rt: HostRuntime) -> Result<(), Fail> {
+fn copy_goes_its_own_way(rt: HostRuntime) -> Result<(), Fail> {
     let alloc = rt.alloc();
     let template = template(alloc)?;
-    let mut device = Device::start(&template)?;
-    let rows = [
-        (put(Path::Resource(3, 0, 9), 7), ""),
-        (put(Path::Resource(3, 0, 10), 7), ""),
-        (put(Path::Part(3, 0, 6, 65535), 7), ""),
-        // of another kind, not readable, set by the device itself, not defined
-        (put(Path::Resource(3, 0, 0), 7), "missed"),
-        (put(Path::Resource(3, 0, 4), 7), "missed"),
-        (put(Path::Resource(5, 0, 3), 7), "missed"),
-        (put(Path::Resource(3, 0, 99), 7), "missed"),
-        // two numbers, no part, no instance, no object
-        (put(Path::Instance(3, 0), 7), "missed"),
-        (put(Path::Resource(3, 0, 6), 7), "missed"),
-        (put(Path::Resource(3, 1, 9), 7), "missed"),
-        (put(Path::Resource(4, 0, 9), 7), "missed"),
-    ];
-    for (event, wanted) in &rows {
-        assert_eq!(rt;
-            outputs(alloc, &mut device, event)?.as_str(),
-            *wanted,
-            "{event:?}"
-        );
-    }
-    for part in 0..29 {
-        let got = outputs(alloc, &mut device, &put(Path::Part(3, 0, 6, part + 2), 7))?;
-        assert_eq!(rt; got.as_str(), "", "{part}");
-    }
-    // a 33rd part, and one that is there
-    let full = outputs(alloc, &mut device, &put(Path::Part(3, 0, 6, 100), 7))?;
-    assert_eq!(rt; full.as_str(), "missed");
-    let held = outputs(alloc, &mut device, &put(Path::Part(3, 0, 6, 0), 7))?;
-    assert_eq!(rt; held.as_str(), "");
+    let device = Device::start(&template)?;
+    let mut copy = device.copy()?;
+    let _ = outputs(alloc, &mut copy, &Event::Tick(1))?;
+    assert_eq!(rt; copy.clock(), 1);
+    assert_eq!(rt; device.clock(), 0);
     Ok(())
+}
+
+/// Puts a number at each path.
+fn puts(rt: &impl Abort, paths: &[Path], wanted: &str, alloc: Global) -> Result<(), Fail> {
+    let template = template(alloc)?;
+    let mut device = Device::start(&template)?;
+    for path in paths {
+        let got = put(alloc, &mut device, *path, 7)?;
+        assert_eq!(rt; got.as_str(), wanted, "{path:?}");
+    }
+    Ok(())
+}
+
+#[test]
+fn puts_what_fits(rt: HostRuntime) -> Result<(), Fail> {
+    let there = [
+        Path::Resource(3, 0, 9),
+        Path::Resource(3, 0, 10),
+        Path::Part(3, 0, 6, 65535),
+    ];
+    puts(&rt, &there, "", rt.alloc())
+}
+
+#[test]
+fn misses_what_does_not_fit(rt: HostRuntime) -> Result<(), Fail> {
+    let missed = [
+        // of another kind, not readable, set by the device itself, not defined
+        Path::Resource(3, 0, 0),
+        Path::Resource(3, 0, 4),
+        Path::Resource(5, 0, 3),
+        Path::Resource(3, 0, 99),
+        // two numbers, no part, no instance, no object
+        Path::Instance(3, 0),
+        Path::Resource(3, 0, 6),
+        Path::Resource(3, 1, 9),
+        Path::Resource(4, 0, 9),
+    ];
+    puts(&rt, &missed, "missed", rt.alloc())
 }
 
 #[test]
@@ -326,49 +337,56 @@ fn answers_datagrams_of_any_length(rt: HostRuntime) -> Result<(), Fail> {
 }
 
 #[test]
-fn template_refuses_in_order(rt: HostRuntime) -> Result<(), Fail> {
+fn template_refuses_accounts_and_instances_in_order(rt: HostRuntime) -> Result<(), Fail> {
     let alloc = rt.alloc();
     let mut template = template(alloc)?;
-    assert_eq!(rt; template.add_account(0), Err(TemplateFault::Range));
-    assert_eq!(rt; template.add_account(65535), Err(TemplateFault::Range));
-    assert_eq!(rt; template.add_account(1), Err(TemplateFault::Duplicate));
-    assert_eq!(rt; template.add_account(2), Err(TemplateFault::Full));
-    assert_eq!(rt; template.add_instance(0, 0), Err(TemplateFault::Range));
-    assert_eq!(rt; template.add_instance(3, 1), Err(TemplateFault::Range));
-    assert_eq!(rt; template.add_instance(4, 65535), Err(TemplateFault::Range));
-    assert_eq!(rt; template.add_instance(4, 0), Err(TemplateFault::Missing));
-    assert_eq!(rt; template.add_instance(3, 0), Err(TemplateFault::Duplicate));
+    for (server, fault) in [
+        (0, TemplateFault::Range),
+        (65535, TemplateFault::Range),
+        (1, TemplateFault::Duplicate),
+        (2, TemplateFault::Full),
+    ] {
+        assert_eq!(rt; template.add_account(server), Err(fault));
+    }
     for instance in 1..64 {
         template.add_instance(1, instance)?;
     }
-    assert_eq!(rt; template.add_instance(1, 64), Err(TemplateFault::Full));
-    let rows = [
+    for (object, instance, fault) in [
+        (0, 0, TemplateFault::Range),
+        (3, 1, TemplateFault::Range),
+        (4, 65535, TemplateFault::Range),
+        (4, 0, TemplateFault::Missing),
+        (3, 0, TemplateFault::Duplicate),
+        (1, 64, TemplateFault::Full),
+    ] {
+        assert_eq!(rt; template.add_instance(object, instance), Err(fault));
+    }
+    Ok(())
+}
+
+#[test]
+fn template_refuses_values_in_order(rt: HostRuntime) -> Result<(), Fail> {
+    let alloc = rt.alloc();
+    let mut template = template(alloc)?;
+    for part in 2..32 {
+        template.add_value(Path::Part(3, 0, 6, part), Value::Whole(7))?;
+    }
+    for (path, fault) in [
         (Path::Instance(3, 0), TemplateFault::Range),
         (Path::Resource(3, 0, 99), TemplateFault::Range),
-        (Path::Resource(3, 0, 4), TemplateFault::Range),
         (Path::Resource(3, 0, 0), TemplateFault::Range),
-        (Path::Resource(3, 0, 6), TemplateFault::Range),
         (Path::Part(3, 0, 9, 0), TemplateFault::Range),
         (Path::Resource(5, 0, 3), TemplateFault::Range),
         (Path::Resource(4, 0, 0), TemplateFault::Missing),
         (Path::Resource(3, 1, 9), TemplateFault::Missing),
         (Path::Resource(3, 0, 9), TemplateFault::Duplicate),
-        (Path::Part(3, 0, 6, 1), TemplateFault::Duplicate),
-    ];
-    for (path, fault) in rows {
-        assert_eq!(rt;
-            template.add_value(path, Value::Whole(7)),
-            Err(fault),
-            "{path:?}"
-        );
+        (Path::Part(3, 0, 6, 32), TemplateFault::Full),
+    ] {
+        assert_eq!(rt; template.add_value(path, Value::Whole(7)), Err(fault));
     }
-    for part in 2..32 {
-        template.add_value(Path::Part(3, 0, 6, part), Value::Whole(7))?;
-    }
-    let last = template.add_value(Path::Part(3, 0, 6, 32), Value::Whole(7));
-    assert_eq!(rt; last, Err(TemplateFault::Full));
     let copy = template.copy()?;
     let device = Device::start(&copy)?;
     assert_eq!(rt; device.value(&Path::Part(3, 0, 6, 31)).is_some(), true);
+    assert_eq!(rt; device.value(&Path::Instance(3, 0)).is_some(), false);
     Ok(())
 }
