@@ -89,11 +89,12 @@ get-instances_from es q = map.get-from_entries instance_total (all_places es) q 
 
 -- ---- the numbers of an object
 
-under : ℕ → List (InstancePath × Unit {0}) → List (ℕ × Unit {0})
+-- the instances of one object among all, by their numbers alone
+pub under : ℕ → List (InstancePath × Unit {0}) → List (ℕ × Unit {0})
 under o [] = []
 under o (e ∷ es) = cond (eqb e.0.object o) ((e.0.instance, e.1) ∷ under o es) (under o es)
 
-keys_of-under : (o : ℕ) (es : List (InstancePath × Unit {0})) → map (λ p. p.instance) (filter (λ p. eqb p.object o) (map (λ e. e.0) es)) ≡ map (λ e. e.0) (under o es)
+pub keys_of-under : (o : ℕ) (es : List (InstancePath × Unit {0})) → map (λ p. p.instance) (filter (λ p. eqb p.object o) (map (λ e. e.0) es)) ≡ map (λ e. e.0) (under o es)
 unfolding under
 keys_of-under o [] = refl
 keys_of-under o (e ∷ es) =
@@ -108,7 +109,7 @@ tied_under o n x h = grind (arith, nat_tests)
 apart_under : (o n : ℕ) (x : InstancePath) → eqb x.object o ≡ false → false ≡ eq_by_cmp instance_cmp (place o n) x
 apart_under o n x h = grind (arith, nat_tests)
 
-find-under : (o : ℕ) (es : List (InstancePath × Unit {0})) (n : ℕ) → find nat_cmp n (under o es) ≡ find instance_cmp (place o n) es
+pub find-under : (o : ℕ) (es : List (InstancePath × Unit {0})) (n : ℕ) → find nat_cmp n (under o es) ≡ find instance_cmp (place o n) es
 unfolding under
 find-under o [] n = refl
 find-under o (e ∷ es) n =
@@ -142,7 +143,7 @@ below-under o k (e ∷ es) g h =
       | false ↦ λ i. rest
     ] refl
 
-sorted-under : (o : ℕ) (es : List (InstancePath × Unit {0})) → T (is_sorted instance_cmp es) → T (is_sorted nat_cmp (under o es))
+pub sorted-under : (o : ℕ) (es : List (InstancePath × Unit {0})) → T (is_sorted instance_cmp es) → T (is_sorted nat_cmp (under o es))
 unfolding under
 sorted-under o [] h = tt
 sorted-under o (e ∷ es) h =

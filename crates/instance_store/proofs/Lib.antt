@@ -1,5 +1,6 @@
 pub mod Answers
 pub mod Clones
+pub mod ContentLaws
 pub mod InstanceLaws
 pub mod Intervals
 pub mod NumberLaws

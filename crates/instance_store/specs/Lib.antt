@@ -1,3 +1,4 @@
+pub mod Existence
 pub mod Listing
 pub mod Numbers
 pub mod Stored

@@ -18,9 +18,13 @@ set_of numbers = map.from_entries (map (λ n. (n, tt)) numbers)
 abbrev pub InstanceSet : Type 0
 InstanceSet = map.FinMap instance_cmp (Unit {0})
 
+-- the instance of an object that has this number
+abbrev pub place : ℕ → ℕ → InstancePath
+place object number = record { object = object; instance = number }
+
 -- the instances of an object that have these numbers
 abbrev pub places : ℕ → List (ℕ × Unit {0}) → List (InstancePath × Unit {0})
-places object numbers = map (λ e. (record { object = object; instance = e.0 }, e.1)) numbers
+places object numbers = map (λ e. (place object e.0, e.1)) numbers
 
 -- the instances of all the objects that a list names; where it names one twice, the first counts
 abbrev pub all_places : List (ℕ × NumberSet) → List (InstancePath × Unit {0})

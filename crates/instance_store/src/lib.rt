@@ -1,6 +1,7 @@
 //! The values of a device: a map from full paths to values, and the instances that there are.
 #![tactic(auto)]
 
+mod contents;
 mod fault;
 mod instances;
 mod listing;

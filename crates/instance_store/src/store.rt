@@ -1,16 +1,19 @@
 ghost use Rattle.std.specs.Prelude.{◌≡◌, ◌≤◌, ◌<◌, ◌↔◌, length, IsTrue, IsFalse, IsErrOf, ◌≢◌, None, Ok, Err, if◌then◌else◌, IfOk, OnOk, OnErr};
+ghost use Rattle.std.specs.FinMap as map;
 ghost use Rattle.std.specs.Option.{option_copied, is_some};
+ghost use Rattle.instance_store.specs.Existence.{is_held, has_resource};
 ghost use Rattle.instance_store.specs.Listing.{shown_pairs};
 ghost use Rattle.object_defs.specs.Path.{single_of, part_of};
 ghost use Rattle.instance_store.specs.Stored.{value_at, value_count, has_instance, instances_of, instance_of, resource_path, parts_of, resources_of, values_in, is_full, with_value, without_values, without_instance, with_instance, empty};
 
+use crate::contents::{all_pairs, all_places};
 use crate::fault::StoreFault;
 use crate::instances::{add_number, remove_number};
 use crate::listing::{count_parts, pairs_in, parts_in, path_of, resources_in};
 use crate::numbers::Numbers;
 use crate::removal::remove_in;
 use lwm2m_values::Value;
-use object_defs::{FullPath, InstancePath, Path, ResourcePath};
+use object_defs::{FullPath, InstancePath, Path, ResourceDef, ResourcePath};
 use std::alloc::{AllocError, Global};
 use std::collections::BTreeMap;
 use std::marker::Model;
@@ -229,11 +232,53 @@ impl Store {
         count_parts(&self.values, path)
     }
 
+    /// Whether a resource is held: a multiple one with at least one part, another with its single
+    /// value.
+    pub fn is_held(&self, path: ResourcePath, multiple: bool) -> bool
+        ensures { result ≡ is_held self.now path multiple }
+    {
+        if multiple {
+            self.part_count(path) > 0
+        } else {
+            self.get(path.single()).is_some()
+        }
+    }
+
+    /// Whether a resource exists: its instance does, and it is defined, and executable, write-only
+    /// or held.
+    pub fn has_resource(&self, path: ResourcePath, definition: Option<ResourceDef>) -> bool
+        ensures { result ≡ has_resource self.now path definition }
+    {
+        if !self.has_instance(place_of(path)) {
+            return false;
+        }
+        match definition {
+            None => false,
+            Some(definition) => {
+                !definition.ops.can_read() || self.is_held(path, definition.multiple)
+            }
+        }
+    }
+
     /// The numbers of a resource's parts that have a value, ascending.
     pub fn parts(&self, path: ResourcePath) -> Result<Vec<u16>, AllocError>
         ensures { IfOk result (λ v. v.items ≡ parts_of self.now path) }
     {
         parts_in(self.alloc, &self.values, path)
+    }
+
+    /// All values, lent, with their full paths, in the order of these.
+    pub fn values(&self) -> Result<Vec<(FullPath, &Value)>, AllocError>
+        ensures { IfOk result (λ v. shown_pairs v.items ≡ map.entries self.now.values) }
+    {
+        all_pairs(self.alloc, &self.values)
+    }
+
+    /// All instances, in their order.
+    pub fn all_instances(&self) -> Result<Vec<InstancePath>, AllocError>
+        ensures { IfOk result (λ v. v.items ≡ map.keys self.now.instances) }
+    {
+        all_places(self.alloc, &self.instances)
     }
 
     /// The numbers of an object's instances, lent, ascending.

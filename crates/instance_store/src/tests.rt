@@ -154,3 +154,31 @@ fn removes_what_lies_below_and_no_neighbour(rt: HostRuntime) -> Result<(), Fail>
     assert_eq!(rt; number_at(&copy, resource(3, 1, 1).part(1)), 2);
     Ok(())
 }
+
+#[test]
+fn lists_all_that_it_holds_in_order(rt: HostRuntime) -> Result<(), Fail> {
+    let mut store = Store::new(rt.alloc());
+    for (object, instance) in [(3, 1), (1, 65535), (10250, 0), (3, 0), (1, 0)] {
+        store.add_instance(InstancePath { object, instance })?;
+    }
+    store.remove_instance(device(1))?;
+    store.put(resource(10250, 0, 0), Value::Whole(4))?;
+    store.put_part(resource(3, 0, 6), 1, Value::Whole(3))?;
+    store.put_part(resource(3, 0, 6), 0, Value::Whole(2))?;
+    store.put(resource(1, 65535, 1), Value::Whole(1))?;
+    let places = store.all_instances()?;
+    let wanted = [(1, 0), (1, 65535), (3, 0), (10250, 0)];
+    assert_eq!(rt; places.len(), wanted.len());
+    for (place, (object, instance)) in places.iter().zip(wanted) {
+        assert_eq!(rt; *place, InstancePath { object, instance });
+    }
+    let held = store.values()?;
+    assert_eq!(rt; held.len(), 4);
+    for ((path, value), wanted) in held.into_iter().zip([1, 2, 3, 4]) {
+        assert!(rt;
+            matches!(value, Value::Whole(number) if *number == wanted),
+            "{path:?}"
+        );
+    }
+    Ok(())
+}

@@ -8,3 +8,8 @@ pub mod ReadTlv
 pub mod Shortest
 pub mod NoShorter
 pub mod OneBytes
+pub mod Choices
+pub mod GoodValue
+pub mod TextReading
+pub mod BytesReading
+pub mod TlvReading

@@ -11,19 +11,19 @@ use Rattle.lwm2m_values.specs.Value.{kind_of, IsGood, IsInteger, IsBytesOf, is_w
 
 -- the bits of a number that fits a width
 
-bits_8 : (z : ℤ) → FitsSigned w8 z → cast_unsigned w8 z < 256
+pub bits_8 : (z : ℤ) → FitsSigned w8 z → cast_unsigned w8 z < 256
 bits_8 (pos n) fits = omega (arith, fits.sfits)
 bits_8 (negsuc n) fits = omega (arith, fits.sfits)
 
-bits_16 : (z : ℤ) → FitsSigned w16 z → cast_unsigned w16 z < 2 ^ 16
+pub bits_16 : (z : ℤ) → FitsSigned w16 z → cast_unsigned w16 z < 2 ^ 16
 bits_16 (pos n) fits = omega (arith, fits.sfits)
 bits_16 (negsuc n) fits = omega (arith, fits.sfits)
 
-bits_32 : (z : ℤ) → FitsSigned w32 z → cast_unsigned w32 z < 2 ^ 32
+pub bits_32 : (z : ℤ) → FitsSigned w32 z → cast_unsigned w32 z < 2 ^ 32
 bits_32 (pos n) fits = omega (arith, fits.sfits)
 bits_32 (negsuc n) fits = omega (arith, fits.sfits)
 
-bits_64 : (z : ℤ) → FitsSigned w64 z → cast_unsigned w64 z < 2 ^ 64
+pub bits_64 : (z : ℤ) → FitsSigned w64 z → cast_unsigned w64 z < 2 ^ 64
 bits_64 (pos n) fits = omega (arith, fits.sfits)
 bits_64 (negsuc n) fits = omega (arith, fits.sfits)
 

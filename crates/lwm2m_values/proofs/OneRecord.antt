@@ -31,7 +31,7 @@ pub record SameHead (h g : List ℕ) (k l : RecordType) (i j n m : ℕ) (r s : L
   pub size : n ≡ m
   pub rest : r ≡ s
 
-regroup : (h : List ℕ) (f : ℕ) (a b r : List ℕ) → h ≡ f ∷ (a ++ b) → h ++ r ≡ f ∷ (a ++ (b ++ r))
+pub regroup : (h : List ℕ) (f : ℕ) (a b r : List ℕ) → h ≡ f ∷ (a ++ b) → h ++ r ≡ f ∷ (a ++ (b ++ r))
 regroup h f a b r e = ap (λ x. x ++ r) e ∙ ap (λ x. f ∷ x) (append_assoc a b r)
 
 -- one byte fixes the widths, and so what stands where

@@ -1,3 +1,4 @@
 pub mod Tlv
 pub mod Tree
 pub mod Value
+pub mod Reading

@@ -1,10 +1,11 @@
-ghost use Rattle.std.specs.Prelude.{◌≡◌, ◌≢◌, ℕ, ◌≤◌, List, Err, length, Some, IfSome, IfOk, IfErr, IsErr, MatchResult, Bool};
+ghost use Rattle.std.specs.Prelude.{◌≡◌, ◌≢◌, ℕ, ◌≤◌, List, Err, length, Some, None, IfSome, IfOk, IfErr, IsErr, MatchResult, Bool};
 ghost use Rattle.std.specs.Str.{IsUtf8};
 ghost use Rattle.base64.specs.GeneralPurpose.{encode_of, IsBytes};
 ghost use Rattle.base64.specs.Engines.{standard};
 ghost use Rattle.lwm2m_values.specs.declared.fault.ValueFault.TheVariants.{BadValue, Memory};
 ghost use Rattle.lwm2m_values.specs.declared.value.Value.{Value};
 ghost use Rattle.lwm2m_values.specs.Value.{kind_of, IsGood, IsText, flag_text, text_of};
+ghost use Rattle.lwm2m_values.specs.Reading.{value_of_text};
 
 use crate::fault::ValueFault;
 use crate::kind::ValueKind;
@@ -59,10 +60,9 @@ fn opaque_of(alloc: Global, text: &[u8]) -> Result<Bytes, ValueFault>
     Ok(Bytes::from_vec(bytes))
 }
 
-/// The good value of this kind whose plain text this is.
-pub fn read_text(alloc: Global, kind: ValueKind, text: &[u8]) -> Result<Value, ValueFault>
+/// The good value of this kind whose plain text this is, by the kind.
+fn good_of(alloc: Global, kind: ValueKind, text: &[u8]) -> Result<Value, ValueFault>
     ensures found { IfOk result (λ v. IsGood v × (kind_of v ≡ kind) × IsText v text.now) }
-    // There is no other such value, and where there is one it is read, unless memory runs out.
     ensures only { (v : Value) → IsGood v → kind_of v ≡ kind → IsText v text.now
         → MatchResult result (λ x. x ≡ v) (λ f. f ≡ Memory) }
     ensures refused { IfErr result (λ f. f ≢ Memory → (v : Value) → IsGood v → kind_of v ≡ kind → ¬ (IsText v text.now)) }
@@ -82,6 +82,18 @@ pub fn read_text(alloc: Global, kind: ValueKind, text: &[u8]) -> Result<Value, V
             None => Err(ValueFault::BadValue),
         },
     }
+}
+
+/// The good value of this kind whose plain text this is.
+pub fn read_text(alloc: Global, kind: ValueKind, text: &[u8]) -> Result<Value, ValueFault>
+    ensures found { IfOk result (λ v. IsGood v × (kind_of v ≡ kind) × IsText v text.now) }
+    // There is no other such value, and where there is one it is read, unless memory runs out.
+    ensures only { (v : Value) → IsGood v → kind_of v ≡ kind → IsText v text.now
+        → MatchResult result (λ x. x ≡ v) (λ f. f ≡ Memory) }
+    ensures refused { IfErr result (λ f. f ≢ Memory → (v : Value) → IsGood v → kind_of v ≡ kind → ¬ (IsText v text.now)) }
+    ensures reading { MatchResult result (λ v. value_of_text kind text.now ≡ Some v) (λ f. f ≢ Memory → value_of_text kind text.now ≡ None) }
+{
+    good_of(alloc, kind, text)
 }
 
 fn shortest_text(alloc: Global, value: &Value) -> Result<Bytes, AllocError>

@@ -1,10 +1,11 @@
-ghost use Rattle.std.specs.Prelude.{◌≡◌, ◌≢◌, List, ℕ, length, Some, IfOk, IfErr, IsErrAnd, MatchResult};
+ghost use Rattle.std.specs.Prelude.{◌≡◌, ◌≢◌, List, ℕ, length, Some, None, IfOk, IfErr, IsErrAnd, MatchResult};
 ghost use Rattle.lwm2m_values.specs.declared.fault.TlvFault.{TlvFault};
 ghost use Rattle.lwm2m_values.specs.declared.fault.TlvFault.TheVariants.{Memory};
 ghost use Rattle.lwm2m_values.specs.declared.level.Level.{Level};
 ghost use Rattle.lwm2m_values.specs.declared.level.Level.TheVariants.{Top};
 ghost use Rattle.lwm2m_values.specs.Tree.{Trees, tree_of, trees_of};
 ghost use Rattle.lwm2m_values.specs.Tlv.{IsNodes, IsTlv, Holds, HasFault, inside};
+ghost use Rattle.lwm2m_values.specs.Reading.{nodes_of_bytes};
 
 use crate::fault::TlvFault;
 use crate::level::{Level, RecordType, may_stand};
@@ -65,6 +66,7 @@ pub fn read_tlv(alloc: Global, bytes: &[u8]) -> Result<Vec<Node>, TlvFault>
         → MatchResult result (λ v. trees_of v.items ≡ nodes) (λ f. f ≡ Memory) }
     ensures fault { IfErr result (λ f. f ≢ Memory → HasFault Top bytes.now f) }
     ensures refused { (f : TlvFault) → HasFault Top bytes.now f → IsErrAnd result (λ g. g ≢ Memory → g ≡ f) }
+    ensures reading { MatchResult result (λ v. nodes_of_bytes bytes.now ≡ Some (trees_of v.items)) (λ f. f ≢ Memory → nodes_of_bytes bytes.now ≡ None) }
 {
     nodes_of(alloc, Level::Top, bytes)
 }

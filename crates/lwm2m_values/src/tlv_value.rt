@@ -1,8 +1,9 @@
-ghost use Rattle.std.specs.Prelude.{◌≡◌, ◌≢◌, ℕ, ◌≤◌, ◌<◌, List, [], ◌∷◌, ◌++◌, length, Some, IfSome, IfOk, IfErr, MatchResult, Bool, if◌then◌else◌};
+ghost use Rattle.std.specs.Prelude.{◌≡◌, ◌≢◌, ℕ, ◌≤◌, ◌<◌, List, [], ◌∷◌, ◌++◌, length, Some, None, IfSome, IfOk, IfErr, MatchResult, Bool, if◌then◌else◌};
 ghost use Rattle.std.specs.Int.{w16, to_be_bytes};
 ghost use Rattle.lwm2m_values.specs.declared.fault.ValueFault.TheVariants.{Memory};
 ghost use Rattle.lwm2m_values.specs.declared.value.Value.{Value};
 ghost use Rattle.lwm2m_values.specs.Value.{kind_of, IsGood, IsBytesOf, bytes_of as shortest_bytes_of};
+ghost use Rattle.lwm2m_values.specs.Reading.{value_of_bytes};
 
 use crate::fault::ValueFault;
 use crate::integer::{integer_bytes, integer_of};
@@ -35,10 +36,9 @@ fn halves_of(bytes: &[u8]) -> Option<(u16, u16)>
     }
 }
 
-/// The good value of this kind with these bytes, as TLV has them.
-pub fn value_of(alloc: Global, kind: ValueKind, bytes: &[u8]) -> Result<Value, ValueFault>
+/// The good value of this kind with these bytes, by the kind.
+fn good_of(alloc: Global, kind: ValueKind, bytes: &[u8]) -> Result<Value, ValueFault>
     ensures found { IfOk result (λ v. IsGood v × (kind_of v ≡ kind) × IsBytesOf v bytes.now) }
-    // There is no other such value, and where there is one it is read, unless memory runs out.
     ensures only { (v : Value) → IsGood v → kind_of v ≡ kind → IsBytesOf v bytes.now
         → MatchResult result (λ x. x ≡ v) (λ f. f ≡ Memory) }
     ensures refused { IfErr result (λ f. f ≢ Memory → (v : Value) → IsGood v → kind_of v ≡ kind → ¬ (IsBytesOf v bytes.now)) }
@@ -63,6 +63,18 @@ pub fn value_of(alloc: Global, kind: ValueKind, bytes: &[u8]) -> Result<Value, V
             None => Err(ValueFault::BadValue),
         },
     }
+}
+
+/// The good value of this kind with these bytes, as TLV has them.
+pub fn value_of(alloc: Global, kind: ValueKind, bytes: &[u8]) -> Result<Value, ValueFault>
+    ensures found { IfOk result (λ v. IsGood v × (kind_of v ≡ kind) × IsBytesOf v bytes.now) }
+    // There is no other such value, and where there is one it is read, unless memory runs out.
+    ensures only { (v : Value) → IsGood v → kind_of v ≡ kind → IsBytesOf v bytes.now
+        → MatchResult result (λ x. x ≡ v) (λ f. f ≡ Memory) }
+    ensures refused { IfErr result (λ f. f ≢ Memory → (v : Value) → IsGood v → kind_of v ≡ kind → ¬ (IsBytesOf v bytes.now)) }
+    ensures reading { MatchResult result (λ v. value_of_bytes kind bytes.now ≡ Some v) (λ f. f ≢ Memory → value_of_bytes kind bytes.now ≡ None) }
+{
+    good_of(alloc, kind, bytes)
 }
 
 fn shortest_bytes(alloc: Global, value: &Value) -> Result<Bytes, AllocError>

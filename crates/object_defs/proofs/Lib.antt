@@ -1,3 +1,6 @@
 pub mod Digits
+pub mod Inserting
+pub mod LookUps
 pub mod MapLaws
+pub mod Order
 pub mod PathOrder

@@ -24,6 +24,13 @@ full_path (Instance _ _) = None
 full_path (Resource o i r) = Some (record { object = o; instance = i; resource = r; part = None })
 full_path (Part o i r p) = Some (record { object = o; instance = i; resource = r; part = Some p })
 
+-- the object that a path begins with
+abbrev pub object_in : Path → ℕ
+object_in (Object o) = o
+object_in (Instance o i) = o
+object_in (Resource o i r) = o
+object_in (Part o i r p) = o
+
 -- by object, instance and resource, then the single value before the parts by their number
 abbrev pub path_cmp : FullPath → FullPath → Ordering
 path_cmp a b =

@@ -5,11 +5,13 @@ mod base;
 mod catalog;
 mod decimal;
 mod definition;
+mod fault;
 mod path;
 
 pub use catalog::Catalog;
 pub use decimal::decimal_number;
 pub use definition::{ObjectDef, Ops, ResourceDef, Resources};
+pub use fault::CatalogFault;
 pub use path::{FullPath, InstancePath, Path, ResourcePath};
 
 #[cfg(test)]

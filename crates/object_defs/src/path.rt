@@ -1,5 +1,5 @@
 ghost use Rattle.std.specs.Prelude.{◌≡◌};
-ghost use Rattle.object_defs.specs.Path.{full_path, part_of, single_of};
+ghost use Rattle.object_defs.specs.Path.{full_path, object_in, part_of, single_of};
 
 /// A path to an object, an object instance, a resource or a resource instance (a part), by their
 /// numbers (OMA LwM2M 1.1 Core).
@@ -74,6 +74,18 @@ pub struct InstancePath {
 }
 
 impl Path {
+    /// The number of the object that the path begins with.
+    pub fn object(self) -> u16
+        ensures { result ≡ object_in self }
+    {
+        match self {
+            Path::Object(object)
+            | Path::Instance(object, _)
+            | Path::Resource(object, _, _)
+            | Path::Part(object, _, _, _) => object,
+        }
+    }
+
     /// The path to one value that a path of three or four numbers is.
     pub fn full(self) -> Option<FullPath>
         ensures { result ≡ full_path self }

@@ -1,0 +1,43 @@
+use std::alloc::{AllocError, AllocFailed};
+use thiserror::Error;
+
+/// Why a catalogue refuses an object or a resource, in the order in which they are found. A refused call changes
+/// nothing.
+#[derive(Clone, Copy, Debug, PartialEq, Eq, Error)]
+pub enum CatalogFault {
+    /// The number is no vendor object's, or there is no such vendor object, or an executable resource is multiple or
+    /// of another kind than Text.
+    #[error("id range")]
+    IdRange,
+    /// It is there already.
+    #[error("duplicate")]
+    Duplicate,
+    /// The catalogue has 16 objects, or the object 64 resources.
+    #[error("too many")]
+    TooMany,
+    /// No memory was left.
+    #[error("memory")]
+    Memory,
+}
+
+impl From<AllocError> for CatalogFault {
+    ghost use Rattle.std.specs.Prelude.{◌≡◌};
+    ghost use Rattle.object_defs.specs.declared.fault.CatalogFault.TheVariants.{Memory};
+
+    ghost from_gives = { λ _ e. e ≡ Memory };
+
+    fn from(_refused: AllocError) -> CatalogFault {
+        CatalogFault::Memory
+    }
+}
+
+impl<T: Drop> From<AllocFailed<T>> for CatalogFault {
+    ghost use Rattle.std.specs.Prelude.{◌≡◌};
+    ghost use Rattle.object_defs.specs.declared.fault.CatalogFault.TheVariants.{Memory};
+
+    ghost from_gives = { λ _ e. e ≡ Memory };
+
+    fn from(_refused: AllocFailed<T>) -> CatalogFault {
+        CatalogFault::Memory
+    }
+}
