@@ -1,0 +1,122 @@
+ghost use Rattle.std.specs.Prelude.{◌≡◌};
+ghost use Rattle.object_defs.specs.Path.{single_of};
+ghost use Rattle.instance_store.specs.Stored.{value_at, instances_of};
+ghost use Rattle.access_control.specs.Rights.{control, integer_in, is_number, names, speaks_of, entry_of, control_of, right_by, right_on_control, right_of, creation};
+
+use crate::letters::{EVERY, NONE, READ, READ_WRITE, Rights, letters_of};
+use instance_store::Store;
+use lwm2m_values::Value;
+use object_defs::{FullPath, ResourcePath};
+
+/// Object 2 Access Control.
+const ACCESS_CONTROL: u16 = 2;
+
+/// The number that stands for the instances that are not there yet.
+const CREATION: u16 = 65535;
+
+/// A resource of an instance of object 2.
+fn control(instance: u16, resource: u16) -> ResourcePath
+    ensures { result ≡ control instance resource }
+{
+    ResourcePath {
+        object: ACCESS_CONTROL,
+        instance,
+        resource,
+    }
+}
+
+/// The Integer at a path.
+fn integer_at(store: &Store, path: FullPath) -> Option<i64>
+    ensures { result ≡ integer_in (value_at store.now path) }
+{
+    match store.get(path) {
+        Some(Value::Whole(number)) => Some(*number),
+        Some(_) => None,
+        None => None,
+    }
+}
+
+/// Whether a single resource of an instance of object 2 holds this number.
+fn names(store: &Store, instance: u16, resource: u16, number: u16) -> bool
+    ensures { result ≡ names store.now instance resource number }
+{
+    let path = control(instance, resource);
+    match integer_at(store, path.single()) {
+        Some(found) => found == i64::from(number),
+        None => false,
+    }
+}
+
+/// The entry of a server in the ACL of an instance of object 2.
+fn entry_of(store: &Store, instance: u16, server: u16) -> Option<i64>
+    ensures { result ≡ entry_of store.now instance server }
+{
+    let acl = control(instance, 2);
+    integer_at(store, acl.part(server))
+}
+
+/// Whether an instance of object 2 speaks of this object and instance.
+fn speaks_of(store: &Store, control: u16, object: u16, instance: u16) -> bool
+    ensures { result ≡ speaks_of store.now control object instance }
+{
+    names(store, control, 0, object) && names(store, control, 1, instance)
+}
+
+/// The lowest instance of object 2 that speaks of this object and instance.
+pub fn control_of(store: &Store, object: u16, instance: u16) -> Option<u16>
+    ensures { result ≡ control_of store.now object instance }
+{
+    let mut controls = store.instances(ACCESS_CONTROL).iter().copied();
+    controls.find(|control| speaks_of(store, *control, object, instance))
+}
+
+/// The right that an instance of object 2 gives a server.
+fn right_by(store: &Store, server: u16, instance: Option<u16>) -> Rights
+    ensures { result ≡ right_by store.now server instance }
+{
+    let Some(instance) = instance else {
+        return NONE;
+    };
+    if let Some(number) = entry_of(store, instance, server) {
+        return letters_of(number);
+    }
+    if names(store, instance, 3, server) {
+        return EVERY;
+    }
+    match entry_of(store, instance, 0) {
+        Some(number) => letters_of(number),
+        None => NONE,
+    }
+}
+
+/// The right of a server on an instance of object 2.
+fn right_on_control(store: &Store, server: u16, instance: u16) -> Rights
+    ensures { result ≡ right_on_control store.now server instance }
+{
+    if names(store, instance, 3, server) {
+        READ_WRITE
+    } else {
+        READ
+    }
+}
+
+/// The right of a server on an object instance, in a device that has this many accounts.
+pub fn rights(store: &Store, accounts: usize, server: u16, object: u16, instance: u16) -> Rights
+    ensures { result ≡ right_of store.now accounts server object instance }
+{
+    if accounts <= 1 {
+        return EVERY;
+    }
+    if object == ACCESS_CONTROL {
+        return right_on_control(store, server, instance);
+    }
+    right_by(store, server, control_of(store, object, instance))
+}
+
+/// Whether a server may create instances of an object, in a device that has this many accounts: letter C on instance
+/// number 65535, which no instance has.
+pub fn may_create(store: &Store, accounts: usize, server: u16, object: u16) -> bool
+    ensures { result ≡ (right_of store.now accounts server object creation).create }
+{
+    rights(store, accounts, server, object, CREATION).create
+}

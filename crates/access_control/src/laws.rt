@@ -1,0 +1,27 @@
+//! What follows from the cases of access control, for their readers. The calls do nothing; their contracts are the laws.
+
+ghost use Rattle.access_control.specs.Laws.{OneAccountHasAll, NobodyMakesControls, OwnEntryDecides, UncontrolledIsClosed, LowestDecides, NoneDecides};
+
+/// A device with one account at most grants it every right.
+pub fn one_account()
+    ensures { OneAccountHasAll }
+{}
+
+/// With two accounts or more nobody may create or delete instances of object 2 Access Control.
+pub fn control_instances()
+    ensures { NobodyMakesControls }
+{}
+
+/// With two accounts or more a server's own entry decides, whoever the owner is; and an instance that no instance of
+/// object 2 speaks of is closed to all.
+pub fn entries()
+    ensures own { OwnEntryDecides }
+    ensures none { UncontrolledIsClosed }
+{}
+
+/// The instance of object 2 that decides is the lowest of those that are there and speak of the object and the
+/// instance; where none decides, there is none.
+pub fn deciding()
+    ensures lowest { LowestDecides }
+    ensures none { NoneDecides }
+{}

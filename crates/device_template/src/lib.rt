@@ -1,0 +1,16 @@
+//! What a class of devices starts from: its accounts, its objects, its instances and values, and when a value may stand
+//! at a path.
+#![tactic(auto)]
+
+mod accounts;
+mod fault;
+mod firmware;
+mod template;
+mod values;
+
+pub use fault::TemplateFault;
+pub use template::Template;
+pub use values::{fits, misses, put};
+
+#[cfg(test)]
+mod tests;

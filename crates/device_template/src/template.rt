@@ -1,0 +1,295 @@
+ghost use Rattle.std.specs.Prelude.{◌≡◌, ◌≢◌, ◌==◌, [], true, IfOk, IfErr, OnOk, OnErr, None, Some, Ok, Err};
+ghost use Rattle.std.specs.List.Sorted.{IsStrictlyIncreasing};
+ghost use Rattle.instance_store.specs.Stored.{empty, with_instance, with_value};
+ghost use Rattle.object_defs.specs.Path.{full_path};
+ghost use Rattle.device_template.specs.Class.{account_fault, definition_fault, empty_class, instance_fault, kind_taken, may_stand, object_fault, value_fault, value_fault_at, with_account, with_catalogue, with_idle_firmware, with_store};
+ghost use Rattle.device_template.specs.Built.{IsBuilt};
+ghost use Rattle.device_template.specs.Values.{has_kind, is_within_limits, with_value_at};
+ghost use Rattle.lwm2m_values.specs.declared.kind.ValueKind.{ValueKind};
+ghost use Rattle.lwm2m_values.specs.declared.value.Value.{Value};
+ghost use Rattle.object_defs.specs.Vendor.{with_object, with_resource};
+
+use crate::accounts::Accounts;
+use crate::fault::TemplateFault;
+use crate::firmware::set_firmware_idle;
+use crate::values::{fits, has_all_parts, has_place, plain, put};
+use instance_store::Store;
+use lwm2m_values::{Value, ValueKind};
+use object_defs::{Catalog, FullPath, InstancePath, Path, ResourceDef};
+use std::alloc::{AllocError, Global};
+use std::marker::Model;
+
+/// How many values a class may have.
+const MOST_VALUES: usize = 65535;
+
+/// How many accounts a class may have.
+const MOST_ACCOUNTS: usize = 4;
+
+/// What a device starts from: its accounts, the objects that it knows, its instances and values.
+/// Contracts see the record of these.
+///
+/// A refused call changes nothing.
+#[derive(Drop)]
+pub struct Template {
+    accounts: Accounts,
+    catalog: Catalog,
+    store: Store,
+    alloc: Global,
+}
+
+impl Model for Template {
+    ghost use Rattle.std.specs.Coded.{codes};
+    ghost use Rattle.instance_store.specs.Stored.{stored_code};
+    ghost use Rattle.device_template.specs.Built.{IsBuilt};
+    ghost use Rattle.device_template.specs.Class.{Class};
+
+    ghost Value = { Class };
+
+    ghost coded = { Prim.hlevel (codes, stored_code) };
+
+    ghost view = { λ t. record { accounts = t.accounts; catalogue = t.catalog; store = t.store } };
+
+    ghost invariant = { λ t. IsBuilt (record { accounts = t.accounts; catalogue = t.catalog; store = t.store }) };
+}
+
+/// Whether an instance may have these numbers.
+fn may_stand(place: InstancePath) -> bool
+    ensures { result ≡ may_stand place }
+{
+    if place.object == 0 || place.instance > 65534 {
+        return false;
+    }
+    if place.object == 3 || place.object == 5 {
+        return place.instance == 0;
+    }
+    true
+}
+
+impl Template {
+    /// A template with no account, no instance and no value, which knows the base objects.
+    pub fn new(alloc: Global) -> Result<Template, AllocError>
+        ensures { IfOk result (λ t. t ≡ empty_class) }
+    {
+        Ok(Template {
+            accounts: Accounts::new(alloc),
+            catalog: Catalog::base(alloc)?,
+            store: Store::new(alloc),
+            alloc,
+        })
+    }
+
+    /// A copy, which equals its source.
+    pub fn copy(&self) -> Result<Template, AllocError>
+        ensures { IfOk result (λ t. t ≡ self.now) }
+    {
+        Ok(Template {
+            accounts: self.accounts.clone()?,
+            catalog: self.catalog.copy()?,
+            store: self.store.copy()?,
+            alloc: self.alloc,
+        })
+    }
+
+    fn account_fault(&self, server: u16) -> Option<TemplateFault>
+        ensures { result ≡ account_fault self.now server }
+    {
+        if server < 1 || server > 65534 {
+            return Some(TemplateFault::Range);
+        }
+        if self.accounts.contains(server) {
+            return Some(TemplateFault::Duplicate);
+        }
+        if self.accounts.len() >= MOST_ACCOUNTS {
+            return Some(TemplateFault::Full);
+        }
+        None
+    }
+
+    /// Adds the account of a server, by its Short Server ID from 1 to 65534.
+    ///
+    /// `Range`, then `Duplicate`, then `Full`: a class has at most 4 accounts.
+    pub fn add_account(&mut self, server: u16) -> Result<(), TemplateFault>
+        ensures added { OnOk result (self.new ≡ with_account self.old server) }
+        ensures refused { IfErr result (λ f. f ≢ TemplateFault.Memory → account_fault self.old server ≡ Some f) }
+        ensures refuses { (f : TemplateFault) → account_fault self.old server ≡ Some f → result ≡ Err f }
+        ensures unchanged { OnErr result (self.new ≡ self.old) }
+    {
+        if let Some(fault) = self.account_fault(server) {
+            return Err(fault);
+        }
+        self.accounts.insert(server)?;
+        Ok(())
+    }
+
+    fn instance_fault(&self, place: InstancePath) -> Option<TemplateFault>
+        ensures { result ≡ instance_fault self.now place }
+    {
+        if !may_stand(place) {
+            return Some(TemplateFault::Range);
+        }
+        if self.catalog.object(place.object).is_none() {
+            return Some(TemplateFault::Missing);
+        }
+        if self.store.has_instance(place) {
+            return Some(TemplateFault::Duplicate);
+        }
+        if self.store.instances(place.object).len() >= 64 {
+            return Some(TemplateFault::Full);
+        }
+        None
+    }
+
+    /// Adds an object of the class's own, a vendor's, that has no resource yet.
+    ///
+    /// `Range` (a number outside 10241 to 32768), then `Duplicate`, then `Full` (11 such objects).
+    pub fn add_object(&mut self, id: u16) -> Result<(), TemplateFault>
+        ensures added { OnOk result (self.new ≡ with_catalogue self.old (with_object self.old.catalogue id)) }
+        ensures refused { IfErr result (λ f. f ≢ TemplateFault.Memory → object_fault self.old id ≡ Some f) }
+        ensures refuses { (f : TemplateFault) → object_fault self.old id ≡ Some f → result ≡ Err f }
+        ensures unchanged { OnErr result (self.new ≡ self.old) }
+    {
+        self.catalog.add_vendor(id)?;
+        Ok(())
+    }
+
+    /// Adds a resource to an object of the class's own.
+    ///
+    /// `Range` (no such object of the class's own, or an executable resource that is multiple or of another kind than
+    /// Text), then `Duplicate`, then `Full` (64 resources of the object).
+    pub fn add_resource(
+        &mut self,
+        object: u16,
+        definition: ResourceDef,
+    ) -> Result<(), TemplateFault>
+        ensures added { OnOk result (self.new ≡ with_catalogue self.old (with_resource self.old.catalogue object definition)) }
+        ensures refused { IfErr result (λ f. f ≢ TemplateFault.Memory → definition_fault self.old object definition ≡ Some f) }
+        ensures refuses { (f : TemplateFault) → definition_fault self.old object definition ≡ Some f → result ≡ Err f }
+        ensures unchanged { OnErr result (self.new ≡ self.old) }
+    {
+        self.catalog.add_resource(object, definition)?;
+        Ok(())
+    }
+
+    /// Adds an instance of an object.
+    ///
+    /// `Range` (object 0, number 65535, or another number than 0 of objects 3 and 5), then
+    /// `Missing` (no such object), `Duplicate`, `Full` (64 instances of the object).
+    pub fn add_instance(&mut self, object: u16, instance: u16) -> Result<(), TemplateFault>
+        ensures added { OnOk result
+            (self.new ≡ with_store self.old (with_instance self.old.store (record { object = object; instance = instance }))) }
+        ensures refused { IfErr result
+            (λ f. f ≢ TemplateFault.Memory → instance_fault self.old (record { object = object; instance = instance }) ≡ Some f) }
+        ensures refuses { (f : TemplateFault) → instance_fault self.old (record { object = object; instance = instance }) ≡ Some f → result ≡ Err f }
+        ensures unchanged { OnErr result (self.new ≡ self.old) }
+    {
+        let place = InstancePath { object, instance };
+        if let Some(fault) = self.instance_fault(place) {
+            return Err(fault);
+        }
+        match self.store.add_instance(place) {
+            Ok(()) => Ok(()),
+            Err(_) => Err(TemplateFault::Memory),
+        }
+    }
+
+    fn value_fault(&self, path: FullPath, value: &Value) -> Option<TemplateFault>
+        ensures { result ≡ value_fault_at self.now path value.now }
+    {
+        if !fits(&self.catalog, path, value) {
+            return Some(TemplateFault::Range);
+        }
+        if !has_place(&self.catalog, &self.store, path) {
+            return Some(TemplateFault::Missing);
+        }
+        if self.store.get(path).is_some() {
+            return Some(TemplateFault::Duplicate);
+        }
+        if self.store.len() >= MOST_VALUES {
+            return Some(TemplateFault::Full);
+        }
+        if has_all_parts(&self.store, path) {
+            return Some(TemplateFault::Full);
+        }
+        None
+    }
+
+    /// The kind of the values that may be added at the path; `None` where none may.
+    pub fn kind_taken(&self, path: FullPath) -> Option<ValueKind>
+        ensures kind { result ≡ kind_taken self.now path }
+
+        // A value of that kind, within the limits of its length, is not refused.
+        ensures taken { (kind : ValueKind) (value : Value) → result ≡ Some kind → has_kind value kind ≡ true → is_within_limits value ≡ true
+            → value_fault_at self.now path value ≡ None }
+    {
+        let definition = self.catalog.resource(path.object, path.resource)?;
+        let kind = definition.kind;
+        match self.value_fault(path, &plain(self.alloc, kind)) {
+            None => Some(kind),
+            Some(_) => None,
+        }
+    }
+
+    /// Adds a value at a path of three or four numbers.
+    ///
+    /// `Range` (the path, the value's length or kind, or the resource does not fit), then `Missing`
+    /// (the object or the instance is not there), `Duplicate`, `Full` (65,535 values, or 32 parts of
+    /// the resource).
+    pub fn add_value(&mut self, path: Path, value: Value) -> Result<(), TemplateFault>
+        ensures added { OnOk result (self.new ≡ with_store self.old (with_value_at self.old.store (full_path path) value)) }
+        ensures refused { IfErr result (λ f. f ≢ TemplateFault.Memory → value_fault self.old (full_path path) value ≡ Some f) }
+        ensures refuses { (f : TemplateFault) → value_fault self.old (full_path path) value ≡ Some f → result ≡ Err f }
+        ensures unchanged { OnErr result (self.new ≡ self.old) }
+    {
+        let Some(full) = path.full() else {
+            return Err(TemplateFault::Range);
+        };
+        if let Some(fault) = self.value_fault(full, &value) {
+            return Err(fault);
+        }
+        match put(&mut self.store, full, value) {
+            Ok(()) => Ok(()),
+            Err(_) => Err(TemplateFault::Memory),
+        }
+    }
+
+    /// The Short Server IDs of the accounts, lent, by ascending number.
+    ///
+    /// As every other part of a template, they are what accepted additions made.
+    pub fn accounts(&self) -> &[u16]
+        ensures lent { result.now ≡ self.now.accounts }
+        ensures ascending { IsStrictlyIncreasing self.now.accounts }
+        ensures built { IsBuilt self.now }
+    {
+        self.accounts.as_slice()
+    }
+
+    /// A copy of the Short Server IDs of the accounts.
+    pub fn copy_accounts(&self) -> Result<Vec<u16>, AllocError>
+        ensures { IfOk result (λ v. v.items ≡ self.now.accounts) }
+    {
+        self.accounts.to_vec()
+    }
+
+    /// The objects that the class knows, lent.
+    pub fn catalog(&self) -> &Catalog
+        ensures { result.now ≡ self.now.catalogue }
+    {
+        &self.catalog
+    }
+
+    /// The instances and values that were added, lent.
+    pub fn store(&self) -> &Store
+        ensures { result.now ≡ self.now.store }
+    {
+        &self.store
+    }
+
+    /// The store that a device of the class starts with.
+    pub fn start_store(&self) -> Result<Store, AllocError>
+        ensures { IfOk result (λ s. s ≡ with_idle_firmware self.now.store) }
+    {
+        let mut store = self.store.copy()?;
+        set_firmware_idle(self.alloc, &mut store)?;
+        Ok(store)
+    }
+}

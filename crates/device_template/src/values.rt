@@ -1,0 +1,149 @@
+//! When a value may stand at a path, and how it comes there.
+
+ghost use Rattle.std.specs.Prelude.{◌≡◌, ◌≢◌, ◌↔◌, IsErrOf, IsFalse, IsTrue, Err, OnOk, OnErr, Some};
+ghost use Rattle.instance_store.specs.Stored.{has_instance, with_value};
+ghost use Rattle.device_template.specs.Class.{plain};
+ghost use Rattle.device_template.specs.Values.{fits, fits_resource, has_all_parts, has_kind, has_place, instance_at, is_one_too_many, is_set_at_start, is_within_limits, misses, resource_at};
+
+use instance_store::{Store, StoreFault};
+use lwm2m_values::{Text, Value, ValueKind};
+use object_defs::{Catalog, FullPath, InstancePath, ResourceDef, ResourcePath};
+use octets::Bytes;
+use std::alloc::Global;
+
+/// The value of a kind that is empty, zero or false. It takes no memory.
+pub(crate) fn plain(alloc: Global, kind: ValueKind) -> Value
+    ensures { result ≡ plain kind }
+{
+    match kind {
+        ValueKind::Text => Value::Text(Text::from_string(String::new(alloc))),
+        ValueKind::Whole => Value::Whole(0),
+        ValueKind::Flag => Value::Flag(false),
+        ValueKind::Opaque => Value::Opaque(Bytes::new(alloc)),
+        ValueKind::Moment => Value::Moment(0),
+        ValueKind::Link => Value::Link(0, 0),
+    }
+}
+
+/// Whether the value has a length that its kind may have.
+fn is_within_limits(value: &Value) -> bool
+    ensures { result ≡ is_within_limits value.now }
+{
+    match value {
+        Value::Text(text) => text.as_str().len() <= 255,
+        Value::Opaque(bytes) => bytes.len() <= 1024,
+        Value::Whole(_) | Value::Flag(_) | Value::Moment(_) | Value::Link(_, _) => true,
+    }
+}
+
+/// Whether the value is of the kind.
+fn has_kind(value: &Value, kind: ValueKind) -> bool
+    ensures { result ≡ has_kind value.now kind }
+{
+    match value {
+        Value::Text(_) => kind == ValueKind::Text,
+        Value::Whole(_) => kind == ValueKind::Whole,
+        Value::Flag(_) => kind == ValueKind::Flag,
+        Value::Opaque(_) => kind == ValueKind::Opaque,
+        Value::Moment(_) => kind == ValueKind::Moment,
+        Value::Link(_, _) => kind == ValueKind::Link,
+    }
+}
+
+/// Whether the device itself sets the value at its start.
+fn is_set_at_start(path: FullPath) -> bool
+    ensures { result ≡ is_set_at_start path }
+{
+    path.object == 5
+        && path.instance == 0
+        && (path.resource == 1 || path.resource == 3 || path.resource == 5)
+}
+
+/// Whether the resource can be read, is of the value's kind, and has parts exactly where the path
+/// names one.
+fn fits_resource(path: FullPath, value: &Value, definition: Option<ResourceDef>) -> bool
+    ensures { result ≡ fits_resource path value.now definition }
+{
+    let Some(definition) = definition else {
+        return false;
+    };
+    if !definition.ops.can_read() || !has_kind(value, definition.kind) {
+        return false;
+    }
+    if definition.multiple {
+        path.part.is_some()
+    } else {
+        path.part.is_none()
+    }
+}
+
+/// Whether the value fits its path and the definition there, if its object is known.
+pub fn fits(catalog: &Catalog, path: FullPath, value: &Value) -> bool
+    ensures { result ≡ fits catalog.now path value.now }
+{
+    if !is_within_limits(value) {
+        return false;
+    }
+    match catalog.object(path.object) {
+        None => true,
+        Some(object) => {
+            fits_resource(path, value, object.resource(path.resource).copied())
+                && !is_set_at_start(path)
+        }
+    }
+}
+
+/// Whether the object and the instance are there.
+pub(crate) fn has_place(catalog: &Catalog, store: &Store, path: FullPath) -> bool
+    ensures { result ≡ has_place catalog.now store.now path }
+{
+    let place = InstancePath {
+        object: path.object,
+        instance: path.instance,
+    };
+    catalog.object(path.object).is_some() && store.has_instance(place)
+}
+
+/// Whether the resource has the 32 parts that it may have.
+pub(crate) fn has_all_parts(store: &Store, path: FullPath) -> bool
+    ensures { result ≡ has_all_parts store.now path }
+{
+    path.part.is_some() && store.part_count(resource_at(path)) >= 32
+}
+
+fn resource_at(path: FullPath) -> ResourcePath
+    ensures { result ≡ resource_at path }
+{
+    ResourcePath {
+        object: path.object,
+        instance: path.instance,
+        resource: path.resource,
+    }
+}
+
+/// Puts a value at a full path.
+///
+/// `Absent` (the instance is not there), then `Full` (it would be the resource's 33rd part).
+pub fn put(store: &mut Store, path: FullPath, value: Value) -> Result<(), StoreFault>
+    ensures ok { OnOk result (store.new ≡ with_value store.old path value) }
+    ensures absent { IsErrOf result StoreFault.Absent ↔ IsFalse (has_instance store.old (instance_at path)) }
+    ensures full { IsErrOf result StoreFault.Full ↔ (IsTrue (has_instance store.old (instance_at path)) × IsTrue (is_one_too_many store.old path)) }
+    ensures never_exists { result ≢ Err StoreFault.Exists }
+    ensures err { OnErr result (store.new ≡ store.old) }
+{
+    match path.part {
+        None => store.put(resource_at(path), value),
+        Some(part) => store.put_part(resource_at(path), part, value),
+    }
+}
+
+/// Whether a new value does not fit: not at its path, in no instance that is there, or as a 33rd
+/// part.
+pub fn misses(catalog: &Catalog, store: &Store, path: FullPath, value: &Value) -> bool
+    ensures { result ≡ misses catalog.now store.now (Some path) value.now }
+{
+    if !fits(catalog, path, value) || !has_place(catalog, store, path) {
+        return true;
+    }
+    store.get(path).is_none() && has_all_parts(store, path)
+}

@@ -1,0 +1,2 @@
+pub mod Firmware
+pub mod Laws

@@ -1,0 +1,15 @@
+use Rattle.std.proofs.Common.{ap, ◌∙◌}
+use Rattle.instance_store.specs.Stored.{has_instance}
+use Rattle.instance_lifecycle.specs.Creations.{is_full}
+use Rattle.instance_lifecycle.proofs.Controls.{control_free, control_full, first_is_false}
+use Rattle.instance_lifecycle.proofs.creation.make.Goals as goal
+
+pub add-requires-clause-free : goal.add-requires-clause-free
+add-requires-clause-free c =
+    ap (λ s. has_instance s c.args.place) c.in_ok-add_control_for.ensures
+    ∙ control_free c.args.store.now c.args.accounts c.args.server c.args.place c.requires.other ∙ c.requires.free
+
+pub add-requires-clause-room : goal.add-requires-clause-room
+add-requires-clause-room c =
+    ap (λ s. is_full s c.args.place.object) c.in_ok-add_control_for.ensures
+    ∙ control_full c.args.store.now c.args.accounts c.args.server c.args.place c.requires.other ∙ first_is_false _ _ c.requires.room

@@ -1,0 +1,4 @@
+pub mod Creations
+pub mod Deletions
+pub mod Laws
+pub mod Numbers

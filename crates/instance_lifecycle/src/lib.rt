@@ -1,0 +1,14 @@
+//! The beginning and the end of an object instance: Create and Delete on a store (OMA LwM2M 1.1 Core).
+#![tactic(auto)]
+
+mod creation;
+mod deletion;
+pub mod laws;
+mod number;
+
+pub use creation::{create, has_no_room};
+pub use deletion::delete;
+pub use number::{free_number, number_for};
+
+#[cfg(test)]
+mod tests;

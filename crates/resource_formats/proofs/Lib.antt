@@ -1,0 +1,11 @@
+pub mod Distinct
+pub mod EachOnce
+pub mod Growth
+pub mod Nesting
+pub mod Once
+pub mod Reading
+pub mod Places
+pub mod ShownAgain
+pub mod Sole
+pub mod Writing
+pub mod Written

@@ -1,0 +1,6 @@
+use Rattle.std.proofs.Common.{◌≡◌}
+use Rattle.resource_formats.specs.Changes.{with_assignments}
+use Rattle.resource_formats.proofs.changes.set_all.Given as goal
+
+abbrev pub invariant-loop-assignment : goal.invariant-loop-assignment
+invariant-loop-assignment l = l.store ≡ with_assignments l.fn.mode l.fn.resources l.fn.store l.fn.place l.yielded

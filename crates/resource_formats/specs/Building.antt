@@ -1,0 +1,37 @@
+-- How records are put together and taken apart.
+use Rattle.std.specs.Prelude.{ℕ, ◌==◌, Option, None, Some, option_map, if◌then◌else◌}
+use Rattle.lwm2m_values.specs.declared.kind.ValueKind.{ValueKind}
+use Rattle.lwm2m_values.specs.declared.value.Value.{Value}
+use Rattle.lwm2m_values.specs.Reading.{value_of_bytes}
+use Rattle.lwm2m_values.specs.Tree.{Tree, Trees, instance, multi, part, single, none, more}
+
+-- a record behind others
+abbrev pub with_last : Trees → Tree → Trees
+with_last none t = more t none
+with_last (more s nodes) t = more s (with_last nodes t)
+
+-- a part behind a record: in it, where it is the Multiple Resource of this number, else in one of its own
+abbrev pub part_after : ℕ → Tree → Tree → Trees
+part_after r p (multi q parts) = if r == q then more (multi q (with_last parts p)) none else more (multi q parts) (more (multi r (more p none)) none)
+part_after r p (instance i inner) = more (instance i inner) (more (multi r (more p none)) none)
+part_after r p (part n bytes) = more (part n bytes) (more (multi r (more p none)) none)
+part_after r p (single q bytes) = more (single q bytes) (more (multi r (more p none)) none)
+
+-- a part behind records
+abbrev pub part_behind : ℕ → Tree → Trees → Trees
+part_behind r p none = more (multi r (more p none)) none
+part_behind r p (more t none) = part_after r p t
+part_behind r p (more t (more u nodes)) = more t (part_behind r p (more u nodes))
+
+-- the record that stands alone
+abbrev pub sole : Trees → Option Tree
+sole none = None
+sole (more t none) = Some t
+sole (more t (more u nodes)) = None
+
+-- the number and the value of a Resource Instance
+abbrev pub part_in : ValueKind → Tree → Option (ℕ × Value)
+part_in kind (part n bytes) = option_map (λ v. (n, v)) (value_of_bytes kind bytes)
+part_in kind (instance i inner) = None
+part_in kind (multi r inner) = None
+part_in kind (single r bytes) = None

@@ -1,0 +1,10 @@
+pub mod Arguments
+pub mod Building
+pub mod Changes
+pub mod Formats
+pub mod Given
+pub mod Nodes
+pub mod PartList
+pub mod Scanning
+pub mod Shown
+pub mod Written
