@@ -1,0 +1,63 @@
+-- Changes of attributes, one after another.
+use Rattle.std.proofs.Common.{◌≡◌, ℕ, ℤ, true, false, cond, List, [], ◌∷◌, Option, None, Some, refl, sym, ap, ◌∙◌, ◌≤◌, length, drop, rules}
+use Rattle.std.proofs.lemmas.List.{drop_all}
+use Rattle.std.specs.Ordering.{eq_by_cmp}
+use Rattle.std.specs.Cmp.{eq_by_cmp_equiv, Equal-is}
+use Rattle.std.proofs.lemmas.Bool.{false≢true, false_from_ne_true}
+use denote.Enum.Bare.{same_true}
+use Rattle.std.specs.FinMap as map
+use Rattle.object_defs.specs.declared.path.Path.{Path}
+use Rattle.notifier.specs.declared.attribute.Name.{Name}
+use Rattle.notifier.specs.declared.attribute.Change.{Change}
+use Rattle.object_defs.specs.declared.path.Path.TheVariants.{Object, Instance, Resource, Part}
+use Rattle.notifier.specs.declared.attribute.Name.TheVariants.{Pmin, Pmax, Gt, Lt, St}
+use Rattle.notifier.specs.contracts.attribute.Name.{the_type}
+use Rattle.notifier.specs.contracts.attribute.NamePartialEq.TheImpl.{eq-value}
+use Rattle.notifier.specs.Attributes.{Numbers, key_cmp, key_of, assigned, with_number, written}
+use Rattle.notifier.proofs.Keys.{key_total, key_exact}
+
+-- the last of some changes of a name, or a number
+abbrev pub last_of : Option ℤ → List Change → Name → Option ℤ
+last_of z [] n = z
+last_of z (c ∷ cs) n = last_of (cond (eq-value.it c.name n) c.number z) cs n
+
+pub nothing_left : (z : Option ℤ) (cs : List Change) (n : Name) (i : ℕ) → length cs ≤ i → z ≡ last_of z (drop i cs) n
+nothing_left z cs n i end = ap (λ t. last_of z t n) (sym (drop_all i cs end))
+
+name_of_key : (s : ℕ) (p : Path) (n : Name) → (key_of s p n).name ≡ n
+name_of_key s (Object o) n = refl
+name_of_key s (Instance o i) n = refl
+name_of_key s (Resource o i r) n = refl
+name_of_key s (Part o i r q) n = refl
+
+same_name : (a b : Name) → eq-value.it a b ≡ true → a ≡ b
+same_name a b h = same_true the_type (search rules) a b h
+
+own_name : (n : Name) → eq-value.it n n ≡ true
+own_name Pmin = refl
+own_name Pmax = refl
+own_name Gt = refl
+own_name Lt = refl
+own_name St = refl
+
+-- the keys of two names on one path are told apart as the names are
+key_test : (s : ℕ) (p : Path) (a b : Name) → eq_by_cmp key_cmp (key_of s p a) (key_of s p b) ≡ eq-value.it b a
+key_test s p a b =
+    elim (eq-value.it b a) as (λ t. eq-value.it b a ≡ t → eq_by_cmp key_cmp (key_of s p a) (key_of s p b) ≡ t) [
+      | true ↦ λ h. ap (λ n. eq_by_cmp key_cmp (key_of s p a) (key_of s p n)) (same_name b a h) ∙ (eq_by_cmp_equiv key_total).refl (key_of s p a)
+      | false ↦ λ h. false_from_ne_true _ (λ k.
+          let keys = key_exact (key_of s p a) (key_of s p b) ((Equal-is _).0 k) in
+          let names = sym (name_of_key s p a) ∙ ap (λ q. q.name) keys ∙ name_of_key s p b in
+          false≢true (sym h ∙ ap (λ n. eq-value.it n a) (sym names) ∙ own_name a))
+    ] refl
+
+changed_number : (m : Numbers) (s : ℕ) (p : Path) (c : Name) (z : Option ℤ) (n : Name) → assigned (with_number m (key_of s p c) z) s p n ≡ cond (eq-value.it c n) z (assigned m s p n)
+changed_number m s p c None n = map.get-remove key_total m (key_of s p c) (key_of s p n) ∙ ap (λ b. cond b None (assigned m s p n)) (key_test s p n c)
+changed_number m s p c (Some z) n = map.get-insert key_total m (key_of s p c) z (key_of s p n) ∙ ap (λ b. cond b (Some z) (assigned m s p n)) (key_test s p n c)
+
+-- the number after some changes is that of the last of its name
+pub after_written : (m : Numbers) (s : ℕ) (p : Path) (cs : List Change) (n : Name) → assigned (written m s p cs) s p n ≡ last_of (assigned m s p n) cs n
+after_written m s p [] n = refl
+after_written m s p (c ∷ cs) n =
+    after_written (with_number m (key_of s p c.name) c.number) s p cs n
+    ∙ ap (λ z. last_of z cs n) (changed_number m s p c.name c.number n)

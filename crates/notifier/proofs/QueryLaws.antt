@@ -1,0 +1,34 @@
+-- Queries, read one after another.
+use Rattle.std.proofs.Common.{◌≡◌, ℕ, List, [], ◌∷◌, ◌++◌, Result, Ok, Err, map, drop, get_or, length, ◌+◌, ◌<◌, sym, ap, ◌∙◌, add-one, drop-cons, Bor}
+use Rattle.notifier.specs.declared.attribute.Change.{Change}
+use Rattle.notifier.specs.declared.attribute.Level.{Level}
+use Rattle.notifier.specs.declared.fault.QueryFault.{QueryFault}
+use Rattle.notifier.specs.Query.{reading_of, changes_of}
+
+-- where the first query spells a change, the others follow it
+pub after_first : (before c : List Change) (level : Level) (q : List ℕ) (qs : List (List ℕ)) → changes_of before level (q ∷ []) ≡ Ok c → changes_of before level (q ∷ qs) ≡ changes_of c level qs
+after_first before c level q qs h =
+    elim (reading_of before level q) as (λ r. (elim r as (λ _. Result (List Change) QueryFault) [ Ok x ↦ Ok (before ++ x ∷ []) | Err e ↦ Err e ]) ≡ Ok c → (elim r as (λ _. Result (List Change) QueryFault) [ Ok x ↦ changes_of (before ++ x ∷ []) level qs | Err e ↦ Err e ]) ≡ changes_of c level qs) [
+      | Ok x ↦ λ k. let same : before ++ x ∷ [] ≡ c = cc in ap (λ b. changes_of b level qs) same
+      | Err e ↦ λ k. cc
+    ] h
+
+-- where it has a fault, that is the fault
+pub fault_first : (before : List Change) (level : Level) (q : List ℕ) (qs : List (List ℕ)) (e : QueryFault) → changes_of before level (q ∷ []) ≡ Err e → changes_of before level (q ∷ qs) ≡ Err e
+fault_first before level q qs e h =
+    elim (reading_of before level q) as (λ r. (elim r as (λ _. Result (List Change) QueryFault) [ Ok x ↦ Ok (before ++ x ∷ []) | Err f ↦ Err f ]) ≡ Err e → (elim r as (λ _. Result (List Change) QueryFault) [ Ok x ↦ changes_of (before ++ x ∷ []) level qs | Err f ↦ Err f ]) ≡ Err e) [
+      | Ok x ↦ λ k. cc
+      | Err f ↦ λ k. k
+    ] h
+
+-- the queries from a place on, and the one at that place
+from_place : (qs : List (Bor (List ℕ))) (i : ℕ) (d : Bor (List ℕ)) → i < length qs → map (λ q. q.now) (drop i qs) ≡ (get_or qs i d).now ∷ map (λ q. q.now) (drop (i + 1) qs)
+from_place qs i d h = ap (map (λ q. q.now)) (drop-cons qs i d h) ∙ ap (λ n. (get_or qs i d).now ∷ map (λ q. q.now) (drop n qs)) (sym (add-one i))
+
+-- one query more is read
+pub one_read : (before c : List Change) (level : Level) (qs : List (Bor (List ℕ))) (i : ℕ) (d : Bor (List ℕ)) → i < length qs → changes_of before level ((get_or qs i d).now ∷ []) ≡ Ok c → changes_of c level (map (λ q. q.now) (drop (i + 1) qs)) ≡ changes_of before level (map (λ q. q.now) (drop i qs))
+one_read before c level qs i d inside h =
+    sym (after_first before c level (get_or qs i d).now (map (λ q. q.now) (drop (i + 1) qs)) h) ∙ ap (changes_of before level) (sym (from_place qs i d inside))
+
+pub one_refused : (before : List Change) (level : Level) (qs : List (Bor (List ℕ))) (i : ℕ) (d : Bor (List ℕ)) (e : QueryFault) → i < length qs → changes_of before level ((get_or qs i d).now ∷ []) ≡ Err e → changes_of before level (map (λ q. q.now) (drop i qs)) ≡ Err e
+one_refused before level qs i d e inside h = ap (changes_of before level) (from_place qs i d inside) ∙ fault_first before level (get_or qs i d).now (map (λ q. q.now) (drop (i + 1) qs)) e h

@@ -1,0 +1,10 @@
+use Rattle.std.proofs.Common.{sym, ◌∙◌}
+use Rattle.std.specs.FinMap as map
+use Rattle.notifier.proofs.AttributeLaws.{after_written, nothing_left}
+use Rattle.notifier.proofs.attributes.number_after.Goals as goal
+
+pub returns : goal.returns
+returns c =
+    nothing_left c.loop-change.number c.args.changes.now c.args.name c.loop-change.change-index c.loop-change-test.false
+    ∙ c.loop-change.invariant
+    ∙ sym (after_written (map.from_entries c.args.numbers.now.entries) c.args.server c.args.path c.args.changes.now c.args.name)

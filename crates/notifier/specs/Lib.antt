@@ -1,0 +1,4 @@
+pub mod Observed
+pub mod Trigger
+pub mod Attributes
+pub mod Query

@@ -1,0 +1,64 @@
+-- The observations of a device, in the order of registration, and how a call changes them (RFC 7641).
+use Rattle.std.specs.Prelude.{◌≡◌, ℕ, ◌+◌, ◌%◌, ◌≤◌, ◌==◌, Bool, true, not, ◌&&◌, if◌then◌else◌, List, [], ◌∷◌, length, find, filter, slice_get, slice_set, bytes_eq, IsFalse}
+use Rattle.std.specs.List.{list_any}
+use Rattle.std.specs.Option.{option_map_or}
+use Rattle.notifier.specs.declared.observation.Observation.{Observation}
+use Rattle.notifier.specs.declared.observation.Report.{Report}
+use Rattle.notifier.specs.declared.observations.Key.{Key}
+
+-- whether an observation has this name: its server and its token
+abbrev pub is_named : ℕ → List ℕ → Observation → Bool
+is_named server token o = server == o.server && bytes_eq token o.token
+
+-- whether there is an observation of this name
+abbrev pub has_name : List Observation → ℕ → List ℕ → Bool
+has_name all server token = list_any (is_named server token) all
+
+-- no two observations have one name
+abbrev pub HaveDistinctNames : List Observation → Type 0
+HaveDistinctNames [] = Unit {0}
+HaveDistinctNames (o ∷ os) = IsFalse (has_name os o.server o.token) × HaveDistinctNames os
+
+-- the Observe number after this one, of 24 bits
+abbrev pub next_number : ℕ → ℕ
+next_number n = (n + 1) % 16777216
+
+-- the Observe number of the reply that registers: 0 for a new name, else the next one
+abbrev pub number_for : List Observation → ℕ → List ℕ → ℕ
+number_for all server token = option_map_or (λ o. next_number o.number) (find (is_named server token) all) 0
+
+-- with an observation: in the place of the one of its name, else at the end
+abbrev pub registered : List Observation → Observation → List Observation
+registered [] new = record new { number = 0 } ∷ []
+registered (o ∷ os) new =
+    if is_named new.server new.token o then record new { number = next_number o.number } ∷ os else o ∷ registered os new
+
+-- without the observations of this name
+abbrev pub cancelled : List Observation → ℕ → List ℕ → List Observation
+cancelled all server token = filter (λ o. not (is_named server token o)) all
+
+-- whether the last message of an observation was a NON to this server with this message ID
+abbrev pub was_sent : ℕ → ℕ → Observation → Bool
+was_sent server mid o = server == o.server && (o.non && o.mid == mid)
+
+-- without the observations whose last message a Reset of this server rejects
+abbrev pub without_reset : List Observation → ℕ → ℕ → List Observation
+without_reset all server mid = filter (λ o. not (was_sent server mid o)) all
+
+-- an observation after a notification, which is a NON
+abbrev pub notified : ℕ → ℕ → Report → Observation → Observation
+notified now mid report o = record o { report = report; second = now; number = next_number o.number; non = true; mid = mid }
+
+-- with the observation at a place after its notification
+abbrev pub with_sent : List Observation → ℕ → ℕ → ℕ → Report → List Observation
+with_sent all place now mid report = option_map_or (λ o. slice_set all place (notified now mid report o)) (slice_get all place) all
+
+-- a token has at most 8 bytes (RFC 7252 section 3)
+abbrev pub HasToken : Observation → Type 0
+HasToken o = length o.token ≤ 8
+
+-- a key is the name of its observation, whose token is one
+pub record IsKeyed (e : Key × Observation) : Type 0 where
+  pub server : e.0.server ≡ e.1.server
+  pub token : e.0.token.items ≡ e.1.token
+  pub short : HasToken e.1

@@ -1,0 +1,323 @@
+ghost use Rattle.std.specs.Prelude.{◌≡◌, ◌↔◌, pos, ◌+ℤ◌, ◌*ℤ◌, int_lt, ◌==◌, not, filter, map as map_list, Err, IfOk, OnOk, OnErr, IsErrOf, IsFalse};
+ghost use Rattle.std.specs.FinMap as map;
+ghost use Rattle.object_defs.specs.declared.path.Path.TheVariants as paths;
+ghost use Rattle.notifier.specs.Attributes.{key_cmp, key_of, path_of, assigned, effective, with_number, written, agree, is_consistent, is_number, lies_under, without_under, listed};
+
+use crate::attribute::{AttributeKey, Change, Name};
+use crate::fault::WriteFault;
+use object_defs::Path;
+use std::alloc::{AllocError, Global};
+use std::collections::BTreeMap;
+use std::marker::Model;
+
+/// The attributes that servers write. Contracts see a finite map from their keys to their numbers.
+#[derive(Drop)]
+pub struct Attributes {
+    alloc: Global,
+    numbers: BTreeMap<AttributeKey, i64>,
+}
+
+impl Model for Attributes {
+    ghost use Rattle.std.specs.Coded.{coded_ℤ};
+    ghost use Rattle.std.specs.FinMap as map;
+    ghost use Rattle.notifier.specs.Attributes.{Numbers, key_code};
+
+    ghost Value = { Numbers };
+
+    ghost coded = { map.code key_code coded_ℤ };
+
+    ghost view = { λ a. map.from_entries a.numbers.entries };
+}
+
+/// The number at a key.
+fn number_at(numbers: &BTreeMap<AttributeKey, i64>, key: AttributeKey) -> Option<i64>
+    ensures { result ≡ map.get (map.from_entries {R = key_cmp} numbers.now.entries) key }
+{
+    numbers.get(&key).copied()
+}
+
+/// A clone of a map.
+fn clone_of(
+    numbers: &BTreeMap<AttributeKey, i64>,
+) -> Result<BTreeMap<AttributeKey, i64>, AllocError>
+    ensures { IfOk result (λ m. m.entries ≡ numbers.now.entries) }
+{
+    numbers.clone()
+}
+
+/// Sets the number at a key.
+fn set(
+    numbers: &mut BTreeMap<AttributeKey, i64>,
+    key: AttributeKey,
+    number: i64,
+) -> Result<(), AllocError>
+    ensures { OnOk result (map.from_entries {R = key_cmp} numbers.new.entries ≡ map.insert (map.from_entries numbers.old.entries) key number) }
+{
+    numbers.insert(key, number)?;
+    Ok(())
+}
+
+/// Sets the number at a key, or unsets it.
+fn put(
+    numbers: &mut BTreeMap<AttributeKey, i64>,
+    key: AttributeKey,
+    number: Option<i64>,
+) -> Result<(), AllocError>
+    ensures { OnOk result (map.from_entries {R = key_cmp} numbers.new.entries ≡ with_number (map.from_entries numbers.old.entries) key number) }
+{
+    match number {
+        Some(number) => {
+            set(numbers, key, number)?;
+            Ok(())
+        }
+        None => {
+            numbers.remove(&key);
+            Ok(())
+        }
+    }
+}
+
+/// A copy of the numbers with these changes.
+fn changed(
+    numbers: &BTreeMap<AttributeKey, i64>,
+    server: u16,
+    path: Path,
+    changes: &[Change],
+) -> Result<BTreeMap<AttributeKey, i64>, AllocError>
+    ensures { IfOk result (λ m. map.from_entries {R = key_cmp} m.entries ≡ written (map.from_entries numbers.now.entries) server path changes.now) }
+{
+    let mut next = clone_of(numbers)?;
+    for change in changes {
+        put(
+            &mut next,
+            AttributeKey::new(server, path, change.name),
+            change.number,
+        )?;
+    }
+    Ok(next)
+}
+
+/// The number that an attribute has after these changes.
+fn number_after(
+    numbers: &BTreeMap<AttributeKey, i64>,
+    server: u16,
+    path: Path,
+    changes: &[Change],
+    name: Name,
+) -> Option<i64>
+    ensures { result ≡ assigned (written (map.from_entries numbers.now.entries) server path changes.now) server path name }
+{
+    let mut number = number_at(numbers, AttributeKey::new(server, path, name));
+    for change in changes {
+        if change.name == name {
+            number = change.number;
+        }
+    }
+    number
+}
+
+/// The number two steps above lt.
+fn two_steps_above(lt: i64, st: i64) -> i128
+    ensures { result ≡ lt +ℤ (pos 2 *ℤ st) }
+{
+    i128::from(lt) + 2 * i128::from(st)
+}
+
+/// Whether two steps above lt are below gt.
+fn leaves_step(gt: i64, lt: i64, st: i64) -> bool
+    ensures { result ≡ int_lt (lt +ℤ (pos 2 *ℤ st)) gt }
+{
+    two_steps_above(lt, st) < i128::from(gt)
+}
+
+/// Whether gt, lt and st agree.
+fn agree(gt: Option<i64>, lt: Option<i64>, st: Option<i64>) -> bool
+    ensures { result ≡ agree gt lt st }
+{
+    match (gt, lt, st) {
+        (Some(gt), Some(lt), None) => lt < gt,
+        (Some(gt), Some(lt), Some(st)) => { lt < gt && leaves_step(gt, lt, st) }
+        _ => true,
+    }
+}
+
+/// Whether a number of a path is this one.
+fn is_number(number: u16, found: Option<u16>) -> bool
+    ensures { result ≡ is_number number found }
+{
+    match found {
+        Some(found) => found == number,
+        None => false,
+    }
+}
+
+/// Whether the path of a key is a path or lies below it.
+fn lies_under(path: Path, key: AttributeKey) -> bool
+    ensures { result ≡ lies_under path key }
+{
+    match path {
+        Path::Object(object) => key.object == object,
+        Path::Instance(object, instance) => {
+            key.object == object && is_number(instance, key.instance)
+        }
+        Path::Resource(object, instance, resource) => {
+            key.object == object
+                && is_number(instance, key.instance)
+                && is_number(resource, key.resource)
+        }
+        Path::Part(object, instance, resource, part) => {
+            key.object == object
+                && is_number(instance, key.instance)
+                && is_number(resource, key.resource)
+                && is_number(part, key.part)
+        }
+    }
+}
+
+/// Keeps the numbers of the keys that do not lie under a path.
+fn keep_elsewhere(numbers: &mut BTreeMap<AttributeKey, i64>, path: Path)
+    ensures { numbers.new.entries ≡ filter (λ e. not (lies_under path e.0)) numbers.old.entries }
+{
+    numbers.retain(
+        |key: &AttributeKey, number: &mut i64| -> bool
+            ensures { (result ≡ not (lies_under path key.now)) × (number.new ≡ number.old) }
+        { !lies_under(path, *key) },
+    );
+}
+
+/// The attributes of a server, in the order of the map.
+fn list_of(
+    alloc: Global,
+    numbers: &BTreeMap<AttributeKey, i64>,
+    server: u16,
+) -> Result<Vec<(Path, Name, i64)>, AllocError>
+    ensures { IfOk result (λ v. v.items ≡ listed (map.from_entries numbers.now.entries) server) }
+{
+    let mut found = Vec::new(alloc);
+    for (key, number) in numbers {
+        if key.server == server {
+            found.push((key.path(), key.name, *number))?;
+        }
+    }
+    Ok(found)
+}
+
+impl Attributes {
+    /// No attribute.
+    pub fn new(alloc: Global) -> Attributes
+        ensures { result ≡ map.empty }
+    {
+        Attributes {
+            alloc,
+            numbers: BTreeMap::new(alloc),
+        }
+    }
+
+    /// A copy, which equals its source.
+    pub fn copy(&self) -> Result<Attributes, AllocError>
+        ensures { IfOk result (λ a. a ≡ self.now) }
+    {
+        Ok(Attributes {
+            alloc: self.alloc,
+            numbers: clone_of(&self.numbers)?,
+        })
+    }
+
+    /// The number that a server set for a path itself: seconds of pmin and pmax, thousandths of gt,
+    /// lt and st.
+    pub fn assigned(&self, server: u16, path: Path, name: Name) -> Option<i64>
+        ensures { result ≡ assigned self.now server path name }
+    {
+        number_at(&self.numbers, AttributeKey::new(server, path, name))
+    }
+
+    /// The number that has effect for a server on a path: of the lowest level that has one, its
+    /// resource, its instance or its object. A resource instance has none of its own.
+    pub fn effective(&self, server: u16, path: Path, name: Name) -> Option<i64>
+        ensures { result ≡ effective self.now server path name }
+    {
+        match path {
+            Path::Object(object) => self.assigned(server, Path::Object(object), name),
+            Path::Instance(object, instance) => {
+                self.effective_of_instance(server, object, instance, name)
+            }
+            Path::Resource(object, instance, resource) => {
+                self.effective_of_resource(server, object, instance, resource, name)
+            }
+            Path::Part(object, instance, resource, _) => {
+                self.effective_of_resource(server, object, instance, resource, name)
+            }
+        }
+    }
+
+    fn effective_of_instance(
+        &self,
+        server: u16,
+        object: u16,
+        instance: u16,
+        name: Name,
+    ) -> Option<i64>
+        ensures { result ≡ effective self.now server (paths.Instance object instance) name }
+    {
+        match self.assigned(server, Path::Instance(object, instance), name) {
+            Some(number) => Some(number),
+            None => self.assigned(server, Path::Object(object), name),
+        }
+    }
+
+    fn effective_of_resource(
+        &self,
+        server: u16,
+        object: u16,
+        instance: u16,
+        resource: u16,
+        name: Name,
+    ) -> Option<i64>
+        ensures { result ≡ effective self.now server (paths.Resource object instance resource) name }
+    {
+        match self.assigned(server, Path::Resource(object, instance, resource), name) {
+            Some(number) => Some(number),
+            None => self.effective_of_instance(server, object, instance, name),
+        }
+    }
+
+    /// Whether the numbers of a server on a path would agree after these changes.
+    fn stays_consistent(&self, server: u16, path: Path, changes: &[Change]) -> bool
+        ensures { result ≡ is_consistent (written self.now server path changes.now) server path }
+    {
+        agree(
+            number_after(&self.numbers, server, path, changes, Name::Gt),
+            number_after(&self.numbers, server, path, changes, Name::Lt),
+            number_after(&self.numbers, server, path, changes, Name::St),
+        )
+    }
+
+    /// Makes these changes for a server on a path, the later over the earlier. The levels at which
+    /// attributes stand are not looked at.
+    pub fn write(&mut self, server: u16, path: Path, changes: &[Change]) -> Result<(), WriteFault>
+        ensures ok { OnOk result (self.new ≡ written self.old server path changes.now) }
+        ensures inconsistent { IsErrOf result WriteFault.Inconsistent ↔ IsFalse (is_consistent (written self.old server path changes.now) server path) }
+        ensures unchanged { OnErr result (self.new ≡ self.old) }
+    {
+        if !self.stays_consistent(server, path, changes) {
+            return Err(WriteFault::Inconsistent);
+        }
+        self.numbers = changed(&self.numbers, server, path, changes)?;
+        Ok(())
+    }
+
+    /// The attributes of a server with their paths, by the numbers of the paths, a path before
+    /// those below it, and then by name.
+    pub fn list(&self, server: u16) -> Result<Vec<(Path, Name, i64)>, AllocError>
+        ensures { IfOk result (λ v. v.items ≡ listed self.now server) }
+    {
+        list_of(self.alloc, &self.numbers, server)
+    }
+
+    /// Removes the attributes of every server at or below a path.
+    pub fn remove_under(&mut self, path: Path)
+        ensures { self.new ≡ without_under self.old path }
+    {
+        keep_elsewhere(&mut self.numbers, path);
+    }
+}

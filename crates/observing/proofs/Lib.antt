@@ -1,0 +1,4 @@
+mod Options
+mod Passing
+mod Places
+mod Turns

@@ -1,0 +1,7 @@
+pub mod Posted
+pub mod Report
+pub mod Period
+pub mod Message
+pub mod Second
+pub mod Progress
+pub mod Laws

@@ -1,0 +1,23 @@
+//! What the observations of a device do second by second (RFC 7641; OMA LwM2M 1.1 Core, attributes).
+#![tactic(auto)]
+
+mod datagram;
+mod laws;
+mod notification;
+mod outbox;
+mod period;
+mod report;
+mod sweep;
+#[cfg(test)]
+mod tests;
+mod verdict;
+
+pub use datagram::Datagram;
+pub use laws::{
+    counts_message_ids, counts_observe_numbers, keeps_order, sends_after_pmin, sends_before_pmax,
+};
+pub use outbox::Outbox;
+pub use period::{pmax_of, pmin_of};
+pub use report::report_of;
+pub use sweep::{second, seconds};
+pub use verdict::Verdict;
