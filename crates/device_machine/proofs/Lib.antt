@@ -1,3 +1,8 @@
+mod Answering
+mod Counting
 mod Living
-mod Paths
+mod Naming
+mod Places
+mod Refusing
 mod Repeating
+mod Sending

@@ -1,5 +1,5 @@
 -- What a device does depends on the recorded requests only by those that live.
-use Rattle.std.proofs.Common.{◌≡◌, ℕ, ◌+◌, ◌-◌, nat_lt, Bool, true, false, ◌&&◌, cond, List, [], ◌∷◌, ◌++◌, Option, None, Some, Result, Ok, Err, refl, sym, ap, subst, ◌∙◌, arith}
+use Rattle.std.proofs.Common.{◌≡◌, ℕ, ◌+◌, ◌-◌, nat_lt, ◌==◌, Bool, true, false, ◌&&◌, cond, List, [], ◌∷◌, ◌++◌, Option, None, Some, Result, Ok, Err, refl, sym, ap, subst, ◌∙◌, arith}
 use Rattle.std.specs.List.{filter, find}
 use Rattle.std.specs.Bool.{if◌then◌else◌}
 use Rattle.std.proofs.lemmas.Bool.Decides.{nat_tests}
@@ -10,15 +10,25 @@ use Rattle.coap_codec.specs.declared.kind.Kind.{Kind}
 use Rattle.coap_codec.specs.declared.kind.Kind.TheVariants.{Con, Non, Ack, Rst}
 use Rattle.coap_codec.specs.declared.fault.CoapFault.{CoapFault}
 use Rattle.device_machine.specs.declared.event.Event.{Event}
-use Rattle.device_machine.specs.declared.event.Event.TheVariants.{Recv, Put, Tick}
+use Rattle.device_machine.specs.declared.event.Event.TheVariants.{Recv, Put, Firmware, Tick}
 use Rattle.device_machine.specs.declared.output.Output.{Output}
 use Rattle.device_machine.specs.declared.recorded.Recorded.{Recorded}
-use Rattle.device_machine.specs.Values.{misses, with_value_at}
+use Rattle.device_template.specs.Values.{misses, with_value_at}
+use Rattle.device_requests.specs.declared.answer.Act.{Act as Deed}
+use Rattle.firmware_update.specs.Firmware.{firmware_after}
+use Rattle.firmware_update.specs.declared.event.FirmwareEvent.TheVariants.{Ended}
+use Rattle.instance_store.specs.Stored.{Stored}
 use Rattle.lwm2m_values.specs.declared.value.Value.{Value}
 use Rattle.object_defs.specs.Path.{full_path}
 use Rattle.object_defs.specs.declared.path.FullPath.{FullPath}
-use Rattle.device_machine.specs.State.{Kept, Flat, lifetime, is_live, living}
-use Rattle.device_machine.specs.Reactions.{Reaction, reply_to, kept_after, on_fresh, repeat_of, is_same, on_request, on_message, on_datagram, has_account, claims_confirmable, is_request, reaction_to}
+use Rattle.notifier.specs.Observed.{without_reset}
+use Rattle.notifier.specs.declared.observation.Observation.{Observation}
+use Rattle.device_machine.specs.Observing.{Noted, noted}
+use Rattle.device_machine.specs.State.{Kept, Flat, lifetime, is_live, living, with_client, with_observations}
+use Rattle.device_requests.specs.Managed.{Managed, has_account, with_stored}
+use Rattle.device_requests.specs.Answers.{Outcome}
+use Rattle.device_requests.specs.Requests.{outcome_of}
+use Rattle.device_machine.specs.Reactions.{Reaction, reply_to, kept_after, later, on_firmware, on_fresh, on_noted, on_outcome, on_reset, repeat_of, is_same, on_request, on_message, on_datagram, claims_confirmable, is_request, reaction_to}
 
 -- a filter behind a weaker one
 pub filter-filter : {X : Type 0} (p q : X → Bool) → ((x : X) → q x ≡ true → p x ≡ true) → (xs : List X) → filter q (filter p xs) ≡ filter q xs
@@ -55,7 +65,7 @@ flat_of k xs = record { kept = k; recorded = xs }
 
 abbrev put_in : Kept → Option FullPath → Value → Kept
 put_in k place value =
-    record { accounts = k.accounts; catalogue = k.catalogue; store = with_value_at k.store place value; clock = k.clock; next_id = k.next_id }
+    with_client k (with_stored k.client (with_value_at k.client.store place value))
 
 -- the same requests live
 abbrev SameLiving : ℕ → List Recorded → List Recorded → Type 0
@@ -88,17 +98,29 @@ clock_after k Rst reply = refl
 same_at : (c d : ℕ) (xs ys : List Recorded) → c ≡ d → SameLiving d xs ys → SameLiving c xs ys
 same_at c d xs ys e h = subst (λ n. SameLiving n xs ys) (sym e) h
 
-alike_fresh : (k : Kept) (xs ys : List Recorded) (server : ℕ) (m : Parts) (reply : Option Parts) → SameLiving k.clock xs ys
-    → Alike (on_fresh (flat_of k xs) server m reply) (on_fresh (flat_of k ys) server m reply)
-alike_fresh k xs ys server m reply h =
+alike_fresh : (k : Kept) (xs ys : List Recorded) (server : ℕ) (m : Parts) (client : Managed) (left : List Observation) (reply : Option Parts) (act : Option Deed) → SameLiving k.clock xs ys
+    → let new = with_observations (with_client k client) left in
+    Alike (on_fresh (flat_of k xs) server m new reply act) (on_fresh (flat_of k ys) server m new reply act)
+alike_fresh k xs ys server m client left reply act h =
+    let new = with_observations (with_client k client) left in
     record {
       outputs = refl;
-      living_then = ap (λ rs. flat_of (kept_after k m.kind reply) rs) (same_at _ _ _ _ (clock_after k m.kind reply) (same_pushed k.clock xs ys _ h));
+      living_then = ap (λ rs. flat_of (kept_after new m.kind reply) rs)
+          (same_at _ _ _ _ (clock_after new m.kind reply) (same_pushed k.clock xs ys _ h));
     }
+
+alike_noted : (k : Kept) (xs ys : List Recorded) (server : ℕ) (m : Parts) (outcome : Outcome) (noted : Noted) → SameLiving k.clock xs ys
+    → Alike (on_noted (flat_of k xs) server m outcome noted) (on_noted (flat_of k ys) server m outcome noted)
+alike_noted k xs ys server m outcome noted h =
+    alike_fresh k xs ys server m outcome.client noted.left (reply_to k.next_id m m.kind noted.number outcome.answer) outcome.answer.act h
+
+alike_outcome : (k : Kept) (xs ys : List Recorded) (server : ℕ) (m : Parts) (outcome : Outcome) → SameLiving k.clock xs ys
+    → Alike (on_outcome (flat_of k xs) server m outcome) (on_outcome (flat_of k ys) server m outcome)
+alike_outcome k xs ys server m outcome h = alike_noted k xs ys server m outcome (noted (with_client k outcome.client) server m outcome.answer) h
 
 alike_request : (k : Kept) (xs ys : List Recorded) (server : ℕ) (m : Parts) (o : Option Recorded) → SameLiving k.clock xs ys
     → Alike (on_request (flat_of k xs) server m o) (on_request (flat_of k ys) server m o)
-alike_request k xs ys server m None h = alike_fresh k xs ys server m (reply_to k m m.kind) h
+alike_request k xs ys server m None h = alike_outcome k xs ys server m (outcome_of k.client server m) h
 alike_request k xs ys server m (Some r) h = alike_quiet k xs ys _ h
 
 alike_asked : (k : Kept) (xs ys : List Recorded) (server : ℕ) (m : Parts) → SameLiving k.clock xs ys
@@ -107,12 +129,17 @@ alike_asked k xs ys server m h =
     subst (λ o. Alike (on_request (flat_of k xs) server m (repeat_of (flat_of k xs) server m)) (on_request (flat_of k ys) server m o))
     (repeat_same k xs ys server m h) (alike_request k xs ys server m (repeat_of (flat_of k xs) server m) h)
 
+alike_reset : (k : Kept) (xs ys : List Recorded) (server mid : ℕ) → SameLiving k.clock xs ys
+    → Alike (on_reset (flat_of k xs) server mid) (on_reset (flat_of k ys) server mid)
+alike_reset k xs ys server mid h =
+    record { outputs = refl; living_then = ap (λ rs. flat_of (with_observations k (without_reset k.observations server mid)) rs) h }
+
 alike_message : (k : Kept) (xs ys : List Recorded) (server : ℕ) (m : Parts) (kind : Kind) → SameLiving k.clock xs ys
     → Alike (on_message (flat_of k xs) server m kind) (on_message (flat_of k ys) server m kind)
 alike_message k xs ys server m Con h = alike_choice (is_request m.code) _ _ _ _ (alike_asked k xs ys server m h) (alike_quiet k xs ys _ h)
 alike_message k xs ys server m Non h = alike_choice (is_request m.code) _ _ _ _ (alike_asked k xs ys server m h) (alike_quiet k xs ys _ h)
 alike_message k xs ys server m Ack h = alike_quiet k xs ys _ h
-alike_message k xs ys server m Rst h = alike_quiet k xs ys _ h
+alike_message k xs ys server m Rst h = alike_choice (m.code == 0) _ _ _ _ (alike_reset k xs ys server m.mid h) (alike_quiet k xs ys _ h)
 
 alike_datagram : (k : Kept) (xs ys : List Recorded) (server : ℕ) (bytes : List ℕ) (reading : Result Parts CoapFault) → SameLiving k.clock xs ys
     → Alike (on_datagram (flat_of k xs) server bytes reading) (on_datagram (flat_of k ys) server bytes reading)
@@ -123,6 +150,11 @@ alike_put : (k : Kept) (xs ys : List Recorded) (place : Option FullPath) (value 
     → Alike (record { outputs = []; flat = flat_of (put_in k place value) xs }) (record { outputs = []; flat = flat_of (put_in k place value) ys })
 alike_put k xs ys place value h = record { outputs = refl; living_then = ap (λ rs. flat_of (put_in k place value) rs) h }
 
+alike_firmware : (k : Kept) (xs ys : List Recorded) (stored : Option Stored) → SameLiving k.clock xs ys
+    → Alike (on_firmware (flat_of k xs) stored) (on_firmware (flat_of k ys) stored)
+alike_firmware k xs ys None h = alike_quiet k xs ys _ h
+alike_firmware k xs ys (Some stored) h = record { outputs = refl; living_then = ap (λ rs. flat_of (with_client k (with_stored k.client stored)) rs) h }
+
 same_later : (clock n : ℕ) (xs ys : List Recorded) → SameLiving clock xs ys → SameLiving (clock + n) xs ys
 same_later clock n xs ys h =
     let weaker : (r : Recorded) → is_live (clock + n) r ≡ true → is_live clock r ≡ true = λ r. live_later clock n r.second (lifetime r.kind) in
@@ -132,11 +164,12 @@ same_later clock n xs ys h =
 
 alike_event : (k : Kept) (xs ys : List Recorded) → SameLiving k.clock xs ys → (event : Event) → Alike (reaction_to (flat_of k xs) event) (reaction_to (flat_of k ys) event)
 alike_event k xs ys h (Recv server bytes) =
-    alike_choice (has_account k server) _ _ _ _ (alike_datagram k xs ys server bytes (reading_of bytes) h) (alike_quiet k xs ys _ h)
+    alike_choice (has_account k.client server) _ _ _ _ (alike_datagram k xs ys server bytes (reading_of bytes) h) (alike_quiet k xs ys _ h)
 alike_event k xs ys h (Put path value) =
-    alike_choice (misses k.catalogue k.store (full_path path) value) _ _ _ _ (alike_quiet k xs ys _ h) (alike_put k xs ys (full_path path) value h)
+    alike_choice (misses k.client.catalogue k.client.store (full_path path) value) _ _ _ _ (alike_quiet k xs ys _ h) (alike_put k xs ys (full_path path) value h)
+alike_event k xs ys h (Firmware code) = alike_firmware k xs ys (firmware_after k.client.store (Ended code)) h
 alike_event k xs ys h (Tick n) =
-    record { outputs = refl; living_then = ap (λ rs. record { kept = record { accounts = k.accounts; catalogue = k.catalogue; store = k.store; clock = k.clock + n; next_id = k.next_id }; recorded = rs }) (same_later k.clock n xs ys h) }
+    record { outputs = refl; living_then = ap (λ rs. flat_of (later (flat_of k []) n).kept rs) (same_later k.clock n xs ys h) }
 
 -- flat states in which the same requests live react alike
 pub alike : (f g : Flat) → living f ≡ living g → (event : Event) → Alike (reaction_to f event) (reaction_to g event)

@@ -1,6 +1,6 @@
 -- A request that comes again within its lifetime is found among the recorded ones.
 use Rattle.std.proofs.Common.{◌≡◌, ℕ, ◌+◌, ◌-◌, ◌<◌, nat_lt, ◌==◌, Bool, true, false, ◌&&◌, cond, List, [], ◌∷◌, ◌++◌, Option, None, Some, option_map, Ok, refl, sym, ap, subst, ◌∙◌, arith}
-use Rattle.std.specs.List.{find, list_any}
+use Rattle.std.specs.List.{filter, find, list_any}
 use Rattle.std.proofs.lemmas.Bool.Decides.{nat_tests}
 use Rattle.coap_codec.specs.Message.{Parts, spelling, kind_number}
 use Rattle.coap_codec.specs.Reading.{reading_of}
@@ -8,9 +8,16 @@ use Rattle.coap_codec.specs.declared.kind.Kind.{Kind}
 use Rattle.coap_codec.specs.declared.kind.Kind.TheVariants.{Con, Non, Ack, Rst}
 use Rattle.device_machine.specs.declared.event.Event.TheVariants.{Recv}
 use Rattle.device_machine.specs.declared.recorded.Recorded.{Recorded}
-use Rattle.device_machine.specs.State.{Kept, Flat, lifetime, is_live}
-use Rattle.device_machine.specs.Reactions.{again, has_account, is_request, is_same, kept_after, later, on_fresh, on_message, on_request, reaction_to, record_of, repeat_of, reply_to}
-use Rattle.device_machine.specs.Laws.{IsFresh, IsAgain}
+use Rattle.device_requests.specs.declared.answer.Act.{Act as Deed}
+use Rattle.device_machine.specs.State.{Kept, Flat, lifetime, is_live, with_client, with_observations}
+use Rattle.notifier.specs.declared.observation.Observation.{Observation}
+use Rattle.device_machine.specs.Observing.{Noted, noted}
+use Rattle.device_requests.specs.Answers.{Outcome}
+use Rattle.device_requests.specs.Managed.{Managed, has_account}
+use Rattle.device_requests.proofs.Keeping.{keeps}
+use Rattle.device_requests.specs.Requests.{outcome_of}
+use Rattle.device_machine.specs.Reactions.{acted, sent_to, again, is_request, is_same, kept_after, later, on_fresh, on_message, on_outcome, on_request, reaction_to, record_of, repeat_of, reply_to}
+use Rattle.device_machine.specs.Laws.{IsFresh, IsAgain, is_sent}
 use Rattle.device_machine.proofs.Living.{clock_after, live_later}
 
 -- what a stronger test does not find either
@@ -44,12 +51,12 @@ fresh_lives clock seconds life h = grind (arith, nat_tests)
 same_id : (server a b : ℕ) (k l : Kind) → a ≡ b → k ≡ l → (server == server && (b == a && kind_number l == kind_number k)) ≡ true
 same_id server a b k l e f = rw (e, f) (grind (arith, nat_tests))
 
-accounts_after : (k : Kept) (kind : Kind) (reply : Option Parts) → (kept_after k kind reply).accounts ≡ k.accounts
-accounts_after k Con reply = refl
-accounts_after k Non None = refl
-accounts_after k Non (Some reply) = refl
-accounts_after k Ack reply = refl
-accounts_after k Rst reply = refl
+pub client_after : (k : Kept) (kind : Kind) (reply : Option Parts) → (kept_after k kind reply).client ≡ k.client
+client_after k Con reply = refl
+client_after k Non None = refl
+client_after k Non (Some reply) = refl
+client_after k Ack reply = refl
+client_after k Rst reply = refl
 
 -- a fresh request is answered
 asked_con : (f : Flat) (server : ℕ) (m : Parts) (o : Option Recorded) → is_request m.code ≡ true → repeat_of f server m ≡ o → on_message f server m Con ≡ on_request f server m o
@@ -59,10 +66,10 @@ asked_non : (f : Flat) (server : ℕ) (m : Parts) (o : Option Recorded) → is_r
 asked_non f server m o r e = rw r (ap (on_request f server m) e)
 
 -- a request of an account
-reached : (f : Flat) (server : ℕ) (bytes : List ℕ) (m : Parts) → has_account f.kept server ≡ true → reading_of bytes ≡ Ok m → reaction_to f (Recv server bytes) ≡ on_message f server m m.kind
+pub reached : (f : Flat) (server : ℕ) (bytes : List ℕ) (m : Parts) → has_account f.kept.client server ≡ true → reading_of bytes ≡ Ok m → reaction_to f (Recv server bytes) ≡ on_message f server m m.kind
 reached f server bytes m a r = rw (a, r) refl
 
-all_true : (a b : Bool) → a ≡ true → b ≡ true → (a && b) ≡ true
+pub all_true : (a b : Bool) → a ≡ true → b ≡ true → (a && b) ≡ true
 all_true a b h k = rw (h, k) refl
 
 same_test : (server : ℕ) (m n : Parts) (r : Recorded) → n.kind ≡ m.kind → n.mid ≡ m.mid → is_same server n r ≡ is_same server m r
@@ -81,61 +88,87 @@ found_at clock server seconds m n xs e es ek ei et first short k i =
     find_last _ xs e (find_none _ _ weaker xs first) (all_true _ _ lives same)
 
 -- what a repeat finds behind a fresh request and some seconds
-pub found : (f : Flat) (server seconds : ℕ) (m n : Parts) (reply : Option Parts)
+pub found : (f : Flat) (server seconds : ℕ) (m n : Parts) (client : Managed) (left : List Observation) (reply : Option Parts) (act : Option Deed)
     → repeat_of f server m ≡ None → seconds < lifetime m.kind → n.kind ≡ m.kind → n.mid ≡ m.mid
-    → repeat_of (later (on_fresh f server m reply).flat seconds) server n ≡ Some (record_of f.kept server m (option_map spelling reply))
-found f server seconds m n reply first short k i =
+    → repeat_of (later (on_fresh f server m (with_observations (with_client f.kept client) left) reply act).flat seconds) server n
+    ≡ Some (record_of f.kept server m (option_map spelling reply))
+found f server seconds m n client left reply act first short k i =
     subst (λ c. find (λ r. is_live (c + seconds) r && is_same server n r) (f.recorded ++ record_of f.kept server m (option_map spelling reply) ∷ [])
     ≡ Some (record_of f.kept server m (option_map spelling reply)))
-    (sym (clock_after f.kept m.kind reply))
+    (sym (clock_after (with_observations (with_client f.kept client) left) m.kind reply))
     (found_at f.kept.clock server seconds m n f.recorded (record_of f.kept server m (option_map spelling reply)) refl refl refl refl first short k i)
 
-account_stays : (f : Flat) (server seconds : ℕ) (m : Parts) (reply : Option Parts) → has_account f.kept server ≡ true → has_account (later (on_fresh f server m reply).flat seconds).kept server ≡ true
-account_stays f server seconds m reply a =
-    subst (λ accounts. list_any (λ account. account == server) accounts ≡ true) (sym (accounts_after f.kept m.kind reply)) a
+account_stays : (f : Flat) (server seconds : ℕ) (m : Parts) (client : Managed) (left : List Observation) (reply : Option Parts) (act : Option Deed)
+    → client.accounts ≡ f.kept.client.accounts → has_account f.kept.client server ≡ true
+    → has_account (later (on_fresh f server m (with_observations (with_client f.kept client) left) reply act).flat seconds).kept.client server ≡ true
+account_stays f server seconds m client left reply act same a =
+    subst (λ accounts. list_any (λ account. account == server) accounts ≡ true)
+    (sym (ap (λ c. c.accounts) (client_after (with_observations (with_client f.kept client) left) m.kind reply) ∙ same)) a
 
 -- the reaction to a fresh confirmable request, and to its repeat
-pub first_con : (f : Flat) (server : ℕ) (bytes : List ℕ) (m : Parts) → IsFresh f server bytes m → m.kind ≡ Con → reaction_to f (Recv server bytes) ≡ on_fresh f server m (reply_to f.kept m m.kind)
+pub first_con : (f : Flat) (server : ℕ) (bytes : List ℕ) (m : Parts) → IsFresh f server bytes m → m.kind ≡ Con → reaction_to f (Recv server bytes) ≡ on_outcome f server m (outcome_of f.kept.client server m)
 first_con f server bytes m fresh k =
     reached f server bytes m fresh.account fresh.reading ∙ ap (on_message f server m) k ∙ asked_con f server m None fresh.request fresh.first
 
-pub first_non : (f : Flat) (server : ℕ) (bytes : List ℕ) (m : Parts) → IsFresh f server bytes m → m.kind ≡ Non → reaction_to f (Recv server bytes) ≡ on_fresh f server m (reply_to f.kept m m.kind)
+pub first_non : (f : Flat) (server : ℕ) (bytes : List ℕ) (m : Parts) → IsFresh f server bytes m → m.kind ≡ Non → reaction_to f (Recv server bytes) ≡ on_outcome f server m (outcome_of f.kept.client server m)
 first_non f server bytes m fresh k =
     reached f server bytes m fresh.account fresh.reading ∙ ap (on_message f server m) k ∙ asked_non f server m None fresh.request fresh.first
 
 -- a repeat of a recorded request
-pub again_con : (g : Flat) (server : ℕ) (bytes : List ℕ) (n : Parts) (r : Recorded) → has_account g.kept server ≡ true → reading_of bytes ≡ Ok n → is_request n.code ≡ true → n.kind ≡ Con
+pub again_con : (g : Flat) (server : ℕ) (bytes : List ℕ) (n : Parts) (r : Recorded) → has_account g.kept.client server ≡ true → reading_of bytes ≡ Ok n → is_request n.code ≡ true → n.kind ≡ Con
     → repeat_of g server n ≡ Some r → reaction_to g (Recv server bytes) ≡ record { outputs = again server Con r.reply; flat = g }
 again_con g server bytes n r a reading request k e =
     reached g server bytes n a reading ∙ ap (on_message g server n) k ∙ asked_con g server n (Some r) request e
     ∙ ap (λ kind. record { outputs = again server kind r.reply; flat = g }) k
 
-pub again_non : (g : Flat) (server : ℕ) (bytes : List ℕ) (n : Parts) (r : Recorded) → has_account g.kept server ≡ true → reading_of bytes ≡ Ok n → is_request n.code ≡ true → n.kind ≡ Non
+pub again_non : (g : Flat) (server : ℕ) (bytes : List ℕ) (n : Parts) (r : Recorded) → has_account g.kept.client server ≡ true → reading_of bytes ≡ Ok n → is_request n.code ≡ true → n.kind ≡ Non
     → repeat_of g server n ≡ Some r → reaction_to g (Recv server bytes) ≡ record { outputs = again server Non r.reply; flat = g }
 again_non g server bytes n r a reading request k e =
     reached g server bytes n a reading ∙ ap (on_message g server n) k ∙ asked_non g server n (Some r) request e
     ∙ ap (λ kind. record { outputs = again server kind r.reply; flat = g }) k
 
+-- of a reply and an act the reply is sent
+only_sent : (server : ℕ) (reply : Option (List ℕ)) (act : Option Deed) → filter is_sent (sent_to server reply ++ acted act) ≡ sent_to server reply
+only_sent server None None = refl
+only_sent server None (Some act) = refl
+only_sent server (Some bytes) None = refl
+only_sent server (Some bytes) (Some act) = refl
+
+-- what is kept behind a request with this outcome
+abbrev noted_with : Flat → ℕ → Parts → Outcome → Noted
+noted_with f server m outcome = noted (with_client f.kept outcome.client) server m outcome.answer
+
 -- a fresh confirmable request and its repeat
 pub confirmable : (f : Flat) (server seconds : ℕ) (bytes more : List ℕ) (m n : Parts) → IsFresh f server bytes m → m.kind ≡ Con → seconds < lifetime Con → IsAgain m more n
     → reaction_to (later (reaction_to f (Recv server bytes)).flat seconds) (Recv server more)
-    ≡ record { outputs = (reaction_to f (Recv server bytes)).outputs; flat = later (reaction_to f (Recv server bytes)).flat seconds }
+    ≡ record { outputs = filter is_sent (reaction_to f (Recv server bytes)).outputs; flat = later (reaction_to f (Recv server bytes)).flat seconds }
 confirmable f server seconds bytes more m n fresh k short h =
-    let reply = reply_to f.kept m m.kind in
+    let outcome = outcome_of f.kept.client server m in
+    let told = noted_with f server m outcome in
+    let reply = reply_to f.kept.next_id m m.kind told.number outcome.answer in
+    let act = outcome.answer.act in
+    let then = (on_fresh f server m (with_observations (with_client f.kept outcome.client) told.left) reply act).flat in
     let here : seconds < lifetime m.kind = subst (λ kind. seconds < lifetime kind) (sym k) short in
-    subst (λ r. reaction_to (later r.flat seconds) (Recv server more) ≡ record { outputs = r.outputs; flat = later r.flat seconds })
+    subst (λ r. reaction_to (later r.flat seconds) (Recv server more) ≡ record { outputs = filter is_sent r.outputs; flat = later r.flat seconds })
     (sym (first_con f server bytes m fresh k))
-    (again_con (later (on_fresh f server m reply).flat seconds) server more n (record_of f.kept server m (option_map spelling reply))
-    (account_stays f server seconds m reply fresh.account) h.reading h.request (h.kind ∙ k) (found f server seconds m n reply fresh.first here h.kind h.mid))
+    ((again_con (later then seconds) server more n (record_of f.kept server m (option_map spelling reply))
+    (account_stays f server seconds m outcome.client told.left reply act (keeps f.kept.client server m).accounts fresh.account) h.reading h.request (h.kind ∙ k)
+    (found f server seconds m n outcome.client told.left reply act fresh.first here h.kind h.mid))
+    ∙ ap (λ o. record { outputs = o; flat = later then seconds }) (sym (only_sent server (option_map spelling reply) act)))
 
 -- a fresh non-confirmable request and its repeat
 pub non_confirmable : (f : Flat) (server seconds : ℕ) (bytes more : List ℕ) (m n : Parts) → IsFresh f server bytes m → m.kind ≡ Non → seconds < lifetime Non → IsAgain m more n
     → reaction_to (later (reaction_to f (Recv server bytes)).flat seconds) (Recv server more)
     ≡ record { outputs = []; flat = later (reaction_to f (Recv server bytes)).flat seconds }
 non_confirmable f server seconds bytes more m n fresh k short h =
-    let reply = reply_to f.kept m m.kind in
+    let outcome = outcome_of f.kept.client server m in
+    let told = noted_with f server m outcome in
+    let reply = reply_to f.kept.next_id m m.kind told.number outcome.answer in
+    let act = outcome.answer.act in
+    let then = (on_fresh f server m (with_observations (with_client f.kept outcome.client) told.left) reply act).flat in
     let here : seconds < lifetime m.kind = subst (λ kind. seconds < lifetime kind) (sym k) short in
     subst (λ r. reaction_to (later r.flat seconds) (Recv server more) ≡ record { outputs = []; flat = later r.flat seconds })
     (sym (first_non f server bytes m fresh k))
-    (again_non (later (on_fresh f server m reply).flat seconds) server more n (record_of f.kept server m (option_map spelling reply))
-    (account_stays f server seconds m reply fresh.account) h.reading h.request (h.kind ∙ k) (found f server seconds m n reply fresh.first here h.kind h.mid))
+    (again_non (later then seconds) server more n (record_of f.kept server m (option_map spelling reply))
+    (account_stays f server seconds m outcome.client told.left reply act (keeps f.kept.client server m).accounts fresh.account) h.reading h.request (h.kind ∙ k)
+    (found f server seconds m n outcome.client told.left reply act fresh.first here h.kind h.mid))

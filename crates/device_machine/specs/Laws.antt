@@ -1,15 +1,37 @@
 -- What follows from the tables, in the words of the standard.
-use Rattle.std.specs.Prelude.{◌≡◌, ℕ, ◌<◌, true, List, [], None, Ok}
-use Rattle.coap_codec.specs.Message.{Parts}
+use Rattle.std.specs.Prelude.{◌≡◌, ℕ, ◌<◌, is_some, if◌then◌else◌, Bool, true, false, ◌⊎◌, List, [], ◌∷◌, ◌++◌, find, Option, None, Some, option_map, Ok}
+use Rattle.std.specs.List.{filter, list_any}
+use Rattle.coap_codec.specs.Message.{Parts, spelling}
 use Rattle.coap_codec.specs.Reading.{reading_of}
-use Rattle.coap_codec.specs.declared.kind.Kind.TheVariants.{Con, Non}
+use Rattle.coap_codec.specs.declared.option.Opt.{Opt}
+use Rattle.coap_codec.specs.declared.kind.Kind.{Kind}
+use Rattle.coap_codec.specs.declared.kind.Kind.TheVariants.{Con, Non, Ack, Rst}
+use Rattle.device_requests.specs.declared.answer.Code.{Code}
 use Rattle.device_machine.specs.declared.event.Event.TheVariants.{Recv}
+use Rattle.device_machine.specs.declared.output.Output.{Output}
+use Rattle.device_machine.specs.declared.output.Output.TheVariants.{Send, Act}
+use Rattle.device_requests.specs.declared.answer.Act.{Act as Deed}
+use Rattle.device_machine.specs.declared.recorded.Recorded.{Recorded}
+use Rattle.device_requests.specs.Answers.{code_byte}
+use Rattle.object_defs.specs.Lines.{first_line}
+use Rattle.device_requests.specs.Requests.{outcome_of}
+use Rattle.notifier.specs.Observed.{cancelled, has_name, is_named, number_for, was_sent}
+use Rattle.notifier.specs.declared.observation.Observation.{Observation}
+use Rattle.object_defs.specs.declared.path.Path.{Path}
+use Rattle.observing.specs.Message.{observe_option}
+use Rattle.observing.specs.Second.{is_content}
+use Rattle.device_machine.specs.Observing.{lacks_place}
+use Rattle.device_requests.specs.Interests.{interest_of}
+use Rattle.device_requests.specs.declared.interest.Interest.TheVariants.{Cancel, Register}
 use Rattle.device_machine.specs.State.{Flat, lifetime}
-use Rattle.device_machine.specs.Reactions.{outputs_of, flat_after, has_account, is_request, later, repeat_of}
+use Rattle.device_requests.specs.Managed.{has_account}
+use Rattle.device_requests.specs.Options.{has_unrecognized_critical}
+use Rattle.device_requests.specs.Laws.{is_refusal, request_lines}
+use Rattle.device_machine.specs.Reactions.{Reaction, acted, outputs_of, flat_after, is_request, later, reaction_to, repeat_of}
 
 -- the bytes are a request of this server that is no repeat
 pub record IsFresh (f : Flat) (server : ℕ) (bytes : List ℕ) (m : Parts) : Type 0 where
-  pub account : has_account f.kept server ≡ true
+  pub account : has_account f.kept.client server ≡ true
   pub reading : reading_of bytes ≡ Ok m
   pub request : is_request m.code ≡ true
   pub first : repeat_of f server m ≡ None
@@ -21,12 +43,17 @@ pub record IsAgain (m : Parts) (bytes : List ℕ) (n : Parts) : Type 0 where
   pub kind : n.kind ≡ m.kind
   pub mid : n.mid ≡ m.mid
 
--- a confirmable request that comes again within its lifetime gets the same bytes again, and changes nothing (RFC 7252 section 4.5)
+abbrev pub is_sent : Output → Bool
+is_sent (Send server bytes) = true
+is_sent (Act act) = false
+
+-- a confirmable request that comes again within its lifetime gets the same bytes again, and changes nothing (RFC 7252 section 4.5);
+-- what the device did behind the first reply it does not do again
 abbrev pub ConfirmableRepeats : Type 0
 ConfirmableRepeats =
     (f : Flat) (server seconds : ℕ) (bytes again : List ℕ) (m n : Parts)
     → IsFresh f server bytes m → m.kind ≡ Con → seconds < lifetime Con → IsAgain m again n
-    → (outputs_of (later (flat_after f (Recv server bytes)) seconds) (Recv server again) ≡ outputs_of f (Recv server bytes))
+    → (outputs_of (later (flat_after f (Recv server bytes)) seconds) (Recv server again) ≡ filter is_sent (outputs_of f (Recv server bytes)))
     × (flat_after (later (flat_after f (Recv server bytes)) seconds) (Recv server again) ≡ later (flat_after f (Recv server bytes)) seconds)
 
 -- a non-confirmable one gets nothing then, and changes nothing
@@ -36,3 +63,82 @@ NonConfirmableRepeats =
     → IsFresh f server bytes m → m.kind ≡ Non → seconds < lifetime Non → IsAgain m again n
     → (outputs_of (later (flat_after f (Recv server bytes)) seconds) (Recv server again) ≡ [])
     × (flat_after (later (flat_after f (Recv server bytes)) seconds) (Recv server again) ≡ later (flat_after f (Recv server bytes)) seconds)
+
+-- a request gets one datagram, behind which the device may act: a message of this type and message ID, with its token, whose code is that of the first line that applies
+pub record IsAnswered (f : Flat) (server : ℕ) (bytes : List ℕ) (m : Parts) (kind : Kind) (mid : ℕ) : Type 0 where
+  pub reply : Parts
+  pub act : Option Deed
+  pub sent : outputs_of f (Recv server bytes) ≡ Send server (spelling reply) ∷ acted act
+  pub kind_is : reply.kind ≡ kind
+  pub mid_is : reply.mid ≡ mid
+  pub token : reply.token ≡ m.token
+  pub said : Code
+  pub code : reply.code ≡ code_byte said
+  pub line : first_line (request_lines f.kept.client server m) ≡ Some said
+
+-- a confirmable request is answered by an acknowledgement with its message ID (RFC 7252 section 5.2.1)
+abbrev pub ConfirmableAnswers : Type 0
+ConfirmableAnswers =
+    (f : Flat) (server : ℕ) (bytes : List ℕ) (m : Parts) → IsFresh f server bytes m → m.kind ≡ Con → IsAnswered f server bytes m Ack m.mid
+
+-- a non-confirmable one by a message with the device's next message ID (section 5.2.3)
+abbrev pub NonConfirmableAnswers : Type 0
+NonConfirmableAnswers =
+    (f : Flat) (server : ℕ) (bytes : List ℕ) (m : Parts) → IsFresh f server bytes m → m.kind ≡ Non → has_unrecognized_critical m.options ≡ false
+    → IsAnswered f server bytes m Non f.kept.next_id
+
+-- or by nothing, where an option that must be understood isn't (section 5.4.1)
+abbrev pub NonConfirmableRejects : Type 0
+NonConfirmableRejects =
+    (f : Flat) (server : ℕ) (bytes : List ℕ) (m : Parts) → IsFresh f server bytes m → m.kind ≡ Non → has_unrecognized_critical m.options ≡ true
+    → outputs_of f (Recv server bytes) ≡ []
+
+-- a request is added to the recorded ones, the next message ID may be counted on, and a Read that says Observe 0 or 1 ends the observation of its
+-- name; all else is as it was
+pub record OnlyRecords (f : Flat) (server : ℕ) (m : Parts) (g : Flat) : Type 0 where
+  pub client : g.kept.client ≡ f.kept.client
+  pub observations : g.kept.observations
+      ≡ (if is_some (interest_of m) then cancelled f.kept.observations server m.token else f.kept.observations)
+  pub clock : g.kept.clock ≡ f.kept.clock
+  pub one_more : Recorded
+  pub recorded : g.recorded ≡ f.recorded ++ one_more ∷ []
+
+-- a request that is refused changes nothing else
+abbrev pub RefusedChangesNothing : Type 0
+RefusedChangesNothing =
+    (f : Flat) (server : ℕ) (bytes : List ℕ) (m : Parts) → IsFresh f server bytes m → (m.kind ≡ Con) ⊎ (m.kind ≡ Non)
+    → is_refusal (outcome_of f.kept.client server m).answer.code ≡ true → OnlyRecords f server m (flat_after f (Recv server bytes))
+
+-- behind a Read that says Observe 1 there is no observation of its name, whatever it was answered (RFC 7641 section 3.6)
+abbrev pub CancelsEnd : Type 0
+CancelsEnd =
+    (f : Flat) (server : ℕ) (bytes : List ℕ) (m : Parts) → IsFresh f server bytes m → (m.kind ≡ Con) ⊎ (m.kind ≡ Non)
+    → interest_of m ≡ Some Cancel → has_name (flat_after f (Recv server bytes)).kept.observations server m.token ≡ false
+
+-- behind an empty Reset there is no observation of its server whose last message was a NON with its message ID
+abbrev pub ResetsEnd : Type 0
+ResetsEnd =
+    (f : Flat) (server : ℕ) (bytes : List ℕ) (m : Parts) → has_account f.kept.client server ≡ true → reading_of bytes ≡ Ok m
+    → m.kind ≡ Rst → m.code ≡ 0 → list_any (was_sent server m.mid) (flat_after f (Recv server bytes)).kept.observations ≡ false
+
+-- the Observe number of the last message of the observation of this name, where there is one
+abbrev pub number_noted : List Observation → ℕ → List ℕ → Option ℕ
+number_noted observations server token = option_map (λ o. o.number) (find (is_named server token) observations)
+
+-- the reply to a request has this Observe number, and the observation of its name has it then
+pub record IsCounted (reaction : Reaction) (server : ℕ) (m : Parts) (number : ℕ) : Type 0 where
+  pub left : number_noted reaction.flat.kept.observations server m.token ≡ Some number
+  pub reply : Parts
+  pub act : Option Deed
+  pub sent : reaction.outputs ≡ Send server (spelling reply) ∷ acted act
+  pub options : List Opt
+  pub observe : reply.options ≡ observe_option (Some number) ++ options
+
+-- the reply to a Read that registers and is answered by content has, where there is a place, Observe 0 for a new name, else one more than the
+-- observation's last message, modulo 2^24 (RFC 7641 section 3.4)
+abbrev pub RegistrationsCount : Type 0
+RegistrationsCount =
+    (f : Flat) (server : ℕ) (bytes : List ℕ) (m : Parts) (path : Path) (accept : Option ℕ) → IsFresh f server bytes m → (m.kind ≡ Con) ⊎ (m.kind ≡ Non)
+    → interest_of m ≡ Some (Register path accept) → is_content (outcome_of f.kept.client server m).answer ≡ true
+    → lacks_place f.kept.observations server m.token ≡ false
+    → IsCounted (reaction_to f (Recv server bytes)) server m (number_for f.kept.observations server m.token)

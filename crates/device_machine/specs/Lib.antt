@@ -1,10 +1,5 @@
-pub mod Answers
 pub mod Class
 pub mod Laws
-pub mod Lines
-pub mod Operations
-pub mod Options
+pub mod Observing
 pub mod Reactions
-pub mod Segments
 pub mod State
-pub mod Values

@@ -1,28 +1,38 @@
 -- What a device sends on a datagram, and the flat state behind it (RFC 7252 sections 4.2 and 4.3).
-use Rattle.std.specs.Prelude.{◌≡◌, ℕ, ◌+◌, ◌*◌, ◌/◌, ◌%◌, ◌==◌, nat_le, nat_lt, ◌++◌, find, option_map, Bool, false, not, ◌&&◌, ◌||◌, List, [], ◌∷◌, length, slice_index, Option, None, Some, Result, Ok, Err, if◌then◌else◌}
-use Rattle.std.specs.List.{list_any}
+use Rattle.std.specs.Prelude.{◌≡◌, ◌≤◌, ℕ, ◌+◌, ◌*◌, ◌/◌, ◌%◌, ◌==◌, nat_le, nat_lt, ◌++◌, find, map, option_map, Bool, false, not, ◌&&◌, ◌||◌, List, [], ◌∷◌, length, slice_index, Option, None, Some, Result, Ok, Err, if◌then◌else◌}
 use Rattle.coap_codec.specs.declared.kind.Kind.{Kind}
 use Rattle.coap_codec.specs.declared.kind.Kind.TheVariants.{Con, Non, Ack, Rst}
 use Rattle.coap_codec.specs.declared.fault.CoapFault.{CoapFault}
 use Rattle.coap_codec.specs.declared.option.Opt.{Opt}
 use Rattle.coap_codec.specs.Message.{Parts, spelling, kind_number}
-use Rattle.coap_codec.specs.Number.{shortest}
 use Rattle.coap_codec.specs.Reading.{reading_of}
-use Rattle.device_machine.specs.declared.answer.Answer.{Answer}
-use Rattle.device_machine.specs.declared.answer.Code.TheVariants.{BadOption}
+use Rattle.device_requests.specs.declared.answer.Answer.{Answer}
 use Rattle.device_machine.specs.declared.event.Event.{Event}
-use Rattle.device_machine.specs.declared.event.Event.TheVariants.{Recv, Put, Tick}
+use Rattle.device_machine.specs.declared.event.Event.TheVariants.{Recv, Put, Firmware, Tick}
 use Rattle.device_machine.specs.declared.output.Output.{Output}
 use Rattle.device_machine.specs.declared.output.Output.TheVariants.{Send, Act}
-use Rattle.device_machine.specs.declared.output.Act.TheVariants.{Missed}
-use Rattle.device_machine.specs.Values.{misses, with_value_at}
+use Rattle.device_requests.specs.declared.answer.Act.{Act as Deed}
+use Rattle.device_requests.specs.declared.answer.Act.TheVariants.{Missed}
+use Rattle.device_template.specs.Values.{misses, with_value_at}
+use Rattle.firmware_update.specs.Firmware.{firmware_after}
+use Rattle.firmware_update.specs.declared.event.FirmwareEvent.TheVariants.{Ended}
+use Rattle.instance_store.specs.Stored.{Stored}
 use Rattle.lwm2m_values.specs.declared.value.Value.{Value}
 use Rattle.object_defs.specs.Path.{full_path}
+use Rattle.std.specs.Fmt.{decimal}
 use Rattle.object_defs.specs.declared.path.FullPath.{FullPath}
-use Rattle.device_machine.specs.Answers.{code_byte, refusal, answer_of}
-use Rattle.device_machine.specs.Options.{has_unrecognized_critical}
+use Rattle.object_defs.specs.declared.path.InstancePath.{InstancePath}
+use Rattle.device_requests.specs.Answers.{Outcome, code_byte}
+use Rattle.device_requests.specs.Managed.{Managed, has_account, with_stored}
+use Rattle.device_requests.specs.Options.{has_unrecognized_critical}
+use Rattle.device_requests.specs.Requests.{outcome_of}
 use Rattle.device_machine.specs.declared.recorded.Recorded.{Recorded}
-use Rattle.device_machine.specs.State.{Kept, Flat, Shown, is_live}
+use Rattle.notifier.specs.Observed.{without_reset}
+use Rattle.observing.specs.Message.{format_option, observe_option}
+use Rattle.observing.specs.Second.{Turn, seconds}
+use Rattle.observing.specs.declared.datagram.Datagram.{Datagram}
+use Rattle.device_machine.specs.Observing.{Noted, noted}
+use Rattle.device_machine.specs.State.{Kept, Flat, Shown, is_live, with_client, with_observations}
 
 -- what is put out, and the flat state then
 pub record Reaction : Type 0 where
@@ -45,15 +55,32 @@ sends f server m = record { outputs = Send server (spelling m) ∷ []; flat = f 
 abbrev pub reset : ℕ → Parts
 reset mid = record { kind = Rst; code = 0; mid = mid; token = []; options = []; payload = [] }
 
--- Content-Format, in the fewest bytes
-abbrev pub format_options : Option ℕ → List Opt
-format_options None = []
-format_options (Some format) = record { number = 12; value = shortest format } ∷ []
+-- Location-Path, one for each number, in decimal (RFC 7252 section 5.10.7)
+abbrev pub location_options : Option InstancePath → List Opt
+location_options None = []
+location_options (Some place) =
+    record { number = 8; value = decimal place.object } ∷ record { number = 8; value = decimal place.instance } ∷ []
 
--- the message of an answer, with the token of the request
-abbrev pub response : Kind → ℕ → List ℕ → Answer → Parts
-response kind mid token answer =
-    record { kind = kind; code = code_byte answer.code; mid = mid; token = token; options = format_options answer.format; payload = answer.payload }
+-- its numbers have five digits at most
+abbrev pub IsShort : Option InstancePath → Type 0
+IsShort None = Unit {0}
+IsShort (Some place) = (length (decimal place.object) ≤ 5) × (length (decimal place.instance) ≤ 5)
+
+-- Observe with this number, Location-Path and Content-Format, in the order of their numbers
+abbrev pub answer_options : Option ℕ → Option InstancePath → Option ℕ → List Opt
+answer_options number location format = observe_option number ++ (location_options location ++ format_option format)
+
+-- the message of an answer, with the token of the request and this Observe number
+abbrev pub response : Kind → ℕ → List ℕ → Option ℕ → Answer → Parts
+response kind mid token number answer =
+    record {
+      kind = kind;
+      code = code_byte answer.code;
+      mid = mid;
+      token = token;
+      options = answer_options number answer.location answer.format;
+      payload = answer.payload;
+    }
 
 -- a code of class 0 other than 0.00 is a request's (RFC 7252 section 12.1)
 abbrev pub is_request : ℕ → Bool
@@ -62,15 +89,15 @@ is_request code = code / 32 == 0 && not (code == 0)
 -- the next message ID is counted on, modulo 65,536
 abbrev pub counted : Kept → Kept
 counted kept =
-    record { accounts = kept.accounts; catalogue = kept.catalogue; store = kept.store; clock = kept.clock; next_id = (kept.next_id + 1) % 65536 }
+    record { client = kept.client; observations = kept.observations; clock = kept.clock; next_id = (kept.next_id + 1) % 65536 }
 
 -- a confirmable request is acknowledged; a non-confirmable one is answered by a message of the device's next
 -- message ID, or not at all where an option isn't understood
-abbrev pub reply_to : Kept → Parts → Kind → Option Parts
-reply_to kept m Con = Some (response Ack m.mid m.token (if has_unrecognized_critical m.options then refusal BadOption else answer_of kept m))
-reply_to kept m Non = if has_unrecognized_critical m.options then None else Some (response Non kept.next_id m.token (answer_of kept m))
-reply_to kept m Ack = None
-reply_to kept m Rst = None
+abbrev pub reply_to : ℕ → Parts → Kind → Option ℕ → Answer → Option Parts
+reply_to next_id m Con number answer = Some (response Ack m.mid m.token number answer)
+reply_to next_id m Non number answer = if has_unrecognized_critical m.options then None else Some (response Non next_id m.token number answer)
+reply_to next_id m Ack number answer = None
+reply_to next_id m Rst number answer = None
 
 -- a reply of the device's own message ID counts it on
 abbrev pub kept_after : Kept → Kind → Option Parts → Kept
@@ -81,20 +108,35 @@ abbrev pub sent_to : ℕ → Option (List ℕ) → List Output
 sent_to server None = []
 sent_to server (Some bytes) = Send server bytes ∷ []
 
+-- what the device does beside sending, if there is something
+abbrev pub acted : Option Deed → List Output
+acted None = []
+acted (Some act) = Act act ∷ []
+
 -- a request, as it is recorded with the datagram that replied
 abbrev pub record_of : Kept → ℕ → Parts → Option (List ℕ) → Recorded
 record_of kept server m reply = record { server = server; kind = m.kind; mid = m.mid; second = kept.clock; reply = reply }
 
--- a request is answered and recorded, refusals included
-abbrev pub on_fresh : Flat → ℕ → Parts → Option Parts → Reaction
-on_fresh f server m reply =
+-- a request is answered and recorded, refusals included; this is kept then, and the device acts behind the reply
+abbrev pub on_fresh : Flat → ℕ → Parts → Kept → Option Parts → Option Deed → Reaction
+on_fresh f server m kept reply act =
     record {
-      outputs = sent_to server (option_map spelling reply);
+      outputs = sent_to server (option_map spelling reply) ++ acted act;
       flat = record {
-        kept = kept_after f.kept m.kind reply;
+        kept = kept_after kept m.kind reply;
         recorded = f.recorded ++ record_of f.kept server m (option_map spelling reply) ∷ [];
       };
     }
+
+-- the observations are noted with the answer, and the reply has their number
+abbrev pub on_noted : Flat → ℕ → Parts → Outcome → Noted → Reaction
+on_noted f server m outcome noted =
+    on_fresh f server m (with_observations (with_client f.kept outcome.client) noted.left)
+    (reply_to f.kept.next_id m m.kind noted.number outcome.answer) outcome.answer.act
+
+-- what a request that is no repeat answers and changes
+abbrev pub on_outcome : Flat → ℕ → Parts → Outcome → Reaction
+on_outcome f server m outcome = on_noted f server m outcome (noted (with_client f.kept outcome.client) server m outcome.answer)
 
 -- a recorded request of the same server, type and message ID, whose age is below its lifetime (RFC 7252 section 4.5); bytes are not compared
 abbrev pub is_same : ℕ → Parts → Recorded → Bool
@@ -111,15 +153,23 @@ again server Ack reply = []
 again server Rst reply = []
 
 abbrev pub on_request : Flat → ℕ → Parts → Option Recorded → Reaction
-on_request f server m None = on_fresh f server m (reply_to f.kept m m.kind)
+on_request f server m None = on_outcome f server m (outcome_of f.kept.client server m)
 on_request f server m (Some r) = record { outputs = again server m.kind r.reply; flat = f }
 
--- requests are answered; another confirmable message is reset, all else ignored
+-- an empty Reset ends the observations of its server whose last message was a NON with its message ID (RFC 7641 section 3.6)
+abbrev pub on_reset : Flat → ℕ → ℕ → Reaction
+on_reset f server mid =
+    record {
+      outputs = [];
+      flat = record { kept = with_observations f.kept (without_reset f.kept.observations server mid); recorded = f.recorded };
+    }
+
+-- requests are answered; another confirmable message is reset, all else but an empty Reset ignored
 abbrev pub on_message : Flat → ℕ → Parts → Kind → Reaction
 on_message f server m Con = if is_request m.code then on_request f server m (repeat_of f server m) else sends f server (reset m.mid)
 on_message f server m Non = if is_request m.code then on_request f server m (repeat_of f server m) else silence f
 on_message f server m Ack = silence f
-on_message f server m Rst = silence f
+on_message f server m Rst = if m.code == 0 then on_reset f server m.mid else silence f
 
 -- there is a header of version 1, and its type is confirmable
 abbrev pub claims_confirmable : List ℕ → Bool
@@ -138,41 +188,58 @@ abbrev pub on_datagram : Flat → ℕ → List ℕ → Result Parts CoapFault �
 on_datagram f server bytes (Ok m) = on_message f server m m.kind
 on_datagram f server bytes (Err fault) = on_noise f server bytes
 
-abbrev pub has_account : Kept → ℕ → Bool
-has_account kept server = list_any (λ account. account == server) kept.accounts
+-- what the observations do in so many seconds
+abbrev pub turn_in : Kept → ℕ → Turn
+turn_in kept count = seconds kept.client kept.clock count kept.next_id kept.observations
 
--- the clock is set on by this many seconds
+-- the flat state so many seconds later: the clock is set on, second by second, and the observations have their turns
 abbrev pub later : Flat → ℕ → Flat
-later f seconds =
+later f count =
     record {
-      kept = record { accounts = f.kept.accounts; catalogue = f.kept.catalogue; store = f.kept.store; clock = f.kept.clock + seconds; next_id = f.kept.next_id };
+      kept = record {
+        client = f.kept.client;
+        observations = (turn_in f.kept count).left;
+        clock = f.kept.clock + count;
+        next_id = (turn_in f.kept count).next_id;
+      };
       recorded = f.recorded;
     }
+
+abbrev pub send_of : Datagram → Output
+send_of datagram = Send datagram.server datagram.bytes
+
+-- seconds pass, and what the observations send in them is sent
+abbrev pub on_tick : Flat → ℕ → Reaction
+on_tick f count = record { outputs = map send_of (turn_in f.kept count).sent; flat = later f count }
 
 -- a value is set where it fits; else the device does no more than say so
 abbrev pub on_put : Flat → Option FullPath → Value → Reaction
 on_put f place value =
-    if misses f.kept.catalogue f.kept.store place value then record { outputs = Act Missed ∷ []; flat = f }
+    if misses f.kept.client.catalogue f.kept.client.store place value then record { outputs = Act Missed ∷ []; flat = f }
     else record {
       outputs = [];
       flat = record {
-        kept = record {
-          accounts = f.kept.accounts;
-          catalogue = f.kept.catalogue;
-          store = with_value_at f.kept.store place value;
-          clock = f.kept.clock;
-          next_id = f.kept.next_id;
-        };
+        kept = with_client f.kept (with_stored f.kept.client (with_value_at f.kept.client.store place value));
         recorded = f.recorded;
       };
+    }
+
+-- a download or an update ends where the firmware is in a state for it; else the device does no more than say so
+abbrev pub on_firmware : Flat → Option Stored → Reaction
+on_firmware f None = record { outputs = Act Missed ∷ []; flat = f }
+on_firmware f (Some stored) =
+    record {
+      outputs = [];
+      flat = record { kept = with_client f.kept (with_stored f.kept.client stored); recorded = f.recorded };
     }
 
 -- a datagram from a server that is no account changes nothing and gives nothing
 abbrev pub reaction_to : Flat → Event → Reaction
 reaction_to f (Recv server bytes) =
-    if has_account f.kept server then on_datagram f server bytes (reading_of bytes) else silence f
+    if has_account f.kept.client server then on_datagram f server bytes (reading_of bytes) else silence f
 reaction_to f (Put path value) = on_put f (full_path path) value
-reaction_to f (Tick seconds) = silence (later f seconds)
+reaction_to f (Firmware code) = on_firmware f (firmware_after f.kept.client.store (Ended code))
+reaction_to f (Tick count) = on_tick f count
 
 -- what a device in this flat state puts out on an event
 abbrev pub outputs_of : Flat → Event → List Output
@@ -186,6 +253,7 @@ flat_after f event = (reaction_to f event).flat
 abbrev pub passes_end : ℕ → Event → Bool
 passes_end clock (Recv server bytes) = false
 passes_end clock (Put path value) = false
+passes_end clock (Firmware code) = false
 passes_end clock (Tick seconds) = nat_lt 9223372036854775807 (clock + seconds)
 
 -- a spent device refuses each event, every device a tick past the last second

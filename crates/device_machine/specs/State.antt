@@ -2,19 +2,28 @@
 use Rattle.std.specs.Prelude.{◌≡◌, ℕ, ◌-◌, nat_lt, Bool, false, List, filter, Option, None, Some}
 use Rattle.coap_codec.specs.declared.kind.Kind.{Kind}
 use Rattle.coap_codec.specs.declared.kind.Kind.TheVariants.{Con, Non, Ack, Rst}
-use Rattle.instance_store.specs.Stored.{Stored, value_at}
+use Rattle.device_requests.specs.Managed.{Managed}
+use Rattle.instance_store.specs.Stored.{value_at}
+use Rattle.notifier.specs.declared.observation.Observation.{Observation}
 use Rattle.lwm2m_values.specs.declared.value.Value.{Value}
-use Rattle.object_defs.specs.declared.definition.ObjectDef.{ObjectDef}
 use Rattle.object_defs.specs.declared.path.FullPath.{FullPath}
 use Rattle.device_machine.specs.declared.recorded.Recorded.{Recorded}
 
--- all of the flat state but the recorded requests: what every answer looks at
+-- all of the flat state but the recorded requests: what device management looks at, the observations in the order of registration,
+-- the clock, and the device's next message ID
 pub record Kept : Type 0 where
-  pub accounts : List ℕ
-  pub catalogue : List ObjectDef
-  pub store : Stored
+  pub client : Managed
+  pub observations : List Observation
   pub clock : ℕ
   pub next_id : ℕ
+
+-- the same with this client
+abbrev pub with_client : Kept → Managed → Kept
+with_client kept client = record { client = client; observations = kept.observations; clock = kept.clock; next_id = kept.next_id }
+
+-- the same with these observations
+abbrev pub with_observations : Kept → List Observation → Kept
+with_observations kept observations = record { client = kept.client; observations = observations; clock = kept.clock; next_id = kept.next_id }
 
 -- the flat state: what is kept, and all the requests since the start, oldest first
 pub record Flat : Type 0 where
@@ -49,4 +58,4 @@ pub record Shows (device : Shown) (flat : Flat) : Type 0 where
 -- the value at a path that a device in this flat state has
 abbrev pub value_in : Kept → Option FullPath → Option Value
 value_in kept None = None
-value_in kept (Some p) = value_at kept.store p
+value_in kept (Some p) = value_at kept.client.store p

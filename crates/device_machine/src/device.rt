@@ -9,8 +9,9 @@ use crate::event::Event;
 use crate::fault::StepFault;
 use crate::machine::Machine;
 use crate::output::Outputs;
-use crate::template::Template;
+use device_template::Template;
 use lwm2m_values::Value;
+use notifier::{Attributes, Observations};
 use object_defs::Path;
 use std::alloc::AllocError;
 use std::marker::Model;
@@ -29,12 +30,13 @@ pub struct Device {
 impl Model for Device {
     ghost use Rattle.std.specs.Coded.{codes};
     ghost use Rattle.instance_store.specs.Stored.{stored_code};
+    ghost use Rattle.device_requests.specs.Managed.{attributes_code};
     ghost use Rattle.device_machine.specs.Class.{start_of};
     ghost use Rattle.device_machine.specs.State.{Shown, living};
 
     ghost Value = { Shown };
 
-    ghost coded = { Prim.hlevel (codes, stored_code) };
+    ghost coded = { Prim.hlevel (codes, stored_code, attributes_code) };
 
     ghost view = { λ d. record { spent = d.spent; flat = living d.machine } };
 }
@@ -47,7 +49,7 @@ fn passes_end(clock: u64, event: &Event) -> bool
     ensures { result ≡ passes_end clock event.now }
 {
     match event {
-        Event::Recv { .. } | Event::Put { .. } => false,
+        Event::Recv { .. } | Event::Put { .. } | Event::Firmware(_) => false,
         Event::Tick(seconds) => clock > LAST_SECOND || LAST_SECOND - clock < u64::from(*seconds),
     }
 }
@@ -58,7 +60,7 @@ impl Device {
         ensures { IfOk result (λ d. Shows d (record { kept = start_of template.now; recorded = [] })) }
     {
         Ok(Device {
-            machine: template.start()?,
+            machine: Machine::start(template)?,
             spent: false,
         })
     }
@@ -98,6 +100,20 @@ impl Device {
         let outputs = self.machine.react(event)?;
         self.spent = false;
         Ok(outputs)
+    }
+
+    /// The attributes that servers set, lent. What a spent device lends is open.
+    pub fn attributes(&self) -> &Attributes
+        ensures { (f : Flat) → Shows self.now f → result.now ≡ f.kept.client.attributes }
+    {
+        self.machine.attributes()
+    }
+
+    /// The observations, lent, in the order of registration. What a spent device lends is open.
+    pub fn observations(&self) -> &Observations
+        ensures { (f : Flat) → Shows self.now f → result.now ≡ f.kept.observations }
+    {
+        self.machine.observations()
     }
 
     /// The value at a path of three or four numbers, lent. What a spent device lends is open.

@@ -19,6 +19,9 @@ pub enum Event {
         /// The new value.
         value: Value,
     },
+    /// The download or the update of the firmware ends with this code, the Update Result, from 0 to 9
+    /// (OMA LwM2M 1.1 Core, Firmware Update; 0 says that the download is done).
+    Firmware(u8),
     /// This many seconds pass.
     Tick(u32),
 }

@@ -1,4 +1,4 @@
-use std::alloc::{AllocError, AllocFailed};
+use std::alloc::AllocError;
 use thiserror::Error;
 
 /// Why a device refuses an event.
@@ -20,47 +20,5 @@ impl From<AllocError> for StepFault {
 
     fn from(_e: AllocError) -> StepFault {
         StepFault::Memory
-    }
-}
-
-/// Why a template refuses an account, an instance or a value, in the order in which they are found.
-#[derive(Clone, Copy, Debug, PartialEq, Eq, Error)]
-pub enum TemplateFault {
-    /// A number, a kind, a length or a path that does not fit.
-    #[error("range")]
-    Range,
-    /// The object or the instance is not there.
-    #[error("missing")]
-    Missing,
-    /// It is there already.
-    #[error("duplicate")]
-    Duplicate,
-    /// There are as many as there may be.
-    #[error("full")]
-    Full,
-    /// No memory was left.
-    #[error("memory")]
-    Memory,
-}
-
-impl From<AllocError> for TemplateFault {
-    ghost use Rattle.std.specs.Prelude.{◌≡◌};
-    ghost use Rattle.device_machine.specs.declared.fault.TemplateFault.TheVariants.{Memory};
-
-    ghost from_gives = { λ _ e. e ≡ Memory };
-
-    fn from(_e: AllocError) -> TemplateFault {
-        TemplateFault::Memory
-    }
-}
-
-impl<T: Drop> From<AllocFailed<T>> for TemplateFault {
-    ghost use Rattle.std.specs.Prelude.{◌≡◌};
-    ghost use Rattle.device_machine.specs.declared.fault.TemplateFault.TheVariants.{Memory};
-
-    ghost from_gives = { λ _ e. e ≡ Memory };
-
-    fn from(_e: AllocFailed<T>) -> TemplateFault {
-        TemplateFault::Memory
     }
 }

@@ -1,10 +1,40 @@
 //! What follows from the tables, for their readers. The calls do nothing; their contracts are the laws.
 
-ghost use Rattle.device_machine.specs.Laws.{ConfirmableRepeats, NonConfirmableRepeats};
+ghost use Rattle.device_machine.specs.Laws.{CancelsEnd, ConfirmableAnswers, ConfirmableRepeats, NonConfirmableAnswers, NonConfirmableRejects, NonConfirmableRepeats, RefusedChangesNothing, RegistrationsCount, ResetsEnd};
 
 /// A request that comes again within its lifetime is not processed again (RFC 7252 section 4.5): a
 /// confirmable one gets the bytes that it got, and neither changes anything.
 pub fn repeats()
     ensures confirmable { ConfirmableRepeats }
     ensures non_confirmable { NonConfirmableRepeats }
+{}
+
+/// A request that is no repeat gets exactly one datagram, whose code is that of the first line of
+/// the tables that applies, the last of them success: a confirmable one an acknowledgement, a
+/// non-confirmable one a message of the device's own message ID, or nothing where an option that
+/// must be understood isn't.
+pub fn answers_once()
+    ensures confirmable { ConfirmableAnswers }
+    ensures non_confirmable { NonConfirmableAnswers }
+    ensures rejected { NonConfirmableRejects }
+{}
+
+/// A request that is refused is recorded, and may have counted a message ID on; where it is a Read
+/// with Observe 0 or 1, the observation of its server and token goes. It changes nothing else.
+pub fn refusals_change_nothing()
+    ensures { RefusedChangesNothing }
+{}
+
+/// Behind a Read that cancels there is no observation of its server and token, and behind an empty
+/// Reset none of its server whose last message was a NON with its message ID (RFC 7641 section 3.6).
+pub fn ends_observations()
+    ensures cancelled { CancelsEnd }
+    ensures reset { ResetsEnd }
+{}
+
+/// The reply to a Read that registers and is answered by content has, where there is a place,
+/// Observe 0 for a new name, else one more than the observation's last message, modulo 2^24, and the
+/// observation notes that number.
+pub fn counts_registrations()
+    ensures { RegistrationsCount }
 {}

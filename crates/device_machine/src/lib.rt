@@ -1,29 +1,26 @@
-//! An emulated LwM2M device: its template, the events that it takes and what it puts out.
+//! An emulated LwM2M device: the events that it takes and what it puts out.
 #![tactic(auto)]
 
-mod answer;
 mod device;
 mod event;
 mod fault;
 mod laws;
 mod machine;
-mod operation;
-mod options;
+#[cfg(test)]
+mod management_tests;
 mod output;
-mod read;
 mod recorded;
 mod reply;
-mod template;
 #[cfg(test)]
 mod tests;
-mod values;
 
-pub use answer::{Answer, Code};
 pub use device::Device;
+pub use device_requests::{Act, Answer, Code, Operation};
+pub use device_template::{Template, TemplateFault};
 pub use event::Event;
-pub use fault::{StepFault, TemplateFault};
-pub use laws::repeats;
-pub use operation::Operation;
-pub use output::{Act, Output, Outputs};
+pub use fault::StepFault;
+pub use laws::{
+    answers_once, counts_registrations, ends_observations, refusals_change_nothing, repeats,
+};
+pub use output::{Output, Outputs};
 pub use recorded::Recorded;
-pub use template::Template;

@@ -1,25 +1,29 @@
-ghost use Rattle.std.specs.Prelude.{◌≡◌, ◌==◌, ◌&&◌, ◌+◌, ◌<◌, ◌^◌, find, [], IfOk, IsFalse, None, Some};
+ghost use Rattle.std.specs.Prelude.{◌≡◌, ◌==◌, ◌&&◌, ◌+◌, ◌<◌, ◌≤◌, ◌^◌, find, length, [], IfOk, OnOk, IsFalse, None, Some};
 ghost use Rattle.std.specs.Option.{option_copied};
 ghost use Rattle.coap_codec.specs.Message.{kind_number};
 ghost use Rattle.device_machine.specs.State.{is_live};
 ghost use Rattle.object_defs.specs.Path.{full_path};
 ghost use Rattle.device_machine.specs.declared.event.Event.TheVariants.{Recv};
-ghost use Rattle.device_machine.specs.Answers.{answer_at, answer_of};
-ghost use Rattle.device_machine.specs.Reactions.{Gives, again, has_account, is_request, later, on_fresh, on_message, on_noise, on_put, on_request, passes_end, reaction_to, repeat_of, reply_to};
+ghost use Rattle.device_machine.specs.Class.{start_of};
+ghost use Rattle.device_machine.specs.Reactions.{Gives, again, is_request, on_firmware, on_fresh, on_message, on_noise, on_outcome, on_put, on_request, on_tick, passes_end, reaction_to, repeat_of, reply_to};
+ghost use Rattle.device_machine.specs.Observing.{Notes, begun, entered, noted, noted_read, replies_non, reply_mid};
+ghost use Rattle.observing.specs.Second.{is_content};
+ghost use Rattle.device_requests.specs.Requests.{outcome_of};
+ghost use Rattle.firmware_update.specs.Firmware.{firmware_after};
+ghost use Rattle.firmware_update.specs.declared.event.FirmwareEvent.TheVariants.{Ended};
 
-use crate::answer::{Answer, Code};
 use crate::event::Event;
-use crate::operation::{Operation, select};
-use crate::options::{accept_of, has_query, has_unrecognized_critical, path_of};
-use crate::output::{Act, Output, Outputs};
-use crate::read::{read_resource, unbuilt};
+use crate::output::{Output, Outputs};
 use crate::recorded::Recorded;
 use crate::reply::{datagram, reset, response, sent, sent_to};
-use crate::values::{misses, put};
 use coap_codec::{CoapFault, Kind, Message, decode, header};
+use device_requests::{Act, Answer, Client, Interest, has_unrecognized_critical, interest_of};
+use device_template::{Template, misses};
 use instance_store::Store;
 use lwm2m_values::Value;
-use object_defs::{Catalog, Path, ResourcePath};
+use notifier::{Attributes, Observations, ObserveFault, Report};
+use object_defs::Path;
+use observing::{Outbox, report_of, seconds};
 use octets::Bytes;
 use std::alloc::{AllocError, Global};
 use std::marker::Model;
@@ -27,9 +31,8 @@ use std::marker::Model;
 /// All that a device keeps. Contracts see it as a flat state.
 #[derive(Drop)]
 pub(crate) struct Machine {
-    accounts: Vec<u16>,
-    catalog: Catalog,
-    store: Store,
+    client: Client,
+    observations: Observations,
     clock: u64,
     next_id: u16,
     recorded: Vec<Recorded>,
@@ -39,13 +42,17 @@ pub(crate) struct Machine {
 impl Model for Machine {
     ghost use Rattle.std.specs.Coded.{codes};
     ghost use Rattle.instance_store.specs.Stored.{stored_code};
+    ghost use Rattle.device_requests.specs.Managed.{attributes_code};
     ghost use Rattle.device_machine.specs.State.{Flat};
 
     ghost Value = { Flat };
 
-    ghost coded = { Prim.hlevel (codes, stored_code) };
+    ghost coded = { Prim.hlevel (codes, stored_code, attributes_code) };
 
-    ghost view = { λ c. record { kept = record { accounts = c.accounts.items; catalogue = c.catalog; store = c.store; clock = c.clock; next_id = c.next_id }; recorded = c.recorded.items } };
+    ghost view = { λ c. record {
+      kept = record { client = c.client; observations = c.observations; clock = c.clock; next_id = c.next_id };
+      recorded = c.recorded.items;
+    } };
 }
 
 /// Whether a code is a request's.
@@ -127,20 +134,87 @@ fn again(
     }
 }
 
+/// Whether an answer is the content of its target.
+fn is_content(answer: &Answer) -> bool
+    ensures { result ≡ is_content answer.now }
+{
+    answer.code.byte() == 0x45
+}
+
+/// The message ID of the reply to a request.
+fn reply_mid(next_id: u16, message: &Message) -> u16
+    ensures { result ≡ reply_mid next_id message.now message.now.kind }
+{
+    match message.kind() {
+        Kind::Non => next_id,
+        Kind::Con | Kind::Ack | Kind::Rst => message.mid(),
+    }
+}
+
+/// Whether the reply to a request of this type is a NON.
+fn replies_non(kind: Kind) -> bool
+    ensures { result ≡ replies_non kind }
+{
+    match kind {
+        Kind::Non => true,
+        Kind::Con | Kind::Ack | Kind::Rst => false,
+    }
+}
+
+/// A copy of the token of a message.
+fn token_of(message: &Message) -> Result<Bytes, AllocError>
+    ensures value { IfOk result (λ t. t ≡ message.now.token) }
+    ensures short { IfOk result (λ t. length t ≤ 8) }
+{
+    // the options are lent with the word that the message is well formed
+    let _options = message.options();
+    message.token().clone()
+}
+
+/// Registers an observation where there is a place for it. Answers the Observe number of the reply,
+/// the last message's.
+fn enter(
+    observations: &mut Observations,
+    server: u16,
+    token: Bytes,
+    path: Path,
+    accept: Option<u16>,
+    report: Report,
+    second: u64,
+    mid: u16,
+    non: bool,
+) -> Result<Option<u32>, AllocError>
+    requires { length token ≤ 8 }
+    ensures number { IfOk result (λ n. n ≡ (entered observations.old (record { server = server; token = token; path = path; accept = accept; report = report; second = second; number = 0; non = non; mid = mid })).number) }
+    ensures left { OnOk result (observations.new ≡ (entered observations.old (record { server = server; token = token; path = path; accept = accept; report = report; second = second; number = 0; non = non; mid = mid })).left) }
+{
+    let number = match observations.register(
+        server, token, path, accept, report, second, mid, non,
+    ) {
+        Ok(number) => number,
+        Err(ObserveFault::Full) => return Ok(None),
+        Err(ObserveFault::Memory) => return Err(AllocError),
+    };
+    Ok(Some(number))
+}
+
 impl Machine {
-    /// What is kept at the start.
-    pub(crate) fn new(alloc: Global, accounts: Vec<u16>, catalog: Catalog, store: Store) -> Machine
-        ensures { result ≡ record { kept = record { accounts = accounts.items; catalogue = catalog; store = store; clock = 0; next_id = 0 }; recorded = [] } }
+    /// What a device of the template keeps at its start.
+    pub(crate) fn start(template: &Template) -> Result<Machine, AllocError>
+        ensures { IfOk result (λ m. m ≡ record { kept = start_of template.now; recorded = [] }) }
     {
-        Machine {
-            accounts,
-            catalog,
-            store,
+        let accounts = template.copy_accounts()?;
+        let alloc = *accounts.allocator();
+        let catalog = template.catalog().copy()?;
+        let store = template.start_store()?;
+        Ok(Machine {
+            client: Client::new(alloc, accounts, catalog, store),
+            observations: Observations::new(alloc),
             clock: 0,
             next_id: 0,
             recorded: Vec::new(alloc),
             alloc,
-        }
+        })
     }
 
     /// A copy, which equals its source.
@@ -148,9 +222,8 @@ impl Machine {
         ensures { IfOk result (λ m. m ≡ self.now) }
     {
         Ok(Machine {
-            accounts: self.accounts.clone()?,
-            catalog: self.catalog.copy()?,
-            store: self.store.copy()?,
+            client: self.client.copy()?,
+            observations: self.observations.copy()?,
             clock: self.clock,
             next_id: self.next_id,
             recorded: copy_of(self.alloc, self.recorded.as_slice())?,
@@ -160,69 +233,33 @@ impl Machine {
 
     /// The values and instances, lent.
     pub(crate) fn store(&self) -> &Store
-        ensures { result.now ≡ self.now.kept.store }
+        ensures { result.now ≡ self.now.kept.client.store }
     {
-        &self.store
+        self.client.store()
     }
 
-    fn has_account(&self, server: u16) -> bool
-        ensures { result ≡ has_account self.now.kept server }
+    /// The attributes that servers set, lent.
+    pub(crate) fn attributes(&self) -> &Attributes
+        ensures { result.now ≡ self.now.kept.client.attributes }
     {
-        self.accounts.iter().any(|account| *account == server)
+        self.client.attributes()
     }
 
-    /// The answer to an operation at a path.
-    fn perform(
+    /// The observations, lent.
+    pub(crate) fn observations(&self) -> &Observations
+        ensures { result.now ≡ self.now.kept.observations }
+    {
+        &self.observations
+    }
+
+    /// The message that replies to a request with this answer and this Observe number.
+    fn reply_to(
         &self,
-        operation: Operation,
-        path: Path,
-        accept: Option<u16>,
-    ) -> Result<Answer, AllocError>
-        ensures { IfOk result (λ a. a ≡ answer_at self.now.kept accept path (Some operation)) }
-    {
-        match operation {
-            Operation::Read => match path {
-                Path::Resource(object, instance, resource) => {
-                    let definition = self.catalog.resource(object, resource).copied();
-                    let path = ResourcePath {
-                        object,
-                        instance,
-                        resource,
-                    };
-                    read_resource(self.alloc, &self.store, path, definition, accept)
-                }
-                Path::Object(_) | Path::Instance(_, _) | Path::Part(_, _, _, _) => {
-                    Ok(unbuilt(self.alloc, path))
-                }
-            },
-            Operation::Discover
-            | Operation::WriteAttributes
-            | Operation::WriteReplace
-            | Operation::WritePartial
-            | Operation::Create
-            | Operation::Execute
-            | Operation::Delete => Ok(unbuilt(self.alloc, path)),
-        }
-    }
-
-    /// The answer to a request whose options are all understood.
-    fn answer(&self, message: &Message) -> Result<Answer, AllocError>
-        ensures { IfOk result (λ a. a ≡ answer_of self.now.kept message.now) }
-    {
-        let options = message.options().as_slice();
-        let Some(path) = path_of(options) else {
-            return Ok(Answer::refusal(self.alloc, Code::NotFound));
-        };
-        let accept = accept_of(options);
-        let Some(operation) = select(message.code(), accept, has_query(options), path) else {
-            return Ok(Answer::refusal(self.alloc, Code::MethodNotAllowed));
-        };
-        self.perform(operation, path, accept)
-    }
-
-    /// The message that replies to a request.
-    fn reply_to(&self, message: &Message) -> Result<Option<Message>, AllocError>
-        ensures { IfOk result (λ r. r ≡ reply_to self.now.kept message.now message.now.kind) }
+        message: &Message,
+        number: Option<u32>,
+        answer: Answer,
+    ) -> Result<Option<Message>, AllocError>
+        ensures { IfOk result (λ r. r ≡ reply_to self.now.kept.next_id message.now message.now.kind number answer) }
     {
         let is_refused = has_unrecognized_critical(message.options().as_slice());
         let (kind, mid) = match message.kind() {
@@ -235,28 +272,29 @@ impl Machine {
             }
             Kind::Ack | Kind::Rst => return Ok(None),
         };
-        let answer = if is_refused {
-            Answer::refusal(self.alloc, Code::BadOption)
-        } else {
-            self.answer(message)?
-        };
-        let reply = response(self.alloc, kind, mid, message.token(), answer)?;
+        let reply = response(self.alloc, kind, mid, message.token(), number, answer)?;
         Ok(Some(reply))
     }
 
-    /// Answers and records a request that is no repeat.
-    fn take_fresh(&mut self, server: u16, message: &Message) -> Result<Outputs, AllocError>
-        ensures { IfOk result
-            (λ o. Gives o self.new (on_fresh self.old server message.now (reply_to self.old.kept message.now message.now.kind))) }
+    /// Records a request with the message that replies to it, sends that, and acts.
+    fn reply(
+        &mut self,
+        server: u16,
+        message: &Message,
+        reply: Option<Message>,
+        act: Option<Act>,
+    ) -> Result<Outputs, AllocError>
+        ensures { IfOk result (λ o. Gives o self.new (on_fresh self.old server message.now self.old.kept reply act)) }
     {
         let kind = message.kind();
         let mid = message.mid();
-        let reply = match self.reply_to(message)? {
+        let reply = match reply {
             None => None,
             Some(reply) => Some(datagram(self.alloc, &reply)?),
         };
         let is_answered = reply.is_some();
-        let outputs = sent_to(self.alloc, server, &reply)?;
+        let mut outputs = sent_to(self.alloc, server, &reply)?;
+        outputs.act(act)?;
         let second = self.clock;
         self.recorded.push(Recorded {
             server,
@@ -269,6 +307,92 @@ impl Machine {
             self.next_id = self.next_id.wrapping_add(1);
         }
         Ok(outputs)
+    }
+
+    /// Registers an observation with this content where there is a place for it. Answers the Observe number.
+    fn enter(
+        &mut self,
+        server: u16,
+        message: &Message,
+        path: Path,
+        accept: Option<u16>,
+        payload: Bytes,
+    ) -> Result<Option<u32>, AllocError>
+        ensures kept { IfOk result (λ n. Notes n self.old.kept self.new.kept
+            (entered self.old.kept.observations (begun self.old.kept server message.now path accept payload))) }
+        ensures recorded { OnOk result (self.new.recorded ≡ self.old.recorded) }
+    {
+        let token = token_of(message)?;
+        let report = report_of(&self.client, path, payload);
+        let mid = reply_mid(self.next_id, message);
+        let non = replies_non(message.kind());
+        let now = self.clock;
+        let observations = &mut self.observations;
+        enter(
+            observations,
+            server,
+            token,
+            path,
+            accept,
+            report,
+            now,
+            mid,
+            non,
+        )
+    }
+
+    /// Notes a Read that registers.
+    fn note_read(
+        &mut self,
+        server: u16,
+        message: &Message,
+        path: Path,
+        accept: Option<u16>,
+        answer: &Answer,
+    ) -> Result<Option<u32>, AllocError>
+        ensures kept { IfOk result (λ n. Notes n self.old.kept self.new.kept (noted_read self.old.kept server message.now path accept answer.now)) }
+        ensures recorded { OnOk result (self.new.recorded ≡ self.old.recorded) }
+    {
+        if is_content(answer) {
+            let payload = answer.payload.clone()?;
+            return self.enter(server, message, path, accept, payload);
+        }
+        self.observations.cancel(server, message.token().as_slice());
+        Ok(None)
+    }
+
+    /// Notes what a request with this answer asks of the observations. Answers the Observe number of its reply.
+    fn note(
+        &mut self,
+        server: u16,
+        message: &Message,
+        answer: &Answer,
+    ) -> Result<Option<u32>, AllocError>
+        ensures kept { IfOk result (λ n. Notes n self.old.kept self.new.kept (noted self.old.kept server message.now answer.now)) }
+        ensures recorded { OnOk result (self.new.recorded ≡ self.old.recorded) }
+    {
+        match interest_of(message) {
+            None => Ok(None),
+            Some(Interest::Register { path, accept }) => {
+                self.note_read(server, message, path, accept, answer)
+            }
+            Some(Interest::Cancel) => {
+                self.observations.cancel(server, message.token().as_slice());
+                Ok(None)
+            }
+        }
+    }
+
+    /// Does what a request asks for that is no repeat, answers and records it.
+    fn take_fresh(&mut self, server: u16, message: &Message) -> Result<Outputs, AllocError>
+        ensures { IfOk result
+            (λ o. Gives o self.new (on_outcome self.old server message.now (outcome_of self.old.kept.client server message.now))) }
+    {
+        let answer = self.client.answer(server, message)?;
+        let number = self.note(server, message, &answer)?;
+        let act = answer.act;
+        let reply = self.reply_to(message, number, answer)?;
+        self.reply(server, message, reply, act)
     }
 
     /// The first receipt of a request that is repeated within its lifetime.
@@ -310,7 +434,13 @@ impl Machine {
                     Ok(Outputs::none(self.alloc))
                 }
             }
-            Kind::Ack | Kind::Rst => Ok(Outputs::none(self.alloc)),
+            Kind::Ack => Ok(Outputs::none(self.alloc)),
+            Kind::Rst => {
+                if message.code() == 0 {
+                    self.observations.reset(server, message.mid());
+                }
+                Ok(Outputs::none(self.alloc))
+            }
         }
     }
 
@@ -334,19 +464,31 @@ impl Machine {
         self.clock
     }
 
-    /// Lets seconds pass.
-    fn tick(&mut self, seconds: u32)
-        requires { self.old.kept.clock + seconds < 2 ^ 63 }
-        ensures { self.new ≡ later self.old seconds }
+    /// Lets seconds pass, in each of which the observations have their turns.
+    fn tick(&mut self, count: u32) -> Result<Outputs, AllocError>
+        requires { self.old.kept.clock + count < 2 ^ 63 }
+        ensures { IfOk result (λ o. Gives o self.new (on_tick self.old count)) }
     {
-        self.clock += u64::from(seconds);
+        let mut outbox = Outbox::new(self.alloc, self.next_id);
+        let observations = &mut self.observations;
+        seconds(
+            self.alloc,
+            &self.client,
+            observations,
+            self.clock,
+            count,
+            &mut outbox,
+        )?;
+        self.clock += u64::from(count);
+        self.next_id = outbox.next_id();
+        Outputs::of_datagrams(self.alloc, outbox.into_vec())
     }
 
     /// Takes a datagram.
     fn receive(&mut self, server: u16, bytes: &[u8]) -> Result<Outputs, AllocError>
         ensures { IfOk result (λ o. Gives o self.new (reaction_to self.old (Recv server bytes.now))) }
     {
-        if !self.has_account(server) {
+        if !self.client.has_account(server) {
             return Ok(Outputs::none(self.alloc));
         }
         match decode(self.alloc, bytes) {
@@ -363,14 +505,24 @@ impl Machine {
         let Some(full) = path.full() else {
             return Outputs::one(self.alloc, Output::Act(Act::Missed));
         };
-        if misses(&self.catalog, &self.store, full, value) {
+        if misses(self.client.catalog(), self.client.store(), full, value) {
             return Outputs::one(self.alloc, Output::Act(Act::Missed));
         }
         let value = value.copy()?;
-        match put(&mut self.store, full, value) {
+        match self.client.put(full, value) {
             Ok(()) => Ok(Outputs::none(self.alloc)),
             Err(_) => Err(AllocError),
         }
+    }
+
+    /// Ends a download or an update of the firmware, where there is one.
+    fn end_firmware(&mut self, code: u8) -> Result<Outputs, AllocError>
+        ensures { IfOk result (λ o. Gives o self.new (on_firmware self.old (firmware_after self.old.kept.client.store (Ended code)))) }
+    {
+        if self.client.end_firmware(code)? {
+            return Ok(Outputs::none(self.alloc));
+        }
+        Outputs::one(self.alloc, Output::Act(Act::Missed))
     }
 
     /// Takes an event.
@@ -381,10 +533,8 @@ impl Machine {
         match event {
             Event::Recv { server, bytes } => self.receive(*server, bytes.as_slice()),
             Event::Put { path, value } => self.put(*path, value),
-            Event::Tick(seconds) => {
-                self.tick(*seconds);
-                Ok(Outputs::none(self.alloc))
-            }
+            Event::Firmware(code) => self.end_firmware(*code),
+            Event::Tick(count) => self.tick(*count),
         }
     }
 }

@@ -1,15 +1,11 @@
-ghost use Rattle.std.specs.Prelude.{◌≡◌, ◌∷◌, [], IfOk};
+ghost use Rattle.std.specs.Prelude.{◌≡◌, ◌∷◌, ◌++◌, [], map, IfOk, OnOk};
+ghost use Rattle.device_machine.specs.Reactions.{acted, send_of};
 
+use device_requests::Act;
+use observing::Datagram;
 use octets::Bytes;
 use std::alloc::{AllocError, Global};
 use std::marker::Model;
-
-/// What a device does beside sending.
-#[derive(Clone, Copy, Debug, PartialEq, Eq)]
-pub enum Act {
-    /// A value that was to change does not fit: nothing changed.
-    Missed,
-}
 
 /// What a device puts out.
 #[derive(Clone, Debug, Drop)]
@@ -57,6 +53,37 @@ impl Outputs {
         let mut items = Vec::with_capacity(alloc, 1)?;
         items.push(output)?;
         Ok(Outputs { items })
+    }
+
+    /// These datagrams, each sent, in order.
+    #[tactic(auto, using(crate::proofs::Sending::one_more))]
+    pub(crate) fn of_datagrams(
+        alloc: Global,
+        datagrams: Vec<Datagram>,
+    ) -> Result<Outputs, AllocError>
+        ensures { IfOk result (λ o. o ≡ map send_of datagrams.items) }
+    {
+        let mut items = Vec::with_capacity(alloc, datagrams.len())?;
+        for datagram in datagrams {
+            items.push(Output::Send {
+                server: datagram.server,
+                bytes: datagram.bytes,
+            })?;
+        }
+        Ok(Outputs { items })
+    }
+
+    /// Adds what the device does behind the others, if there is something.
+    pub(crate) fn act(&mut self, act: Option<Act>) -> Result<(), AllocError>
+        ensures { OnOk result (self.new ≡ self.old ++ acted act) }
+    {
+        match act {
+            None => Ok(()),
+            Some(act) => {
+                self.items.push(Output::Act(act))?;
+                Ok(())
+            }
+        }
     }
 
     /// The outputs, lent, in order.

@@ -1,44 +1,114 @@
 //! The datagrams that a device sends.
 
-ghost use Rattle.std.specs.Prelude.{◌≡◌, ◌≤◌, ◌<◌, ◌∷◌, [], length, IfOk};
-ghost use Rattle.coap_codec.specs.Message.{spelling};
+ghost use Rattle.std.specs.Prelude.{◌≡◌, ◌≤◌, ◌<◌, ◌∷◌, ◌++◌, [], length, IfOk, OnOk};
+ghost use Rattle.coap_codec.specs.Message.{IsOptionList, spelling};
 ghost use Rattle.device_machine.specs.declared.output.Output.TheVariants.{Send};
-ghost use Rattle.device_machine.specs.Reactions.{format_options, reset, response, sent_to};
+ghost use Rattle.device_machine.specs.Reactions.{IsShort, answer_options, location_options, reset, response, sent_to};
+ghost use Rattle.observing.specs.Message.{number_option};
+ghost use Rattle.std.specs.Fmt.{decimal};
 
-use crate::answer::Answer;
-use crate::options::CONTENT_FORMAT;
 use crate::output::{Output, Outputs};
 use coap_codec::{Kind, Message, Opt, Options, encode, uint_bytes};
+use device_requests::{Answer, CONTENT_FORMAT, OBSERVE};
+use object_defs::InstancePath;
 use octets::Bytes;
 use std::alloc::{AllocError, Global};
 
-/// The Content-Format of an answer that has a payload.
-fn format_options(alloc: Global, format: Option<u16>) -> Result<Options, AllocError>
-    ensures { IfOk result (λ o. o ≡ format_options format) }
+/// Location-Path (RFC 7252 section 5.10.7).
+const LOCATION_PATH: u16 = 8;
+
+/// A segment of Location-Path: a number in decimal.
+#[tactic(auto, using(crate::proofs::Naming::short_decimal))]
+fn segment(alloc: Global, number: u16) -> Result<Opt, AllocError>
+    ensures option { IfOk result (λ o. o ≡ record { number = 8; value = decimal number }) }
+    ensures short { length (decimal number) ≤ 5 }
+{
+    let text = format!(in alloc; "{number}")?;
+    let value = Bytes::from_slice(alloc, text.as_bytes())?;
+    Ok(Opt {
+        number: LOCATION_PATH,
+        value,
+    })
+}
+
+/// Adds the Location-Path of an answer that names an instance.
+fn push_location(
+    alloc: Global,
+    options: &mut Options,
+    location: Option<InstancePath>,
+) -> Result<(), AllocError>
+    ensures options { OnOk result (options.new ≡ options.old ++ location_options location) }
+    ensures short { OnOk result (IsShort location) }
+{
+    let Some(place) = location else {
+        return Ok(());
+    };
+    let object = segment(alloc, place.object)?;
+    let instance = segment(alloc, place.instance)?;
+    options.push(object)?;
+    options.push(instance)?;
+    Ok(())
+}
+
+/// Adds an option with a number, if there is one, in the fewest bytes.
+fn push_number(
+    alloc: Global,
+    options: &mut Options,
+    option: u16,
+    number: Option<u32>,
+) -> Result<(), AllocError>
+    ensures { OnOk result (options.new ≡ options.old ++ number_option option number) }
+{
+    let Some(number) = number else {
+        return Ok(());
+    };
+    let value = uint_bytes(alloc, number)?;
+    options.push(Opt {
+        number: option,
+        value,
+    })?;
+    Ok(())
+}
+
+/// The number of a format.
+fn widened(format: Option<u16>) -> Option<u32>
+    ensures { result ≡ format }
+{
+    let format = format?;
+    Some(u32::from(format))
+}
+
+/// Observe, Location-Path and Content-Format, in the order of their numbers.
+#[tactic(auto, using(crate::proofs::Naming::in_order))]
+fn answer_options(
+    alloc: Global,
+    number: Option<u32>,
+    location: Option<InstancePath>,
+    format: Option<u16>,
+) -> Result<Options, AllocError>
+    ensures options { IfOk result (λ o. o ≡ answer_options number location format) }
+    ensures good { IfOk result (λ o. IsOptionList 0 (answer_options number location format)) }
 {
     let mut options = Options::new(alloc);
-    if let Some(format) = format {
-        let value = uint_bytes(alloc, u32::from(format))?;
-        options.push(Opt {
-            number: CONTENT_FORMAT,
-            value,
-        })?;
-    }
+    push_number(alloc, &mut options, OBSERVE, number)?;
+    push_location(alloc, &mut options, location)?;
+    push_number(alloc, &mut options, CONTENT_FORMAT, widened(format))?;
     Ok(options)
 }
 
-/// The message of an answer, with the token of the request.
+/// The message of an answer, with the token of the request and this Observe number.
 pub(crate) fn response(
     alloc: Global,
     kind: Kind,
     mid: u16,
     token: &Bytes,
+    number: Option<u32>,
     answer: Answer,
 ) -> Result<Message, AllocError>
     requires { length token.now ≤ 8 }
-    ensures { IfOk result (λ m. m ≡ response kind mid token.now answer) }
+    ensures { IfOk result (λ m. m ≡ response kind mid token.now number answer) }
 {
-    let options = format_options(alloc, answer.format)?;
+    let options = answer_options(alloc, number, answer.location, answer.format)?;
     let token = token.clone()?;
     Ok(Message::of_parts(
         kind,

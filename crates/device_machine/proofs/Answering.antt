@@ -1,0 +1,73 @@
+-- A request gets one reply, whose code is that of the first line that applies.
+use Rattle.std.proofs.Common.{◌≡◌, ℕ, Bool, true, false, List, [], ◌∷◌, ◌++◌, Option, None, Some, option_map, refl, ap, ◌∙◌}
+use Rattle.std.specs.Bool.{if◌then◌else◌}
+use Rattle.device_requests.specs.Options.{has_unrecognized_critical, segments_of}
+use Rattle.coap_codec.specs.Message.{Parts, spelling}
+use Rattle.coap_codec.specs.declared.kind.Kind.TheVariants.{Con, Non, Ack}
+use Rattle.device_requests.specs.Answers.{Outcome, answered, bare}
+use Rattle.device_requests.specs.declared.answer.Code.TheVariants.{BadOption}
+use Rattle.device_requests.specs.Segments.{path_of}
+use Rattle.device_requests.specs.Requests.{outcome_of, outcome_on}
+use Rattle.device_machine.specs.Observing.{noted}
+use Rattle.device_machine.specs.State.{Flat, with_client}
+use Rattle.device_machine.specs.Reactions.{acted, on_outcome, reply_to, response, sent_to}
+use Rattle.device_machine.specs.declared.output.Output.TheVariants.{Send}
+use Rattle.device_machine.specs.Laws.{ConfirmableAnswers, NonConfirmableAnswers, NonConfirmableRejects}
+use Rattle.device_requests.proofs.Answering.{says}
+use Rattle.device_machine.proofs.Repeating.{first_con, first_non}
+
+-- the Observe number of the reply to a request with this outcome
+abbrev number_with : Flat → ℕ → Parts → Outcome → Option ℕ
+number_with f server m outcome = (noted (with_client f.kept outcome.client) server m outcome.answer).number
+
+replied : (f : Flat) (server : ℕ) (m : Parts) (outcome : Outcome) → m.kind ≡ Con
+    → (on_outcome f server m outcome).outputs
+    ≡ Send server (spelling (response Ack m.mid m.token (number_with f server m outcome) outcome.answer)) ∷ acted outcome.answer.act
+replied f server m outcome k =
+    ap (λ kind. sent_to server (option_map spelling (reply_to f.kept.next_id m kind (number_with f server m outcome) outcome.answer)) ++ acted outcome.answer.act) k
+
+-- a fresh confirmable request
+pub acknowledged : ConfirmableAnswers
+acknowledged f server bytes m fresh k =
+    let outcome = outcome_of f.kept.client server m in
+    record {
+      reply = response Ack m.mid m.token (number_with f server m outcome) outcome.answer;
+      act = outcome.answer.act;
+      sent = ap (λ r. r.outputs) (first_con f server bytes m fresh k) ∙ replied f server m outcome k;
+      kind_is = refl;
+      mid_is = refl;
+      token = refl;
+      said = outcome.answer.code;
+      code = refl;
+      line = says f.kept.client server m;
+    }
+
+-- what replies to a non-confirmable request
+replied_non : (f : Flat) (server : ℕ) (m : Parts) (outcome : Outcome) (refused : Bool) → m.kind ≡ Non → has_unrecognized_critical m.options ≡ refused
+    → (on_outcome f server m outcome).outputs
+    ≡ sent_to server (option_map spelling (if refused then None else Some (response Non f.kept.next_id m.token (number_with f server m outcome) outcome.answer)))
+    ++ acted outcome.answer.act
+replied_non f server m outcome refused k h =
+    ap (λ kind. sent_to server (option_map spelling (reply_to f.kept.next_id m kind (number_with f server m outcome) outcome.answer)) ++ acted outcome.answer.act) k
+    ∙ ap (λ b. sent_to server (option_map spelling (if b then None else Some (response Non f.kept.next_id m.token (number_with f server m outcome) outcome.answer)))
+    ++ acted outcome.answer.act) h
+
+pub answered_non : NonConfirmableAnswers
+answered_non f server bytes m fresh k h =
+    let outcome = outcome_of f.kept.client server m in
+    record {
+      reply = response Non f.kept.next_id m.token (number_with f server m outcome) outcome.answer;
+      act = outcome.answer.act;
+      sent = ap (λ r. r.outputs) (first_non f server bytes m fresh k) ∙ replied_non f server m outcome false k h;
+      kind_is = refl;
+      mid_is = refl;
+      token = refl;
+      said = outcome.answer.code;
+      code = refl;
+      line = says f.kept.client server m;
+    }
+
+pub rejected_non : NonConfirmableRejects
+rejected_non f server bytes m fresh k h =
+    ap (λ r. r.outputs) (first_non f server bytes m fresh k) ∙ replied_non f server m (outcome_of f.kept.client server m) true k h
+    ∙ ap (λ b. acted (if b then answered f.kept.client (bare BadOption) else outcome_on f.kept.client server m (path_of (segments_of m.options))).answer.act) h

@@ -1,0 +1,56 @@
+-- The options of an answer are in order, and short.
+use Rattle.std.proofs.Common.{◌≡◌, ℕ, ◌/◌, ◌%◌, ◌<◌, ◌≤◌, nat_lt, Bool, true, false, List, [], ◌∷◌, ◌++◌, length, Option, None, Some, arith}
+use Rattle.std.specs.Bool.{if◌then◌else◌}
+use Rattle.std.specs.Fmt.{decimal}
+use Rattle.std.proofs.lemmas.Fmt.{length-decimal-le}
+use Rattle.coap_codec.specs.Message.{IsOptionList, MayFollow}
+use Rattle.coap_codec.specs.Number.{shortest}
+use Rattle.coap_codec.specs.declared.option.Opt.{Opt}
+use Rattle.object_defs.specs.declared.path.InstancePath.{InstancePath}
+use Rattle.observing.specs.Message.{format_option, number_option}
+use Rattle.device_machine.specs.Reactions.{IsShort, answer_options, location_options}
+
+short_choice : (a b c d : Bool) (n : ℕ)
+    → length (if a then [] else (if b then n ∷ [] else (if c then n / 256 ∷ n % 256 ∷ []
+    else (if d then n / 65536 ∷ n / 256 % 256 ∷ n % 256 ∷ []
+    else n / 16777216 ∷ n / 65536 % 256 ∷ n / 256 % 256 ∷ n % 256 ∷ [])))) ≤ 65804
+short_choice true b c d n = omega (arith)
+short_choice false true c d n = omega (arith)
+short_choice false false true d n = omega (arith)
+short_choice false false false true n = omega (arith)
+short_choice false false false false n = omega (arith)
+
+short_number : (n : ℕ) → length (shortest n) ≤ 65804
+short_number n = short_choice (nat_lt n 1) (nat_lt n 256) (nat_lt n 65536) (nat_lt n 16777216) n
+
+-- an option with a number, behind one of no greater number and before others
+numbered : (before option : ℕ) (number : Option ℕ) (rest : List Opt) → before ≤ option → option ≤ 12
+    → IsOptionList before rest → IsOptionList option rest → IsOptionList before (number_option option number ++ rest)
+numbered before option None rest h k l m = l
+numbered before option (Some n) rest h k l m = (record { ascends = h; in_range = omega (arith); fits = short_number n }, m)
+
+-- Content-Format, the last option
+format_follows : (before : ℕ) (format : Option ℕ) → before ≤ 12 → IsOptionList before (format_option format)
+format_follows before None h = tt
+format_follows before (Some f) h = (record { ascends = h; in_range = omega (arith); fits = short_number f }, tt)
+
+-- Location-Path and Content-Format behind an option of no greater number
+location_follows : (before : ℕ) (location : Option InstancePath) (format : Option ℕ) → before ≤ 8 → IsShort location
+    → IsOptionList before (location_options location ++ format_option format)
+location_follows before None format b h = format_follows before format (omega (arith))
+location_follows before (Some place) format b h = (
+  record { ascends = omega (arith); in_range = omega (arith); fits = omega (arith, h.0) },
+  (
+    record { ascends = omega (arith); in_range = omega (arith); fits = omega (arith, h.1) },
+    format_follows 8 format (omega (arith)),
+  ),
+)
+
+-- the options of an answer are in order
+pub in_order : (number : Option ℕ) (location : Option InstancePath) (format : Option ℕ) → IsShort location → IsOptionList 0 (answer_options number location format)
+in_order number location format h =
+    numbered 0 6 number (location_options location ++ format_option format) (omega (arith)) (omega (arith))
+    (location_follows 0 location format (omega (arith)) h) (location_follows 6 location format (omega (arith)) h)
+
+pub short_decimal : (n : ℕ) → n < 65536 → length (decimal n) ≤ 5
+short_decimal n h = length-decimal-le 5 n (omega (arith)) (omega (arith, h)) (omega (arith, h))

@@ -1,0 +1,10 @@
+mod Among
+pub mod Answering
+pub mod Keeping
+mod Hiding
+mod Linking
+mod LinksExist
+mod Paths
+mod Queries
+mod ReadBack
+pub mod Refusing

@@ -1,0 +1,243 @@
+-- A single resource that was written is read again.
+use Rattle.std.proofs.Common.{◌≡◌, ℕ, Bool, true, false, not, ◌&&◌, ◌||◌, ◌==◌, List, [], ◌∷◌, length, Option, None, Some, option_map, is_some, refl, sym, ap, subst, ◌∙◌}
+use Rattle.std.specs.Bool.{if◌then◌else◌}
+use Rattle.std.specs.Option.{option_and_then}
+use Rattle.std.specs.Cmp.{eq_by_cmp_equiv}
+use Rattle.std.specs.Ordering.{eq_by_cmp}
+use Rattle.std.specs.FinMap as map
+use Rattle.std.proofs.lemmas.Bool.{ne_eqb}
+use Rattle.firmware_update.specs.declared.event.FirmwareEvent.{FirmwareEvent}
+use Rattle.lwm2m_values.specs.Reading.{value_of_text, value_of_bytes, nodes_of_bytes}
+use Rattle.lwm2m_values.specs.Tree.{Tree, Trees, instance, multi, part, single, none, more}
+use Rattle.lwm2m_values.specs.declared.value.Value.{Value}
+use Rattle.object_defs.specs.Catalogue.{definition_of}
+use Rattle.object_defs.specs.Operations.{can_read}
+use Rattle.object_defs.specs.Path.{path_cmp, single_of}
+use Rattle.object_defs.specs.declared.path.FullPath.{FullPath}
+use Rattle.object_defs.specs.declared.definition.ResourceDef.{ResourceDef}
+use Rattle.object_defs.specs.declared.path.Path.TheVariants.{Resource}
+use Rattle.object_defs.specs.declared.path.ResourcePath.{ResourcePath}
+use Rattle.object_defs.proofs.PathOrder.{path_total}
+use Rattle.instance_store.specs.Existence.{has_resource}
+use Rattle.instance_store.specs.Stored.{Stored, value_at, has_instance, instance_of, with_value}
+use Rattle.resource_formats.specs.declared.format.Format.{Format}
+use Rattle.resource_formats.specs.declared.format.Format.TheVariants.{PlainText, OctetStream, Tlv}
+use Rattle.resource_formats.specs.declared.given.Given.{Given}
+use Rattle.resource_formats.specs.declared.given.Given.TheVariants.{Single}
+use Rattle.resource_formats.specs.declared.given.Mode.TheVariants.{Replace}
+use Rattle.resource_formats.specs.Formats.{one, many, extent_as, format_for}
+use Rattle.resource_formats.specs.Given.{given_by, given_if, lone_record, number_in, resource_given, some_parts, parts_given}
+use Rattle.resource_formats.specs.Nodes.{value_payload, within_limit}
+use Rattle.device_requests.specs.declared.write.NewValues.{NewValues}
+use Rattle.device_requests.specs.declared.write.NewValues.TheVariants.{One, Several}
+use Rattle.device_requests.specs.declared.answer.Code.TheVariants.{Changed, Unauthorized, NotFound, MethodNotAllowed, NotAcceptable, UnsupportedContentFormat, BadRequest, InternalServerError}
+use Rattle.device_requests.specs.Access.{may_read, rights_on, shown_instances}
+use Rattle.device_requests.specs.Answers.{Outcome, refused_or}
+use Rattle.object_defs.specs.Lines.{first_line}
+use Rattle.device_requests.specs.Reads.{content_in, format_at, payload_in, read_answer, read_payload}
+use Rattle.device_requests.specs.Managed.{Managed, with_stored}
+use Rattle.device_requests.specs.Targets.{is_readable, place_of, resource_place}
+use Rattle.device_requests.specs.Writes.{can_be_written, event_of, exceeds, left, turn_lines, values_given, given_to_resource, is_target, resource_written, new_values, write_unless, written}
+use Rattle.device_requests.specs.Laws.{IsReadBack, WrittenIsRead}
+
+-- one value is given
+abbrev IsOne : Given → Type 0
+IsOne g = (v : Value) × (g ≡ Single v)
+
+one_value : (value : Option Value) (g : Given) → option_map Single value ≡ Some g → IsOne g
+one_value None g h = cc
+one_value (Some v) g h = (v, cc)
+
+record_gives_one : (d : ResourceDef) (node : Tree) (g : Given) → d.multiple ≡ false → given_by d node ≡ Some g → IsOne g
+record_gives_one d (instance i inner) g k h = cc
+record_gives_one d (multi q inner) g k h =
+    let e : (if d.multiple then some_parts d.mandatory (parts_given d.kind inner) else None) ≡ Some g = h in
+    let n : None ≡ Some g = rw k at e in
+    cc
+record_gives_one d (part n bytes) g k h = cc
+record_gives_one d (single q bytes) g k h =
+    let e : (if d.multiple then None else option_map Single (value_of_bytes d.kind bytes)) ≡ Some g = h in
+    one_value (value_of_bytes d.kind bytes) g (rw k at e)
+
+where_given : (b : Bool) (given : Option Given) (g : Given) → given_if b given ≡ Some g → given ≡ Some g
+where_given true given g h = h
+where_given false given g h = cc
+
+records_give_one : (d : ResourceDef) (nodes : Trees) (g : Given) → d.multiple ≡ false → lone_record d nodes ≡ Some g → IsOne g
+records_give_one d none g k h = cc
+records_give_one d (more node none) g k h = record_gives_one d node g k (where_given (number_in node == d.id) (given_by d node) g h)
+records_give_one d (more node (more next nodes)) g k h = cc
+
+nodes_give_one : (d : ResourceDef) (nodes : Option Trees) (g : Given) → d.multiple ≡ false → option_and_then (lone_record d) nodes ≡ Some g → IsOne g
+nodes_give_one d None g k h = cc
+nodes_give_one d (Some nodes) g k h = records_give_one d nodes g k h
+
+-- what a payload gives to a single resource is one value
+gives_one : (d : ResourceDef) (format : Format) (payload : List ℕ) (g : Given) → d.multiple ≡ false → resource_given d format payload ≡ Some g → IsOne g
+gives_one d PlainText payload g k h = one_value (value_of_text d.kind payload) g h
+gives_one d OctetStream payload g k h = one_value (value_of_bytes d.kind payload) g h
+gives_one d Tlv payload g k h = nodes_give_one d (nodes_of_bytes payload) g k h
+
+there : {X : Type 0} (o : Option X) → not (is_some o) ≡ false → (x : X) × (o ≡ Some x)
+there None h = cc
+there (Some x) h = (x, refl)
+
+of_one : (given : Option Given) (values : NewValues) → option_map One given ≡ Some values → (g : Given) × (given ≡ Some g) × (values ≡ One g)
+of_one None values h = cc
+of_one (Some g) values h = (g, refl, cc)
+
+-- no line of a Write applies, and it is done
+record Passes (a b format values : Bool) (done : Outcome) (stored : Stored) : Type 0 where
+  object : a ≡ false
+  target : b ≡ false
+  served : format ≡ false
+  good : values ≡ false
+  store : done.client.store ≡ stored
+
+passes : (a b w c f g x : Bool) (client : Managed) (stored : Stored)
+    → let done = write_unless (first_line ((a, Unauthorized) ∷ (b, NotFound) ∷ (w, Unauthorized) ∷ (c, MethodNotAllowed)
+    ∷ (f, UnsupportedContentFormat) ∷ (g, BadRequest) ∷ (x, InternalServerError) ∷ [])) client stored in
+    done.answer.code ≡ Changed → Passes a b f g done stored
+passes true b w c f g x client stored h = cc
+passes false true w c f g x client stored h = cc
+passes false false true c f g x client stored h = cc
+passes false false false true f g x client stored h = cc
+passes false false false false true g x client stored h = cc
+passes false false false false false true x client stored h = cc
+passes false false false false false false true client stored h = cc
+passes false false false false false false false client stored h =
+    record { object = refl; target = refl; served = refl; good = refl; store = refl }
+
+-- no line of a Read applies but that of its payload's length
+shown : (a b s c : Bool) (format : Option Format) (wanted : Format) (payload : Option (List ℕ)) → a ≡ false → b ≡ false → s ≡ false → c ≡ false → format ≡ Some wanted
+    → refused_or (first_line ((a, Unauthorized) ∷ (b, NotFound) ∷ (s, Unauthorized) ∷ (c, MethodNotAllowed) ∷ (not (is_some format), NotAcceptable) ∷ (not (is_some payload), InternalServerError) ∷ []))
+    (content_in format payload) ≡ content_in (Some wanted) payload
+shown true b s c format wanted payload h j m k l = cc
+shown false true s c format wanted payload h j m k l = cc
+shown false false true c format wanted payload h j m k l = cc
+shown false false false true format wanted payload h j m k l = cc
+shown false false false false None wanted payload h j m k l = cc
+shown false false false false (Some format) wanted None h j m k l = refl
+shown false false false false (Some format) wanted (Some payload) h j m k l = ap (λ w. content_in w (Some payload)) l
+
+-- a single resource that can be read and has a value
+record Holds (client : Managed) (o i r : ℕ) (d : ResourceDef) (value : Value) : Type 0 where
+  object : (o == 0) ≡ false
+  place : has_instance client.store (place_of o i) ≡ true
+  defined : definition_of client.catalogue o r ≡ Some d
+  alone : d.multiple ≡ false
+  readable : can_read d.ops ≡ true
+  value_is : value_at client.store (single_of (resource_place o i r)) ≡ Some value
+
+format_same : (client : Managed) (o i r : ℕ) (d : ResourceDef) (number : Option ℕ) → definition_of client.catalogue o r ≡ Some d → d.multiple ≡ false
+    → format_at client.catalogue (Resource o i r) number ≡ format_for (one d.kind) number
+format_same client o i r d number h k = ap (λ e. format_for (extent_as e) number) h ∙ ap (λ b. format_for (if b then many else one d.kind) number) k
+
+or_true : (b : Bool) → not (b || true) ≡ false
+or_true true = refl
+or_true false = refl
+
+resource_there : (stored : Stored) (p : ResourcePath) (d : ResourceDef) (value : Value) → has_instance stored (instance_of p) ≡ true
+    → d.multiple ≡ false → value_at stored (single_of p) ≡ Some value → not (has_resource stored p (Some d)) ≡ false
+resource_there stored p d value h k v = rw (h, k, v) (or_true (not (can_read d.ops)))
+
+payload_shown : (client : Managed) (instances : List ℕ) (o i r : ℕ) (d : ResourceDef) (value : Value) (wanted : Format) → Holds client o i r d value
+    → payload_in client.catalogue client.store instances (Resource o i r) wanted ≡ within_limit (value_payload wanted (single r) value)
+payload_shown client instances o i r d value wanted h = rw (h.defined, h.alone, h.value_is) refl
+
+instance_there : (a b : Bool) → not (a && b) ≡ false → b ≡ true
+instance_there true true h = refl
+instance_there true false h = cc
+instance_there false b h = cc
+
+same_path : (p : FullPath) → eq_by_cmp path_cmp p p ≡ true
+same_path p = (eq_by_cmp_equiv path_total).refl p
+
+value_there : (stored : Stored) (p : FullPath) (v : Value) → value_at (with_value stored p v) p ≡ Some v
+value_there stored p v = map.get-insert path_total stored.values p v p ∙ ap (λ b. if b then Some v else value_at stored p) (same_path p)
+
+-- what it has is read
+read_shown : (client : Managed) (server o i r : ℕ) (d : ResourceDef) (value : Value) (accept : Option ℕ) (wanted : Format) → Holds client o i r d value
+    → may_read client server (Resource o i r) ≡ true → format_for (one d.kind) accept ≡ Some wanted
+    → read_answer client server (Resource o i r) accept ≡ content_in (Some wanted) (within_limit (value_payload wanted (single r) value))
+read_shown client server o i r d value accept wanted h m k =
+    let p = resource_place o i r in
+    let format : format_at client.catalogue (Resource o i r) accept ≡ Some wanted = format_same client o i r d accept h.defined h.alone ∙ k in
+    let there : not (has_resource client.store p (definition_of client.catalogue o r)) ≡ false =
+    rw h.defined (resource_there client.store p d value h.place h.alone h.value_is) in
+    let readable : not (is_readable (definition_of client.catalogue o r)) ≡ false = rw (h.defined, h.readable) refl in
+    let payload : read_payload client server (Resource o i r) accept ≡ within_limit (value_payload wanted (single r) value) =
+    ap (λ f. option_and_then (payload_in client.catalogue client.store (shown_instances client.store (length client.accounts) server o) (Resource o i r)) f) format
+    ∙ payload_shown client (shown_instances client.store (length client.accounts) server o) o i r d value wanted h in
+    let allowed : not (may_read client server (Resource o i r)) ≡ false = ap not m in
+    shown (o == 0) _ _ _ (format_at client.catalogue (Resource o i r) accept) wanted (read_payload client server (Resource o i r) accept) h.object there allowed readable format
+    ∙ ap (content_in (Some wanted)) payload
+
+-- what a Write that is answered by Changed leaves
+behind : (client : Managed) (o i r : ℕ) (d : ResourceDef) (number : Option ℕ) (payload : List ℕ) (stored : Stored)
+    → definition_of client.catalogue o r ≡ Some d → d.multiple ≡ false → can_read d.ops ≡ true → (o == 0) ≡ false
+    → not (is_target client.catalogue client.store (Resource o i r)) ≡ false
+    → not (is_some (format_at client.catalogue (Resource o i r) number)) ≡ false
+    → not (is_some (new_values client (Resource o i r) number payload)) ≡ false
+    → stored ≡ written Replace client.catalogue client.store (Resource o i r) (new_values client (Resource o i r) number payload)
+    → IsReadBack client o i r d number payload stored
+behind client o i r d number payload stored defined alone readable object target served good is =
+    let path = Resource o i r in
+    let p = resource_place o i r in
+    let format = there (format_at client.catalogue path number) served in
+    let values = there (new_values client path number payload) good in
+    let given : option_map One (resource_given d format.0 payload) ≡ Some values.0 =
+    sym (ap (λ f. option_and_then (values_given client.catalogue path payload) f) format.1 ∙ ap (λ e. option_map One (given_to_resource e format.0 payload)) defined) ∙ values.1 in
+    let g = of_one (resource_given d format.0 payload) values.0 given in
+    let v = gives_one d format.0 payload g.0 alone g.1 in
+    let stored_is : stored ≡ with_value client.store (single_of p) v.0 =
+    is ∙ ap (written Replace client.catalogue client.store path) (values.1 ∙ ap Some (g.2 ∙ ap One v.1))
+    ∙ ap (λ e. resource_written Replace e client.store p (Single v.0)) defined
+    ∙ ap (λ b. if b then with_value client.store (single_of p) v.0 else client.store) readable in
+    record {
+      format = format.0;
+      served = sym (format_same client o i r d number defined alone) ∙ format.1;
+      value = v.0;
+      given = g.1 ∙ ap Some v.1;
+      read = λ server accept wanted m k. read_shown (with_stored client stored) server o i r d v.0 accept wanted
+          (record {
+            object = object;
+            place = ap (λ s. has_instance s (place_of o i)) stored_is ∙ instance_there _ _ target;
+            defined = defined;
+            alone = alone;
+            readable = readable;
+            value_is = ap (λ s. value_at s (single_of p)) stored_is ∙ value_there client.store (single_of p) v.0;
+          }) m k;
+    }
+
+-- a Write of another object is nothing to the firmware
+no_event : (o i r : ℕ) (values : Option NewValues) → (o == 5) ≡ false → event_of (Resource o i r) values ≡ None
+no_event o i r None h = refl
+no_event o i r (Some (One given)) h = rw h refl
+no_event o i r (Some (Several given)) h = refl
+
+-- a Write, with what it is to the firmware
+abbrev turned : Managed → ℕ → ℕ → ℕ → ℕ → Option ℕ → List ℕ → Option FirmwareEvent → Outcome
+turned client server o i r number payload event =
+    let path = Resource o i r in
+    let values = new_values client path number payload in
+    write_unless (first_line (
+    (o == 0, Unauthorized)
+    ∷ (not (is_target client.catalogue client.store path), NotFound)
+    ∷ (not (rights_on client server path).write, Unauthorized)
+    ∷ (not (can_be_written client.catalogue path), MethodNotAllowed)
+    ∷ (not (is_some (format_at client.catalogue path number)), UnsupportedContentFormat)
+    ∷ (not (is_some values), BadRequest)
+    ∷ turn_lines client Replace path values event)) client (left Replace client path values event)
+
+pub read_back : WrittenIsRead
+read_back client server o i r d number payload defined alone readable other h =
+    let path = Resource o i r in
+    let values = new_values client path number payload in
+    subst (λ e. (turned client server o i r number payload e).answer.code ≡ Changed
+    → IsReadBack client o i r d number payload (turned client server o i r number payload e).client.store)
+    (sym (no_event o i r values (ne_eqb o 5 other)))
+    (λ done.
+    let p = passes (o == 0) _ _ _ (not (is_some (format_at client.catalogue path number))) (not (is_some values)) (exceeds Replace client.catalogue client.store path values)
+    client (written Replace client.catalogue client.store path values) done in
+    behind client o i r d number payload _ defined alone readable p.object p.target p.served p.good p.store) h

@@ -1,0 +1,5 @@
+use Rattle.resource_formats.proofs.Reading.{tested}
+use Rattle.device_requests.proofs.laws.arguments_are_tested.Goals as goal
+
+pub returns : goal.returns
+returns c = tested

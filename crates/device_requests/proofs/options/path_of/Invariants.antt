@@ -1,0 +1,10 @@
+-- What the options behind the index add to the path so far is the path of all.
+use Rattle.std.proofs.Common.{◌≡◌, drop}
+use Rattle.device_requests.specs.Options.{segments_of}
+use Rattle.device_requests.specs.Segments.{path_of, numbers_of}
+use Rattle.device_requests.proofs.Paths.{finished}
+use Rattle.device_requests.proofs.options.path_of.Given as goal
+
+abbrev pub invariant-loop-option : goal.invariant-loop-option
+invariant-loop-option l =
+    path_of (segments_of l.options) ≡ finished l.path (numbers_of (segments_of (drop l.option-index l.options)))

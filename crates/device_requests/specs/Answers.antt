@@ -1,0 +1,58 @@
+-- Answers, and what a request leaves of the store.
+use Rattle.std.specs.Prelude.{◌≡◌, ℕ, ◌+◌, ◌*◌, List, [], Option, None, Some}
+use Rattle.object_defs.specs.declared.path.InstancePath.{InstancePath}
+use Rattle.device_requests.specs.declared.answer.Act.{Act}
+use Rattle.device_requests.specs.declared.answer.Answer.{Answer}
+use Rattle.device_requests.specs.declared.answer.Code.{Code}
+use Rattle.device_requests.specs.declared.answer.Code.TheVariants.{Created, Deleted, Changed, Content, BadRequest, Unauthorized, BadOption, NotFound, MethodNotAllowed, NotAcceptable, UnsupportedContentFormat, InternalServerError}
+use Rattle.device_requests.specs.Managed.{Managed}
+
+-- the code's class in the three high bits, its detail in the five low ones (RFC 7252 section 12.1.2)
+abbrev pub code_byte : Code → ℕ
+code_byte Created = 2 * 32 + 1
+code_byte Deleted = 2 * 32 + 2
+code_byte Changed = 2 * 32 + 4
+code_byte Content = 2 * 32 + 5
+code_byte BadRequest = 4 * 32
+code_byte Unauthorized = 4 * 32 + 1
+code_byte BadOption = 4 * 32 + 2
+code_byte NotFound = 4 * 32 + 4
+code_byte MethodNotAllowed = 4 * 32 + 5
+code_byte NotAcceptable = 4 * 32 + 6
+code_byte UnsupportedContentFormat = 4 * 32 + 15
+code_byte InternalServerError = 5 * 32
+
+-- a code alone, with neither option nor payload: so is every refusal
+abbrev pub bare : Code → Answer
+bare code = record { code = code; location = None; format = None; payload = []; act = None }
+
+-- Content with its format, and a payload that may be empty
+abbrev pub content : ℕ → List ℕ → Answer
+content format payload = record { code = Content; location = None; format = Some format; payload = payload; act = None }
+
+-- Changed, behind which the device may act
+abbrev pub done : Option Act → Answer
+done act = record { code = Changed; location = None; format = None; payload = []; act = act }
+
+-- Created, with the place of the new instance
+abbrev pub created : InstancePath → Answer
+created place = record { code = Created; location = Some place; format = None; payload = []; act = None }
+
+-- the answer to a request, and what is managed then
+pub record Outcome : Type 0 where
+  pub answer : Answer
+  pub client : Managed
+
+-- an answer alone: nothing changes
+abbrev pub answered : Managed → Answer → Outcome
+answered client answer = record { answer = answer; client = client }
+
+-- this answer is the outcome's, and so is what is managed now
+pub record Leaves (answer : Answer) (new : Managed) (outcome : Outcome) : Type 0 where
+  pub says : answer ≡ outcome.answer
+  pub then_client : new ≡ outcome.client
+
+-- a refusal where there is one, else this
+abbrev pub refused_or : Option Code → Answer → Answer
+refused_or (Some code) answer = bare code
+refused_or None answer = answer

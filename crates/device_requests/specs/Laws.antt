@@ -1,0 +1,138 @@
+-- What follows from the tables, in the words of the standard.
+use Rattle.std.specs.Prelude.{◌≡◌, ◌≢◌, ℕ, ◌==◌, nat_le, Bool, true, false, List, [], ◌∷◌, ◌++◌, Option, None, Some, ◌*◌, ◌&&◌, ◌⊎◌, ◌↔◌}
+use Rattle.coap_codec.specs.Message.{Parts}
+use Rattle.lwm2m_values.specs.Tree.{single}
+use Rattle.lwm2m_values.specs.declared.value.Value.{Value}
+use Rattle.object_defs.specs.Catalogue.{definition_of}
+use Rattle.object_defs.specs.Operations.{can_read}
+use Rattle.object_defs.specs.declared.definition.ResourceDef.{ResourceDef}
+use Rattle.object_defs.specs.declared.path.Path.{Path}
+use Rattle.object_defs.specs.declared.path.Path.TheVariants.{Resource, Object, Instance, Part}
+use Rattle.instance_store.specs.Stored.{Stored}
+use Rattle.resource_formats.specs.declared.format.Format.{Format}
+use Rattle.resource_formats.specs.declared.given.Given.TheVariants.{Single}
+use Rattle.resource_formats.specs.declared.given.Mode.TheVariants.{Replace, Update}
+use Rattle.resource_formats.specs.Formats.{one, format_for}
+use Rattle.resource_formats.specs.Given.{resource_given}
+use Rattle.resource_formats.specs.Nodes.{value_payload, within_limit}
+use Rattle.device_requests.specs.declared.answer.Code.{Code}
+use Rattle.device_requests.specs.declared.answer.Code.TheVariants.{Created, Deleted, Changed, Content, BadOption, NotFound, MethodNotAllowed}
+use Rattle.device_requests.specs.declared.operation.Operation.{Operation}
+use Rattle.device_requests.specs.declared.operation.Operation.TheVariants.{Read, Discover, WriteAttributes, WriteReplace, WritePartial, Create, Execute, Delete}
+use Rattle.device_requests.specs.Access.{may_read}
+use Rattle.device_requests.specs.AttributeWrites.{attribute_lines, attributes_given}
+use Rattle.device_requests.specs.Answers.{code_byte}
+use Rattle.device_requests.specs.Creates.{create_lines}
+use Rattle.device_requests.specs.Deletes.{delete_lines}
+use Rattle.device_requests.specs.Discovers.{discover_lines}
+use Rattle.device_requests.specs.Executes.{execute_lines}
+use Rattle.object_defs.specs.Lines.{first_line}
+use Rattle.device_requests.specs.Operations.{operation_of}
+use Rattle.device_requests.specs.Options.{accept_of, content_format_of, has_query, has_unrecognized_critical, queries_of, segments_of}
+use Rattle.device_requests.specs.Reads.{content_in, read_answer, read_lines}
+use Rattle.device_requests.specs.Requests.{outcome_of}
+use Rattle.device_requests.specs.Segments.{path_of}
+use Rattle.device_requests.specs.Managed.{Managed, with_stored}
+use Rattle.device_requests.specs.Writes.{write_lines, write_outcome}
+use Rattle.object_defs.specs.declared.definition.ObjectDef.{ObjectDef}
+use Rattle.device_requests.specs.Links.{linked}
+use Rattle.device_requests.specs.Targets.{exists}
+
+-- the lines that an operation at a path meets, of which the last is its success
+abbrev pub operation_lines : Managed → ℕ → Parts → Path → Operation → List (Bool × Code)
+operation_lines client server m path Read = read_lines client server path (accept_of m.options) ++ (true, Content) ∷ []
+operation_lines client server m path Discover = discover_lines client server path ++ (true, Content) ∷ []
+operation_lines client server m path WriteReplace =
+    write_lines client server Replace path (content_format_of m.options) m.payload ++ (true, Changed) ∷ []
+operation_lines client server m path WritePartial =
+    write_lines client server Update path (content_format_of m.options) m.payload ++ (true, Changed) ∷ []
+operation_lines client server m path WriteAttributes =
+    attribute_lines client server path (attributes_given client server path (queries_of m.options)) ++ (true, Changed) ∷ []
+operation_lines client server m path Create =
+    create_lines client server path (content_format_of m.options) m.payload ++ (true, Created) ∷ []
+operation_lines client server m path Execute =
+    execute_lines client server path (content_format_of m.options) m.payload ++ (true, Changed) ∷ []
+operation_lines client server m path Delete = delete_lines client server path ++ (true, Deleted) ∷ []
+
+abbrev pub lines_by : Managed → ℕ → Parts → Path → Option Operation → List (Bool × Code)
+lines_by client server m path None = (true, MethodNotAllowed) ∷ []
+lines_by client server m path (Some operation) = operation_lines client server m path operation
+
+abbrev pub lines_on : Managed → ℕ → Parts → Option Path → List (Bool × Code)
+lines_on client server m None = (true, NotFound) ∷ []
+lines_on client server m (Some path) =
+    lines_by client server m path (operation_of m.code (accept_of m.options) (has_query m.options) path)
+
+-- all the lines that a request meets, in their order
+abbrev pub request_lines : Managed → ℕ → Parts → List (Bool × Code)
+request_lines client server m =
+    (has_unrecognized_critical m.options, BadOption) ∷ lines_on client server m (path_of (segments_of m.options))
+
+-- a response code of class 4 or 5 (RFC 7252 section 5.9)
+abbrev pub is_refusal : Code → Bool
+is_refusal code = nat_le (4 * 32) (code_byte code)
+
+-- accounts and catalogue are as they were
+pub record KeepsFrame (old new : Managed) : Type 0 where
+  pub accounts : new.accounts ≡ old.accounts
+  pub catalogue : new.catalogue ≡ old.catalogue
+
+-- no request changes them
+abbrev pub RequestsKeepFrame : Type 0
+RequestsKeepFrame = (client : Managed) (server : ℕ) (m : Parts) → KeepsFrame client (outcome_of client server m).client
+
+-- the answer's code is that of the first line that the request meets
+abbrev pub FirstLineAnswers : Type 0
+FirstLineAnswers =
+    (client : Managed) (server : ℕ) (m : Parts) → first_line (request_lines client server m) ≡ Some (outcome_of client server m).answer.code
+
+-- a refusal changes nothing
+abbrev pub RefusalKeeps : Type 0
+RefusalKeeps =
+    (client : Managed) (server : ℕ) (m : Parts) → is_refusal (outcome_of client server m).answer.code ≡ true → (outcome_of client server m).client ≡ client
+
+-- the payload gives this value, and a Read of the resource then answers it in each format that is served, to each server that may read it
+pub record IsReadBack (client : Managed) (o i r : ℕ) (d : ResourceDef) (number : Option ℕ) (payload : List ℕ) (stored : Stored) : Type 0 where
+  pub format : Format
+  pub served : format_for (one d.kind) number ≡ Some format
+  pub value : Value
+  pub given : resource_given d format payload ≡ Some (Single value)
+  pub read : (server : ℕ) (accept : Option ℕ) (wanted : Format) → may_read (with_stored client stored) server (Resource o i r) ≡ true
+      → format_for (one d.kind) accept ≡ Some wanted
+      → read_answer (with_stored client stored) server (Resource o i r) accept
+      ≡ content_in (Some wanted) (within_limit (value_payload wanted (single r) value))
+
+-- a Write of a single resource that can be read and is not one of Firmware Update, answered by Changed
+abbrev pub WrittenIsRead : Type 0
+WrittenIsRead =
+    (client : Managed) (server o i r : ℕ) (d : ResourceDef) (number : Option ℕ) (payload : List ℕ)
+    → definition_of client.catalogue o r ≡ Some d → d.multiple ≡ false → can_read d.ops ≡ true → o ≢ 5
+    → (write_outcome client server Replace (Resource o i r) number payload).answer.code ≡ Changed
+    → IsReadBack client o i r d number payload (write_outcome client server Replace (Resource o i r) number payload).client.store
+
+-- a path is among these
+abbrev pub IsAmong : {X : Type 0} → X → List X → Type 0
+IsAmong q [] = ⊥
+IsAmong q (p ∷ ps) = (p ≡ q) ⊎ IsAmong q ps
+
+-- a path of an object, an instance or a resource lies at or below another one
+abbrev pub lies_at : Path → Path → Bool
+lies_at (Object o) (Object p) = p == o
+lies_at (Object o) (Instance p i) = p == o
+lies_at (Object o) (Resource p i r) = p == o
+lies_at (Instance o i) (Instance p j) = p == o && j == i
+lies_at (Instance o i) (Resource p j r) = p == o && j == i
+lies_at (Resource o i r) (Resource p j s) = p == o && (j == i && s == r)
+lies_at path q = false
+
+abbrev pub is_part : Path → Bool
+is_part (Object _) = false
+is_part (Instance _ _) = false
+is_part (Resource _ _ _) = false
+is_part (Part _ _ _ _) = true
+
+-- the links of a path that exists are those of the paths at and below it that exist, parts left out
+abbrev pub LinksWhatExists : Type 0
+LinksWhatExists =
+    (catalogue : List ObjectDef) (stored : Stored) (path q : Path) → exists catalogue stored path ≡ true → is_part path ≡ false
+    → IsAmong q (linked catalogue stored path) ↔ ((lies_at path q ≡ true) × (exists catalogue stored q ≡ true))

@@ -1,0 +1,77 @@
+//! The rights of a server at the paths of requests.
+
+ghost use Rattle.std.specs.Prelude.{◌≡◌, ◌==◌, ◌||◌, length, IfOk};
+ghost use Rattle.std.specs.List.{list_any};
+ghost use Rattle.instance_store.specs.Stored.{instances_of};
+ghost use Rattle.device_requests.specs.Access.{may_read_at, reads, rights_at, shown_instances};
+
+use access_control::{Rights, rights};
+use instance_store::Store;
+use object_defs::Path;
+use std::alloc::{AllocError, Global};
+
+/// The number that stands for the instances that are not there yet.
+const CREATION: u16 = 65535;
+
+/// The rights of a server at a path, in a device with this many accounts: those on its instance; at an
+/// object those by which instances are created.
+pub(crate) fn rights_at(store: &Store, accounts: usize, server: u16, path: Path) -> Rights
+    ensures { result ≡ rights_at store.now accounts server path }
+{
+    match path {
+        Path::Object(object) => rights(store, accounts, server, object, CREATION),
+        Path::Instance(object, instance)
+        | Path::Resource(object, instance, _)
+        | Path::Part(object, instance, _, _) => rights(store, accounts, server, object, instance),
+    }
+}
+
+/// Whether the server has R on an instance.
+fn reads(store: &Store, accounts: usize, server: u16, object: u16, instance: u16) -> bool
+    ensures { result ≡ reads store.now accounts server object instance }
+{
+    rights(store, accounts, server, object, instance).read
+}
+
+/// The instances of an object on which the server has R, in order.
+pub(crate) fn shown_instances(
+    alloc: Global,
+    store: &Store,
+    accounts: usize,
+    server: u16,
+    object: u16,
+) -> Result<Vec<u16>, AllocError>
+    ensures { IfOk result (λ v. v.items ≡ shown_instances store.now accounts server object) }
+{
+    let instances = store.instances(object).iter().copied();
+    instances
+        .filter(|instance| reads(store, accounts, server, object, *instance))
+        .collect(alloc)
+}
+
+/// Whether there is an instance of an object on which the server has R.
+fn reads_one(store: &Store, accounts: usize, server: u16, object: u16) -> bool
+    ensures { result ≡ list_any (reads store.now accounts server object) (instances_of store.now object) }
+{
+    let mut instances = store.instances(object).iter();
+    instances.any(|instance| reads(store, accounts, server, object, *instance))
+}
+
+/// Whether an object has no instance, or one on which the server has R.
+fn may_read_object(store: &Store, accounts: usize, server: u16, object: u16) -> bool
+    ensures { result ≡ (length (instances_of store.now object) == 0 || list_any (reads store.now accounts server object) (instances_of store.now object)) }
+{
+    store.instances(object).len() == 0 || reads_one(store, accounts, server, object)
+}
+
+/// Whether a server may read at a path.
+pub(crate) fn may_read_at(store: &Store, accounts: usize, server: u16, path: Path) -> bool
+    ensures { result ≡ may_read_at store.now accounts server path }
+{
+    match path {
+        Path::Object(object) => may_read_object(store, accounts, server, object),
+        Path::Instance(object, instance)
+        | Path::Resource(object, instance, _)
+        | Path::Part(object, instance, _, _) => reads(store, accounts, server, object, instance),
+    }
+}

@@ -1,0 +1,97 @@
+ghost use Rattle.std.specs.Prelude.{◌≡◌};
+ghost use Rattle.device_requests.specs.Operations.{asks_for_links, operation_of};
+
+use object_defs::Path;
+
+/// The operations of the Device Management interface (OMA LwM2M 1.1 Core).
+#[derive(Clone, Copy, Debug, PartialEq, Eq)]
+pub enum Operation {
+    Read,
+    Discover,
+    WriteAttributes,
+    WriteReplace,
+    WritePartial,
+    Create,
+    Execute,
+    Delete,
+}
+
+/// Whether Accept asks for application/link-format.
+fn asks_for_links(accept: Option<u16>) -> bool
+    ensures { result ≡ asks_for_links accept }
+{
+    match accept {
+        None => false,
+        Some(format) => format == 40,
+    }
+}
+
+/// The operation that a request asks for.
+pub(crate) fn select(
+    method: u8,
+    accept: Option<u16>,
+    has_query: bool,
+    path: Path,
+) -> Option<Operation>
+    ensures { result ≡ operation_of method accept has_query path }
+{
+    match method {
+        1 => match path {
+            Path::Part(_, _, _, _) => {
+                if asks_for_links(accept) {
+                    None
+                } else {
+                    Some(Operation::Read)
+                }
+            }
+            Path::Object(_) | Path::Instance(_, _) | Path::Resource(_, _, _) => {
+                if asks_for_links(accept) {
+                    Some(Operation::Discover)
+                } else {
+                    Some(Operation::Read)
+                }
+            }
+        },
+        2 => match path {
+            Path::Object(_) => Some(Operation::Create),
+            Path::Instance(_, _) => Some(Operation::WritePartial),
+            Path::Resource(_, _, _) => Some(Operation::Execute),
+            Path::Part(_, _, _, _) => None,
+        },
+        3 => select_write(has_query, path),
+        4 => match path {
+            Path::Instance(_, _) => Some(Operation::Delete),
+            Path::Object(_) | Path::Resource(_, _, _) | Path::Part(_, _, _, _) => None,
+        },
+        _ => None,
+    }
+}
+
+/// The operation of a PUT.
+fn select_write(has_query: bool, path: Path) -> Option<Operation>
+    ensures { result ≡ operation_of 3 None has_query path }
+{
+    match path {
+        Path::Object(_) => {
+            if has_query {
+                Some(Operation::WriteAttributes)
+            } else {
+                None
+            }
+        }
+        Path::Instance(_, _) | Path::Resource(_, _, _) => {
+            if has_query {
+                Some(Operation::WriteAttributes)
+            } else {
+                Some(Operation::WriteReplace)
+            }
+        }
+        Path::Part(_, _, _, _) => {
+            if has_query {
+                None
+            } else {
+                Some(Operation::WriteReplace)
+            }
+        }
+    }
+}

@@ -1,0 +1,81 @@
+//! The targets of operations: what the catalogue says of a path, and which paths exist.
+
+ghost use Rattle.std.specs.Prelude.{◌≡◌};
+ghost use Rattle.device_requests.specs.Targets.{defined, definition_at, exists, is_multiple, is_readable};
+
+use instance_store::Store;
+use object_defs::{Catalog, InstancePath, Path, ResourceDef, ResourcePath};
+
+/// The definitions of an object's resources; none where the object is not known.
+pub(crate) fn defined(catalog: &Catalog, object: u16) -> &[ResourceDef]
+    ensures { result.now ≡ defined catalog.now object }
+{
+    match catalog.object(object) {
+        None => &[],
+        Some(object) => object.resources.as_slice(),
+    }
+}
+
+/// The definition of the resource that a path names.
+pub(crate) fn definition_at(catalog: &Catalog, path: Path) -> Option<ResourceDef>
+    ensures { result ≡ definition_at catalog.now path }
+{
+    match path {
+        Path::Object(_) | Path::Instance(_, _) => None,
+        Path::Resource(object, _, resource) => catalog.resource(object, resource).copied(),
+        Path::Part(object, _, resource, _) => catalog.resource(object, resource).copied(),
+    }
+}
+
+/// Whether a resource is defined, and as a multiple one.
+pub(crate) fn is_multiple(definition: Option<ResourceDef>) -> bool
+    ensures { result ≡ is_multiple definition }
+{
+    match definition {
+        None => false,
+        Some(definition) => definition.multiple,
+    }
+}
+
+/// Whether a resource is defined, and can be read.
+pub(crate) fn is_readable(definition: Option<ResourceDef>) -> bool
+    ensures { result ≡ is_readable definition }
+{
+    match definition {
+        None => false,
+        Some(definition) => definition.ops.can_read(),
+    }
+}
+
+/// Whether a path exists: an object in the catalogue, an instance in the store, a resource by its
+/// definition, a part where its resource is multiple and holds it.
+pub(crate) fn exists(catalog: &Catalog, store: &Store, path: Path) -> bool
+    ensures { result ≡ exists catalog.now store.now path }
+{
+    let definition = definition_at(catalog, path);
+    match path {
+        Path::Object(object) => catalog.object(object).is_some(),
+        Path::Instance(object, instance) => {
+            catalog.object(object).is_some()
+                && store.has_instance(InstancePath { object, instance })
+        }
+        Path::Resource(object, instance, resource) => {
+            let place = ResourcePath {
+                object,
+                instance,
+                resource,
+            };
+            store.has_resource(place, definition)
+        }
+        Path::Part(object, instance, resource, part) => {
+            let place = ResourcePath {
+                object,
+                instance,
+                resource,
+            };
+            store.has_instance(InstancePath { object, instance })
+                && is_multiple(definition)
+                && store.get(place.part(part)).is_some()
+        }
+    }
+}
