@@ -1,0 +1,9 @@
+pub mod Steps
+pub mod Fields
+pub mod Parts
+pub mod Lists
+pub mod Signed
+pub mod Whole
+pub mod Loop
+pub mod Written
+pub mod Example

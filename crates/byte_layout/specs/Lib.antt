@@ -1,0 +1,5 @@
+pub mod Part
+pub mod Whole
+pub mod Outcome
+pub mod Exact
+pub mod Example

@@ -1,0 +1,120 @@
+-- The parts that a format of bytes is put together from.
+use Rattle.std.specs.Prelude.{◌≡◌, ℕ, zero, suc, ◌+◌, ◌^◌, ◌<◌, ◌⊎◌, ◌==◌, Bool, true, false, List, [], ◌∷◌, ◌++◌, length, take, drop, Result, Ok, Err, nat_lt, if◌then◌else◌}
+use Rattle.std.specs.Int.{Width, byte_len, to_be_bytes, from_be_bytes, cast_signed, cast_unsigned}
+use Rattle.std.specs.Prelude.{ℤ}
+use Rattle.byte_layout.specs.declared.fault.Break.{Break}
+use Rattle.byte_layout.specs.declared.fault.Break.TheVariants.{Cut, Limit}
+
+-- one reading after another: the first break ends it
+infixl 10 ◌>>=◌
+abbrev pub ◌>>=◌ : {A B : Type 0} → Result A Break → (A → Result B Break) → Result B Break
+(Ok x) >>= f = f x
+(Err b) >>= f = Err b
+
+-- a part of a format, for values of this type
+pub record Part (A : Type 0) : Type 1 where
+  -- the bytes of a value
+  pub spell : A → List ℕ
+  -- the value may stand here
+  pub Good : A → Type 0
+  -- no good value's bytes stand at the front of these: whole good fields do, and then they break off so
+  pub Breaks : List ℕ → Break → Type 0
+  -- the value at the front and the bytes behind it, or the first break
+  pub read : List ℕ → Result (A × List ℕ) Break
+
+-- so many bytes, whatever they are
+unfoldable pub raw : ℕ → Part (List ℕ)
+raw n = record {
+  spell = λ a. a;
+  Good = λ a. length a ≡ n;
+  Breaks = λ bytes b. (length bytes < n) × (b ≡ Cut);
+  read = λ bytes. if nat_lt (length bytes) n then Err Cut else Ok (take n bytes, drop n bytes);
+}
+
+-- an unsigned number of this width, the high byte first
+unfoldable pub number : Width → Part ℕ
+number w = record {
+  spell = to_be_bytes w;
+  Good = λ n. n < 256 ^ byte_len w;
+  Breaks = λ bytes b. (length bytes < byte_len w) × (b ≡ Cut);
+  read = λ bytes. if nat_lt (length bytes) (byte_len w) then Err Cut else Ok (from_be_bytes w (take (byte_len w) bytes), drop (byte_len w) bytes);
+}
+
+-- a part whose value has to pass a test, made once all of it is there. A value that fails breaks the bytes off at its first byte:
+-- the fault is told how many bytes are left from there
+abbrev pub judged : {A : Type 0} → (ℕ → Break) → (A → Bool) → Part A → Part A
+judged fault is_good p = record {
+  spell = p.spell;
+  Good = λ a. p.Good a × (is_good a ≡ true);
+  Breaks = λ bytes b. p.Breaks bytes b ⊎ ((a : _) × (rest : List ℕ) × p.Good a × (bytes ≡ p.spell a ++ rest) × (is_good a ≡ false) × (b ≡ fault (length bytes)));
+  read = λ bytes. p.read bytes >>= λ x. if is_good x.0 then Ok x else Err (fault (length bytes));
+}
+
+-- a count or a length that is at most the limit
+abbrev pub at_most : ℕ → Part ℕ → Part ℕ
+at_most limit p = judged Limit (λ n. nat_lt n (limit + 1)) p
+
+-- one number and no other: what marks a format, or its version
+abbrev pub mark : Break → ℕ → Part ℕ → Part ℕ
+mark fault n p = judged (λ left. fault) (λ m. m == n) p
+
+-- no bytes: the value is known
+abbrev pub done : {A : Type 0} → A → Part A
+done a = record {
+  spell = λ x. [];
+  Good = λ x. x ≡ a;
+  Breaks = λ bytes b. ⊥;
+  read = λ bytes. Ok (a, bytes);
+}
+
+-- what this takes of the value, by the first part; then, knowing it, the rest of the value by the second
+abbrev pub split : {A B : Type 0} → (A → B) → Part B → (B → Part A) → Part A
+split proj p q = record {
+  spell = λ a. p.spell (proj a) ++ (q (proj a)).spell a;
+  Good = λ a. p.Good (proj a) × (q (proj a)).Good a;
+  Breaks = λ bytes b. p.Breaks bytes b ⊎ ((x : _) × (rest : List ℕ) × p.Good x × (bytes ≡ p.spell x ++ rest) × (q x).Breaks rest b);
+  read = λ bytes. p.read bytes >>= λ x. (q x.0).read x.1;
+}
+
+-- the last field: the value is made of it
+abbrev pub last : {A B : Type 0} → (A → B) → (B → A) → Part B → Part A
+last proj make p = split proj p (λ b. done (make b))
+
+-- one number and no other, and then the rest of the value
+abbrev pub marked : {A : Type 0} → Break → ℕ → Part ℕ → Part A → Part A
+marked fault n p q = split (λ a. n) (mark fault n p) (λ m. q)
+
+-- a signed number of this width, in two's complement, the high byte first
+abbrev pub signed : Width → Part ℤ
+signed w = last (cast_unsigned w) (cast_signed w) (number w)
+
+-- a length by this part, and so many bytes
+abbrev pub sized : Part ℕ → Part (List ℕ)
+sized len = split length len raw
+
+-- no list but the empty one has no head
+abbrev pub LinkedGood : {A : Type 0} → Part A → (A → Part (List A)) → List A → Type 0
+LinkedGood p q [] = ⊥
+LinkedGood p q (a ∷ tail) = p.Good a × (q a).Good tail
+
+abbrev pub linked_bytes : {A : Type 0} → Part A → (A → Part (List A)) → List A → List ℕ
+linked_bytes p q [] = []
+linked_bytes p q (a ∷ tail) = p.spell a ++ (q a).spell tail
+
+-- a list that is not empty: its head by the first part; then, knowing it, its tail by the second
+abbrev pub linked : {A : Type 0} → Part A → (A → Part (List A)) → Part (List A)
+linked p q = record {
+  spell = linked_bytes p q;
+  Good = LinkedGood p q;
+  Breaks = λ bytes b. p.Breaks bytes b ⊎ ((x : _) × (rest : List ℕ) × p.Good x × (bytes ≡ p.spell x ++ rest) × (q x).Breaks rest b);
+  read = λ bytes. p.read bytes >>= λ x. (q x.0).read x.1 >>= λ xs. Ok (x.0 ∷ xs.0, xs.1);
+}
+
+-- so many items, each by a part that knows the list of those before it
+unfoldable pub each : {A : Type 0} → (List A → Part A) → ℕ → List A → Part (List A)
+each part zero before = done []
+each part (suc n) before = linked (part before) (λ a. each part n (before ++ a ∷ []))
+
+-- a count by this part, and so many items
+abbrev pub counted : {A : Type 0} → Part ℕ → (List A → Part A) → Part (List A)
+counted count part = split length count (λ n. each part n [])

@@ -1,0 +1,17 @@
+//! A class of devices as bytes, in this profile's image of a scenario: `specs/Layout.antt` has the layout, docs/CLASSES.md its words.
+#![tactic(auto)]
+
+mod accounts;
+mod class;
+mod definitions;
+mod instances;
+mod laws;
+mod objects;
+mod refusal;
+mod values;
+
+pub use class::class_at;
+pub use laws::exact_layout;
+
+#[cfg(test)]
+mod tests;

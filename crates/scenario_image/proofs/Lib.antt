@@ -1,0 +1,5 @@
+mod Valid
+mod Played
+mod Exact
+mod Fits
+mod Adding

@@ -1,0 +1,126 @@
+-- A scenario stays valid with a class, a row or a step more.
+use Rattle.std.proofs.Common.{◌≡◌, ℕ, zero, suc, ◌-◌, ◌<◌, ◌≤◌, nat_le, Bool, true, false, not, List, [], ◌∷◌, ◌++◌, length, Option, None, Some, slice_get, slice_set, if◌then◌else◌, refl, sym, ap, subst, ◌∙◌, arith, length-append}
+use Rattle.std.proofs.lemmas.Bool.{leb-false}
+use Rattle.std.specs.List.{AllByRecursion}
+use Rattle.std.proofs.lemmas.List.{length-set}
+use Rattle.device_template.specs.Class.{Class}
+use Rattle.scenario_image.specs.declared.step.Step.{Step}
+use Rattle.scenario_image.specs.declared.fault.ScenarioFault.{ScenarioFault}
+use Rattle.scenario_image.specs.declared.fault.ScenarioFault.TheVariants as faults
+use Rattle.scenario_image.specs.Script.{Row, Script, HasFields, IsGoodStep, IsGoodRow, IsValid, is_in_range, is_within_limits, is_known, class_fault, row_fault, last_row, longer, with_last, accounts_in, accounts_of, fault_in, step_fault}
+
+abbrev pub made : List Class → List Row → Script
+made classes rows = record { classes = classes; rows = rows }
+
+-- ---- lists
+
+all_push : {X : Type 0} (P : X → Type 0) (xs : List X) (y : X) → AllByRecursion P xs → P y → AllByRecursion P (xs ++ y ∷ [])
+all_push P [] y all one = (one, tt)
+all_push P (x ∷ xs) y all one = (all.0, all_push P xs y all.1 one)
+
+all_map : {X : Type 0} (P Q : X → Type 0) → ((x : X) → P x → Q x) → (xs : List X) → AllByRecursion P xs → AllByRecursion Q xs
+all_map P Q f [] all = tt
+all_map P Q f (x ∷ xs) all = (f x all.0, all_map P Q f xs all.1)
+
+all_at : {X : Type 0} (P : X → Type 0) (xs : List X) (i : ℕ) (x : X) → AllByRecursion P xs → slice_get xs i ≡ Some x → P x
+all_at P [] i x all h = let e : None ≡ Some x = h in absurd cc
+all_at P (y ∷ ys) zero x all h = subst P (let e : Some y ≡ Some x = h in cc) all.0
+all_at P (y ∷ ys) (suc i) x all h = all_at P ys i x all.1 h
+
+all_set : {X : Type 0} (P : X → Type 0) (xs : List X) (i : ℕ) (x : X) → AllByRecursion P xs → P x → AllByRecursion P (slice_set xs i x)
+all_set P [] i x all one = tt
+all_set P (y ∷ ys) zero x all one = (one, all.1)
+all_set P (y ∷ ys) (suc i) x all one = (all.0, all_set P ys i x all.1 one)
+
+get_push : {X : Type 0} (xs : List X) (i : ℕ) (x y : X) → slice_get xs i ≡ Some x → slice_get (xs ++ y ∷ []) i ≡ Some x
+get_push [] i x y h = let e : None ≡ Some x = h in absurd cc
+get_push (z ∷ xs) zero x y h = h
+get_push (z ∷ xs) (suc i) x y h = get_push xs i x y h
+
+pub got : {X : Type 0} (xs : List X) (i : ℕ) → i < length xs → (x : X) × (slice_get xs i ≡ Some x)
+got [] i h = absurd (omega (arith, h))
+got (x ∷ xs) zero h = (x, refl)
+got (x ∷ xs) (suc i) h = got xs i (omega (arith, h))
+
+-- ---- refusals
+
+-- where no line applies, the first doesn't
+free : (b : Bool) (f : ScenarioFault) (rest : Option ScenarioFault) → (if b then Some f else rest) ≡ None → (b ≡ false) × (rest ≡ None)
+free true f rest h = let e : Some f ≡ None = h in absurd cc
+free false f rest h = (refl, h)
+
+denied : (b : Bool) → not b ≡ false → b ≡ true
+denied true h = refl
+denied false h = let e : true ≡ false = h in absurd cc
+
+-- ---- a class more
+
+wider : (classes : List Class) (class : Class) (row : Row) → IsGoodRow classes row → IsGoodRow (classes ++ class ∷ []) row
+wider classes class row good =
+    record { class = good.class; stated = get_push classes row.class good.class class good.stated; count = good.count; each = good.each }
+
+pub by_class : (classes new : List Class) (rows : List Row) (s : Script) (class : Class) → IsValid (made classes rows) → made classes rows ≡ s
+    → class_fault s ≡ None → new ≡ classes ++ class ∷ [] → IsValid (made new rows)
+by_class classes new rows s class valid same ok more =
+    let room = leb-false 256 (length classes) (free (nat_le 256 (length classes)) faults.Limit None (ap class_fault same ∙ ok)).0 in
+    subst (λ x. IsValid (made x rows)) (sym more) (record {
+      classes = omega (arith, room, length-append classes (class ∷ []));
+      rows = valid.rows;
+      each = all_map (IsGoodRow classes) (IsGoodRow (classes ++ class ∷ [])) (wider classes class) rows valid.each;
+    })
+
+-- ---- a row more
+
+pub by_row : (classes : List Class) (rows new : List Row) (s : Script) (class : ℕ) → IsValid (made classes rows) → made classes rows ≡ s
+    → row_fault s class ≡ None → new ≡ rows ++ record { class = class; steps = [] } ∷ [] → IsValid (made classes new)
+by_row classes rows new s class valid same ok more =
+    let first = free (nat_le (length classes) class) faults.Missing (if nat_le 4096 (length rows) then Some faults.Limit else None) (ap (λ x. row_fault x class) same ∙ ok) in
+    let room = leb-false 4096 (length rows) (free (nat_le 4096 (length rows)) faults.Limit None first.1).0 in
+    let found = got classes class (leb-false (length classes) class first.0) in
+    subst (λ x. IsValid (made classes x)) (sym more) (record {
+      classes = valid.classes;
+      rows = omega (arith, room, length-append rows (record { class = class; steps = [] } ∷ []));
+      each = all_push (IsGoodRow classes) rows (record { class = class; steps = [] }) valid.each
+          (record { class = found.0; stated = found.1; count = omega arith; each = tt });
+    })
+
+-- ---- a step more
+
+longer_row : (classes : List Class) (row : Row) (step : Step) → IsGoodRow classes row → HasFields step → is_in_range step ≡ true → fault_in classes (Some row) step ≡ None
+    → IsGoodRow classes (longer row step)
+longer_row classes row step good fields range ok =
+    let known = is_known (accounts_of classes row.class) step in
+    let count = nat_le 4096 (length row.steps) in
+    let within = is_within_limits step in
+    let first = free (not known) faults.Missing (if count then Some faults.Limit else (if not within then Some faults.Limit else None)) ok in
+    let second = free count faults.Limit (if not within then Some faults.Limit else None) first.1 in
+    let third = free (not within) faults.Limit None second.1 in
+    record {
+      class = good.class;
+      stated = good.stated;
+      count = omega (arith, leb-false 4096 (length row.steps) second.0, length-append row.steps (step ∷ []));
+      each = all_push (IsGoodStep good.class.accounts) row.steps step good.each
+          (record {
+            fields = fields;
+            range = range;
+            known = ap (λ c. is_known (accounts_in c) step) (sym good.stated) ∙ denied known first.0;
+            within = denied within third.0;
+          });
+    }
+
+stepped : (classes : List Class) (rows : List Row) (last : Option Row) (step : Step) → IsValid (made classes rows) → last_row rows ≡ last
+    → HasFields step → is_in_range step ≡ true → fault_in classes last step ≡ None → IsValid (made classes (with_last rows last step))
+stepped classes rows None step valid at fields range ok = valid
+stepped classes rows (Some row) step valid at fields range ok =
+    record {
+      classes = valid.classes;
+      rows = subst (λ n. n ≤ 4096) (sym (length-set rows (length rows - 1) (longer row step))) valid.rows;
+      each = all_set (IsGoodRow classes) rows (length rows - 1) (longer row step) valid.each
+          (longer_row classes row step (all_at (IsGoodRow classes) rows (length rows - 1) row valid.each at) fields range ok);
+    }
+
+pub by_step : (classes : List Class) (rows new : List Row) (s : Script) (step : Step) → IsValid (made classes rows) → made classes rows ≡ s
+    → step_fault s step ≡ None → HasFields step → new ≡ with_last rows (last_row rows) step → IsValid (made classes new)
+by_step classes rows new s step valid same ok fields more =
+    let first = free (not (is_in_range step)) faults.Range (fault_in classes (last_row rows) step) (ap (λ x. step_fault x step) same ∙ ok) in
+    subst (λ x. IsValid (made classes x)) (sym more) (stepped classes rows (last_row rows) step valid refl fields (denied (is_in_range step) first.0) first.1)

@@ -1,0 +1,16 @@
+use Rattle.scenario_image.proofs.Fits.{step_good, good_step, rows_good, good_rows}
+use Rattle.scenario_image.proofs.laws.valid_have_bytes.Goals as goal
+
+pub returns-clause-step : goal.returns-clause-step
+returns-clause-step c = step_good
+
+pub returns-clause-good_step : goal.returns-clause-good_step
+returns-clause-good_step c = good_step
+
+pub returns-clause-rows : goal.returns-clause-rows
+returns-clause-rows c = λ s valid. rows_good s.classes s.rows valid.classes valid.rows valid.each
+
+pub returns-clause-valid : goal.returns-clause-valid
+returns-clause-valid c = λ s few good fits.
+    let all = good_rows s.classes s.rows good fits in
+    record { classes = few; rows = all.0; each = all.1 }

@@ -1,0 +1,7 @@
+use Rattle.std.proofs.Common.{◌∙◌}
+use Rattle.scenario_image.proofs.Fits.{spelled_short}
+use Rattle.scenario_image.proofs.writing.put_any.Goals as goal
+
+pub put_value-requires : goal.put_value-requires
+put_value-requires c =
+    c.is_short-short.ensures.good (c.is_short-short.ensures.short ∙ spelled_short c.args.held.now c.requires)

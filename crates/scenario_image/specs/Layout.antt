@@ -1,0 +1,147 @@
+-- Steps and rows as bytes, in this profile's image of a scenario.
+use Rattle.std.specs.Prelude.{ℕ, ◌==◌, nat_le, nat_lt, ◌&&◌, ◌||◌, List, [], length, Option, None, Some, unwrap_or, if◌then◌else◌}
+use Rattle.std.specs.Int.{w8, w16, w32}
+use Rattle.std.specs.List.{list_any}
+use Rattle.byte_layout.specs.declared.fault.Break.TheVariants.{BadField}
+use Rattle.byte_layout.specs.Part.{Part, number, judged, at_most, split, last, sized, counted}
+use Rattle.lwm2m_values.specs.declared.value.Value.{Value}
+use Rattle.lwm2m_values.specs.declared.value.Value.TheVariants.{Text}
+use Rattle.object_defs.specs.Path.{full_path}
+use Rattle.object_defs.specs.declared.path.Path.{Path}
+use Rattle.object_defs.specs.declared.path.Path.TheVariants.{Resource, Part as ResourcePart}
+use Rattle.object_defs.specs.declared.path.FullPath.{FullPath}
+use Rattle.value_layout.specs.Layout.{path, value}
+use Rattle.device_template.specs.Class.{Class}
+use Rattle.device_machine.specs.declared.event.Event.TheVariants.{Recv, Put, Firmware, Tick}
+use Rattle.scenario_image.specs.declared.kind.StepKind.{StepKind}
+use Rattle.scenario_image.specs.declared.kind.StepKind.TheVariants as kinds
+use Rattle.scenario_image.specs.declared.step.Step.{Step}
+use Rattle.scenario_image.specs.declared.step.Step.TheVariants.{Event, Post, Need}
+use Rattle.scenario_image.specs.Script.{Row, accounts_of}
+
+-- ---- the kind of a step
+
+abbrev pub kind_of : Step → StepKind
+kind_of (Event (Recv server bytes)) = kinds.Recv
+kind_of (Event (Tick seconds)) = kinds.Tick
+kind_of (Event (Put p v)) = kinds.Put
+kind_of (Event (Firmware code)) = kinds.Firmware
+kind_of (Post group) = kinds.Post
+kind_of (Need group count) = kinds.Need
+
+-- the number of a kind
+abbrev pub number_of : StepKind → ℕ
+number_of kinds.Recv = 1
+number_of kinds.Tick = 2
+number_of kinds.Put = 3
+number_of kinds.Firmware = 4
+number_of kinds.Post = 5
+number_of kinds.Need = 6
+
+abbrev pub kind_numbered : ℕ → StepKind
+kind_numbered n = if n == 1 then kinds.Recv else (if n == 2 then kinds.Tick else (if n == 3 then kinds.Put else (if n == 4 then kinds.Firmware else (if n == 5 then kinds.Post else kinds.Need))))
+
+unfoldable pub kind : Part StepKind
+kind = last number_of kind_numbered (judged BadField (λ n. n == 1 || (n == 2 || (n == 3 || (n == 4 || (n == 5 || n == 6))))) (number w8))
+
+-- ---- what a step of a kind holds; of another kind, anything
+
+abbrev pub server_in : Step → ℕ
+server_in (Event (Recv server bytes)) = server
+server_in _ = 0
+
+abbrev pub datagram_in : Step → List ℕ
+datagram_in (Event (Recv server bytes)) = bytes
+datagram_in _ = []
+
+abbrev pub seconds_in : Step → ℕ
+seconds_in (Event (Tick seconds)) = seconds
+seconds_in _ = 0
+
+abbrev pub path_in : Step → FullPath
+path_in (Event (Put p v)) = unwrap_or (full_path p) (record { object = 0; instance = 0; resource = 0; part = None })
+path_in _ = record { object = 0; instance = 0; resource = 0; part = None }
+
+abbrev pub value_in : Step → Value
+value_in (Event (Put p v)) = v
+value_in _ = Text []
+
+abbrev pub code_in : Step → ℕ
+code_in (Event (Firmware code)) = code
+code_in _ = 0
+
+abbrev pub group_in : Step → ℕ
+group_in (Post group) = group
+group_in (Need group count) = group
+group_in _ = 0
+
+abbrev pub count_in : Step → ℕ
+count_in (Need group count) = count
+count_in _ = 0
+
+-- the path of a resource, or of one of its parts
+abbrev pub path_with : ℕ → ℕ → ℕ → Option ℕ → Path
+path_with o i r None = Resource o i r
+path_with o i r (Some n) = ResourcePart o i r n
+
+abbrev pub path_to : FullPath → Path
+path_to p = path_with p.object p.instance p.resource p.part
+
+-- ---- steps
+
+-- at most 1,500 bytes
+unfoldable pub datagram : Part (List ℕ)
+datagram = sized (at_most 1500 (number w16))
+
+-- a server of these accounts, and a datagram
+unfoldable pub recv : List ℕ → Part Step
+recv accounts = split server_in (judged BadField (λ server. list_any (λ account. account == server) accounts) (number w16)) (λ server. last datagram_in (λ bytes. Event (Recv server bytes)) datagram)
+
+-- 1 to 86,400 seconds
+unfoldable pub tick : Part Step
+tick = last seconds_in (λ seconds. Event (Tick seconds)) (judged BadField (λ n. nat_le 1 n && nat_le n 86400) (number w32))
+
+-- a path and a value of any kind
+unfoldable pub put : Part Step
+put = split path_in path (λ p. last value_in (λ v. Event (Put (path_to p) v)) (value None))
+
+-- a code of 0 to 9
+unfoldable pub firmware : Part Step
+firmware = last code_in (λ code. Event (Firmware code)) (judged BadField (λ n. nat_le n 9) (number w8))
+
+-- a group
+unfoldable pub post : Part Step
+post = last group_in (λ group. Post group) (number w8)
+
+-- a group, and 1 to 1,000,000 posts
+unfoldable pub need : Part Step
+need = split group_in (number w8) (λ group. last count_in (λ count. Need group count) (judged BadField (λ n. nat_le 1 n && nat_le n 1000000) (number w32)))
+
+abbrev pub of_kind : List ℕ → StepKind → Part Step
+of_kind accounts kinds.Recv = recv accounts
+of_kind accounts kinds.Tick = tick
+of_kind accounts kinds.Put = put
+of_kind accounts kinds.Firmware = firmware
+of_kind accounts kinds.Post = post
+of_kind accounts kinds.Need = need
+
+-- a step of a class that has these accounts
+unfoldable pub step : List ℕ → Part Step
+step accounts = split kind_of kind (of_kind accounts)
+
+-- at most 4,096 steps
+unfoldable pub steps : List ℕ → Part (List Step)
+steps accounts = counted (at_most 4096 (number w16)) (λ before. step accounts)
+
+-- ---- rows
+
+abbrev pub row_of : ℕ → List Step → Row
+row_of class steps = record { class = class; steps = steps }
+
+-- the place of a class that is there, and steps that suit it
+unfoldable pub row : List Class → Part Row
+row classes = split (λ r. r.class) (judged BadField (λ class. nat_lt class (length classes)) (number w16)) (λ class. last (λ r. r.steps) (row_of class) (steps (accounts_of classes class)))
+
+-- at most 4,096 rows
+unfoldable pub rows : List Class → Part (List Row)
+rows classes = counted (at_most 4096 (number w16)) (λ before. row classes)

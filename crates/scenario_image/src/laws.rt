@@ -1,0 +1,32 @@
+//! What follows from the definitions, for their readers. The calls do nothing; their contracts are the laws.
+
+ghost use Rattle.std.specs.Prelude.{◌≡◌, ◌≤◌, ℕ, ◌+◌, List, Some, length, slice_get};
+ghost use Rattle.device_template.specs.Class.{Class};
+ghost use Rattle.scenario_image.specs.declared.step.Step.{Step};
+ghost use Rattle.byte_layout.specs.Exact.{IsBytes, IsExact};
+ghost use Rattle.scenario_image.specs.Layout.{step, steps, row, rows};
+ghost use Rattle.scenario_image.specs.Script.{Script, IsGoodStep, IsValid};
+ghost use Rattle.scenario_image.specs.Play.{start, state_at, step_after};
+
+/// A row's states begin with the start of its class, and each step leads from one to the next.
+pub fn states_follow()
+    ensures first { (class : Class) (steps : List Step) → state_at class steps 0 ≡ start class }
+    ensures next { (class : Class) (steps : List Step) (k : ℕ) (step : Step) → slice_get steps k ≡ Some step
+        → state_at class steps (k + 1) ≡ step_after (state_at class steps k) step }
+{}
+
+/// The layouts of steps and rows are exact, so that they may be parts of an exact format.
+pub fn exact_layouts()
+    ensures step { (accounts : List ℕ) → IsExact (step accounts) }
+    ensures steps { (accounts : List ℕ) → IsExact (steps accounts) }
+    ensures row { (classes : List Class) → IsExact (row classes) }
+    ensures rows { (classes : List Class) → IsExact (rows classes) }
+{}
+
+/// The good steps and the rows of valid scenarios are those that have bytes.
+pub fn valid_have_bytes()
+    ensures step { (accounts : List ℕ) (s : Step) → IsGoodStep accounts s → (step accounts).Good s }
+    ensures good_step { (accounts : List ℕ) (s : Step) → (step accounts).Good s → IsBytes ((step accounts).spell s) → IsGoodStep accounts s }
+    ensures rows { (s : Script) → IsValid s → (rows s.classes).Good s.rows }
+    ensures valid { (s : Script) → length s.classes ≤ 256 → (rows s.classes).Good s.rows → IsBytes ((rows s.classes).spell s.rows) → IsValid s }
+{}

@@ -1,0 +1,72 @@
+ghost use Rattle.std.specs.Prelude.{◌≡◌, ℕ, ◌↔◌, ◌++◌, ◌∷◌, [], List, Option, Some, Err, length, slice_get, IfOk, OnOk, IsTrue};
+ghost use Rattle.device_machine.specs.declared.output.Output.{Output};
+ghost use Rattle.device_machine.specs.State.{Flat, Shows};
+ghost use Rattle.scenario_image.specs.Play.{start, state_at, step_outputs, step_after, state_after, PutsOut, is_step_refused, outputs_in};
+
+use crate::step::Step;
+use device_machine::{Device, Outputs, StepFault, Template};
+use std::alloc::{AllocError, Global};
+
+/// Lets a device take a step, and gives what it puts out: none at a post and a need, of which the device hears nothing.
+///
+/// `Memory` leaves the device spent; `Spent` says that it was spent, and changes nothing.
+pub fn take_step(device: &mut Device, step: &Step) -> Result<Option<Outputs>, StepFault>
+    ensures outputs { (f : Flat) → Shows device.old f → IfOk result (λ o. outputs_in o ≡ step_outputs f step.now) }
+    ensures shows { (f : Flat) → Shows device.old f → OnOk result (Shows device.new (step_after f step.now)) }
+    ensures spent { (result ≡ Err StepFault.Spent) ↔ IsTrue (is_step_refused device.old step.now) }
+    ensures unchanged { result ≡ Err StepFault.Spent → device.new ≡ device.old }
+    ensures memory { result ≡ Err StepFault.Memory → IsTrue device.new.spent }
+{
+    match step {
+        Step::Event(event) => {
+            let outputs = device.step(event)?;
+            Ok(Some(outputs))
+        }
+        Step::Post(_) | Step::Need(_, _) => Ok(None),
+    }
+}
+
+/// Keeps what was put out behind the others.
+fn keep(all: &mut Vec<Option<Outputs>>, outputs: Option<Outputs>) -> Result<(), AllocError>
+    ensures { OnOk result (all.new.items ≡ all.old.items ++ outputs ∷ []) }
+{
+    all.push(outputs)?;
+    Ok(())
+}
+
+/// Lets a device take steps, one after another, and gives what each puts out.
+///
+/// After an `Err` the device may have taken some of them.
+pub fn take_steps(
+    alloc: Global,
+    device: &mut Device,
+    steps: &[Step],
+) -> Result<Vec<Option<Outputs>>, StepFault>
+    ensures count { IfOk result (λ v. length v.items ≡ length steps.now) }
+    ensures outputs { (f : Flat) → Shows device.old f → IfOk result (λ v.
+        (k : ℕ) (o : Option (List Output)) → slice_get v.items k ≡ Some o → PutsOut f steps.now k (outputs_in o)) }
+    ensures shows { (f : Flat) → Shows device.old f → OnOk result (Shows device.new (state_after f steps.now)) }
+{
+    let mut all = Vec::with_capacity(alloc, steps.len())?;
+    for step in steps {
+        let outputs = take_step(device, step)?;
+        keep(&mut all, outputs)?;
+    }
+    Ok(all)
+}
+
+/// Lets a new device of the class take steps, and gives the device and what each step puts out.
+pub fn play(
+    alloc: Global,
+    class: &Template,
+    steps: &[Step],
+) -> Result<(Device, Vec<Option<Outputs>>), StepFault>
+    ensures count { IfOk result (λ r. length r.1.items ≡ length steps.now) }
+    ensures outputs { IfOk result (λ r. (k : ℕ) (o : Option (List Output)) → slice_get r.1.items k ≡ Some o
+        → PutsOut (start class.now) steps.now k (outputs_in o)) }
+    ensures shows { IfOk result (λ r. Shows r.0 (state_at class.now steps.now (length steps.now))) }
+{
+    let mut device = Device::start(class)?;
+    let all = take_steps(alloc, &mut device, steps)?;
+    Ok((device, all))
+}
