@@ -1,0 +1,5 @@
+pub mod OptionOrder
+pub mod Values
+pub mod Denoted
+pub mod Fitting
+pub mod Spelling

@@ -1,0 +1,4 @@
+pub mod Queries
+pub mod Messages
+pub mod Denoting
+pub mod MnemonicWords

@@ -1,0 +1,8 @@
+/// The type of a request (RFC 7252 section 4): confirmable, or not.
+#[derive(Clone, Copy, Debug, PartialEq, Eq)]
+pub enum RequestType {
+    /// Confirmable, `con`.
+    Con,
+    /// Non-confirmable, `non`.
+    Non,
+}

@@ -1,0 +1,3 @@
+pub mod Plain
+pub mod Requests
+pub mod Again

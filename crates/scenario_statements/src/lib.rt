@@ -1,0 +1,16 @@
+//! What a line of scenario text says: its statement, read from the line's words, and written.
+#![tactic(auto)]
+
+mod choice;
+mod laws;
+mod reading;
+mod statement;
+mod writing;
+
+pub use laws::statements_read_again;
+pub use reading::read_statement;
+pub use statement::Statement;
+pub use writing::{line_of, recv_line, value_line};
+
+#[cfg(test)]
+mod tests;

@@ -1,0 +1,10 @@
+pub mod Scanning
+pub mod Cuts
+pub mod Digits
+pub mod NumberLaws
+pub mod QuoteLaws
+pub mod HexLaws
+pub mod Pairs
+pub mod WordLaws
+pub mod PathLaws
+pub mod ValueLaws

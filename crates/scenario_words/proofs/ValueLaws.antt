@@ -1,0 +1,168 @@
+-- A value that is written is read again, and so are its two words.
+use Rattle.std.proofs.Common.{◌≡◌, ℕ, ◌/◌, ◌%◌, ◌<◌, ◌^◌, not, ℤ, pos, negsuc, suc, inl, inr, Bool, true, false, cond, eqb, ltb, List, [], ◌∷◌, ◌++◌, length, Result, Ok, Err, refl, ap, ◌∙◌, arith, append_assoc, length-append, FitsSigned, w64}
+use Rattle.std.specs.Prelude.{IfOk}
+use Rattle.std.specs.List.{list_all, onto_first, flat_map}
+use Rattle.std.specs.Char.{is_ascii_digit}
+use Rattle.std.specs.Fmt.{decimal, signed_decimal}
+use Rattle.std.proofs.lemmas.Bool.{and_parts, and_from, cases_Bool, ne_eqb, ltb-true, not_from_false, not-true}
+use Rattle.std.proofs.lemmas.Bool.Decides.{nat_tests}
+use Rattle.std.proofs.lemmas.List.Folds.{list_all-append}
+use Rattle.std.proofs.lemmas.Fmt.{decimal_nonempty}
+use Rattle.lwm2m_values.specs.declared.kind.ValueKind.{ValueKind}
+use Rattle.lwm2m_values.specs.declared.kind.ValueKind.TheVariants as kind
+use Rattle.lwm2m_values.specs.declared.value.Value.{Value}
+use Rattle.lwm2m_values.specs.declared.value.Value.TheVariants as value
+use Rattle.lwm2m_values.specs.Value.{kind_of}
+use Rattle.scenario_words.specs.declared.cause.Cause.{Cause}
+use Rattle.scenario_words.specs.Words.{plain, quoted, scan, words, IsWord}
+use Rattle.scenario_words.specs.Reading.{◌>>=◌, word_by}
+use Rattle.scenario_words.specs.HexWord.{digit_of, hex_byte, hex_word}
+use Rattle.scenario_words.specs.Quoted.{is_plain, escaped, quoted_word}
+use Rattle.scenario_words.specs.PathWord.{link_word}
+use Rattle.scenario_words.specs.ValueWords.{kind_word, kind_named, value_of, value_at, IsValue, value_word, spelled}
+use Rattle.scenario_words.proofs.Digits.{natural_digits}
+use Rattle.scenario_words.proofs.NumberLaws.{is_natural-decimal, integer_of-law}
+use Rattle.scenario_words.proofs.Pairs.{hex_law, hex_written, quoted_law, quoted_written, plain_no_quote}
+use Rattle.scenario_words.proofs.PathLaws.{link_again}
+use Rattle.scenario_words.proofs.WordLaws.{words_again, plain_byte, gap_byte}
+
+value_again : (v : Value) → IsValue v → value_of (kind_of v) (value_word v) ≡ Ok v
+value_again (value.Text t) h = ap (λ r. r >>= (λ x. Ok (value.Text x))) ((quoted_law (quoted_word t) t).1 (quoted_written t h.0 h.1))
+value_again (value.Whole z) h = ap (λ r. r >>= (λ x. Ok (value.Whole x))) ((integer_of-law z (signed_decimal z)).1 (refl, h))
+value_again (value.Flag true) h = refl
+value_again (value.Flag false) h = refl
+value_again (value.Opaque b) h = ap (λ r. r >>= (λ x. Ok (value.Opaque x))) ((hex_law (hex_word b) b).1 (hex_written b h))
+value_again (value.Moment z) h = ap (λ r. r >>= (λ x. Ok (value.Moment x))) ((integer_of-law z (signed_decimal z)).1 (refl, h))
+value_again (value.Link o i) h = ap (λ r. r >>= (λ p. Ok (value.Link p.0 p.1))) (link_again o i h.0 h.1)
+
+kind_again : (k : ValueKind) → kind_named (kind_word k) ≡ Ok k
+kind_again kind.Text = refl
+kind_again kind.Whole = refl
+kind_again kind.Flag = refl
+kind_again kind.Opaque = refl
+kind_again kind.Moment = refl
+kind_again kind.Link = refl
+
+abbrev with_words : {A : Type 0} → List (List ℕ) → A → Result (A × List (List ℕ)) Cause
+with_words ws x = Ok (x, ws)
+
+pub value_at_again : (v : Value) (ws : List (List ℕ)) → IsValue v → value_at (kind_word (kind_of v) ∷ value_word v ∷ ws) ≡ Ok (v, ws)
+value_at_again v ws h =
+    ap (λ r. (r >>= with_words (value_word v ∷ ws)) >>= (λ k. word_by (value_of k.0) k.1)) (kind_again (kind_of v))
+    ∙ ap (λ r. r >>= with_words ws) (value_again v h)
+
+-- words that hold no space, no quote and no `#`
+
+abbrev above : List ℕ → Bool
+above w = list_all (λ b. ltb 35 b) w
+
+plain_end : (w : List ℕ) → above w ≡ true → scan plain (w ++ 32 ∷ []) ≡ w ∷ []
+plain_end [] h = refl
+plain_end (b ∷ w) h =
+    let both = and_parts (ltb 35 b) (above w) h in
+    let large : 35 < b = ltb-true 35 b both.0 in
+    plain_byte b (w ++ 32 ∷ []) (λ e. omega arith) ∙ ap (onto_first b) (plain_end w both.1)
+
+plain_word : (w : List ℕ) → 0 < length w → above w ≡ true → IsWord w
+plain_word [] some h = absurd (omega arith)
+plain_word (b ∷ w) some h =
+    let both = and_parts (ltb 35 b) (above w) h in
+    let large : 35 < b = ltb-true 35 b both.0 in
+    gap_byte b (w ++ 32 ∷ []) (λ e. omega arith) (λ e. omega arith)
+    ∙ ap (λ t. onto_first b (scan (cond t quoted plain) (w ++ 32 ∷ []))) (ne_eqb b 34 (λ e. omega arith))
+    ∙ ap (onto_first b) (plain_end w both.1)
+
+digit_above : (d : ℕ) → is_ascii_digit d ≡ true → ltb 35 d ≡ true
+digit_above d h = grind (arith, nat_tests)
+
+digits_above : (ds : List ℕ) → list_all is_ascii_digit ds ≡ true → above ds ≡ true
+digits_above [] h = refl
+digits_above (d ∷ ds) h =
+    let both = and_parts (is_ascii_digit d) (list_all is_ascii_digit ds) h in
+    and_from _ _ (digit_above d both.0) (digits_above ds both.1)
+
+decimal_above : (n : ℕ) → n < 2 ^ 64 → above (decimal n) ≡ true
+decimal_above n h = digits_above (decimal n) (natural_digits (decimal n) (is_natural-decimal n h))
+
+decimal_word : (n : ℕ) → n < 2 ^ 64 → IsWord (decimal n)
+decimal_word n h = plain_word (decimal n) (decimal_nonempty n h) (decimal_above n h)
+
+integer_word : (z : ℤ) → FitsSigned w64 z → IsWord (signed_decimal z)
+integer_word (pos n) h = decimal_word n (omega (arith, h.sfits))
+integer_word (negsuc n) h = plain_word (45 ∷ decimal (suc n)) (omega arith) (and_from _ _ refl (decimal_above (suc n) (omega (arith, h.sfits))))
+
+hex_digit_above : (v : ℕ) → ltb 35 (digit_of v) ≡ true
+hex_digit_above v = grind (arith, nat_tests)
+
+hex_above : (bs : List ℕ) → above (flat_map hex_byte bs) ≡ true
+hex_above [] = refl
+hex_above (b ∷ bs) = and_from _ _ (hex_digit_above (b / 16)) (and_from _ _ (hex_digit_above (b % 16)) (hex_above bs))
+
+bytes_word : (bs : List ℕ) → IsWord (hex_word bs)
+bytes_word [] = refl
+bytes_word (b ∷ bs) = plain_word (flat_map hex_byte (b ∷ bs)) (omega arith) (hex_above (b ∷ bs))
+
+links_word : (o i : ℕ) → o < 65536 → i < 65536 → IsWord (link_word o i)
+links_word o i h k =
+    plain_word (link_word o i) (simp (length-append) (omega arith))
+    (list_all-append (λ b. ltb 35 b) (decimal o) (58 ∷ decimal i) ∙ and_from _ _ (decimal_above o (omega arith)) (and_from _ _ refl (decimal_above i (omega arith))))
+
+-- quoted words
+
+abbrev no_quote : List ℕ → Bool
+no_quote w = list_all (λ b. not (eqb b 34)) w
+
+quoted_end : (w : List ℕ) → no_quote w ≡ true → scan quoted (w ++ 34 ∷ 32 ∷ []) ≡ (w ++ 34 ∷ []) ∷ []
+quoted_end [] h = refl
+quoted_end (b ∷ w) h =
+    let both = and_parts (not (eqb b 34)) (no_quote w) h in
+    ap (λ t. onto_first b (scan (cond t plain quoted) (w ++ 34 ∷ 32 ∷ []))) (not-true (eqb b 34) both.0)
+    ∙ ap (onto_first b) (quoted_end w both.1)
+
+hex_digit_no_quote : (v : ℕ) → not (eqb (digit_of v) 34) ≡ true
+hex_digit_no_quote v = grind (arith, nat_tests)
+
+escaped_no_quote : (b : ℕ) → no_quote (escaped b) ≡ true
+escaped_no_quote b = elim (cases_Bool (is_plain b)) [
+  | inl itself ↦ ap (λ t. no_quote (cond t (b ∷ []) (92 ∷ hex_byte b))) itself ∙ and_from _ _ (not_from_false (eqb b 34) (plain_no_quote b itself)) refl
+  | inr other ↦
+      ap (λ t. no_quote (cond t (b ∷ []) (92 ∷ hex_byte b))) other
+      ∙ and_from _ _ refl (and_from _ _ (hex_digit_no_quote (b / 16)) (and_from _ _ (hex_digit_no_quote (b % 16)) refl))
+]
+
+text_no_quote : (t : List ℕ) → no_quote (flat_map escaped t) ≡ true
+text_no_quote [] = refl
+text_no_quote (b ∷ t) = list_all-append (λ x. not (eqb x 34)) (escaped b) (flat_map escaped t) ∙ and_from _ _ (escaped_no_quote b) (text_no_quote t)
+
+text_word : (t : List ℕ) → IsWord (quoted_word t)
+text_word t =
+    ap (λ bs. onto_first 34 (scan quoted bs)) (append_assoc (flat_map escaped t) (34 ∷ []) (32 ∷ []))
+    ∙ ap (onto_first 34) (quoted_end (flat_map escaped t) (text_no_quote t))
+
+kinds_word : (k : ValueKind) → IsWord (kind_word k)
+kinds_word kind.Text = refl
+kinds_word kind.Whole = refl
+kinds_word kind.Flag = refl
+kinds_word kind.Opaque = refl
+kinds_word kind.Moment = refl
+kinds_word kind.Link = refl
+
+values_word : (v : Value) → IsValue v → IsWord (value_word v)
+values_word (value.Text t) h = text_word t
+values_word (value.Whole z) h = integer_word z h
+values_word (value.Flag true) h = refl
+values_word (value.Flag false) h = refl
+values_word (value.Opaque b) h = bytes_word b
+values_word (value.Moment z) h = integer_word z h
+values_word (value.Link o i) h = links_word o i h.0 h.1
+
+pub value_words : (v : Value) → IsValue v → words (spelled v) ≡ kind_word (kind_of v) ∷ value_word v ∷ []
+value_words v h = words_again (kind_word (kind_of v) ∷ value_word v ∷ []) (kinds_word (kind_of v), (values_word v h, tt))
+
+spelled_again : (v : Value) → IsValue v → value_at (words (spelled v)) ≡ Ok (v, [])
+spelled_again v h = ap value_at (value_words v h) ∙ value_at_again v [] h
+
+-- what was written, where it was, is read again
+pub read_again : {S E : Type 0} (bytes : S → List ℕ) (r : Result S E) (v : Value) → IfOk r (λ s. bytes s ≡ spelled v) → IsValue v → IfOk r (λ s. value_at (words (bytes s)) ≡ Ok (v, []))
+read_again bytes (Ok s) v e h = ap (λ bs. value_at (words bs)) e ∙ spelled_again v h
+read_again bytes (Err f) v e h = tt
