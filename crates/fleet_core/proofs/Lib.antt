@@ -1,0 +1,10 @@
+pub mod Along
+pub mod Posts
+pub mod Agreeing
+pub mod Clock
+pub mod Valid
+pub mod Started
+pub mod Board
+pub mod Lowest
+pub mod Checked
+pub mod Counted

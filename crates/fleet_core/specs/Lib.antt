@@ -1,0 +1,5 @@
+pub mod Along
+pub mod Run
+pub mod Board
+pub mod Verdict
+pub mod Waiting

@@ -1,0 +1,147 @@
+ghost use Rattle.std.specs.Prelude.{◌≡◌, ℕ, ◌<◌, ◌++◌, ◌∷◌, ◌↔◌, [], length, true, false, Err, IfOk, OnOk, OnErr, IsSome, IsTrue};
+ghost use Rattle.std.specs.Option.{option_copied};
+ghost use Rattle.fleet_core.specs.Run.{made_by, step_at, posts_of, is_enabled, entry_of, IsRun, CanGo};
+
+use crate::fault::CommitFault;
+use crate::performing::{note_post, perform, start_devices, step_of};
+use device_machine::Device;
+use scenario_image::{Scenario, Step};
+use std::alloc::{AllocError, Global};
+use std::marker::Model;
+use trace_file::{Entries, Entry};
+
+/// The devices of a scenario, and the entries that they have made: a run. Contracts see the scenario, the entries, and whether want of memory has spent
+/// the fleet.
+#[derive(Drop)]
+pub struct Fleet<'a> {
+    alloc: Global,
+    scenario: &'a Scenario,
+    devices: Vec<Device>,
+    made: Vec<u32>,
+    posts: Vec<u32>,
+    entries: Entries,
+    spent: bool,
+}
+
+impl<'a> Model for Fleet<'a> {
+    ghost use Rattle.std.specs.Coded.{codes};
+    ghost use Rattle.instance_store.specs.Stored.{stored_code};
+    ghost use Rattle.fleet_core.specs.Board.{Seen, IsFleet};
+
+    ghost Value = { Seen };
+
+    ghost coded = { Prim.hlevel (codes, stored_code) };
+
+    ghost view = { λ f. record { scenario = f.scenario.now; entries = f.entries; spent = f.spent } };
+
+    ghost invariant = { λ f. IsFleet f.scenario.now f.entries f.made.items f.posts.items f.devices.items f.spent };
+}
+
+impl<'a> Fleet<'a> {
+    /// The fleet of a scenario, each device at the start of its row, with no entry.
+    pub fn new(alloc: Global, scenario: &'a Scenario) -> Result<Fleet<'a>, AllocError>
+        ensures { IfOk result (λ f. f ≡ record { scenario = scenario.now; entries = []; spent = false }) }
+    {
+        let rows = scenario.rows();
+        let devices = start_devices(alloc, scenario)?;
+        Ok(Fleet {
+            alloc,
+            scenario,
+            devices,
+            made: vec![in alloc; 0u32; rows]?,
+            posts: vec![in alloc; 0u32; 256]?,
+            entries: Entries::new(alloc),
+            spent: false,
+        })
+    }
+
+    /// The step that the device makes next, lent; none behind the last one of its row.
+    pub fn next_step(&self, device: u16) -> Option<&'a Step>
+        ensures { option_copied result ≡ step_at self.now.scenario device (made_by device self.now.entries) }
+    {
+        let made = self.made.get(usize::from(device))?;
+        step_of(self.scenario, device, *made)
+    }
+
+    /// How many of the entries are posts to the group.
+    pub fn posts(&self, group: u8) -> u32
+        ensures { result ≡ posts_of self.now.scenario group self.now.entries }
+    {
+        self.posts[usize::from(group)]
+    }
+
+    fn is_enabled(&self, device: u16) -> bool
+        ensures { result ≡ is_enabled self.now.scenario self.now.entries device }
+    {
+        match self.next_step(device) {
+            None => false,
+            Some(Step::Event(_) | Step::Post(_)) => true,
+            Some(Step::Need(group, count)) => *count <= self.posts(*group),
+        }
+    }
+
+    /// Whether an entry of the device can be added: its row has a next step, and this is no need of more posts than there were so far.
+    pub fn enabled(&self, device: u16) -> bool
+        ensures is { result ≡ is_enabled self.now.scenario self.now.entries device }
+        ensures can { IsTrue result ↔ CanGo self.now.scenario self.now.entries device }
+    {
+        self.is_enabled(device)
+    }
+
+    /// The entries so far, lent, in order: a run of the scenario.
+    pub fn entries(&self) -> &[Entry]
+        ensures entries { result.now ≡ self.now.entries }
+        ensures run { IsRun self.now.scenario self.now.entries }
+    {
+        self.entries.as_slice()
+    }
+
+    /// The entries, with their memory.
+    pub fn into_entries(self) -> Entries
+        ensures { result ≡ self.entry.entries }
+    {
+        self.entries
+    }
+
+    /// Lets the device make its next step, under the worker's number, and adds the entry.
+    ///
+    /// `NotEnabled`: no entry of the device can be added. `Memory` leaves the fleet spent, with the entries as they were; `Spent` says that it was spent.
+    pub fn commit(&mut self, worker: u16, device: u16) -> Result<(), CommitFault>
+        ensures added { OnOk result (self.new.entries ≡ self.old.entries ++ entry_of self.old.scenario worker device self.old.entries ∷ []) }
+        ensures scenario { self.new.scenario ≡ self.old.scenario }
+        ensures enabled { OnOk result (is_enabled self.old.scenario self.old.entries device ≡ true) }
+        ensures ready { OnOk result (self.new.spent ≡ false) }
+        ensures not_enabled { result ≡ Err CommitFault.NotEnabled → is_enabled self.old.scenario self.old.entries device ≡ false }
+        ensures spent { result ≡ Err CommitFault.Spent → IsTrue self.old.spent }
+        ensures unchanged { OnErr result (self.new.entries ≡ self.old.entries) }
+        ensures memory { result ≡ Err CommitFault.Memory → IsTrue self.new.spent }
+        ensures not_enabled_same { result ≡ Err CommitFault.NotEnabled → self.new ≡ self.old }
+        ensures spent_same { result ≡ Err CommitFault.Spent → self.new ≡ self.old }
+        ensures refuses { is_enabled self.old.scenario self.old.entries device ≡ false → result ≡ Err CommitFault.NotEnabled }
+        ensures stays_spent { is_enabled self.old.scenario self.old.entries device ≡ true → IsTrue self.old.spent → result ≡ Err CommitFault.Spent }
+    {
+        if !self.enabled(device) {
+            return Err(CommitFault::NotEnabled);
+        }
+        if self.spent {
+            return Err(CommitFault::Spent);
+        }
+        let Some(step) = self.next_step(device) else {
+            return Err(CommitFault::NotEnabled);
+        };
+        let at = usize::from(device); if at < 65536 { return Err(CommitFault::Spent); }
+        let place = self.made[at];
+        self.spent = true;
+        let outputs = perform(self.alloc, &mut self.devices[at], step)?;
+        self.entries.push(Entry {
+            worker,
+            device,
+            step: place,
+            outputs,
+        })?;
+        self.made[at] = place + 1;
+        note_post(&mut self.posts, step);
+        self.spent = false;
+        Ok(())
+    }
+}

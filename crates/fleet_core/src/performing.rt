@@ -1,0 +1,82 @@
+//! One step of one device, and the posts behind it.
+
+ghost use Rattle.std.specs.Prelude.{◌≡◌, ℕ, ◌+◌, ◌^◌, ◌<◌, List, false, Some, length, slice_get, slice_index, IfOk, OnOk, IfSome};
+ghost use Rattle.std.specs.Option.{option_copied};
+ghost use Rattle.device_template.specs.Class.{Class};
+ghost use Rattle.device_machine.specs.State.{Flat, Shows};
+ghost use Rattle.scenario_image.specs.Script.{Script};
+ghost use Rattle.scenario_image.specs.Play.{start, step_outputs, step_after, is_step_refused, IsRowOf};
+ghost use Rattle.fleet_core.specs.Run.{step_at};
+ghost use Rattle.fleet_core.specs.Board.{AreStarted, posts_after};
+ghost use Rattle.scenario_image.specs.declared.step.Step.{Step};
+
+use device_machine::{Device, StepFault};
+use scenario_image::{Scenario, Step, take_step};
+use std::alloc::{AllocError, Global};
+use trace_file::OutputList;
+
+/// The step of this number in the device's row, lent.
+pub(crate) fn step_of(scenario: &Scenario, device: u16, place: u32) -> Option<&Step>
+    ensures { option_copied result ≡ step_at scenario.now device place }
+{
+    let (_, steps) = scenario.row(device)?;
+    steps.get(place as usize)
+}
+
+/// A device at the start of a row.
+fn start_of_row(scenario: &Scenario, device: u16) -> Result<Device, AllocError>
+    requires { device < length scenario.now.rows }
+    ensures { IfOk result (λ x. (class : Class) (steps : List Step) → IsRowOf scenario.now device class steps → Shows x (start class)) }
+{
+    let _rows = scenario.rows();
+    let Some((class, _)) = scenario.row(device) else {
+        unreachable!()
+    };
+    let Some(class) = scenario.class(class) else {
+        unreachable!()
+    };
+    Device::start(class)
+}
+
+/// The devices of a scenario, each at the start of its row.
+pub(crate) fn start_devices(alloc: Global, scenario: &Scenario) -> Result<Vec<Device>, AllocError>
+    ensures count { IfOk result (λ v. length v.items ≡ length scenario.now.rows) }
+    ensures started { IfOk result (λ v. AreStarted scenario.now v.items) }
+{
+    let rows = scenario.rows();
+    let mut devices = Vec::with_capacity(alloc, rows)?;
+    for device in 0..rows {
+        devices.push(start_of_row(scenario, device as u16)?)?;
+    }
+    Ok(devices)
+}
+
+/// Lets a device take a step that it does not refuse, and gives what it puts out.
+pub(crate) fn perform(
+    alloc: Global,
+    device: &mut Device,
+    step: &Step,
+) -> Result<OutputList, AllocError>
+    requires { is_step_refused device.old step.now ≡ false }
+    ensures outputs { (f : Flat) → Shows device.old f → IfOk result (λ o. o ≡ step_outputs f step.now) }
+    ensures shows { (f : Flat) → Shows device.old f → OnOk result (Shows device.new (step_after f step.now)) }
+{
+    match take_step(device, step) {
+        Ok(None) => Ok(OutputList::from_vec(Vec::new(alloc))),
+        Ok(Some(outputs)) => OutputList::copy_of(alloc, outputs.as_slice()),
+        Err(StepFault::Memory) => Err(AllocError),
+        Err(StepFault::Spent) => unreachable!(),
+    }
+}
+
+/// Counts a step that is a post.
+pub(crate) fn note_post(posts: &mut Vec<u32>, step: &Step)
+    requires groups { length posts.old.items ≡ 256 }
+    requires room { (g : ℕ) → slice_index posts.old.items g + 1 < 2 ^ 32 }
+    ensures { posts.new.items ≡ posts_after posts.old.items step.now }
+{
+    match step {
+        Step::Event(_) | Step::Need(_, _) => {}
+        Step::Post(group) => posts[usize::from(*group)] += 1,
+    }
+}

@@ -1,0 +1,8 @@
+/// What a list of entries is.
+#[derive(Clone, Copy, Debug, PartialEq, Eq)]
+pub enum Verdict {
+    /// It is a run of the scenario.
+    Run,
+    /// It is none, and this is the least place, counted from 0, at which it breaks off.
+    NotRun(usize),
+}

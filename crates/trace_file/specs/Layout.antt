@@ -1,0 +1,92 @@
+-- The entries of a run as bytes, in this profile's trace file.
+use Rattle.std.specs.Prelude.{ℕ, zero, suc, ◌==◌, ◌||◌, List, [], nat_lt, if◌then◌else◌}
+use Rattle.std.specs.Int.{w8, w16, w32}
+use Rattle.byte_layout.specs.declared.fault.Break.TheVariants.{Magic, Version, BadField}
+use Rattle.byte_layout.specs.Part.{Part, number, judged, split, last, marked, sized, counted}
+use Rattle.byte_layout.specs.Whole.{IsAll}
+use Rattle.device_requests.specs.declared.answer.Act.{Act}
+use Rattle.device_requests.specs.declared.answer.Act.TheVariants as acts
+use Rattle.device_machine.specs.declared.output.Output.{Output}
+use Rattle.device_machine.specs.declared.output.Output.TheVariants as outputs
+use Rattle.trace_file.specs.declared.entry.Entry.{Entry}
+
+-- ---- acts
+
+-- the number of an act
+abbrev pub number_of : Act → ℕ
+number_of acts.Reboot = 0
+number_of acts.FactoryReset = 1
+number_of acts.RegUpdate = 2
+number_of acts.Disable = 3
+number_of acts.Missed = 4
+
+-- the act of a number below 5
+abbrev pub act_numbered : ℕ → Act
+act_numbered n = if n == 0 then acts.Reboot else (if n == 1 then acts.FactoryReset else (if n == 2 then acts.RegUpdate else (if n == 3 then acts.Disable else acts.Missed)))
+
+-- an act's number, below 5
+unfoldable pub act : Part Act
+act = last number_of act_numbered (judged BadField (λ n. nat_lt n 5) (number w8))
+
+-- ---- outputs
+
+-- 1 for a datagram, 2 for an act
+abbrev pub kind_of : Output → ℕ
+kind_of (outputs.Send server bytes) = 1
+kind_of (outputs.Act a) = 2
+
+-- what an output of a kind holds; of the other kind, anything
+abbrev pub server_in : Output → ℕ
+server_in (outputs.Send server bytes) = server
+server_in _ = 0
+
+abbrev pub bytes_in : Output → List ℕ
+bytes_in (outputs.Send server bytes) = bytes
+bytes_in _ = []
+
+abbrev pub act_in : Output → Act
+act_in (outputs.Act a) = a
+act_in _ = acts.Missed
+
+-- a server, any, and a datagram with two bytes of length
+unfoldable pub datagram : Part Output
+datagram = split server_in (number w16) (λ server. last bytes_in (λ bytes. outputs.Send server bytes) (sized (number w16)))
+
+-- an act
+abbrev pub acted : Part Output
+acted = last act_in (λ a. outputs.Act a) act
+
+-- what stands behind the number of a kind: 1 a datagram, any other an act
+abbrev pub of_kind : ℕ → Part Output
+of_kind zero = acted
+of_kind (suc zero) = datagram
+of_kind (suc (suc n)) = acted
+
+-- the number of its kind, 1 or 2, and what an output of that kind holds
+unfoldable pub output : Part Output
+output = split kind_of (judged BadField (λ n. n == 1 || n == 2) (number w8)) of_kind
+
+-- four bytes of count, and so many outputs
+unfoldable pub output_list : Part (List Output)
+output_list = counted (number w32) (λ before. output)
+
+-- ---- entries
+
+abbrev pub entry_of : ℕ → ℕ → ℕ → List Output → Entry
+entry_of worker device step os = record { worker = worker; device = device; step = step; outputs = os }
+
+-- worker, device and step, any, and the outputs
+unfoldable pub entry : Part Entry
+entry = split (λ e. e.worker) (number w16) (λ w. split (λ e. e.device) (number w16) (λ d. split (λ e. e.step) (number w32) (λ s. last (λ e. e.outputs) (entry_of w d s) output_list)))
+
+-- four bytes of count, and so many entries
+unfoldable pub entry_list : Part (List Entry)
+entry_list = counted (number w32) (λ before. entry)
+
+-- the file's mark and version, and the entries
+unfoldable pub trace_file : Part (List Entry)
+trace_file = marked Magic 0x4C575452 (number w32) (marked Version 1 (number w8) entry_list)
+
+-- the bytes are a trace file of these entries
+abbrev pub IsTraceFile : List ℕ → List Entry → Type 0
+IsTraceFile bytes entries = IsAll trace_file bytes entries

@@ -1,0 +1,21 @@
+//! The entries of a run, and the file of a trace, which holds them. docs/LAYOUT.md has the file in words.
+#![tactic(auto)]
+
+mod entries;
+mod entry;
+mod fault;
+mod laws;
+mod outputs;
+mod reading;
+mod writing;
+
+pub use entries::Entries;
+pub use entry::Entry;
+pub use fault::WriteFault;
+pub use laws::{one_trace_file, what_has_a_trace_file};
+pub use outputs::OutputList;
+pub use reading::read_entries;
+pub use writing::write_entries;
+
+#[cfg(test)]
+mod tests;

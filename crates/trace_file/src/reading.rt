@@ -1,0 +1,180 @@
+//! Entries, read from the front of bytes, and trace files.
+
+ghost use Rattle.std.specs.Prelude.{◌≡◌, ◌≢◌, List, IfOk, IfErr, IsErrAnd, MatchResult};
+ghost use Rattle.byte_layout.specs.declared.fault.LayoutFault.{LayoutFault};
+ghost use Rattle.byte_layout.specs.declared.fault.LayoutFault.TheVariants.{Memory};
+ghost use Rattle.byte_layout.specs.Outcome.{Gives};
+ghost use Rattle.byte_layout.specs.Whole.{HasFault};
+ghost use Rattle.trace_file.specs.declared.entry.Entry.{Entry as EntryData};
+ghost use Rattle.trace_file.specs.Layout.{act, datagram, output, output_list, entry, entry_list, trace_file, IsTraceFile};
+
+use crate::entries::Entries;
+use crate::entry::Entry;
+use crate::outputs::OutputList;
+use byte_layout::{
+    Break, Format, Items, LayoutFault, ReadError, bytes_at, items_at, load, u8_at, u16_at, u32_at,
+};
+use device_machine::{Act, Output};
+use octets::Bytes;
+use std::alloc::Global;
+
+/// The number of an act: 0 Reboot, 1 FactoryReset, 2 RegUpdate, 3 Disable, 4 Missed.
+#[tactic(auto, unfolding(crate::specs::Layout::act))]
+fn act_at(bytes: &[u8]) -> Result<(Act, &[u8]), ReadError>
+    ensures { Gives (λ x. (x.0, x.1.now)) result (act.read bytes.now) }
+{
+    let (number, rest) = u8_at(bytes)?;
+    match number {
+        0 => Ok((Act::Reboot, rest)),
+        1 => Ok((Act::FactoryReset, rest)),
+        2 => Ok((Act::RegUpdate, rest)),
+        3 => Ok((Act::Disable, rest)),
+        4 => Ok((Act::Missed, rest)),
+        _ => Err(ReadError::Fault(Break::BadField(bytes.len()))),
+    }
+}
+
+#[tactic(auto, unfolding(crate::specs::Layout::datagram))]
+fn datagram_at(alloc: Global, bytes: &[u8]) -> Result<(Output, &[u8]), ReadError>
+    ensures { Gives (λ x. (x.0, x.1.now)) result (datagram.read bytes.now) }
+{
+    let (server, rest) = u16_at(bytes)?;
+    let (len, rest) = u16_at(rest)?;
+    let (field, rest) = bytes_at(usize::from(len), rest)?;
+    let bytes = Bytes::from_slice(alloc, field)?;
+    Ok((Output::Send { server, bytes }, rest))
+}
+
+/// The number of its kind, 1 a datagram, 2 an act, and what an output of that kind holds.
+#[tactic(auto, unfolding(crate::specs::Layout::output))]
+fn output_at(alloc: Global, bytes: &[u8]) -> Result<(Output, &[u8]), ReadError>
+    ensures { Gives (λ x. (x.0, x.1.now)) result (output.read bytes.now) }
+{
+    let (kind, rest) = u8_at(bytes)?;
+    match kind {
+        1 => datagram_at(alloc, rest),
+        2 => {
+            let (act, rest) = act_at(rest)?;
+            Ok((Output::Act(act), rest))
+        }
+        _ => Err(ReadError::Fault(Break::BadField(bytes.len()))),
+    }
+}
+
+/// Outputs, one after another.
+pub(crate) struct OutputItems;
+
+impl Items for OutputItems {
+    ghost use Rattle.trace_file.specs.Layout.{output};
+
+    type Item = Output;
+
+    ghost part = { λ _ before. output };
+
+    fn item_at<'a>(
+        &self,
+        alloc: Global,
+        _before: &[Output],
+        bytes: &'a [u8],
+    ) -> Result<(Output, &'a [u8]), ReadError> {
+        output_at(alloc, bytes)
+    }
+}
+
+#[tactic(auto, unfolding(crate::specs::Layout::output_list))]
+fn outputs_at(alloc: Global, bytes: &[u8]) -> Result<(OutputList, &[u8]), ReadError>
+    ensures { Gives (λ x. (x.0, x.1.now)) result (output_list.read bytes.now) }
+{
+    let (count, rest) = u32_at(bytes)?;
+    let (items, rest) = items_at(&OutputItems, alloc, count as usize, rest)?;
+    Ok((OutputList::from_vec(items), rest))
+}
+
+#[tactic(auto, unfolding(crate::specs::Layout::entry))]
+fn entry_at(alloc: Global, bytes: &[u8]) -> Result<(Entry, &[u8]), ReadError>
+    ensures { Gives (λ x. (x.0, x.1.now)) result (entry.read bytes.now) }
+{
+    let (worker, rest) = u16_at(bytes)?;
+    let (device, rest) = u16_at(rest)?;
+    let (step, rest) = u32_at(rest)?;
+    let (outputs, rest) = outputs_at(alloc, rest)?;
+    let entry = Entry {
+        worker,
+        device,
+        step,
+        outputs,
+    };
+    Ok((entry, rest))
+}
+
+/// Entries, one after another.
+pub(crate) struct EntryItems;
+
+impl Items for EntryItems {
+    ghost use Rattle.trace_file.specs.Layout.{entry};
+
+    type Item = Entry;
+
+    ghost part = { λ _ before. entry };
+
+    fn item_at<'a>(
+        &self,
+        alloc: Global,
+        _before: &[Entry],
+        bytes: &'a [u8],
+    ) -> Result<(Entry, &'a [u8]), ReadError> {
+        entry_at(alloc, bytes)
+    }
+}
+
+#[tactic(auto, unfolding(crate::specs::Layout::entry_list))]
+fn entries_at(alloc: Global, bytes: &[u8]) -> Result<(Entries, &[u8]), ReadError>
+    ensures { Gives (λ x. (x.0, x.1.now)) result (entry_list.read bytes.now) }
+{
+    let (count, rest) = u32_at(bytes)?;
+    let (items, rest) = items_at(&EntryItems, alloc, count as usize, rest)?;
+    Ok((Entries::from_vec(items), rest))
+}
+
+/// The trace file.
+pub(crate) struct TraceFile;
+
+impl Format for TraceFile {
+    ghost use Rattle.std.specs.Prelude.{List};
+    ghost use Rattle.trace_file.specs.declared.entry.Entry.{Entry as EntryData};
+    ghost use Rattle.trace_file.specs.Layout.{trace_file};
+
+    type Value = Entries;
+
+    ghost Data = { List EntryData };
+
+    ghost view = { λ e. e };
+
+    ghost layout = { trace_file };
+
+    #[tactic(auto, unfolding(crate::specs::Layout::trace_file))]
+    fn read(alloc: Global, bytes: &[u8]) -> Result<(Entries, &[u8]), ReadError> {
+        let (mark, rest) = u32_at(bytes)?;
+        if mark != 0x4C57_5452 {
+            return Err(ReadError::Fault(Break::Magic));
+        }
+        let (version, rest) = u8_at(rest)?;
+        if version != 1 {
+            return Err(ReadError::Fault(Break::Version));
+        }
+        entries_at(alloc, rest)
+    }
+}
+
+/// The entries whose trace file these bytes are, all of them; else their first fault from the left.
+///
+/// A count that is too large for the bytes is `Cut`, and no room is made for more than is read. There is no `Limit`. A place counts
+/// bytes from 0. `Memory` says that no memory was left.
+pub fn read_entries(alloc: Global, bytes: &[u8]) -> Result<Entries, LayoutFault>
+    ensures found { IfOk result (λ es. IsTraceFile bytes.now es) }
+    ensures only { (es : List EntryData) → IsTraceFile bytes.now es → MatchResult result (λ x. x ≡ es) (λ f. f ≡ Memory) }
+    ensures fault { IfErr result (λ f. f ≢ Memory → HasFault trace_file bytes.now f) }
+    ensures refused { (f : LayoutFault) → HasFault trace_file bytes.now f → IsErrAnd result (λ g. g ≢ Memory → g ≡ f) }
+{
+    load::<TraceFile>(alloc, bytes)
+}
