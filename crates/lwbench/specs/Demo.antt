@@ -8,8 +8,9 @@ use Rattle.object_defs.specs.declared.path.Path.TheVariants.{Resource, Part}
 use Rattle.lwm2m_values.specs.declared.value.Value.{Value}
 use Rattle.lwm2m_values.specs.declared.value.Value.TheVariants as value
 use Rattle.instance_store.specs.Stored.{empty, with_instance}
-use Rattle.device_machine.specs.Class.{Class, start_of, with_account, with_store}
-use Rattle.device_machine.specs.Values.{with_value_at}
+use Rattle.device_machine.specs.Class.{start_of}
+use Rattle.device_template.specs.Class.{Class, with_account, with_store}
+use Rattle.device_template.specs.Values.{with_value_at}
 use Rattle.device_machine.specs.Reactions.{outputs_of}
 use Rattle.device_machine.specs.declared.event.Event.TheVariants.{Recv}
 use Rattle.device_machine.specs.declared.output.Output.{Output}

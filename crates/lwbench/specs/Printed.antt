@@ -3,8 +3,8 @@ use Rattle.std.specs.Prelude.{ℕ, List, [], ◌∷◌, ◌++◌, codes}
 use Rattle.std.specs.Fmt.{decimal}
 use Rattle.std.specs.List.{flat_map}
 use Rattle.hex.specs.Hex.{encode_upper}
-use Rattle.device_machine.specs.declared.output.Act.{Act as Deed}
-use Rattle.device_machine.specs.declared.output.Act.TheVariants.{Missed}
+use Rattle.device_requests.specs.declared.answer.Act.{Act as Deed}
+use Rattle.device_requests.specs.declared.answer.Act.TheVariants.{Reboot, FactoryReset, RegUpdate, Disable, Missed}
 use Rattle.device_machine.specs.declared.output.Output.{Output}
 use Rattle.device_machine.specs.declared.output.Output.TheVariants.{Send, Act}
 
@@ -18,6 +18,10 @@ send_line server hex = line (codes "send " ++ decimal server ++ codes " " ++ hex
 
 -- what a device does beside sending, by its name
 abbrev pub act_name : Deed → List ℕ
+act_name Reboot = codes "reboot"
+act_name FactoryReset = codes "factory reset"
+act_name RegUpdate = codes "reg update"
+act_name Disable = codes "disable"
 act_name Missed = codes "missed"
 
 abbrev pub act_line : List ℕ → List ℕ

@@ -73,6 +73,10 @@ fn act_name(act: Act) -> &'static str
     ensures { result.now ≡ act_name act }
 {
     match act {
+        Act::Reboot => "reboot",
+        Act::FactoryReset => "factory reset",
+        Act::RegUpdate => "reg update",
+        Act::Disable => "disable",
         Act::Missed => "missed",
     }
 }

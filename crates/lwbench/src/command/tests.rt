@@ -70,12 +70,16 @@ fn answers_one_datagram(rt: HostRuntime) -> Result<(), Fail> {
             Status::Done,
             "send 1 60450001C0FF32\n",
         ),
-        ("40010003B13301300136", Status::Done, "send 1 60A10003\n"),
+        (
+            "40010003B13301300136",
+            Status::Done,
+            "send 1 60450003C22D16FF8606410001410105\n",
+        ),
         ("40010025B13901300130", Status::Done, "send 1 60840025\n"),
         (
             "40010023B133013001396128",
             Status::Done,
-            "send 1 60A10023\n",
+            "send 1 60450023C128FF3C2F332F302F393E\n",
         ),
         ("40000007", Status::Done, "send 1 70000007\n"),
         ("", Status::Done, "nothing\n"),
