@@ -1,0 +1,2 @@
+pub mod ClassValues
+pub mod Lines

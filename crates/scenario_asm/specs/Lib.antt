@@ -1,0 +1,5 @@
+pub mod Causes
+pub mod ClassLines
+pub mod Draft
+pub mod Effect
+pub mod Text

@@ -1,0 +1,14 @@
+//! Scenarios from their text: what each statement adds, and the first line that is refused.
+#![tactic(auto)]
+
+mod assembling;
+mod causes;
+mod class;
+mod draft;
+mod fault;
+
+pub use assembling::assemble;
+pub use fault::AsmFault;
+
+#[cfg(test)]
+mod tests;
