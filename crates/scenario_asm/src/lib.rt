@@ -6,9 +6,11 @@ mod causes;
 mod class;
 mod draft;
 mod fault;
+mod laws;
 
 pub use assembling::assemble;
 pub use fault::AsmFault;
+pub use laws::texts_denote;
 
 #[cfg(test)]
 mod tests;

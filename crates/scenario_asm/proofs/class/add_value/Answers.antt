@@ -1,4 +1,4 @@
-use Rattle.std.proofs.Common.{sym, ◌∙◌, refl}
+use Rattle.std.proofs.Common.{sym, ◌∙◌}
 use Rattle.scenario_asm.proofs.ClassValues.{long_made}
 use Rattle.scenario_asm.proofs.class.add_value.Goals as goal
 
