@@ -110,7 +110,12 @@ impl Client {
     }
 
     /// Makes an instance of an object, where no line refuses it.
-    pub(super) fn create(&mut self, server: u16, path: Path, message: &Message) -> Result<Answer, AllocError>
+    pub(super) fn create(
+        &mut self,
+        server: u16,
+        path: Path,
+        message: &Message,
+    ) -> Result<Answer, AllocError>
         ensures { IfOk result
             (λ a. Leaves a self.new (create_outcome self.old server path (content_format_of message.now.options) message.now.payload)) }
     {

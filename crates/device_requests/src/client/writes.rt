@@ -161,7 +161,12 @@ impl Client {
 
     /// Executes a resource, where no line refuses it.
     #[tactic(auto, using(crate::proofs::Present::execute_has))]
-    pub(super) fn execute(&mut self, server: u16, path: Path, message: &Message) -> Result<Answer, AllocError>
+    pub(super) fn execute(
+        &mut self,
+        server: u16,
+        path: Path,
+        message: &Message,
+    ) -> Result<Answer, AllocError>
         ensures { IfOk result
             (λ a. Leaves a self.new (execute_outcome self.old server path (content_format_of message.now.options) message.now.payload)) }
     {
