@@ -10,7 +10,7 @@ use Rattle.object_defs.specs.declared.path.Path.{Path}
 use Rattle.object_defs.specs.declared.path.Path.TheVariants.{Object, Instance, Resource, Part}
 use Rattle.object_defs.specs.declared.path.ResourcePath.{ResourcePath}
 use Rattle.instance_store.specs.Existence.{exists_as}
-use Rattle.instance_store.specs.Stored.{Stored, value_at, has_instance, is_full, parts_of, resource_path, without_values}
+use Rattle.instance_store.specs.Stored.{Stored, value_at, has_instance, is_full, resource_path, without_values}
 use Rattle.instance_lifecycle.specs.Numbers.{instance_at, number_for}
 use Rattle.instance_lifecycle.proofs.Found.{found_free}
 use Rattle.resource_formats.proofs.Apart.{none_held}
