@@ -1,6 +1,6 @@
 //! The image of a scenario: what is read of it, what is written, and the fault of other bytes.
 
-use crate::{Scenario, Step, load, one_image};
+use crate::{Scenario, Step, load, one_image, save};
 use byte_layout::LayoutFault;
 use device_machine::{Event, Template};
 use lwm2m_values::Value;
@@ -129,6 +129,44 @@ fn loads_each_kind_of_step(rt: HostRuntime) -> Result<(), Fail> {
 }
 
 #[test]
+fn saves_what_was_built(rt: HostRuntime) -> Result<(), Fail> {
+    let image = save(rt.alloc(), &battery(rt.alloc())?)?;
+    assert_eq!(rt; image.as_slice(), BATTERY.as_slice());
+    let image = save(rt.alloc(), &Scenario::empty(rt.alloc()))?;
+    assert_eq!(rt; image.as_slice(), NOTHING.as_slice());
+    Ok(())
+}
+
+/// Whether the bytes are refused, or are just what is written of the scenario that is read.
+fn are_refused_or_written(alloc: Global, bytes: &[u8]) -> Result<bool, AllocError> {
+    match load(alloc, bytes) {
+        Err(fault) => Ok(fault != LayoutFault::Memory),
+        Ok(scenario) => Ok(save(alloc, &scenario)?.as_slice() == bytes),
+    }
+}
+
+#[test]
+fn each_change_of_a_byte_is_refused_or_written(rt: HostRuntime) -> Result<(), Fail> {
+    let images: [&[u8]; 3] = [&NOTHING, &BATTERY, &ALL_KINDS];
+    for image in images {
+        let mut changed = Vec::from_slice(rt.alloc(), image)?;
+        for (place, old) in image.iter().enumerate() {
+            for byte in 0..=255u8 {
+                if let Some(field) = changed.get_mut(place) {
+                    *field = byte;
+                }
+                let holds = are_refused_or_written(rt.alloc(), &changed)?;
+                assert!(rt; holds, "with {byte} at {place}");
+            }
+            if let Some(field) = changed.get_mut(place) {
+                *field = *old;
+            }
+        }
+    }
+    Ok(())
+}
+
+#[test]
 fn each_proper_prefix_is_cut(rt: HostRuntime) {
     let images: [&[u8]; 3] = [&NOTHING, &BATTERY, &ALL_KINDS];
     for image in images {
@@ -238,6 +276,8 @@ fn loads_256_classes_4096_rows_and_4096_steps_at_most(rt: HostRuntime) -> Result
         match load(rt.alloc(), &bytes) {
             Ok(scenario) => {
                 assert!(rt; fault.is_none());
+                let image = save(rt.alloc(), &scenario)?;
+                assert!(rt; image.as_slice() == bytes.as_slice());
                 assert_eq!(rt; scenario.classes(), usize::from(classes));
                 assert_eq!(rt; scenario.rows(), usize::from(rows));
                 assert_eq!(rt; scenario.steps(), usize::from(rows) * usize::from(steps));
