@@ -1,12 +1,12 @@
 -- The accounts of a class have bytes.
-use Rattle.std.proofs.Common.{◌≡◌, ℕ, ◌<◌, ◌≤◌, false, not, ◌&&◌, eqb, List, [], ◌∷◌, ◌++◌, length, None, refl, sym, ap, subst, ◌∙◌, arith}
+use Rattle.std.proofs.Common.{◌≡◌, ℕ, ◌<◌, ◌≤◌, false, not, ◌&&◌, eqb, List, [], ◌∷◌, ◌++◌, length, refl, sym, subst, arith}
 use Rattle.std.specs.Prelude.{nat_le}
 use Rattle.std.specs.List.{AllByRecursion, list_any}
 use Rattle.std.specs.Int.{w8, w16}
 use Rattle.std.proofs.lemmas.Bool.{lt-ltb}
 use Rattle.std.proofs.lemmas.Bool.Decides.{nat_tests}
 use Rattle.byte_layout.proofs.Fields.{number_good}
-use Rattle.device_template.specs.Class.{Class, account_fault, most_accounts}
+use Rattle.device_template.specs.Class.{Class}
 use Rattle.device_template.specs.Built.{IsBuilt}
 use Rattle.device_template.specs.Built.IsBuilt.{nothing, account, object, resource, instance, value}
 use Rattle.device_template.proofs.Ascending.{Rises, rises}
@@ -45,19 +45,17 @@ account_good : (front : List ℕ) (n : ℕ) (back : List ℕ) → HasAccounts (f
 unfolding layout.account
 account_good front n back h rising =
     let low = rising_front front n back rising in
-    let server = all_of IsServer front n back h.each in
-    (
+    let server = all_of IsServer front n back h.each in (
       number_good w16 n (small n server),
       and_true _ _ (all_below (λ m. m) n front (subst (AllByRecursion (λ m. m < n)) (sym (map_same front)) low))
-      (taken_none _ (no_three _ _ _ _ _ _ server (none_there n front low) (is_below (length front) 4 (omega (arith, shorter (front ++ n ∷ back) front n back refl, h.few))))),
+          (taken_none _ (no_three _ _ _ _ _ _ server (none_there n front low) (is_below (length front) 4 (omega (arith, shorter (front ++ n ∷ back) front n back refl, h.few))))),
     )
 
 pub accounts_good : (class : Class) → IsBuilt class → accounts.Good class.accounts
 unfolding accounts
 accounts_good class built =
     let xs = class.accounts in
-    let h = has_accounts class built in
-    (
+    let h = has_accounts class built in (
       (number_good w8 (length xs) (omega (arith, h.few)), lt-ltb (length xs) 5 (omega (arith, h.few))),
       each_good layout.account xs [] xs refl (λ front n back e. account_good front n back (subst HasAccounts e h) (subst Rises e (rises class built))),
     )

@@ -1,10 +1,6 @@
 -- Each class that there is has bytes.
-use Rattle.std.proofs.Common.{◌≡◌, List, map, ◌++◌, refl, sym, ap, ◌∙◌}
-use Rattle.std.specs.FinMap as finite
-use Rattle.object_defs.specs.Base.{base}
-use Rattle.object_defs.specs.declared.definition.ObjectDef.{ObjectDef}
-use Rattle.instance_store.specs.Stored.{Stored}
-use Rattle.device_template.specs.Class.{Class, with_catalogue, with_store}
+use Rattle.std.proofs.Common.{◌≡◌, sym, ap, ◌∙◌}
+use Rattle.device_template.specs.Class.{Class, with_catalogue}
 use Rattle.device_template.specs.Built.{IsBuilt}
 use Rattle.class_layout.specs.Layout.{objects_in, instances_in, values_in, with_accounts, with_objects, with_instances, with_values, class, behind_accounts, behind_objects, behind_instances}
 use Rattle.class_layout.proofs.Filling.{instances_itself, values_itself}
@@ -27,8 +23,7 @@ pub class_good : (c : Class) → IsBuilt c → class.Good c
 unfolding class behind_accounts behind_objects behind_instances
 class_good c built =
     let own = has_objects c built in
-    let same = catalogue_is c own in
-    (
+    let same = catalogue_is c own in (
       accounts_good c built,
       (
         objects_good c (with_accounts c.accounts) own,

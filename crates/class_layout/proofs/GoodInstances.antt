@@ -1,8 +1,8 @@
 -- The instances of a class have bytes.
-use Rattle.std.proofs.Common.{◌≡◌, ◌≢◌, ℕ, zero, suc, ◌+◌, ◌*◌, ◌<◌, ◌≤◌, Bool, true, false, cond, not, ◌&&◌, eqb, List, [], ◌∷◌, ◌++◌, map, length, filter, Option, None, Some, refl, sym, ap, subst, ◌∙◌, arith, eqb-true}
+use Rattle.std.proofs.Common.{◌≡◌, ℕ, suc, ◌+◌, ◌*◌, ◌<◌, ◌≤◌, Bool, true, false, cond, not, eqb, List, [], ◌∷◌, ◌++◌, map, length, filter, Option, None, Some, refl, sym, ap, subst, ◌∙◌, arith, eqb-true}
 use Rattle.std.specs.Prelude.{nat_le, is_some}
 use Rattle.std.specs.List.{AllByRecursion, list_all, list_any}
-use Rattle.std.specs.Int.{w8, w16}
+use Rattle.std.specs.Int.{w16}
 use Rattle.std.specs.Ordering.{is_lt}
 use Rattle.std.specs.FinMap as finite
 use Rattle.std.specs.FinMap.Entries.{find}
@@ -14,7 +14,7 @@ use Rattle.object_defs.specs.Base.{base}
 use Rattle.object_defs.specs.Catalogue.{object_of}
 use Rattle.object_defs.specs.Lines.{first_line}
 use Rattle.object_defs.specs.Path.{instance_cmp}
-use Rattle.object_defs.specs.Vendor.{vendor_fault, resource_fault, with_object, with_resource}
+use Rattle.object_defs.specs.Vendor.{vendor_fault, with_object, with_resource}
 use Rattle.object_defs.specs.declared.definition.ObjectDef.{ObjectDef}
 use Rattle.object_defs.specs.declared.definition.ResourceDef.{ResourceDef}
 use Rattle.object_defs.specs.declared.path.InstancePath.{InstancePath}
@@ -234,7 +234,7 @@ instance_free k front p back h may known few =
     let low = front_below instance_cmp (λ q. q) front p back h in
     let room = taken_before (numbered p.object) (numbered_joins p.object) (front ++ p ∷ back) front p back refl in
     let same : length (numbers_of p.object (finite.entries (finite.from_sorted {R = instance_cmp} (as_entries front)))) ≡ length (numbered p.object front)
-          = ap (λ t. length (numbers_of p.object t)) es ∙ ap (λ t. length (map (λ (q : InstancePath). q.instance) (filter (λ q. eqb q.object p.object) t))) (map_units front) in
+    = ap (λ t. length (numbers_of p.object t)) es ∙ ap (λ t. length (map (λ (q : InstancePath). q.instance) (filter (λ q. eqb q.object p.object) t))) (map_units front) in
     no_four _ _ _ _ _ _ _ _ (not_true (may_stand p) may) (not_true (is_some (object_of k.catalogue p.object)) known)
     (ap is_some (finite.get-entries (finite.from_sorted {R = instance_cmp} (as_entries front)) p ∙ ap (find instance_cmp p) es ∙ none_behind instance_total p _ (low_entries p front low)))
     (is_below _ 64 (omega (arith, same, room, itself p, few)))
@@ -247,14 +247,14 @@ instance_good : (k : Class) (front : List InstancePath) (p : InstancePath) (back
     → length (numbered p.object (front ++ p ∷ back)) ≤ 64 → (layout.instance k front).Good p
 unfolding layout.instance
 instance_good k front p back h all few =
-    let is = all_of (λ q. IsPlace k.catalogue (q, tt)) front p back all in
-    (
+    let is = all_of (λ q. IsPlace k.catalogue (q, tt)) front p back all in (
       place_good p is.0 (number_small p is.1),
       and_true _ _ (front_below instance_cmp (λ q. q) front p back h) (taken_none _ (instance_free k front p back h is.1 is.2 few)),
     )
   where
     low : (n : ℕ) → nat_le n 65534 ≡ true → n < 65536
     low n h = grind (arith, nat_tests)
+
     number_small : (q : InstancePath) → may_stand q ≡ true → q.instance < 65536
     number_small q may = low q.instance (both_true _ _ (both_true (not (eqb q.object 0)) _ may).1).0
 
@@ -263,12 +263,11 @@ unfolding instances numbered
 instances_good c k built small same =
     let h = has_instances c built in
     let ps = instances_in c in
-    let all = subst (λ (t : List ObjectDef). AllByRecursion (λ p. IsPlace t (p, tt)) ps) (sym same) (all_places c.catalogue (finite.entries c.store.instances) h.each) in
-    (
+    let all = subst (λ (t : List ObjectDef). AllByRecursion (λ p. IsPlace t (p, tt)) ps) (sym same) (all_places c.catalogue (finite.entries c.store.instances) h.each) in (
       number_good w16 (length ps) (keys_few c.catalogue (finite.entries c.store.instances) h small),
       each_good (layout.instance k) ps [] ps refl (λ front p back e.
-      instance_good k front p back (subst (Ascends instance_cmp (λ q. q)) e (places_ascend c)) (subst (AllByRecursion (λ q. IsPlace k.catalogue (q, tt))) e all)
-      (subst (λ (t : List InstancePath). length (numbered p.object t) ≤ 64) e (h.few p.object))),
+          instance_good k front p back (subst (Ascends instance_cmp (λ q. q)) e (places_ascend c)) (subst (AllByRecursion (λ q. IsPlace k.catalogue (q, tt))) e all)
+          (subst (λ (t : List InstancePath). length (numbered p.object t) ≤ 64) e (h.few p.object))),
     )
 
 pub few_instances : (c : Class) → IsBuilt c → length c.catalogue ≤ 16 → length (instances_in c) < 65536

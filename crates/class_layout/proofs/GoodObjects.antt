@@ -1,7 +1,7 @@
 -- The objects of a class's own have bytes.
-use Rattle.std.proofs.Common.{All, ◌≡◌, ◌≢◌, ℕ, zero, suc, ◌+◌, ◌<◌, ◌≤◌, Bool, true, false, cond, not, ◌&&◌, eqb, ltb, List, [], ◌∷◌, ◌++◌, map, length, find, Option, None, Some, option_map, refl, sym, ap, subst, ◌∙◌, lit<, arith}
+use Rattle.std.proofs.Common.{All, ◌≡◌, ℕ, suc, ◌<◌, ◌≤◌, Bool, true, false, cond, not, eqb, ltb, List, [], ◌∷◌, ◌++◌, map, length, Option, None, Some, option_map, refl, sym, ap, subst, ◌∙◌, arith}
 use Rattle.std.specs.Prelude.{nat_le, is_some, drop}
-use Rattle.std.specs.List.{AllByRecursion, list_all, list_any}
+use Rattle.std.specs.List.{AllByRecursion, list_all}
 use Rattle.std.specs.Int.{w8, w16}
 use Rattle.std.proofs.lemmas.Bool.{lt-ltb}
 use Rattle.std.proofs.lemmas.Bool.Decides.{nat_tests}
@@ -13,7 +13,6 @@ use Rattle.lwm2m_values.specs.declared.kind.ValueKind.{ValueKind}
 use Rattle.lwm2m_values.specs.declared.kind.ValueKind.TheVariants as kinds
 use Rattle.object_defs.specs.Base.{base}
 use Rattle.object_defs.specs.Catalogue.{object_of, resource_in}
-use Rattle.object_defs.specs.Lines.{first_line}
 use Rattle.object_defs.specs.Vendor.{inserted, is_sound, is_text, is_vendor, new_object, vendor_fault, resource_fault, resource_fault_in, with_definition, with_object, with_resource}
 use Rattle.object_defs.specs.declared.definition.Ops.{Ops}
 use Rattle.object_defs.specs.declared.definition.Ops.TheVariants.{R, W, RW, E}
@@ -23,10 +22,9 @@ use Rattle.object_defs.specs.declared.fault.CatalogFault.{CatalogFault}
 use Rattle.value_layout.specs.Definition.{flags_of, flags_fit, kind_fits, resources}
 use Rattle.value_layout.specs.Definition as defs
 use Rattle.value_layout.proofs.Definitions.{resource_good}
-use Rattle.device_template.specs.Class.{Class, fault_of, object_fault, with_catalogue}
+use Rattle.device_template.specs.Class.{Class, fault_of}
 use Rattle.device_template.specs.Built.{IsBuilt}
 use Rattle.device_template.specs.Built.IsBuilt.{nothing, account, object, resource, instance, value}
-use Rattle.device_template.specs.declared.fault.TemplateFault.{TemplateFault}
 use Rattle.device_template.proofs.Ascending.{Rises, rises-inserted}
 use Rattle.class_layout.specs.Layout.{objects_in, with_objects, defined, objects}
 use Rattle.class_layout.specs.Layout as layout

@@ -1,8 +1,8 @@
 -- The values of a class have bytes.
-use Rattle.std.proofs.Common.{All, ◌≡◌, ◌≢◌, ℕ, zero, suc, ◌+◌, ◌<◌, ◌≤◌, Bool, true, false, cond, not, ◌&&◌, eqb, List, [], ◌∷◌, ◌++◌, map, length, filter, filter_map, Option, None, Some, option_and_then, refl, sym, ap, subst, ◌∙◌, arith, eqb-true}
+use Rattle.std.proofs.Common.{All, ◌≡◌, ℕ, ◌+◌, ◌<◌, ◌≤◌, Bool, true, false, cond, not, ◌&&◌, eqb, List, [], ◌∷◌, ◌++◌, length, filter, filter_map, Option, None, Some, option_and_then, refl, sym, ap, subst, ◌∙◌, arith, eqb-true}
 use Rattle.std.specs.Prelude.{nat_le, is_some}
 use Rattle.std.specs.List.{AllByRecursion, list_all}
-use Rattle.std.specs.Int.{w8, w16}
+use Rattle.std.specs.Int.{w16}
 use Rattle.std.specs.Ordering.{is_lt, eq_by_cmp}
 use Rattle.std.specs.FinMap as finite
 use Rattle.std.specs.FinMap.Entries.{find}
@@ -26,7 +26,7 @@ use Rattle.object_defs.specs.declared.path.InstancePath.{InstancePath}
 use Rattle.object_defs.specs.declared.path.ResourcePath.{ResourcePath}
 use Rattle.object_defs.proofs.LookUps.{resource_absent, definition_of-with_resource_other}
 use Rattle.object_defs.proofs.PathOrder.{path_total, instance_total}
-use Rattle.instance_store.specs.Stored.{Stored, lies_in, resource_path, value_at, value_count, parts_of}
+use Rattle.instance_store.specs.Stored.{lies_in, resource_path, value_at, value_count}
 use Rattle.value_layout.specs.Layout.{number_of, value}
 use Rattle.value_layout.specs.Layout as fields
 use Rattle.value_layout.proofs.Good.{path_good, value_good}
@@ -337,11 +337,10 @@ unfolding values
 values_good c k built same_catalogue same_places =
     let es = values_in c in
     let h : HasValues k.catalogue k.store.instances es =
-            subst (λ (t : List ObjectDef). HasValues t k.store.instances es) (sym same_catalogue) (subst (λ (m : Places). HasValues c.catalogue m es) (sym same_places) (has_values c built)) in
-    (
+    subst (λ (t : List ObjectDef). HasValues t k.store.instances es) (sym same_catalogue) (subst (λ (m : Places). HasValues c.catalogue m es) (sym same_places) (has_values c built)) in (
       number_good w16 (length es) (omega (arith, h.few)),
       each_good (layout.entry k) es [] es refl (λ front e back is.
-      entry_good k front e back (subst (Ascends path_cmp (λ (b : Entry). b.0)) is (map_ascends path_total c.store.values)) (subst (HasValues k.catalogue k.store.instances) is h)),
+          entry_good k front e back (subst (Ascends path_cmp (λ (b : Entry). b.0)) is (map_ascends path_total c.store.values)) (subst (HasValues k.catalogue k.store.instances) is h)),
     )
 
 -- ---- what their writer asks for

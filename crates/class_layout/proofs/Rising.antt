@@ -1,6 +1,5 @@
 -- Entries whose keys ascend: their front, and a map with one entry more.
-use Rattle.std.proofs.Common.{◌≡◌, ℕ, Bool, true, false, cond, ◌&&◌, List, [], ◌∷◌, ◌++◌, map, Option, None, Some, Ordering, refl, sym, ap, subst, ◌∙◌}
-use Rattle.std.proofs.Math.Dec.{T}
+use Rattle.std.proofs.Common.{◌≡◌, true, cond, List, [], ◌∷◌, ◌++◌, map, None, Some, Ordering, refl, sym, ap, subst, ◌∙◌}
 use Rattle.std.specs.List.{AllByRecursion, list_all}
 use Rattle.std.specs.Ordering.{is_lt, is_eq}
 use Rattle.std.specs.declared.cmp.Ordering.TheVariants.{Less, Equal, Greater}
@@ -9,7 +8,7 @@ use Rattle.std.specs.FinMap as finite
 use Rattle.std.specs.FinMap.{FinMap}
 use Rattle.std.specs.FinMap.Entries.{put, by_order, below_all, is_sorted, find}
 use Rattle.class_layout.proofs.Between.{IsOneMore, behind_head, all_of}
-use Rattle.class_layout.proofs.Ordered.{both_true, and_true, is_true, true_is, greater}
+use Rattle.class_layout.proofs.Ordered.{both_true, and_true, true_is, greater}
 
 -- each key is below those behind it
 abbrev pub Ascends : {A K : Type 0} → (K → K → Ordering) → (A → K) → List A → Type 0

@@ -1,4 +1,3 @@
-use Rattle.std.proofs.Common.{take}
 use Rattle.std.proofs.lemmas.List.{get_or_default}
 use Rattle.byte_layout.proofs.Written.{writes_on, all_written}
 use Rattle.class_layout.specs.Layout as layout
