@@ -129,7 +129,7 @@ impl<'a> Fleet<'a> {
         let Some(step) = self.next_step(device) else {
             return Err(CommitFault::NotEnabled);
         };
-        let at = usize::from(device); if at < 65536 { return Err(CommitFault::Spent); }
+        let at = usize::from(device);
         let place = self.made[at];
         self.spent = true;
         let outputs = perform(self.alloc, &mut self.devices[at], step)?;
