@@ -1,6 +1,6 @@
 //! Texts and their scenarios; and refused lines, each cause in its place.
 
-use crate::{AsmFault, assemble};
+use crate::{AsmFault, assemble, texts_denote};
 use device_machine::Event;
 use lwm2m_values::Value;
 use object_defs::Path;
@@ -19,6 +19,7 @@ const READ: [u8; 10] = [0x40, 1, 0, 1, 0xB1, 0x33, 1, 0x30, 1, 0x39];
 fn assembles_the_device_that_is_asked_for_its_battery_level(
     rt: HostRuntime,
 ) -> Result<(), Fail> {
+    texts_denote();
     let scenario = assemble(rt.alloc(), BATTERY)?;
     assert!(rt; scenario.class(1).is_none());
     let class = scenario.class(0).ok_or("a class")?;
@@ -42,7 +43,7 @@ const EVERY: &str = "# a bench\n\nscenario 1\nclass # the first\naccount 5\nacco
     recv 5 40aB\nclass\ninstance 5 0\ntick 86400\nput /3/0/9 integer 5\nfirmware 9\npost 255\nneed 0 1000000\ndevice 1\nneed 7 1";
 
 #[test]
-fn takes_every_statement(rt: HostRuntime) -> Result<(), Fail> {
+fn takes_every_statement_of_a_class(rt: HostRuntime) -> Result<(), Fail> {
     let scenario = assemble(rt.alloc(), EVERY)?;
     let class = scenario.class(0).ok_or("a class")?;
     assert_eq!(rt; class.accounts(), [1, 5].as_slice());
@@ -51,30 +52,54 @@ fn takes_every_statement(rt: HostRuntime) -> Result<(), Fail> {
     assert!(rt; matches!(class.store().get(path), Some(Value::Whole(-7))));
     let class = scenario.class(1).ok_or("a class")?;
     assert_eq!(rt; class.store().instances(5), [0].as_slice());
+    Ok(())
+}
+
+/// The keyword of the step that stands in the text.
+fn keyword_of(step: &Step) -> &'static str {
+    match step {
+        Step::Event(Event::Recv { server: 5, .. }) => "recv",
+        Step::Event(Event::Tick(86_400)) => "tick",
+        Step::Event(Event::Put {
+            path: Path::Resource(3, 0, 9),
+            ..
+        }) => "put",
+        Step::Event(Event::Firmware(9)) => "firmware",
+        Step::Post(255) => "post",
+        Step::Need(0, 1_000_000) => "need",
+        _ => "another",
+    }
+}
+
+#[test]
+fn takes_every_statement_of_a_device(rt: HostRuntime) -> Result<(), Fail> {
+    let scenario = assemble(rt.alloc(), EVERY)?;
     assert_eq!(rt; scenario.rows(), 2);
     let (class, steps) = scenario.row(0).ok_or("a row")?;
     assert_eq!(rt; class, 0);
-    assert!(rt;
-        matches!(
-            steps,
-            [
-                Step::Event(Event::Recv { server: 5, .. }),
-                Step::Event(Event::Tick(86_400)),
-                Step::Event(Event::Put {
-                    path: Path::Resource(3, 0, 9),
-                    value: Value::Whole(5)
-                }),
-                Step::Event(Event::Firmware(9)),
-                Step::Post(255),
-                Step::Need(0, 1_000_000)
-            ]
-        )
-    );
+    assert_eq!(rt; steps.len(), 6);
+    for (place, keyword) in [
+        (0, "recv"),
+        (1, "tick"),
+        (2, "put"),
+        (3, "firmware"),
+        (4, "post"),
+        (5, "need"),
+    ] {
+        let step = steps.get(place).ok_or("a step")?;
+        assert!(rt; keyword_of(step) == keyword, "{keyword}");
+    }
     let (class, steps) = scenario.row(1).ok_or("a row")?;
     assert_eq!(rt; class, 1);
     assert!(rt; matches!(steps, [Step::Need(7, 1)]));
+    Ok(())
+}
+
+#[test]
+fn takes_a_scenario_without_classes(rt: HostRuntime) -> Result<(), Fail> {
     let empty = assemble(rt.alloc(), "scenario 1\n")?;
-    assert!(rt; empty.class(0).is_none() && empty.rows() == 0);
+    assert!(rt; empty.class(0).is_none());
+    assert_eq!(rt; empty.rows(), 0);
     Ok(())
 }
 
@@ -242,7 +267,6 @@ fn refuses_counts_and_lengths_last(rt: HostRuntime) -> Result<(), Fail> {
     Ok(())
 }
 
-/// A text grows by its lines: the 40th part of it is here, as many lines as a row has steps.
 #[test]
 fn takes_as_many_steps_as_a_row_has(rt: HostRuntime) -> Result<(), Fail> {
     let alloc = rt.alloc();
