@@ -3,6 +3,7 @@ mod Counting
 mod Living
 mod Naming
 mod Places
+mod Putting
 mod Refusing
 mod Repeating
 mod Sending

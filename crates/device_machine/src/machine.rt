@@ -1,6 +1,9 @@
 //! All that a device keeps, and what it does on an event.
 
-ghost use Rattle.std.specs.Prelude.{◌≡◌, ◌+◌, ◌<◌, ◌^◌, [], IfOk, IsFalse};
+ghost use Rattle.std.specs.Prelude.{◌≡◌, ◌+◌, ◌<◌, ◌^◌, [], true, false, Some, IfOk, OnOk, IsFalse};
+ghost use Rattle.instance_store.specs.Stored.{has_instance};
+ghost use Rattle.device_template.specs.Values.{instance_at, is_one_too_many, with_value_at};
+ghost use Rattle.device_requests.specs.Managed.{with_stored};
 ghost use Rattle.object_defs.specs.Path.{full_path};
 ghost use Rattle.device_machine.specs.Class.{start_of};
 ghost use Rattle.device_machine.specs.Reactions.{Gives, on_firmware, on_put, on_tick, passes_end, reaction_to};
@@ -17,10 +20,10 @@ use crate::output::{Output, Outputs};
 use crate::recorded::Recorded;
 use device_requests::{Act, Client};
 use device_template::{Template, misses};
-use instance_store::Store;
+use instance_store::{Store, StoreFault};
 use lwm2m_values::Value;
 use notifier::{Attributes, Observations};
-use object_defs::Path;
+use object_defs::{FullPath, Path};
 use observing::{Outbox, seconds};
 use std::alloc::{AllocError, Global};
 use std::marker::Model;
@@ -50,6 +53,19 @@ impl Model for Machine {
       kept = record { client = c.client; observations = c.observations; clock = c.clock; next_id = c.next_id };
       recorded = c.recorded.items;
     } };
+}
+
+/// Sets a value whose instance is there, and which is not one part too many.
+fn put_fitting(client: &mut Client, path: FullPath, value: Value) -> Result<(), AllocError>
+    requires there { has_instance client.old.store (instance_at path) ≡ true }
+    requires room { is_one_too_many client.old.store path ≡ false }
+    ensures { OnOk result (client.new ≡ with_stored client.old (with_value_at client.old.store (Some path) value)) }
+{
+    match client.put(path, value) {
+        Ok(()) => Ok(()),
+        Err(StoreFault::Memory) => Err(AllocError),
+        Err(_) => unreachable!(),
+    }
 }
 
 impl Machine {
@@ -134,6 +150,7 @@ impl Machine {
     }
 
     /// Sets a value where it fits.
+    #[tactic(auto, using(crate::proofs::Putting::has_its_instance, crate::proofs::Putting::has_room))]
     fn put(&mut self, path: Path, value: &Value) -> Result<Outputs, AllocError>
         ensures { IfOk result (λ o. Gives o self.new (on_put self.old (full_path path) value.now)) }
     {
@@ -144,10 +161,8 @@ impl Machine {
             return Outputs::one(self.alloc, Output::Act(Act::Missed));
         }
         let value = value.copy()?;
-        match self.client.put(full, value) {
-            Ok(()) => Ok(Outputs::none(self.alloc)),
-            Err(_) => Err(AllocError),
-        }
+        put_fitting(&mut self.client, full, value)?;
+        Ok(Outputs::none(self.alloc))
     }
 
     /// Ends a download or an update of the firmware, where there is one.
