@@ -1,10 +1,10 @@
 //! How Firmware Update stands at the start.
 
-ghost use Rattle.std.specs.Prelude.{◌≡◌, OnOk};
-ghost use Rattle.instance_store.specs.Stored.{with_value};
+ghost use Rattle.std.specs.Prelude.{◌≡◌, true, OnOk};
+ghost use Rattle.instance_store.specs.Stored.{has_instance, with_value};
 ghost use Rattle.device_template.specs.Class.{firmware, with_idle_firmware};
 
-use instance_store::Store;
+use instance_store::{Store, StoreFault};
 use lwm2m_values::{Text, Value};
 use object_defs::{InstancePath, ResourcePath};
 use std::alloc::{AllocError, Global};
@@ -28,6 +28,7 @@ pub(crate) fn set_firmware_idle(alloc: Global, store: &mut Store) -> Result<(), 
 
 /// Sets a resource of the instance of Firmware Update.
 fn set_firmware(store: &mut Store, resource: u16, value: Value) -> Result<(), AllocError>
+    requires { has_instance store.old (record { object = 5; instance = 0 }) ≡ true }
     ensures { OnOk result (store.new ≡ with_value store.old (firmware resource) value) }
 {
     let path = ResourcePath {
@@ -37,6 +38,7 @@ fn set_firmware(store: &mut Store, resource: u16, value: Value) -> Result<(), Al
     };
     match store.put(path, value) {
         Ok(()) => Ok(()),
-        Err(_) => Err(AllocError),
+        Err(StoreFault::Memory) => Err(AllocError),
+        Err(_) => unreachable!(),
     }
 }

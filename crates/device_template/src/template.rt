@@ -1,11 +1,11 @@
-ghost use Rattle.std.specs.Prelude.{◌≡◌, ◌≢◌, ◌==◌, [], true, IfOk, IfErr, OnOk, OnErr, None, Some, Ok, Err};
+ghost use Rattle.std.specs.Prelude.{◌≡◌, ◌≢◌, ◌==◌, [], true, false, IfOk, IfErr, OnOk, OnErr, None, Some, Ok, Err};
 ghost use Rattle.std.specs.List.Sorted.{IsStrictlyIncreasing};
-ghost use Rattle.instance_store.specs.Stored.{empty, with_instance, with_value};
+ghost use Rattle.instance_store.specs.Stored.{empty, has_instance, with_instance, with_value};
 ghost use Rattle.object_defs.specs.Path.{full_path};
 ghost use Rattle.device_template.specs.Class.{account_fault, definition_fault, empty_class, instance_fault, kind_taken, may_stand, object_fault, value_fault, value_fault_at, with_account, with_catalogue, with_idle_firmware, with_store};
 ghost use Rattle.device_template.specs.Built.{IsBuilt, IsShort};
 ghost use Rattle.lwm2m_values.specs.Value.{IsGood};
-ghost use Rattle.device_template.specs.Values.{has_kind, is_within_limits, with_value_at};
+ghost use Rattle.device_template.specs.Values.{has_kind, instance_at, is_one_too_many, is_within_limits, with_value_at};
 ghost use Rattle.lwm2m_values.specs.declared.kind.ValueKind.{ValueKind};
 ghost use Rattle.lwm2m_values.specs.declared.value.Value.{Value};
 ghost use Rattle.object_defs.specs.Vendor.{with_object, with_resource};
@@ -14,7 +14,7 @@ use crate::accounts::Accounts;
 use crate::fault::TemplateFault;
 use crate::firmware::set_firmware_idle;
 use crate::values::{fits, has_all_parts, has_place, plain, put};
-use instance_store::Store;
+use instance_store::{Store, StoreFault};
 use lwm2m_values::{Value, ValueKind};
 use object_defs::{Catalog, FullPath, InstancePath, Path, ResourceDef};
 use std::alloc::{AllocError, Global};
@@ -189,7 +189,8 @@ impl Template {
         }
         match self.store.add_instance(place) {
             Ok(()) => Ok(()),
-            Err(_) => Err(TemplateFault::Memory),
+            Err(StoreFault::Memory) => Err(TemplateFault::Memory),
+            Err(_) => unreachable!(),
         }
     }
 
@@ -197,6 +198,8 @@ impl Template {
         ensures fault { result ≡ value_fault_at self.now path value.now }
         ensures short { IsShort path }
         ensures good { result ≡ None → IsGood value.now }
+        ensures there { result ≡ None → has_instance self.now.store (instance_at path) ≡ true }
+        ensures room { result ≡ None → is_one_too_many self.now.store path ≡ false }
     {
         if !fits(&self.catalog, path, value) {
             return Some(TemplateFault::Range);
@@ -251,7 +254,8 @@ impl Template {
         }
         match put(&mut self.store, full, value) {
             Ok(()) => Ok(()),
-            Err(_) => Err(TemplateFault::Memory),
+            Err(StoreFault::Memory) => Err(TemplateFault::Memory),
+            Err(_) => unreachable!(),
         }
     }
 
