@@ -1,5 +1,5 @@
 -- Each statement of a class is one that words can say.
-use Rattle.std.proofs.Common.{◌≡◌, ℕ, ◌<◌, List, drop, map, length, Option, None, Some, sym, subst}
+use Rattle.std.proofs.Common.{ℕ, ◌<◌, drop, map, length, Option, None, Some, sym, subst}
 use Rattle.std.specs.Prelude.{IfSome}
 use Rattle.std.specs.List.{AllByRecursion, flat_map}
 use Rattle.std.specs.FinMap as finite

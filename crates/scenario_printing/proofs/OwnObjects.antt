@@ -10,7 +10,6 @@ use Rattle.object_defs.specs.Vendor.{inserted, is_vendor, new_object, resource_f
 use Rattle.object_defs.specs.declared.definition.ObjectDef.{ObjectDef}
 use Rattle.object_defs.specs.declared.definition.ResourceDef.{ResourceDef}
 use Rattle.device_template.specs.Class.{Class, definition_fault, fault_of}
-use Rattle.class_layout.proofs.Items.{object_vendor}
 use Rattle.scenario_statements.specs.Spelling.{IsWithin}
 use Rattle.scenario_printing.proofs.Each.{chosen, each_inserted}
 

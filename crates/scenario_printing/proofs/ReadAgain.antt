@@ -1,16 +1,15 @@
 -- The lines of statements are found again, and are read as these statements.
-use Rattle.std.proofs.Common.{◌≡◌, ℕ, List, [], ◌∷◌, ◌++◌, map, Result, Ok, Some, refl, sym, ap, ◌∙◌}
-use Rattle.std.specs.List.{AllByRecursion, flat_map}
+use Rattle.std.proofs.Common.{◌≡◌, ℕ, List, [], ◌∷◌, ◌++◌, map, Ok, refl, sym, ap, ◌∙◌}
+use Rattle.std.specs.List.{AllByRecursion}
 use Rattle.std.proofs.lemmas.List.Folds.{flat_map-map}
-use Rattle.scenario_words.specs.declared.cause.Cause.{Cause}
-use Rattle.scenario_words.specs.Words.{lines, words, ended_line, IsLine}
+use Rattle.scenario_words.specs.Words.{lines, ended_line, IsLine}
 use Rattle.scenario_words.specs.Reading.{◌>>=◌}
 use Rattle.scenario_words.proofs.WordLaws.{lines_again}
 use Rattle.scenario_statements.specs.declared.statement.Statement.{Statement}
 use Rattle.scenario_statements.specs.Grammar.{statement_of}
-use Rattle.scenario_statements.specs.Spelling.{IsSayable, line_of, spelled}
+use Rattle.scenario_statements.specs.Spelling.{IsSayable, line_of}
 use Rattle.scenario_statements.proofs.Again.{words_of_line, line_alone, statement_again}
-use Rattle.scenario_printing.specs.Canonical.{printed_line, printed_lines}
+use Rattle.scenario_printing.specs.Canonical.{printed_lines}
 use Rattle.scenario_printing.specs.Reading.{behind, said_in, said_by}
 use Rattle.scenario_printing.proofs.Each.{each_map}
 
