@@ -58,6 +58,9 @@ fn observe(
 ) -> Result<(), Fail> {
     let answer = client.read(1, LEVEL, None)?;
     let report = report_of(client, LEVEL, answer.payload);
+    if token.len() > 8 {
+        return Err(Fail::from("a token has 8 bytes at most"));
+    }
     let token = Bytes::from_slice(alloc, token)?;
     observations.register(1, token, LEVEL, None, report, clock, 10, false)?;
     Ok(())

@@ -54,7 +54,10 @@ pub(crate) fn add_instance(class: &mut Template, place: InstancePath) -> Result<
 fn has_place(class: &Template, object: u16, instance: u16) -> bool
     ensures { result ≡ has_place class.now (record { object = object; instance = instance }) }
 {
-    has_object(class, object) && class.store().has_instance(InstancePath { object, instance })
+    has_object(class, object)
+        && class
+            .store()
+            .has_instance(InstancePath { object, instance })
 }
 
 /// Whether the instance that the path names was stated.

@@ -10,15 +10,14 @@ use std::alloc::Global;
 use std::test::Fail;
 
 /// A class of server 1, whose battery is at 100, and its device, which is asked for that.
-const BATTERY: &str = "scenario 1\nclass\naccount 1\ninstance 3 0\nvalue /3/0/9 integer 100\ndevice 0\nread 1 con 1 - /3/0/9 any\n";
+const BATTERY: &str =
+    "scenario 1\nclass\naccount 1\ninstance 3 0\nvalue /3/0/9 integer 100\ndevice 0\nread 1 con 1 - /3/0/9 any\n";
 
 /// A confirmable GET of the battery level, /3/0/9, with message ID 1.
 const READ: [u8; 10] = [0x40, 1, 0, 1, 0xB1, 0x33, 1, 0x30, 1, 0x39];
 
 #[test]
-fn assembles_the_device_that_is_asked_for_its_battery_level(
-    rt: HostRuntime,
-) -> Result<(), Fail> {
+fn assembles_the_device_that_is_asked_for_its_battery_level(rt: HostRuntime) -> Result<(), Fail> {
     texts_denote();
     let scenario = assemble(rt.alloc(), BATTERY)?;
     assert!(rt; scenario.class(1).is_none());
@@ -38,7 +37,8 @@ fn assembles_the_device_that_is_asked_for_its_battery_level(
 
 /// Every statement, with comments, spaces, a line without words and no LF at the end; the second class is begun behind a device,
 /// whose steps go on behind it.
-const EVERY: &str = "# a bench\n\nscenario 1\nclass # the first\naccount 5\naccount  1\nobject 10250\n\
+const EVERY: &str =
+    "# a bench\n\nscenario 1\nclass # the first\naccount 5\naccount  1\nobject 10250\n\
     instance 10250 0\ndef 0 rw single mandatory integer\ndef 1 e single optional text\nvalue /10250/0/0 integer -7\n  device 0\n\
     recv 5 40aB\nclass\ninstance 5 0\ntick 86400\nput /3/0/9 integer 5\nfirmware 9\npost 255\nneed 0 1000000\ndevice 1\nneed 7 1";
 
@@ -60,10 +60,12 @@ fn keyword_of(step: &Step) -> &'static str {
     match step {
         Step::Event(Event::Recv { server: 5, .. }) => "recv",
         Step::Event(Event::Tick(86_400)) => "tick",
-        Step::Event(Event::Put {
-            path: Path::Resource(3, 0, 9),
-            ..
-        }) => "put",
+        Step::Event(
+            Event::Put {
+                path: Path::Resource(3, 0, 9),
+                ..
+            },
+        ) => "put",
         Step::Event(Event::Firmware(9)) => "firmware",
         Step::Post(255) => "post",
         Step::Need(0, 1_000_000) => "need",
@@ -127,7 +129,11 @@ fn refuses_the_first_line_that_is_wrong(rt: HostRuntime) {
         ("scenario 1\ninstance 3 0", 2, Cause::Missing),
         ("scenario 1\nvalue /3 integer 1", 2, Cause::Missing),
         ("scenario 1\nput /3 integer 1", 2, Cause::Missing),
-        ("scenario 1\nupdate 1 con 1 - /3/0/9 any -", 2, Cause::Missing),
+        (
+            "scenario 1\nupdate 1 con 1 - /3/0/9 any -",
+            2,
+            Cause::Missing,
+        ),
         ("scenario 1\nclass\ndevice 1", 3, Cause::Missing),
         ("scenario 1\nclass\ndevice 256", 3, Cause::Missing),
         ("scenario 1\nclass\ndevice 0\ntick 86401", 4, Cause::Range),
@@ -173,7 +179,9 @@ fn behind_device(alloc: Global, line: &str) -> Result<String, Fail> {
 
 /// A text that begins with a class, which has a vendor's object with a resource, and Device.
 fn in_class(alloc: Global, line: &str) -> Result<String, Fail> {
-    let text = format!(in alloc; "scenario 1\nclass\nobject 10241\ndef 0 r single optional text\ninstance 3 0\n{line}")?;
+    let text = format!(in alloc;
+        "scenario 1\nclass\nobject 10241\ndef 0 r single optional text\ninstance 3 0\n{line}"
+    )?;
     Ok(text)
 }
 

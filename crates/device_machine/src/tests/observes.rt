@@ -195,39 +195,6 @@ fn registers_renews_and_ends(rt: HostRuntime) -> Result<(), Fail> {
     Ok(())
 }
 
-#[test]
-fn observes_under_tokens_of_0_and_8_bytes(rt: HostRuntime) -> Result<(), Fail> {
-    let alloc = rt.alloc();
-    let mut device = Device::start(&template(alloc)?)?;
-    take(
-        &rt,
-        alloc,
-        &mut device,
-        &[
-            (Step::Recv("4001000A60513301300139"), "6045000A6060FF313030"),
-            (
-                Step::Recv("4801000B010203040506070860513301300139"),
-                "6845000B01020304050607086060FF313030",
-            ),
-            (Step::Put(90), ""),
-            // both are told, in the order of registration
-            (
-                Step::Tick(1),
-                "50450000610160FF3930584500010102030405060708610160FF3930",
-            ),
-            (Step::Recv("4001000C6101513301300139"), "6045000CC0FF3930"),
-            (Step::Put(80), ""),
-            (Step::Tick(1), "584500020102030405060708610260FF3830"),
-            (
-                Step::Recv("4801000D01020304050607086101513301300139"),
-                "6845000D0102030405060708C0FF3830",
-            ),
-            (Step::Put(70), ""),
-            (Step::Tick(1), ""),
-        ],
-    )
-}
-
 /// A device with object 10250 of one mandatory number, and an instance of it with 7.
 fn numbered(alloc: Global) -> Result<Device, Fail> {
     let mut template = Template::new(alloc)?;

@@ -1,6 +1,6 @@
 //! What a Create and a Delete answer and change.
 
-ghost use Rattle.std.specs.Prelude.{◌≡◌, ◌≢◌, ◌∷◌, [], length, IfOk, OnOk, Some};
+ghost use Rattle.std.specs.Prelude.{◌≡◌, ◌≢◌, ◌∷◌, [], false, length, IfOk, OnOk, Some};
 ghost use Rattle.device_requests.specs.Answers.{Leaves};
 ghost use Rattle.device_requests.specs.Creates.{create_outcome, create_unless, is_tlv, lacks_room, newborn, newborn_lines};
 ghost use Rattle.device_requests.specs.Deletes.{delete_lines, delete_outcome};
@@ -8,6 +8,7 @@ ghost use Rattle.device_requests.specs.Managed.{with_stored};
 ghost use Rattle.device_requests.specs.Options.{content_format_of};
 ghost use Rattle.device_requests.specs.Targets.{defined, place_of};
 ghost use Rattle.instance_lifecycle.specs.Creations.{with_created};
+ghost use Rattle.instance_store.specs.Stored.{has_instance};
 ghost use Rattle.object_defs.specs.Lines.{first_line};
 
 use crate::access::rights_at;
@@ -18,6 +19,7 @@ use crate::options::content_format_of;
 use crate::targets::{defined, exists};
 use coap_codec::Message;
 use instance_lifecycle::{has_no_room, number_for};
+use instance_store::StoreFault;
 use object_defs::{InstancePath, Path};
 use resource_formats::{Assignments, creation_given};
 use std::alloc::AllocError;
@@ -41,14 +43,16 @@ impl Client {
         has_no_room(&self.store, self.account_count(), resources, place, given)
     }
 
-    /// Makes an instance with what it is given.
+    /// Makes an instance that is not there, and for which there is room, with what it is given.
     fn make(
         &mut self,
         server: u16,
         place: InstancePath,
         given: Assignments,
     ) -> Result<(), AllocError>
-        requires { place.object ≢ 2 }
+        requires other { place.object ≢ 2 }
+        requires free { has_instance self.old.store place ≡ false }
+        requires room { lacks_room self.old place.object (Some (record { number = place.instance; given = given })) ≡ false }
         ensures { OnOk result (self.new ≡ with_stored self.old (with_created self.old.store (length self.old.accounts) server
             (defined self.old.catalogue place.object) (place_of place.object place.instance) given)) }
     {
@@ -63,18 +67,20 @@ impl Client {
             given,
         ) {
             Ok(()) => Ok(()),
-            Err(_) => Err(AllocError),
+            Err(StoreFault::Memory) => Err(AllocError),
+            Err(_) => unreachable!(),
         }
     }
 
-    /// Makes an instance with what it is given, where there is room.
+    /// Makes an instance that is not there with what it is given, where there is room.
     fn place(
         &mut self,
         server: u16,
         place: InstancePath,
         given: Assignments,
     ) -> Result<Answer, AllocError>
-        requires { place.object ≢ 2 }
+        requires other { place.object ≢ 2 }
+        requires free { has_instance self.old.store place ≡ false }
         ensures { IfOk result (λ a. let new = Some (record { number = place.instance; given = given }) in
             Leaves a self.new (create_unless (first_line ((lacks_room self.old place.object new, Code.InternalServerError) ∷ []))
             self.old server place.object new)) }
@@ -87,6 +93,7 @@ impl Client {
     }
 
     /// Makes an instance of what a payload gives, where that is good.
+    #[tactic(auto, using(crate::proofs::Present::number_free))]
     fn create_in(&mut self, server: u16, object: u16, payload: &[u8]) -> Result<Answer, AllocError>
         requires { object ≢ 2 }
         ensures { IfOk result (λ a. let new = newborn self.old object payload.now in
@@ -103,7 +110,12 @@ impl Client {
     }
 
     /// Makes an instance of an object, where no line refuses it.
-    pub(super) fn create(&mut self, server: u16, path: Path, message: &Message) -> Result<Answer, AllocError>
+    pub(super) fn create(
+        &mut self,
+        server: u16,
+        path: Path,
+        message: &Message,
+    ) -> Result<Answer, AllocError>
         ensures { IfOk result
             (λ a. Leaves a self.new (create_outcome self.old server path (content_format_of message.now.options) message.now.payload)) }
     {
@@ -145,6 +157,7 @@ impl Client {
     }
 
     /// Deletes an instance, where no line refuses it.
+    #[tactic(auto, using(crate::proofs::Present::delete_has))]
     pub(super) fn delete(&mut self, server: u16, path: Path) -> Result<Answer, AllocError>
         ensures { IfOk result (λ a. Leaves a self.new (delete_outcome self.old server path)) }
     {

@@ -1,10 +1,11 @@
 //! What a Write, an Execute and a Write-Attributes answer and change.
 
-ghost use Rattle.std.specs.Prelude.{◌≡◌, ◌∷◌, [], not, IfOk};
+ghost use Rattle.std.specs.Prelude.{◌≡◌, ◌∷◌, [], true, not, IfOk};
 ghost use Rattle.device_requests.specs.Answers.{Leaves};
 ghost use Rattle.device_requests.specs.AttributeWrites.{agreed, annotate_unless, attributes_outcome};
 ghost use Rattle.device_requests.specs.Executes.{argument_lines, execute_lines, execute_outcome};
 ghost use Rattle.device_requests.specs.Options.{content_format_of, queries_of};
+ghost use Rattle.device_requests.specs.Targets.{has_place};
 ghost use Rattle.device_requests.specs.Writes.{values_exceed, value_lines, values_written, give, values_given, payload_lines, new_values, write_outcome, write_unless};
 ghost use Rattle.std.specs.Option.{is_some, unwrap_or};
 ghost use Rattle.firmware_update.specs.Firmware.{firmware_after};
@@ -28,8 +29,10 @@ use resource_formats::{Format, Mode, are_arguments, format_for};
 use std::alloc::AllocError;
 
 impl Client {
-    /// Sets what a payload gives, where no resource would have more parts than it may.
+    /// Sets what a payload gives in an instance that is there, where no resource would have more parts
+    /// than it may.
     fn set(&mut self, mode: Mode, path: Path, values: NewValues) -> Result<Answer, AllocError>
+        requires { has_place self.old.store path ≡ true }
         ensures { IfOk result (λ a. Leaves a self.new
             (write_unless (first_line ((values_exceed mode self.old.catalogue self.old.store path values, Code.InternalServerError) ∷ []))
             self.old (values_written mode self.old.catalogue self.old.store path values))) }
@@ -53,7 +56,7 @@ impl Client {
         Ok(Answer::bare(self.alloc, Code::MethodNotAllowed))
     }
 
-    /// Writes what a payload of a format gives, where its values are good.
+    /// Writes what a payload of a format gives in an instance that is there, where its values are good.
     fn write_in(
         &mut self,
         mode: Mode,
@@ -61,6 +64,7 @@ impl Client {
         format: Format,
         payload: &[u8],
     ) -> Result<Answer, AllocError>
+        requires { has_place self.old.store path ≡ true }
         ensures { IfOk result (λ a. let values = values_given self.old.catalogue path payload.now format in
             Leaves a self.new (give (value_lines self.old mode path values) self.old mode path values)) }
     {
@@ -73,13 +77,15 @@ impl Client {
         }
     }
 
-    /// Writes what a payload gives, where its format is served and its values are good.
+    /// Writes what a payload gives in an instance that is there, where its format is served and its
+    /// values are good.
     fn write_payload(
         &mut self,
         mode: Mode,
         path: Path,
         message: &Message,
     ) -> Result<Answer, AllocError>
+        requires { has_place self.old.store path ≡ true }
         ensures { IfOk result (λ a. let number = content_format_of message.now.options in
             Leaves a self.new (give (payload_lines self.old mode path number message.now.payload) self.old mode path
             (new_values self.old path number message.now.payload))) }
@@ -92,6 +98,7 @@ impl Client {
     }
 
     /// Writes what a payload gives, where no line refuses it.
+    #[tactic(auto, using(crate::proofs::Present::target_has))]
     pub(super) fn write(
         &mut self,
         server: u16,
@@ -153,7 +160,13 @@ impl Client {
     }
 
     /// Executes a resource, where no line refuses it.
-    pub(super) fn execute(&mut self, server: u16, path: Path, message: &Message) -> Result<Answer, AllocError>
+    #[tactic(auto, using(crate::proofs::Present::execute_has))]
+    pub(super) fn execute(
+        &mut self,
+        server: u16,
+        path: Path,
+        message: &Message,
+    ) -> Result<Answer, AllocError>
         ensures { IfOk result
             (λ a. Leaves a self.new (execute_outcome self.old server path (content_format_of message.now.options) message.now.payload)) }
     {
