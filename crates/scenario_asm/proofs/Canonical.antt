@@ -11,8 +11,7 @@ use Rattle.scenario_printing.specs.Reading.{IsScenario, behind, said_in}
 use Rattle.scenario_printing.proofs.ReadAgain.{said_again}
 use Rattle.scenario_printing.proofs.Sayable.{all_said}
 use Rattle.scenario_asm.specs.Draft.{Draft, closed, nothing}
-use Rattle.scenario_asm.specs.Effect.{effect}
-use Rattle.scenario_asm.specs.Denotes.{AreSaid, Denotes, Lead}
+use Rattle.scenario_asm.specs.Denotes.{AreSaid, Lead}
 use Rattle.scenario_asm.specs.Denotes.AreSaid.{done, blank, stated}
 use Rattle.scenario_asm.specs.Text.{assembled}
 use Rattle.scenario_asm.proofs.Denoting.{denotes_so, wordless}

@@ -1,5 +1,5 @@
 -- The statements of a class make it.
-use Rattle.std.proofs.Common.{◌≡◌, ℕ, zero, suc, ◌+◌, ◌<◌, ◌≤◌, Bool, true, false, cond, not, ◌&&◌, eqb, ltb, List, [], ◌∷◌, ◌++◌, map, length, Option, None, Some, Result, Ok, Err, option_map, option_and_then, refl, sym, ap, subst, ◌∙◌, append_assoc, arith}
+use Rattle.std.proofs.Common.{◌≡◌, ℕ, zero, suc, ◌+◌, ◌<◌, ◌≤◌, Bool, true, false, cond, not, ◌&&◌, eqb, ltb, List, [], ◌∷◌, ◌++◌, map, length, Option, None, Some, Ok, option_map, refl, sym, ap, subst, ◌∙◌, append_assoc, arith}
 use Rattle.std.specs.Prelude.{is_some, nat_le, nat_lt}
 use Rattle.std.specs.List.{AllByRecursion, flat_map, list_all}
 use Rattle.std.specs.Ordering.{is_lt}
@@ -7,6 +7,7 @@ use Rattle.std.proofs.lemmas.Bool.{eqb-true}
 use Rattle.std.proofs.lemmas.Bool.Decides.{nat_tests}
 use Rattle.std.proofs.lemmas.List.{append-nil}
 use Rattle.byte_layout.specs.Part.{Part, each}
+use Rattle.byte_layout.proofs.Fields.{number_below}
 use Rattle.lwm2m_values.specs.declared.kind.ValueKind.{ValueKind}
 use Rattle.lwm2m_values.specs.declared.kind.ValueKind.TheVariants as kinds
 use Rattle.lwm2m_values.specs.declared.value.Value.{Value}
@@ -26,13 +27,13 @@ use Rattle.instance_store.specs.Stored.{has_instance, instances_of, value_at, va
 use Rattle.value_layout.specs.Layout.{kind_numbered, number_of, of_kind, opaque, text, value}
 use Rattle.std.specs.Int.{w8}
 use Rattle.value_layout.specs.Definition.{resource, resources}
-use Rattle.device_template.specs.Class.{Class, account_fault, definition_fault, empty_class, instance_fault, kind_taken, kind_taken_by, object_fault, plain, value_fault, value_fault_at, may_stand, with_account, with_catalogue, with_store}
+use Rattle.device_template.specs.Class.{Class, account_fault, empty_class, instance_fault, kind_taken, kind_taken_by, object_fault, plain, value_fault, value_fault_at, may_stand, with_account, with_catalogue, with_store}
 use Rattle.device_template.specs.Values.{fits_object, has_all_parts, has_place, is_within_limits, with_value_at}
 use Rattle.device_template.specs.Built.{IsBuilt}
 use Rattle.device_template.specs.declared.fault.TemplateFault.{TemplateFault}
 use Rattle.device_template.specs.declared.fault.TemplateFault.TheVariants as template
 use Rattle.class_layout.specs.Layout.{account, accounts, class, behind_accounts, behind_instances, behind_objects, defined, entry, instance, instances, instances_in, is_taken, object, object_id, objects, objects_in, value_path, values, values_in, with_accounts, with_instances, with_objects, with_values}
-use Rattle.class_layout.proofs.Defined.{defined_end, is_above, not_refused_at}
+use Rattle.class_layout.proofs.Defined.{defined_end, not_refused_at}
 use Rattle.class_layout.proofs.Filling.{instance_added as more_instances, instances_itself, instances_none, value_added as more_values, values_itself, values_none}
 use Rattle.class_layout.proofs.GoodClass.{class_good}
 use Rattle.class_layout.proofs.Items.{instance_made, object_vendor, value_made}
@@ -40,14 +41,12 @@ use Rattle.class_layout.proofs.Ordered.{both_true, inserted_end}
 use Rattle.scenario_image.specs.Layout.{path_to, path_with}
 use Rattle.scenario_image.specs.Script.{Script, class_fault}
 use Rattle.scenario_image.specs.declared.fault.ScenarioFault.TheVariants as scenario
-use Rattle.scenario_words.specs.declared.cause.Cause.{Cause}
 use Rattle.scenario_words.specs.Reading.{◌>>=◌}
-use Rattle.scenario_words.specs.ValueWords.{IsTooLong}
 use Rattle.scenario_statements.specs.declared.statement.Statement.{Statement}
 use Rattle.scenario_statements.specs.declared.statement.Statement.TheVariants as says
 use Rattle.scenario_printing.specs.Canonical.{of_class, of_object, of_value}
 use Rattle.scenario_asm.specs.Causes.{needs, scenario_cause, template_cause, unless}
-use Rattle.scenario_asm.specs.ClassLines.{account_added, definition_added, has_object, instance_added, is_stated, object_added, value_added, value_cause}
+use Rattle.scenario_asm.specs.ClassLines.{has_object, is_stated, value_cause}
 use Rattle.scenario_asm.specs.Draft.{Draft, closed}
 use Rattle.scenario_asm.specs.Effect.{class_begun, effect}
 use Rattle.scenario_asm.specs.Denotes.{Lead}
@@ -75,7 +74,7 @@ items_lead say part state P s o item (suc n) before (x ∷ xs) p good =
       opened s (state (before ++ x ∷ [])) o,
       one.0,
       subst (λ ys. Lead (opened s (state (before ++ x ∷ [])) o) (map say xs) (opened s (state ys) o)) (append_assoc before (x ∷ []) xs)
-      (items_lead say part state P s o item n (before ++ x ∷ []) xs one.1 good.1),
+          (items_lead say part state P s o item n (before ++ x ∷ []) xs one.1 good.1),
     )
 
 -- ---- accounts
@@ -112,8 +111,8 @@ instance_lead s o c before p same good =
     let more : instances_in u ≡ before ++ p ∷ [] = more_instances k p (ap (list_all (λ q. is_lt (instance_cmp q p))) same ∙ both.0) ∙ ap (λ xs. xs ++ p ∷ []) same in
     let made : u ≡ with_instances c (before ++ p ∷ []) = instance_made k u p refl ∙ ap (with_instances c) more in (
       ap (λ b. needs b (unless (option_map template_cause (instance_fault k p)) u) >>= (λ e. Ok (opened s e o))) (object_there k p free)
-      ∙ ap (λ f. unless (option_map template_cause f) u >>= (λ e. Ok (opened s e o))) free
-      ∙ ap (λ e. Ok (opened s e o)) made,
+          ∙ ap (λ f. unless (option_map template_cause f) u >>= (λ e. Ok (opened s e o))) free
+          ∙ ap (λ e. Ok (opened s e o)) made,
       sym (ap instances_in made) ∙ more,
     )
 
@@ -147,7 +146,7 @@ below_test n m h = grind (arith, nat_tests)
 
 short_text : (t : List ℕ) → text.Good t → nat_le (length t) 255 ≡ true
 unfolding text
-short_text t h = let below : length t < 256 = h.0.0 in up_to (length t) 255 below
+short_text t h = let below : length t < 256 = number_below w8 (length t) h.0.0 in up_to (length t) 255 below
 
 short_opaque : (b : List ℕ) → opaque.Good b → nat_le (length b) 1024 ≡ true
 unfolding opaque
@@ -279,9 +278,9 @@ definitions_lead s c front id (suc n) before (d ∷ ds) vendor low few good =
     let k = with_catalogue c (front ++ defined id before ∷ []) in (
       opened s (with_catalogue c (front ++ defined id (before ++ d ∷ []) ∷ [])) (Some id),
       ap (λ f. unless (option_map template_cause f) (with_catalogue k (with_resource k.catalogue id d)) >>= (λ e. Ok (opened s e (Some id)))) (not_refused_at k id before d vendor (found_last front id before low) good.0 (is_below (length before) n 64 few))
-      ∙ ap (λ t. Ok (opened s (with_catalogue c t) (Some id))) (one_definition front id before d low good.0),
+          ∙ ap (λ t. Ok (opened s (with_catalogue c t) (Some id))) (one_definition front id before d low good.0),
       subst (λ ys. Lead (opened s (with_catalogue c (front ++ defined id (before ++ d ∷ []) ∷ [])) (Some id)) (map (λ d. says.Def d) ds) (opened s (with_catalogue c (front ++ defined id ys ∷ [])) (Some id))) (append_assoc before (d ∷ []) ds)
-      (definitions_lead s c front id n (before ++ d ∷ []) ds vendor low (subst (λ m. m + n ≤ 64) (sym (length_push before d)) (one_less (length before) n 64 few)) good.1),
+          (definitions_lead s c front id n (before ++ d ∷ []) ds vendor low (subst (λ m. m + n ≤ 64) (sym (length_push before d)) (one_less (length before) n 64 few)) good.1),
     )
 
 short_list : (n : ℕ) → nat_lt n 65 ≡ true → 0 + n ≤ 64
@@ -295,23 +294,23 @@ object_lead s c before o num good =
     let free : object_fault k o.id ≡ None = taken_is _ both.1 in (
       opened s (with_catalogue c ((base ++ before) ++ defined o.id [] ∷ [])) (Some o.id),
       ap (λ f. unless (option_map template_cause f) (with_catalogue k (with_object k.catalogue o.id)) >>= (λ e. Ok (opened s e (Some o.id)))) free
-      ∙ ap (λ t. Ok (opened s (with_catalogue c t) (Some o.id))) (inserted_end (λ q. q.id) (new_object o.id) (base ++ before) both.0),
+          ∙ ap (λ t. Ok (opened s (with_catalogue c t) (Some o.id))) (inserted_end (λ q. q.id) (new_object o.id) (base ++ before) both.0),
       subst (λ t. Lead (opened s (with_catalogue c ((base ++ before) ++ defined o.id [] ∷ [])) (Some o.id)) (map (λ d. says.Def d) o.resources) (opened s (with_catalogue c t) (Some o.id))) (append_assoc base before (o ∷ []))
-      (definitions_lead s c (base ++ before) o.id (length o.resources) [] o.resources (object_vendor k o.id free) both.0 (short_list (length o.resources) good.1.0.0.1) good.1.0.1),
+          (definitions_lead s c (base ++ before) o.id (length o.resources) [] o.resources (object_vendor k o.id free) both.0 (short_list (length o.resources) good.1.0.0.1) good.1.0.1),
     )
 
 objects_each : (s : Script) (c : Class) (n : ℕ) (before xs : List ObjectDef) (num : Option ℕ) → (each (object c) n before).Good xs → (m : Option ℕ) × Lead (opened s (with_objects c before) num) (flat_map of_object xs) (opened s (with_objects c (before ++ xs)) m)
 unfolding each
 objects_each s c zero before xs num good = (
-    num,
-    subst (λ ys. Lead (opened s (with_objects c before) num) (flat_map of_object ys) (opened s (with_objects c (before ++ ys)) num)) (sym good) (ap (λ ys. opened s (with_objects c ys) num) (sym (append-nil before))),
-  )
+  num,
+  subst (λ ys. Lead (opened s (with_objects c before) num) (flat_map of_object ys) (opened s (with_objects c (before ++ ys)) num)) (sym good) (ap (λ ys. opened s (with_objects c ys) num) (sym (append-nil before))),
+)
 objects_each s c (suc n) before [] num good = absurd good
 objects_each s c (suc n) before (o ∷ xs) num good =
     let rest = objects_each s c n (before ++ o ∷ []) xs (Some o.id) good.1 in (
       rest.0,
       lead_append (opened s (with_objects c before) num) (opened s (with_objects c (before ++ o ∷ [])) (Some o.id)) _ (of_object o) (flat_map of_object xs) (object_lead s c before o num good.0)
-      (subst (λ ys. Lead (opened s (with_objects c (before ++ o ∷ [])) (Some o.id)) (flat_map of_object xs) (opened s (with_objects c ys) rest.0)) (append_assoc before (o ∷ []) xs) rest.1),
+          (subst (λ ys. Lead (opened s (with_objects c (before ++ o ∷ [])) (Some o.id)) (flat_map of_object xs) (opened s (with_objects c ys) rest.0)) (append_assoc before (o ∷ []) xs) rest.1),
     )
 
 objects_lead : (s : Script) (c : Class) (xs : List ObjectDef) (num : Option ℕ) → c.catalogue ≡ base → (objects c).Good xs → (m : Option ℕ) × Lead (opened s c num) (flat_map of_object xs) (opened s (with_objects c xs) m)
@@ -349,9 +348,9 @@ class_lead s c d built begun same room =
         opened s empty_class None,
         begin_lead s d begun same room,
         lead_append (opened s empty_class None) (opened s k1 None) _ (map (λ n. says.Account n) c.accounts) _ (accounts_lead s c.accounts good.0)
-        (lead_append (opened s k1 None) (opened s k2 objs.0) _ (flat_map of_object (objects_in c)) _ objs.1
-        (lead_append (opened s k2 objs.0) (opened s k3 objs.0) _ (map (λ p. says.Instance p) (instances_in c)) _ places
-        (subst (λ (t : Class). Lead (opened s k3 objs.0) (map of_value (values_in c)) (opened s t objs.0)) (sym good.1.1.1.1) last))),
+            (lead_append (opened s k1 None) (opened s k2 objs.0) _ (flat_map of_object (objects_in c)) _ objs.1
+            (lead_append (opened s k2 objs.0) (opened s k3 objs.0) _ (map (λ p. says.Instance p) (instances_in c)) _ places
+            (subst (λ (t : Class). Lead (opened s k3 objs.0) (map of_value (values_in c)) (opened s t objs.0)) (sym good.1.1.1.1) last))),
       ),
     )
 

@@ -1,5 +1,5 @@
 -- The statements of devices add their rows.
-use Rattle.std.proofs.Common.{All, ◌≡◌, ℕ, zero, suc, ◌+◌, ◌-◌, ◌<◌, ◌≤◌, Bool, true, false, cond, eqb, List, [], ◌∷◌, ◌++◌, map, length, Option, None, Some, Result, Ok, Err, option_map, refl, sym, ap, subst, ◌∙◌, set, append_assoc, arith}
+use Rattle.std.proofs.Common.{All, ◌≡◌, ℕ, suc, ◌+◌, ◌-◌, ◌<◌, ◌≤◌, Bool, true, false, cond, eqb, List, [], ◌∷◌, ◌++◌, map, length, Option, None, Some, Result, Ok, Err, option_map, refl, sym, ap, subst, ◌∙◌, set, append_assoc, arith}
 use Rattle.std.specs.Prelude.{not, nat_le, nat_lt}
 use Rattle.std.specs.List.{AllByRecursion, flat_map, list_any, slice_get}
 use Rattle.std.proofs.lemmas.Bool.Decides.{nat_tests}
@@ -8,8 +8,7 @@ use Rattle.std.proofs.lemmas.Option.{slice_get_within}
 use Rattle.object_defs.specs.Lines.{first_line}
 use Rattle.device_template.specs.Class.{Class}
 use Rattle.device_machine.specs.declared.event.Event.TheVariants as event
-use Rattle.scenario_image.specs.Script.{IsGoodRow, IsGoodStep, Row, Script, accounts_in, accounts_of, fault_in, is_in_range, is_known, is_within_limits, last_row, longer, row_fault, step_fault, with_last, with_row, with_step}
-use Rattle.scenario_image.specs.declared.fault.ScenarioFault.{ScenarioFault}
+use Rattle.scenario_image.specs.Script.{IsGoodRow, IsGoodStep, Row, Script, accounts_in, accounts_of, fault_in, is_known, is_within_limits, last_row, longer, row_fault, step_fault, with_last, with_row, with_step}
 use Rattle.scenario_image.specs.declared.fault.ScenarioFault.TheVariants as scenario
 use Rattle.scenario_image.specs.declared.step.Step.{Step}
 use Rattle.scenario_image.specs.declared.step.Step.TheVariants as step
@@ -20,13 +19,12 @@ use Rattle.scenario_mnemonics.specs.Messages.{datagram_of, fits_mnemonic, IsGood
 use Rattle.scenario_mnemonics.specs.declared.mnemonic.Mnemonic.{Mnemonic}
 use Rattle.scenario_mnemonics.specs.declared.mnemonic.Mnemonic.TheVariants as mnemonic
 use Rattle.scenario_mnemonics.proofs.Fitting.{denotes}
-use Rattle.scenario_statements.specs.declared.statement.Statement.{Statement}
 use Rattle.scenario_statements.specs.declared.statement.Statement.TheVariants as says
 use Rattle.scenario_printing.specs.Canonical.{of_datagram, of_row, of_step}
 use Rattle.scenario_printing.proofs.Numbers.{bytes_all}
 use Rattle.scenario_asm.specs.Causes.{needs, scenario_cause, unless}
 use Rattle.scenario_asm.specs.Draft.{Draft, closed}
-use Rattle.scenario_asm.specs.Effect.{device_begun, effect, fitting, has_device, has_server, knows, last_class, step_added}
+use Rattle.scenario_asm.specs.Effect.{device_begun, effect, fitting, has_device, has_server, knows, step_added}
 use Rattle.scenario_asm.specs.Denotes.{Lead}
 use Rattle.scenario_asm.proofs.Canonical.{lead_append}
 
@@ -69,8 +67,11 @@ last_is rows r x =
     ∙ ap (λ n. set (rows ++ r ∷ []) n (longer r x)) (last_place rows r)
     ∙ set_last rows r (longer r x)
 
+above_none : (n : ℕ) → nat_lt 0 (suc n) ≡ true
+above_none n = grind (arith, nat_tests)
+
 some_row : (rows : List Row) (r : Row) → nat_lt 0 (length (rows ++ r ∷ [])) ≡ true
-some_row rows r = ap (nat_lt 0) (length_push rows r)
+some_row rows r = ap (nat_lt 0) (length_push rows r) ∙ above_none (length rows)
 
 -- ---- a step
 
@@ -133,16 +134,25 @@ by_datagram d e server bytes (Some m) is fits begun known h =
     let said = (denotes bytes m fits).0 is in
     by_mnemonic d e server bytes m begun known said.0 said.1 h
 
+-- a step that needs a device alone
+stepped : (cs : List Class) (rows : List Row) (class : ℕ) (past : List Step) (x : Step) (t : Class) → slice_get cs class ≡ Some t → IsGoodStep t.accounts x → length past < 4096
+    → needs (has_device (here cs rows class past)) (step_added x (here cs rows class past)) ≡ Ok (here cs rows class (past ++ x ∷ []))
+stepped cs rows class past x t at good short = of_device cs rows class past x (here cs rows class (past ++ x ∷ [])) (added cs rows class past x t at good short)
+
 -- a step's statement adds it
 pub step_lead : (cs : List Class) (rows : List Row) (class : ℕ) (past : List Step) (x : Step) (t : Class) → slice_get cs class ≡ Some t → IsGoodStep t.accounts x → length past < 4096
     → effect (of_step x) (here cs rows class past) ≡ Ok (here cs rows class (past ++ x ∷ []))
 step_lead cs rows class past (step.Event (event.Recv server bytes)) t at good short =
-    by_datagram (here cs rows class past) _ server bytes (mnemonic_of bytes) refl (bytes_all bytes good.fields.1) refl (known_server cs rows class past server t at good.known) (added cs rows class past _ t at good short)
-step_lead cs rows class past (step.Event (event.Put p v)) t at good short = of_device cs rows class past _ _ (added cs rows class past _ t at good short)
-step_lead cs rows class past (step.Event (event.Firmware code)) t at good short = of_device cs rows class past _ _ (added cs rows class past _ t at good short)
-step_lead cs rows class past (step.Event (event.Tick seconds)) t at good short = of_device cs rows class past _ _ (added cs rows class past _ t at good short)
-step_lead cs rows class past (step.Post group) t at good short = of_device cs rows class past _ _ (added cs rows class past _ t at good short)
-step_lead cs rows class past (step.Need group count) t at good short = of_device cs rows class past _ _ (added cs rows class past _ t at good short)
+    let x = step.Event (event.Recv server bytes) in
+    by_datagram (here cs rows class past) (here cs rows class (past ++ x ∷ [])) server bytes (mnemonic_of bytes) refl (bytes_all bytes good.fields.1) refl (known_server cs rows class past server t at good.known) (added cs rows class past x t at good short)
+step_lead cs rows class past (step.Event (event.Put p v)) t at good short = stepped cs rows class past (step.Event (event.Put p v)) t at good short
+step_lead cs rows class past (step.Event (event.Firmware code)) t at good short = stepped cs rows class past (step.Event (event.Firmware code)) t at good short
+step_lead cs rows class past (step.Event (event.Tick seconds)) t at good short = stepped cs rows class past (step.Event (event.Tick seconds)) t at good short
+step_lead cs rows class past (step.Post group) t at good short = stepped cs rows class past (step.Post group) t at good short
+step_lead cs rows class past (step.Need group count) t at good short = stepped cs rows class past (step.Need group count) t at good short
+
+pub from_none : (n k : ℕ) → n ≤ k → 0 + n ≤ k
+from_none n k h = omega (arith, h)
 
 one_less : (m n k : ℕ) → m + suc n ≤ k → suc m + n ≤ k
 one_less m n k h = omega (arith, h)
@@ -154,11 +164,11 @@ steps_lead : (cs : List Class) (rows : List Row) (class : ℕ) (past xs : List S
     → Lead (here cs rows class past) (map of_step xs) (here cs rows class (past ++ xs))
 steps_lead cs rows class past [] t at good short = ap (λ ys. here cs rows class ys) (sym (append-nil past))
 steps_lead cs rows class past (x ∷ xs) t at good short = (
-    here cs rows class (past ++ x ∷ []),
-    step_lead cs rows class past x t at good.0 (has_one (length past) (length xs) 4096 short),
-    subst (λ ys. Lead (here cs rows class (past ++ x ∷ [])) (map of_step xs) (here cs rows class ys)) (append_assoc past (x ∷ []) xs)
-    (steps_lead cs rows class (past ++ x ∷ []) xs t at good.1 (subst (λ n. n + length xs ≤ 4096) (sym (length_push past x)) (one_less (length past) (length xs) 4096 short))),
-  )
+  here cs rows class (past ++ x ∷ []),
+  step_lead cs rows class past x t at good.0 (has_one (length past) (length xs) 4096 short),
+  subst (λ ys. Lead (here cs rows class (past ++ x ∷ [])) (map of_step xs) (here cs rows class ys)) (append_assoc past (x ∷ []) xs)
+      (steps_lead cs rows class (past ++ x ∷ []) xs t at good.1 (subst (λ n. n + length xs ≤ 4096) (sym (length_push past x)) (one_less (length past) (length xs) 4096 short))),
+)
 
 -- ---- a row
 
@@ -176,10 +186,10 @@ device_lead cs rows class d begun same there short =
 
 row_lead : (cs : List Class) (rows : List Row) (r : Row) (d : Draft) → d.begun ≡ true → closed d ≡ script cs rows → IsGoodRow cs r → length rows < 4096 → Lead d (of_row r) (shut (script cs (rows ++ r ∷ [])))
 row_lead cs rows r d begun same good short = (
-    here cs rows r.class [],
-    device_lead cs rows r.class d begun same (slice_get_within cs r.class good.class good.stated) short,
-    steps_lead cs rows r.class [] r.steps good.class good.stated good.each good.count,
-  )
+  here cs rows r.class [],
+  device_lead cs rows r.class d begun same (slice_get_within cs r.class good.class good.stated) short,
+  steps_lead cs rows r.class [] r.steps good.class good.stated good.each (from_none (length r.steps) 4096 good.count),
+)
 
 -- the statements of rows lead to the scenario that has them
 pub rows_lead : (cs : List Class) (rows todo : List Row) (d : Draft) → d.begun ≡ true → closed d ≡ script cs rows → AllByRecursion (IsGoodRow cs) todo → length rows + length todo ≤ 4096

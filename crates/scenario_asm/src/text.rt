@@ -1,3 +1,5 @@
+//! The canonical text of a scenario, and that it is read as the scenario again.
+
 ghost use Rattle.std.specs.Prelude.{◌≡◌, Ok, IfOk};
 ghost use Rattle.std.specs.String.{string_bytes};
 ghost use Rattle.scenario_printing.specs.Canonical.{printed};
