@@ -39,7 +39,7 @@ short n m h = let le : n ≤ m = omega (arith, h) in below n m le
     below : (n m : ℕ) → n ≤ m → nat_le n m ≡ true
     below n m le = grind (arith, nat_tests)
 
-too_long : (v : Value) → IsTooLong v → is_within_limits v ≡ false
+pub too_long : (v : Value) → IsTooLong v → is_within_limits v ≡ false
 too_long (held.Text t) h = long (length t) 255 h
 too_long (held.Whole z) h = absurd h
 too_long (held.Flag b) h = absurd h
@@ -57,7 +57,7 @@ not_long (held.Link o i) h = refl
 
 -- ---- the empty value of a kind fits where a value of the kind does
 
-plain_short : (k : ValueKind) → is_within_limits (plain k) ≡ true
+pub plain_short : (k : ValueKind) → is_within_limits (plain k) ≡ true
 plain_short kind.Text = refl
 plain_short kind.Whole = refl
 plain_short kind.Flag = refl
@@ -107,7 +107,7 @@ same_resource : (p : FullPath) (v : Value) (d : Option ResourceDef) → fits_res
 same_resource p v None = refl
 same_resource p v (Some d) = ap (λ b. can_read d.ops && (b && cond d.multiple (is_some p.part) (not (is_some p.part)))) (same_kind v d.kind)
 
-same_fit : (p : FullPath) (v : Value) (o : Option ObjectDef) → fits_object p (plain (kind_of v)) o ≡ fits_object p v o
+pub same_fit : (p : FullPath) (v : Value) (o : Option ObjectDef) → fits_object p (plain (kind_of v)) o ≡ fits_object p v o
 same_fit p v None = refl
 same_fit p v (Some o) = ap (λ b. b && not (is_set_at_start p)) (same_resource p v (resource_in o.resources p.resource))
 

@@ -23,7 +23,7 @@ not_some : (r : Result Statement Cause) → some r ≡ Ok None → ⊥
 not_some (Ok s) h = let e : Some s ≡ None = cc in cc
 not_some (Err cause) h = cc
 
-wordless : (ws : List (List ℕ)) → statement_of ws ≡ Ok None → ws ≡ []
+pub wordless : (ws : List (List ℕ)) → statement_of ws ≡ Ok None → ws ≡ []
 wordless [] h = refl
 wordless (w ∷ ws) h = absurd (not_some (statement_by w ws) h)
 

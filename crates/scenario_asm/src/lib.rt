@@ -7,10 +7,12 @@ mod class;
 mod draft;
 mod fault;
 mod laws;
+mod text;
 
 pub use assembling::assemble;
 pub use fault::AsmFault;
-pub use laws::texts_denote;
+pub use laws::{canonical_text, texts_denote};
+pub use text::disassemble;
 
 #[cfg(test)]
 mod tests;
