@@ -3,3 +3,5 @@ mod Played
 mod Exact
 mod Fits
 mod Adding
+pub mod Counting
+pub mod Imaged

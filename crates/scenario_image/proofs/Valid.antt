@@ -14,7 +14,7 @@ made classes rows = record { classes = classes; rows = rows }
 
 -- ---- lists
 
-all_push : {X : Type 0} (P : X → Type 0) (xs : List X) (y : X) → AllByRecursion P xs → P y → AllByRecursion P (xs ++ y ∷ [])
+pub all_push : {X : Type 0} (P : X → Type 0) (xs : List X) (y : X) → AllByRecursion P xs → P y → AllByRecursion P (xs ++ y ∷ [])
 all_push P [] y all one = (one, tt)
 all_push P (x ∷ xs) y all one = (all.0, all_push P xs y all.1 one)
 

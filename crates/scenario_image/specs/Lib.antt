@@ -1,3 +1,4 @@
 pub mod Script
 pub mod Play
 pub mod Layout
+pub mod Image

@@ -1,9 +1,12 @@
 //! What follows from the definitions, for their readers. The calls do nothing; their contracts are the laws.
 
-ghost use Rattle.std.specs.Prelude.{◌≡◌, ◌≤◌, ℕ, ◌+◌, List, Some, length, slice_get};
+ghost use Rattle.std.specs.Prelude.{◌≡◌, ◌≤◌, ◌⊎◌, ℕ, ◌+◌, List, Some, Ok, length, slice_get};
+ghost use Rattle.byte_layout.specs.declared.fault.LayoutFault.{LayoutFault};
+ghost use Rattle.byte_layout.specs.Whole.{read_all};
 ghost use Rattle.device_template.specs.Class.{Class};
 ghost use Rattle.scenario_image.specs.declared.step.Step.{Step};
 ghost use Rattle.byte_layout.specs.Exact.{IsBytes, IsExact};
+ghost use Rattle.scenario_image.specs.Image.{image, IsImage, HasImageFault};
 ghost use Rattle.scenario_image.specs.Layout.{step, steps, row, rows};
 ghost use Rattle.scenario_image.specs.Script.{Script, IsGoodStep, IsValid};
 ghost use Rattle.scenario_image.specs.Play.{start, state_at, step_after};
@@ -29,4 +32,17 @@ pub fn valid_have_bytes()
     ensures good_step { (accounts : List ℕ) (s : Step) → (step accounts).Good s → IsBytes ((step accounts).spell s) → IsGoodStep accounts s }
     ensures rows { (s : Script) → IsValid s → (rows s.classes).Good s.rows }
     ensures valid { (s : Script) → length s.classes ≤ 256 → (rows s.classes).Good s.rows → IsBytes ((rows s.classes).spell s.rows) → IsValid s }
+{}
+
+/// Bytes are the image of one scenario or have one fault, and never both; a scenario has one image, which is read as it again; and
+/// what has an image is valid.
+pub fn one_image()
+    ensures exact { IsExact image }
+    ensures scenario { (bytes : List ℕ) (a b : Script) → IsImage bytes a → IsImage bytes b → a ≡ b }
+    ensures bytes { (s : Script) (a b : List ℕ) → IsImage a s → IsImage b s → a ≡ b }
+    ensures fault { (bytes : List ℕ) (f g : LayoutFault) → HasImageFault bytes f → HasImageFault bytes g → f ≡ g }
+    ensures never_both { (bytes : List ℕ) (s : Script) (f : LayoutFault) → IsImage bytes s → HasImageFault bytes f → ⊥ }
+    ensures either { (bytes : List ℕ) → IsBytes bytes → ((s : Script) × IsImage bytes s) ⊎ ((f : LayoutFault) × HasImageFault bytes f) }
+    ensures again { (s : Script) → image.Good s → read_all image (image.spell s) ≡ Ok s }
+    ensures valid { (bytes : List ℕ) (s : Script) → IsBytes bytes → IsImage bytes s → IsValid s }
 {}

@@ -1,4 +1,5 @@
 ghost use Rattle.std.specs.Prelude.{◌≡◌, ◌≢◌, [], length, slice_get, None, Some, Err, IfErr, OnOk, OnErr};
+ghost use Rattle.std.specs.List.{sum_by};
 ghost use Rattle.std.specs.Option.{option_copied, option_map};
 ghost use Rattle.scenario_image.specs.Script.{Row, HasFields, with_class, class_fault, with_row, row_fault, with_step, step_fault, with_last, last_row, IsValid};
 
@@ -201,6 +202,25 @@ impl Scenario {
         ensures valid { IsValid self.now }
     {
         self.rows.len()
+    }
+
+    /// How many classes there are, at most 256.
+    pub fn classes(&self) -> usize
+        ensures { result ≡ length self.now.classes }
+    {
+        self.classes.len()
+    }
+
+    /// How many steps the rows have together, at most 16,777,216.
+    pub fn steps(&self) -> usize
+        ensures { result ≡ sum_by (λ r. length r.steps) self.now.rows }
+    {
+        let rows = self.all_rows();
+        let mut total = 0;
+        for row in rows {
+            total += row.steps().len();
+        }
+        total
     }
 
     /// The row of a device, lent: the place of its class, and its steps in order.

@@ -1,4 +1,5 @@
-use Rattle.scenario_image.proofs.Fits.{step_good, good_step, rows_good, good_rows}
+use Rattle.scenario_image.proofs.Fits.{step_good, good_step, rows_good}
+use Rattle.scenario_image.proofs.Imaged.{rows_valid}
 use Rattle.scenario_image.proofs.laws.valid_have_bytes.Goals as goal
 
 pub returns-clause-step : goal.returns-clause-step
@@ -11,6 +12,4 @@ pub returns-clause-rows : goal.returns-clause-rows
 returns-clause-rows c = λ s valid. rows_good s.classes s.rows valid.classes valid.rows valid.each
 
 pub returns-clause-valid : goal.returns-clause-valid
-returns-clause-valid c = λ s few good fits.
-    let all = good_rows s.classes s.rows good fits in
-    record { classes = few; rows = all.0; each = all.1 }
+returns-clause-valid c = rows_valid

@@ -1,0 +1,38 @@
+-- A scenario as bytes: this profile's image.
+use Rattle.std.specs.Prelude.{ℕ, List}
+use Rattle.std.specs.Int.{w8, w16, w32}
+use Rattle.byte_layout.specs.declared.fault.Break.TheVariants.{Magic, Version}
+use Rattle.byte_layout.specs.declared.fault.LayoutFault.{LayoutFault}
+use Rattle.byte_layout.specs.Part.{Part, number, at_most, split, last, marked, counted}
+use Rattle.byte_layout.specs.Whole.{IsAll, HasFault}
+use Rattle.device_template.specs.Class.{Class}
+use Rattle.class_layout.specs.Layout.{class}
+use Rattle.scenario_image.specs.Script.{Row, Script}
+use Rattle.scenario_image.specs.Layout.{rows}
+
+-- at most 256 classes
+unfoldable pub classes : Part (List Class)
+classes = counted (at_most 256 (number w16)) (λ before. class)
+
+abbrev pub script_of : List Class → List Row → Script
+script_of classes rows = record { classes = classes; rows = rows }
+
+-- behind the classes: rows of devices of these
+abbrev pub behind_classes : List Class → Part Script
+behind_classes known = last (λ s. s.rows) (script_of known) (rows known)
+
+-- the classes, and the rows
+unfoldable pub lists : Part Script
+lists = split (λ s. s.classes) classes behind_classes
+
+-- the image's mark and version, the classes, and the rows
+unfoldable pub image : Part Script
+image = marked Magic 0x4C575343 (number w32) (marked Version 1 (number w8) lists)
+
+-- the bytes are the image of this scenario
+abbrev pub IsImage : List ℕ → Script → Type 0
+IsImage bytes s = IsAll image bytes s
+
+-- the bytes are no scenario's image, and this is their fault, the first from the left
+abbrev pub HasImageFault : List ℕ → LayoutFault → Type 0
+HasImageFault bytes fault = HasFault image bytes fault

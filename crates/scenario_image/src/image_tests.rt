@@ -1,0 +1,275 @@
+//! The image of a scenario: what is read of it, what is written, and the fault of other bytes.
+
+use crate::{Scenario, Step, load, one_image};
+use byte_layout::LayoutFault;
+use device_machine::{Event, Template};
+use lwm2m_values::Value;
+use object_defs::Path;
+use octets::Bytes;
+use std::alloc::{AllocError, Global};
+use std::test::*;
+
+/// No class and no row.
+const NOTHING: [u8; 9] = [0x4C, 0x57, 0x53, 0x43, 1, 0, 0, 0, 0];
+
+/// A device of server 1 whose battery is at 100; the server reads the battery level.
+const BATTERY: [u8; 56] = [
+    0x4C, 0x57, 0x53, 0x43, 1, 0, 1, 1, 0, 1, 0, 0, 1, 0, 3, 0, 0, 0, 1, 0, 3, 0, 0, 0, 9, 0, 1, 0,
+    0, 0, 0, 0, 0, 0, 0x64, 0, 1, 0, 0, 0, 1, 1, 0, 1, 0, 0x0A, 0x40, 1, 0, 1, 0xB1, 0x33, 1, 0x30,
+    1, 0x39,
+];
+
+/// Two classes, of which the first has nothing. The second has servers 1 and 7, an object 10241 with a resource of each kind, an
+/// executable one and one that is only written, instances of objects 3 and 10241, and values of each kind, single ones and parts. A row of the second
+/// class with a step of each kind, and a row of the first without a step.
+const ALL_KINDS: [u8; 245] = [
+    0x4C, 0x57, 0x53, 0x43, 1, 0, 2, 0, 0, 0, 0, 0, 0, 2, 0, 1, 0, 7, 1, 0x28, 1, 8, 0, 0, 1, 0, 0,
+    0, 1, 3, 1, 1, 0, 2, 1, 2, 2, 0, 3, 3, 3, 3, 0, 4, 1, 0, 4, 0, 5, 1, 0, 5, 0, 6, 2, 0, 1, 0, 7,
+    4, 2, 0, 0, 2, 0, 3, 0, 0, 0x28, 1, 0, 1, 0, 8, 0, 3, 0, 0, 0, 9, 0, 1, 0, 0, 0, 0, 0, 0, 0,
+    0x64, 0x28, 1, 0, 1, 0, 0, 0, 0, 2, 0xC3, 0xA9, 0x28, 1, 0, 1, 0, 1, 1, 0, 0, 1, 0xFF, 0xFF,
+    0xFF, 0xFF, 0xFF, 0xFF, 0xFF, 0xFE, 0x28, 1, 0, 1, 0, 1, 1, 0, 5, 1, 0, 0, 0, 0, 0, 0, 0, 5,
+    0x28, 1, 0, 1, 0, 2, 0, 2, 1, 0x28, 1, 0, 1, 0, 3, 1, 0, 0, 3, 0, 3, 1, 2, 3, 0x28, 1, 0, 1, 0,
+    4, 0, 4, 0, 0, 0, 0, 0x5F, 0x5E, 0x10, 0, 0x28, 1, 0, 1, 0, 5, 0, 5, 0, 3, 0, 0, 0, 2, 0, 1, 0,
+    7, 1, 0, 7, 0, 0, 2, 0, 1, 0x51, 0x80, 3, 0, 3, 0, 0, 0, 9, 0, 0, 1, 0x61, 3, 0, 9, 0, 8, 0, 7,
+    1, 0, 6, 5, 0, 1, 0, 2, 4, 9, 5, 0xFF, 6, 7, 0, 0x0F, 0x42, 0x40, 0, 0, 0, 0,
+];
+
+/// The scenario of the battery level, as it is built.
+fn battery(alloc: Global) -> Result<Scenario, Fail> {
+    let mut class = Template::new(alloc)?;
+    class.add_account(1)?;
+    class.add_instance(3, 0)?;
+    class.add_value(Path::Resource(3, 0, 9), Value::Whole(100))?;
+    let mut scenario = Scenario::empty(alloc);
+    scenario.add_class(class)?;
+    scenario.add_row(0)?;
+    let bytes = [0x40, 1, 0, 1, 0xB1, 0x33, 1, 0x30, 1, 0x39];
+    let bytes = Bytes::from_slice(alloc, &bytes)?;
+    scenario.add_step(Step::Event(Event::Recv { server: 1, bytes }))?;
+    Ok(scenario)
+}
+
+#[test]
+fn loads_what_a_device_of_the_class_takes(rt: HostRuntime) -> Result<(), Fail> {
+    one_image();
+    let scenario = load(rt.alloc(), &BATTERY)?;
+    assert_eq!(rt;
+        (scenario.classes(), scenario.rows(), scenario.steps()),
+        (1, 1, 1)
+    );
+    let class = scenario.class(0).ok_or("a class")?;
+    assert_eq!(rt; class.accounts(), [1].as_slice());
+    assert_eq!(rt; class.store().instances(3), [0].as_slice());
+    let path = Path::Resource(3, 0, 9).full().ok_or("a full path")?;
+    assert!(rt; matches!(class.store().get(path), Some(Value::Whole(100))));
+    let (class, steps) = scenario.row(0).ok_or("a row")?;
+    assert_eq!(rt; class, 0);
+    let [Step::Event(Event::Recv { server: 1, bytes })] = steps else {
+        return Err("one datagram".into());
+    };
+    assert_eq!(rt;
+        bytes.as_slice(),
+        b"\x40\x01\x00\x01\xB13\x010\x019".as_slice()
+    );
+    Ok(())
+}
+
+#[test]
+fn counts_classes_rows_and_steps(rt: HostRuntime) -> Result<(), Fail> {
+    let scenario = load(rt.alloc(), &NOTHING)?;
+    assert_eq!(rt;
+        (scenario.classes(), scenario.rows(), scenario.steps()),
+        (0, 0, 0)
+    );
+    let scenario = load(rt.alloc(), &ALL_KINDS)?;
+    assert_eq!(rt;
+        (scenario.classes(), scenario.rows(), scenario.steps()),
+        (2, 2, 7)
+    );
+    let mut scenario = battery(rt.alloc())?;
+    scenario.add_step(Step::Post(1))?;
+    scenario.add_row(0)?;
+    scenario.add_step(Step::Post(2))?;
+    assert_eq!(rt;
+        (scenario.classes(), scenario.rows(), scenario.steps()),
+        (1, 2, 3)
+    );
+    Ok(())
+}
+
+#[test]
+fn loads_each_kind_of_step(rt: HostRuntime) -> Result<(), Fail> {
+    let scenario = load(rt.alloc(), &ALL_KINDS)?;
+    let (class, steps) = scenario.row(0).ok_or("a row")?;
+    assert_eq!(rt; class, 1);
+    let [first, second, third, fourth, fifth, sixth, last] = steps else {
+        return Err("seven steps".into());
+    };
+    let Step::Event(Event::Recv { server, bytes }) = first else {
+        return Err("a datagram".into());
+    };
+    assert!(rt; *server == 7 && bytes.as_slice().is_empty());
+    assert!(rt; matches!(second, Step::Event(Event::Tick(86_400))));
+    let Step::Event(Event::Put { path, value }) = third else {
+        return Err("a put".into());
+    };
+    assert!(rt; matches!(path, Path::Resource(3, 0, 9)));
+    assert!(rt; matches!(value, Value::Text(text) if text.as_str() == "a"));
+    let Step::Event(Event::Put { path, value }) = fourth else {
+        return Err("a second put".into());
+    };
+    assert!(rt; matches!(path, Path::Part(9, 8, 7, 6)));
+    assert!(rt; matches!(value, Value::Link(1, 2)));
+    assert!(rt; matches!(fifth, Step::Event(Event::Firmware(9))));
+    assert!(rt; matches!(sixth, Step::Post(255)));
+    assert!(rt; matches!(last, Step::Need(7, 1_000_000)));
+    let (class, steps) = scenario.row(1).ok_or("a second row")?;
+    assert!(rt; class == 0 && steps.is_empty());
+    Ok(())
+}
+
+#[test]
+fn each_proper_prefix_is_cut(rt: HostRuntime) {
+    let images: [&[u8]; 3] = [&NOTHING, &BATTERY, &ALL_KINDS];
+    for image in images {
+        for end in 0..image.len() {
+            assert!(rt; matches!(load(rt.alloc(), &image[..end]), Err(LayoutFault::Cut)));
+        }
+    }
+}
+
+#[test]
+fn one_byte_more_is_trailing(rt: HostRuntime) -> Result<(), Fail> {
+    let images: [&[u8]; 3] = [&NOTHING, &BATTERY, &ALL_KINDS];
+    for image in images {
+        let mut bytes = Vec::from_slice(rt.alloc(), image)?;
+        bytes.push(0)?;
+        assert!(rt; matches!(load(rt.alloc(), &bytes), Err(LayoutFault::Trailing)));
+    }
+    Ok(())
+}
+
+/// The fault of the image of the battery level with these two bytes at this place.
+fn fault_with(alloc: Global, place: usize, bytes: [u8; 2]) -> Result<LayoutFault, Fail> {
+    let mut changed = Vec::from_slice(alloc, &BATTERY)?;
+    let [first, second] = bytes;
+    *changed.get_mut(place).ok_or("a place")? = first;
+    *changed.get_mut(place + 1).ok_or("a place behind it")? = second;
+    Ok(load(alloc, &changed).err().ok_or("a fault")?)
+}
+
+#[test]
+fn finds_the_fault_of_changed_bytes(rt: HostRuntime) -> Result<(), Fail> {
+    let rows = [
+        // The mark, the version, the count of the classes.
+        (0, [0, 0x57], LayoutFault::Magic),
+        (3, [0x44, 1], LayoutFault::Magic),
+        (4, [0, 0], LayoutFault::Version),
+        (4, [2, 0], LayoutFault::Version),
+        (4, [9, 0], LayoutFault::Version),
+        (5, [1, 1], LayoutFault::Limit(5)),
+        (5, [1, 0], LayoutFault::BadField(37)),
+        // The count of the accounts, the account, the kind of the value.
+        (7, [5, 0], LayoutFault::Limit(7)),
+        (8, [0, 0], LayoutFault::BadField(8)),
+        (26, [0, 0], LayoutFault::BadField(26)),
+        // The count of the rows, the class of the row, the count of its steps.
+        (35, [0x10, 1], LayoutFault::Limit(35)),
+        (35, [0x10, 0], LayoutFault::Cut),
+        (37, [0, 1], LayoutFault::BadField(37)),
+        (39, [0xFF, 0xFF], LayoutFault::Limit(39)),
+        (39, [0x10, 1], LayoutFault::Limit(39)),
+        (39, [0x10, 0], LayoutFault::Cut),
+        // The kind of the step, its server, the length of its datagram.
+        (41, [7, 0], LayoutFault::BadField(41)),
+        (41, [0, 0], LayoutFault::BadField(41)),
+        (42, [0, 2], LayoutFault::BadField(42)),
+        (44, [5, 0xDD], LayoutFault::Limit(44)),
+        (44, [5, 0xDC], LayoutFault::Cut),
+    ];
+    for (place, bytes, fault) in rows {
+        let found = fault_with(rt.alloc(), place, bytes)?;
+        assert_eq!(rt; found, fault, "with {bytes:?} at {place}");
+    }
+    Ok(())
+}
+
+#[test]
+fn counts_that_are_too_large_for_the_bytes_are_cut(rt: HostRuntime) -> Result<(), Fail> {
+    // A class of 65,535 values, and rows that are not there.
+    let values: [u8; 20] = [
+        0x4C, 0x57, 0x53, 0x43, 1, 0, 1, 0, 0, 0, 1, 0, 3, 0, 0, 0xFF, 0xFF, 0, 3, 0,
+    ];
+    assert!(rt; matches!(load(rt.alloc(), &values), Err(LayoutFault::Cut)));
+    let rows: [u8; 9] = [0x4C, 0x57, 0x53, 0x43, 1, 0, 0, 0x10, 0];
+    assert!(rt; matches!(load(rt.alloc(), &rows), Err(LayoutFault::Cut)));
+    Ok(())
+}
+
+/// The image of so many classes that have nothing, and so many rows of the first, each with so many posts.
+fn posts(alloc: Global, classes: u16, rows: u16, steps: u16) -> Result<Vec<u8>, AllocError> {
+    let mut bytes = Vec::from_slice(alloc, &NOTHING[..5])?;
+    bytes.extend_from_slice(&classes.to_be_bytes())?;
+    for _ in 0..classes {
+        bytes.extend_from_slice(&[0; 6])?;
+    }
+    bytes.extend_from_slice(&rows.to_be_bytes())?;
+    for _ in 0..rows {
+        bytes.extend_from_slice(&[0, 0])?;
+        bytes.extend_from_slice(&steps.to_be_bytes())?;
+        for _ in 0..steps {
+            bytes.extend_from_slice(&[5, 1])?;
+        }
+    }
+    Ok(bytes)
+}
+
+#[test]
+fn loads_256_classes_4096_rows_and_4096_steps_at_most(rt: HostRuntime) -> Result<(), Fail> {
+    let rows = [
+        (256, 4096, 2, None),
+        (1, 1, 4096, None),
+        (257, 0, 0, Some(LayoutFault::Limit(5))),
+        (1, 4097, 0, Some(LayoutFault::Limit(13))),
+        (1, 1, 4097, Some(LayoutFault::Limit(17))),
+    ];
+    for (classes, rows, steps, fault) in rows {
+        let bytes = posts(rt.alloc(), classes, rows, steps)?;
+        match load(rt.alloc(), &bytes) {
+            Ok(scenario) => {
+                assert!(rt; fault.is_none());
+                assert_eq!(rt; scenario.classes(), usize::from(classes));
+                assert_eq!(rt; scenario.rows(), usize::from(rows));
+                assert_eq!(rt; scenario.steps(), usize::from(rows) * usize::from(steps));
+            }
+            Err(found) => assert_eq!(rt; Some(found), fault),
+        }
+    }
+    Ok(())
+}
+
+#[test]
+fn loads_the_longest_datagrams_and_values(rt: HostRuntime) -> Result<(), Fail> {
+    // The front of a step of the battery level's row, and how many bytes stand behind it.
+    let rows: [(&[u8], usize, Option<LayoutFault>); 5] = [
+        (&[1, 0, 1, 5, 0xDC], 1500, None),
+        (&[1, 0, 1, 5, 0xDD], 1501, Some(LayoutFault::Limit(44))),
+        (&[3, 0, 3, 0, 0, 0, 9, 0, 3, 4, 0], 1024, None),
+        (
+            &[3, 0, 3, 0, 0, 0, 9, 0, 3, 4, 1],
+            1025,
+            Some(LayoutFault::Limit(50)),
+        ),
+        (&[3, 0, 3, 0, 0, 0, 9, 0, 0, 0xFF], 255, None),
+    ];
+    for (front, len, fault) in rows {
+        let mut bytes = Vec::from_slice(rt.alloc(), &BATTERY[..41])?;
+        bytes.extend_from_slice(front)?;
+        for _ in 0..len {
+            bytes.push(0x61)?;
+        }
+        let found = load(rt.alloc(), &bytes).err();
+        assert_eq!(rt; found, fault);
+    }
+    Ok(())
+}
