@@ -49,11 +49,11 @@ pub is_above : (before : List ResourceDef) (d : ResourceDef) → (resource befor
 unfolding resource
 is_above before d good = good.0.1
 
-other : (n m : ℕ) → ltb n m ≡ true → eqb n m ≡ false
+pub other : (n m : ℕ) → ltb n m ≡ true → eqb n m ≡ false
 other n m h = grind (arith, nat_tests)
 
 -- what all stand below is not among them
-none_found : {X : Type 0} (number : X → ℕ) (n : ℕ) (xs : List X) → list_all (λ x. nat_lt (number x) n) xs ≡ true → find (λ x. eqb (number x) n) xs ≡ None
+pub none_found : {X : Type 0} (number : X → ℕ) (n : ℕ) (xs : List X) → list_all (λ x. nat_lt (number x) n) xs ≡ true → find (λ x. eqb (number x) n) xs ≡ None
 none_found number n [] h = refl
 none_found number n (x ∷ xs) h =
     let p = both_true (ltb (number x) n) (list_all (λ y. nat_lt (number y) n) xs) h in

@@ -148,7 +148,7 @@ objects_itself c h = ap (with_catalogue c) (h ∙ ap (λ t. base ++ t) (sym (obj
 pub objects_now : (c t : Class) → t ≡ with_objects c (objects_in t) → t ≡ with_objects t (objects_in t)
 objects_now c t h = ap (with_catalogue t) (ap (λ (k : Class). k.catalogue) h)
 
-no_entries : {K X : Type 0} (R : K → K → Ordering) → finite.entries (finite.empty {X = X} {R = R}) ≡ []
+pub no_entries : {K X : Type 0} (R : K → K → Ordering) → finite.entries (finite.empty {X = X} {R = R}) ≡ []
 no_entries {X = X} R = nil_from_length _ (sym (finite.len-entries finite.empty) ∙ finite.len-empty R X)
 
 pub instances_none : (c : Class) → c.store.instances ≡ finite.empty → instances_in c ≡ []

@@ -5,3 +5,11 @@ pub mod Exact
 pub mod Items
 pub mod Defined
 pub mod ObjectRead
+pub mod Between
+pub mod GoodAccounts
+pub mod GoodObjects
+pub mod Rising
+pub mod GoodInstances
+pub mod GoodValues
+pub mod GoodClass
+pub mod Shown

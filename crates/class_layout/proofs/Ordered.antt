@@ -61,7 +61,7 @@ is_less Less h = refl
 is_less Equal h = absurd cc
 is_less Greater h = absurd cc
 
-greater : {K : Type 0} {R : K → K → Ordering} → IsTotalOrder R → (k j : K) → is_lt (R j k) ≡ true → R k j ≡ Greater
+pub greater : {K : Type 0} {R : K → K → Ordering} → IsTotalOrder R → (k j : K) → is_lt (R j k) ≡ true → R k j ≡ Greater
 greater {R = R} total k j h = total.antisymm k j ∙ ap ordering_reverse (is_less (R j k) h)
 
 module _ {K X : Type 0} {R : K → K → Ordering} where

@@ -9,9 +9,11 @@ mod laws;
 mod objects;
 mod refusal;
 mod values;
+mod writing;
 
 pub use class::class_at;
-pub use laws::exact_layout;
+pub use laws::{exact_layout, has_bytes};
+pub use writing::put_class;
 
 #[cfg(test)]
 mod tests;

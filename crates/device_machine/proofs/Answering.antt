@@ -1,5 +1,5 @@
 -- A request gets one reply, whose code is that of the first line that applies.
-use Rattle.std.proofs.Common.{◌≡◌, ℕ, Bool, true, false, List, [], ◌∷◌, ◌++◌, Option, None, Some, option_map, refl, ap, ◌∙◌}
+use Rattle.std.proofs.Common.{◌≡◌, ℕ, Bool, true, false, ◌∷◌, ◌++◌, Option, None, Some, option_map, refl, ap, ◌∙◌}
 use Rattle.std.specs.Bool.{if◌then◌else◌}
 use Rattle.device_requests.specs.Options.{has_unrecognized_critical, segments_of}
 use Rattle.coap_codec.specs.Message.{Parts, spelling}

@@ -1,5 +1,5 @@
 -- A Read that registers is answered with the Observe number that its observation has then.
-use Rattle.std.proofs.Common.{◌≡◌, ℕ, ◌==◌, Bool, true, false, ◌&&◌, cond, ◌⊎◌, inl, inr, List, [], ◌∷◌, ◌++◌, Option, None, Some, option_map, find, refl, sym, ap, subst, ◌∙◌}
+use Rattle.std.proofs.Common.{◌≡◌, ℕ, ◌==◌, true, false, cond, ◌⊎◌, inl, inr, List, [], ◌∷◌, ◌++◌, Option, None, Some, option_map, find, refl, sym, ap, subst, ◌∙◌}
 use Rattle.std.specs.Bool.{if◌then◌else◌}
 use Rattle.std.specs.Option.{option_map_or}
 use Rattle.std.specs.Str.{bytes_eq}
@@ -20,11 +20,10 @@ use Rattle.device_requests.specs.declared.interest.Interest.{Interest}
 use Rattle.device_requests.specs.declared.interest.Interest.TheVariants.{Register}
 use Rattle.observing.specs.Message.{format_option, observe_option}
 use Rattle.observing.specs.Second.{is_content}
-use Rattle.device_machine.specs.declared.event.Event.TheVariants.{Recv}
 use Rattle.device_machine.specs.Observing.{Noted, begun, entered, lacks_place, noted, noted_by, unobserved}
 use Rattle.device_machine.specs.State.{Flat, Kept, with_client, with_observations}
-use Rattle.device_machine.specs.Reactions.{acted, location_options, on_noted, on_outcome, reaction_to, reply_to, response, sent_to}
-use Rattle.device_machine.specs.Laws.{IsCounted, IsFresh, RegistrationsCount, number_noted}
+use Rattle.device_machine.specs.Reactions.{acted, location_options, on_noted, on_outcome, reply_to, response, sent_to}
+use Rattle.device_machine.specs.Laws.{IsCounted, RegistrationsCount, number_noted}
 use Rattle.device_machine.proofs.Refusing.{observations_after}
 use Rattle.device_machine.proofs.Repeating.{all_true, first_con, first_non}
 

@@ -6,3 +6,4 @@ mod Places
 mod Refusing
 mod Repeating
 mod Sending
+mod Ticks

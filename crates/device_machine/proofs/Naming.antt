@@ -1,9 +1,9 @@
 -- The options of an answer are in order, and short.
-use Rattle.std.proofs.Common.{◌≡◌, ℕ, ◌/◌, ◌%◌, ◌<◌, ◌≤◌, nat_lt, Bool, true, false, List, [], ◌∷◌, ◌++◌, length, Option, None, Some, arith}
+use Rattle.std.proofs.Common.{ℕ, ◌/◌, ◌%◌, ◌<◌, ◌≤◌, nat_lt, Bool, true, false, List, [], ◌∷◌, ◌++◌, length, Option, None, Some, arith}
 use Rattle.std.specs.Bool.{if◌then◌else◌}
 use Rattle.std.specs.Fmt.{decimal}
 use Rattle.std.proofs.lemmas.Fmt.{length-decimal-le}
-use Rattle.coap_codec.specs.Message.{IsOptionList, MayFollow}
+use Rattle.coap_codec.specs.Message.{IsOptionList}
 use Rattle.coap_codec.specs.Number.{shortest}
 use Rattle.coap_codec.specs.declared.option.Opt.{Opt}
 use Rattle.object_defs.specs.declared.path.InstancePath.{InstancePath}

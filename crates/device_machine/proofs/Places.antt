@@ -1,37 +1,14 @@
--- When there is no place for an observation, and what a request leaves then.
-use Rattle.std.proofs.Common.{◌≡◌, ◌≤◌, ℕ, nat_le, Bool, true, false, not, ◌&&◌, List, length, Option, refl, sym, ap, ◌∙◌}
-use Rattle.std.specs.Bool.{if◌then◌else◌}
-use Rattle.std.proofs.lemmas.Bool.{leb-true, le-leb}
+-- What a request leaves that is answered and recorded with what is noted.
+use Rattle.std.proofs.Common.{◌≡◌, ℕ, Option, ◌∙◌}
 use Rattle.coap_codec.specs.Message.{Parts}
-use Rattle.notifier.specs.Observed.{has_name}
-use Rattle.notifier.specs.declared.observation.Observation.{Observation}
 use Rattle.device_requests.specs.Answers.{Leaves}
 use Rattle.device_requests.specs.Managed.{Managed}
 use Rattle.device_requests.specs.Requests.{outcome_of}
 use Rattle.device_requests.specs.declared.answer.Act.{Act as Deed}
 use Rattle.device_requests.specs.declared.answer.Answer.{Answer}
-use Rattle.device_machine.specs.Observing.{Noted, Notes, lacks_place, noted}
+use Rattle.device_machine.specs.Observing.{Noted, Notes, noted}
 use Rattle.device_machine.specs.State.{Flat, with_client, with_observations}
 use Rattle.device_machine.specs.Reactions.{on_fresh, on_noted, on_outcome, reply_to}
-
-lacks : (named : Bool) (n : ℕ) → (named ≡ false) × (32 ≤ n) → (not named && nat_le 32 n) ≡ true
-lacks named n h = ap (λ b. not b && nat_le 32 n) h.0 ∙ le-leb 32 n h.1
-
-has : (named : Bool) (n : ℕ) → ((named ≡ false) × (32 ≤ n) → false ≡ true) → (not named && nat_le 32 n) ≡ false
-has true n h = refl
-has false n h =
-    elim (nat_le 32 n) as (λ b. nat_le 32 n ≡ b → b ≡ false) [
-      | true ↦ λ e. sym (h (refl, leb-true 32 n e))
-      | false ↦ λ e. refl
-    ] refl
-
--- the name is new, and there are 32
-pub full : (os : List Observation) (server : ℕ) (token : List ℕ) → (has_name os server token ≡ false) × (32 ≤ length os) → lacks_place os server token ≡ true
-full os server token h = lacks (has_name os server token) (length os) h
-
--- it is not so
-pub free : (os : List Observation) (server : ℕ) (token : List ℕ) → ((has_name os server token ≡ false) × (32 ≤ length os) → false ≡ true) → lacks_place os server token ≡ false
-free os server token h = has (has_name os server token) (length os) h
 
 -- a request is answered and recorded with what is noted
 pub taken : (f h : Flat) (server : ℕ) (m : Parts) (client : Managed) (answer : Answer) (number : Option ℕ) (reply : Option Parts) (act : Option Deed)

@@ -1,13 +1,13 @@
 -- What follows from the tables, in the words of the standard.
-use Rattle.std.specs.Prelude.{◌≡◌, ℕ, ◌<◌, is_some, if◌then◌else◌, Bool, true, false, ◌⊎◌, List, [], ◌∷◌, ◌++◌, find, Option, None, Some, option_map, Ok}
-use Rattle.std.specs.List.{filter, list_any}
+use Rattle.std.specs.Prelude.{◌≡◌, ℕ, ◌+◌, ◌<◌, is_some, if◌then◌else◌, Bool, true, false, ◌⊎◌, List, [], ◌∷◌, ◌++◌, find, map, Option, None, Some, option_map, Ok}
+use Rattle.std.specs.List.{AllByRecursion, filter, list_any}
 use Rattle.coap_codec.specs.Message.{Parts, spelling}
 use Rattle.coap_codec.specs.Reading.{reading_of}
 use Rattle.coap_codec.specs.declared.option.Opt.{Opt}
 use Rattle.coap_codec.specs.declared.kind.Kind.{Kind}
 use Rattle.coap_codec.specs.declared.kind.Kind.TheVariants.{Con, Non, Ack, Rst}
 use Rattle.device_requests.specs.declared.answer.Code.{Code}
-use Rattle.device_machine.specs.declared.event.Event.TheVariants.{Recv}
+use Rattle.device_machine.specs.declared.event.Event.TheVariants.{Recv, Tick}
 use Rattle.device_machine.specs.declared.output.Output.{Output}
 use Rattle.device_machine.specs.declared.output.Output.TheVariants.{Send, Act}
 use Rattle.device_requests.specs.declared.answer.Act.{Act as Deed}
@@ -18,6 +18,9 @@ use Rattle.device_requests.specs.Requests.{outcome_of}
 use Rattle.notifier.specs.Observed.{cancelled, has_name, is_named, number_for, was_sent}
 use Rattle.notifier.specs.declared.observation.Observation.{Observation}
 use Rattle.object_defs.specs.declared.path.Path.{Path}
+use Rattle.observing.specs.declared.datagram.Datagram.{Datagram}
+use Rattle.observing.specs.Laws.{IsOf, RisesByOne}
+use Rattle.observing.specs.Laws.{IsFresh as IsYoung}
 use Rattle.observing.specs.Message.{observe_option}
 use Rattle.observing.specs.Second.{is_content}
 use Rattle.device_machine.specs.Observing.{lacks_place}
@@ -27,7 +30,7 @@ use Rattle.device_machine.specs.State.{Flat, lifetime}
 use Rattle.device_requests.specs.Managed.{has_account}
 use Rattle.device_requests.specs.Options.{has_unrecognized_critical}
 use Rattle.device_requests.specs.Laws.{is_refusal, request_lines}
-use Rattle.device_machine.specs.Reactions.{Reaction, acted, outputs_of, flat_after, is_request, later, reaction_to, repeat_of}
+use Rattle.device_machine.specs.Reactions.{Reaction, acted, outputs_of, flat_after, is_request, later, reaction_to, repeat_of, send_of}
 
 -- the bytes are a request of this server that is no repeat
 pub record IsFresh (f : Flat) (server : ℕ) (bytes : List ℕ) (m : Parts) : Type 0 where
@@ -142,3 +145,42 @@ RegistrationsCount =
     → interest_of m ≡ Some (Register path accept) → is_content (outcome_of f.kept.client server m).answer ≡ true
     → lacks_place f.kept.observations server m.token ≡ false
     → IsCounted (reaction_to f (Recv server bytes)) server m (number_for f.kept.observations server m.token)
+
+-- a tick of so many seconds, and one of so many more behind it, are one of all of them
+pub record AddsUp (f : Flat) (a b : ℕ) : Type 0 where
+  pub sent : outputs_of f (Tick (a + b)) ≡ outputs_of f (Tick a) ++ outputs_of (flat_after f (Tick a)) (Tick b)
+  pub then_flat : flat_after f (Tick (a + b)) ≡ flat_after (flat_after f (Tick a)) (Tick b)
+
+abbrev pub TicksAdd : Type 0
+TicksAdd = (f : Flat) (a b : ℕ) → AddsUp f a b
+
+-- a datagram is sent in a second of a tick by an observation that is there then: a notification that keeps it, pmin seconds or more behind its last
+-- message, or the message that ends it
+abbrev pub IsSentIn : Flat → ℕ → Datagram → Type 0
+IsSentIn f n d =
+    (k : ℕ) × (k < n) × IsOf f.kept.client (f.kept.clock + (k + 1)) (flat_after f (Tick k)).kept.observations d
+
+-- so is all that a device puts out in a tick
+pub record SendsInTime (f : Flat) (n : ℕ) : Type 0 where
+  pub datagrams : List Datagram
+  pub sent : outputs_of f (Tick n) ≡ map send_of datagrams
+  pub each : AllByRecursion (IsSentIn f n) datagrams
+
+abbrev pub TicksSendAfterPmin : Type 0
+TicksSendAfterPmin = (f : Flat) (n : ℕ) → SendsInTime f n
+
+-- behind each second no observation whose pmax has effect has a last message that is pmax seconds old
+abbrev pub TicksSendBeforePmax : Type 0
+TicksSendBeforePmax =
+    (f : Flat) (n : ℕ) → AllByRecursion (IsYoung f.kept.client (flat_after f (Tick (n + 1))).kept.clock) (flat_after f (Tick (n + 1))).kept.observations
+
+-- the Observe numbers of an observation's messages rise by one with each of them, modulo 2^24, whatever is sent between (RFC 7641 section 3.4)
+pub record CountsOn (f : Flat) (n : ℕ) (o : Observation) (others : List Observation) : Type 0 where
+  pub datagrams : List Datagram
+  pub sent : outputs_of f (Tick n) ≡ map send_of datagrams
+  pub rises : RisesByOne o others datagrams (flat_after f (Tick n)).kept.observations
+
+abbrev pub TicksCount : Type 0
+TicksCount =
+    (f : Flat) (n : ℕ) (before after : List Observation) (o : Observation) → f.kept.observations ≡ before ++ o ∷ after
+    → CountsOn f n o (before ++ after)

@@ -23,7 +23,7 @@ use Rattle.std.specs.Fmt.{decimal}
 use Rattle.object_defs.specs.declared.path.FullPath.{FullPath}
 use Rattle.object_defs.specs.declared.path.InstancePath.{InstancePath}
 use Rattle.device_requests.specs.Answers.{Outcome, code_byte}
-use Rattle.device_requests.specs.Managed.{Managed, has_account, with_stored}
+use Rattle.device_requests.specs.Managed.{has_account, with_stored}
 use Rattle.device_requests.specs.Options.{has_unrecognized_critical}
 use Rattle.device_requests.specs.Requests.{outcome_of}
 use Rattle.device_machine.specs.declared.recorded.Recorded.{Recorded}

@@ -1,6 +1,6 @@
 //! What follows from the tables, for their readers. The calls do nothing; their contracts are the laws.
 
-ghost use Rattle.device_machine.specs.Laws.{CancelsEnd, ConfirmableAnswers, ConfirmableRepeats, NonConfirmableAnswers, NonConfirmableRejects, NonConfirmableRepeats, RefusedChangesNothing, RegistrationsCount, ResetsEnd};
+ghost use Rattle.device_machine.specs.Laws.{CancelsEnd, ConfirmableAnswers, ConfirmableRepeats, NonConfirmableAnswers, NonConfirmableRejects, NonConfirmableRepeats, RefusedChangesNothing, RegistrationsCount, ResetsEnd, TicksAdd, TicksCount, TicksSendAfterPmin, TicksSendBeforePmax};
 
 /// A request that comes again within its lifetime is not processed again (RFC 7252 section 4.5): a
 /// confirmable one gets the bytes that it got, and neither changes anything.
@@ -37,4 +37,28 @@ pub fn ends_observations()
 /// observation notes that number.
 pub fn counts_registrations()
     ensures { RegistrationsCount }
+{}
+
+/// A tick of so many seconds, and one of so many more behind it, are one of all of them: the same
+/// outputs, and the same flat state then. So each law of a tick speaks of each second of a longer one.
+pub fn ticks_add()
+    ensures { TicksAdd }
+{}
+
+/// Each datagram of a tick is, in one of its seconds, a notification of an observation that is there
+/// then, sent where pmin seconds have passed since its last message; or it ends the observation.
+pub fn notifies_after_pmin()
+    ensures { TicksSendAfterPmin }
+{}
+
+/// Behind each second of a tick no observation whose pmax has effect has a last message that is pmax
+/// seconds old or older.
+pub fn notifies_before_pmax()
+    ensures { TicksSendBeforePmax }
+{}
+
+/// Through a tick the Observe numbers of an observation's messages rise by one with each of them,
+/// modulo 2^24, and the observation notes the last; behind the message that ends it comes none.
+pub fn counts_notifications()
+    ensures { TicksCount }
 {}

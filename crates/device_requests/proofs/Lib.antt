@@ -5,6 +5,7 @@ mod Hiding
 mod Linking
 mod LinksExist
 mod Paths
+mod Present
 mod Queries
 mod ReadBack
 pub mod Refusing

@@ -1,9 +1,9 @@
 //! A Delete: of which objects, and what it takes away.
 
-ghost use Rattle.std.specs.Prelude.{◌≡◌, filter, not, OnOk};
+ghost use Rattle.std.specs.Prelude.{◌≡◌, true, filter, not, OnOk};
 ghost use Rattle.instance_store.specs.Stored.{has_instance};
 ghost use Rattle.device_requests.specs.Deletes.{deleted, is_fixed, taken_away, without_controls};
-ghost use Rattle.device_requests.specs.Targets.{place_of};
+ghost use Rattle.device_requests.specs.Targets.{has_place, place_of};
 ghost use Rattle.notifier.specs.Attributes.{without_under};
 
 use instance_store::Store;
@@ -18,18 +18,19 @@ pub(crate) fn is_fixed(object: u16) -> bool
     object == 1 || object == 2 || object == 3 || object == 5
 }
 
-/// Takes an instance away, and each instance of Access Control for it.
-fn take_away(store: &mut Store, path: Path) -> Result<(), AllocError>
-    ensures { OnOk result (store.new ≡ deleted store.old path) }
+/// Takes an instance that is there away, and each instance of Access Control for it.
+fn take_away(store: &mut Store, path: Path)
+    requires { has_place store.old path ≡ true }
+    ensures { store.new ≡ deleted store.old path }
 {
     match path {
         Path::Instance(object, instance) => {
             match instance_lifecycle::delete(store, InstancePath { object, instance }) {
-                Ok(()) => Ok(()),
-                Err(_) => Err(AllocError),
+                Ok(()) => {}
+                Err(_) => unreachable!(),
             }
         }
-        Path::Object(_) | Path::Resource(_, _, _) | Path::Part(_, _, _, _) => Ok(()),
+        Path::Object(_) | Path::Resource(_, _, _) | Path::Part(_, _, _, _) => {}
     }
 }
 
@@ -48,20 +49,21 @@ fn forget(attributes: &mut Attributes, store: &Store, instances: &[u16])
     }
 }
 
-/// Takes an instance away, each instance of Access Control for it, and the attributes at or below
-/// these.
+/// Takes an instance that is there away, each instance of Access Control for it, and the attributes
+/// at or below these.
 pub(crate) fn delete(
     alloc: Global,
     store: &mut Store,
     attributes: &mut Attributes,
     path: Path,
 ) -> Result<(), AllocError>
+    requires { has_place store.old path ≡ true }
     ensures store { OnOk result (store.new ≡ deleted store.old path) }
     ensures attributes { OnOk result (attributes.new
         ≡ without_controls (without_under attributes.old path) (taken_away store.old (deleted store.old path))) }
 {
     let controls = Vec::from_slice(alloc, store.instances(2))?;
-    take_away(store, path)?;
+    take_away(store, path);
     attributes.remove_under(path);
     forget(attributes, store, controls.as_slice());
     Ok(())

@@ -1,11 +1,15 @@
 //! An Execute: its arguments, what it changes, and what the device does behind it.
 
-ghost use Rattle.std.specs.Prelude.{◌≡◌, IfOk, OnOk};
+ghost use Rattle.std.specs.Prelude.{◌≡◌, true, false, pos, IfOk, OnOk};
+ghost use Rattle.lwm2m_values.specs.declared.value.Value.TheVariants.{Whole};
+ghost use Rattle.object_defs.specs.Path.{part_of};
+ghost use Rattle.instance_store.specs.Stored.{has_instance, instance_of, is_full, resource_path, with_value, without_values};
 ghost use Rattle.device_requests.specs.Executes.{act_of, executed, is_executable, is_plain, is_resource, is_untimely, with_no_error};
+ghost use Rattle.device_requests.specs.Targets.{has_place};
 
 use crate::answer::Act;
 use firmware_update::{FirmwareEvent, take, takes};
-use instance_store::Store;
+use instance_store::{Store, StoreFault};
 use lwm2m_values::Value;
 use object_defs::{Path, ResourceDef, ResourcePath};
 use std::alloc::{AllocError, Global};
@@ -66,8 +70,33 @@ pub(crate) fn act_of(path: Path) -> Option<Act>
     None
 }
 
-/// Leaves 0, no error, as the one error code.
+/// Removes what a resource of an instance that is there holds.
+fn clear(store: &mut Store, place: ResourcePath)
+    requires { has_instance store.old (instance_of place) ≡ true }
+    ensures { store.new ≡ without_values store.old (resource_path place) }
+{
+    match store.clear_resource(place) {
+        Ok(()) => {}
+        Err(_) => unreachable!(),
+    }
+}
+
+/// Sets part 0 of a resource of an instance that is there to 0, where the resource has room for it.
+fn put_zero(store: &mut Store, place: ResourcePath) -> Result<(), AllocError>
+    requires there { has_instance store.old (instance_of place) ≡ true }
+    requires room { is_full store.old place 0 ≡ false }
+    ensures { OnOk result (store.new ≡ with_value store.old (part_of place 0) (Whole (pos 0))) }
+{
+    match store.put_part(place, 0, Value::Whole(0)) {
+        Ok(()) => Ok(()),
+        Err(StoreFault::Memory) => Err(AllocError),
+        Err(_) => unreachable!(),
+    }
+}
+
+/// Leaves 0, no error, as the one error code of an instance that is there.
 fn reset_errors(store: &mut Store, path: Path) -> Result<(), AllocError>
+    requires { has_place store.old path ≡ true }
     ensures { OnOk result (store.new ≡ with_no_error store.old path) }
 {
     match path {
@@ -77,20 +106,16 @@ fn reset_errors(store: &mut Store, path: Path) -> Result<(), AllocError>
                 instance,
                 resource: 11,
             };
-            match store.clear_resource(codes) {
-                Ok(()) => match store.put_part(codes, 0, Value::Whole(0)) {
-                    Ok(()) => Ok(()),
-                    Err(_) => Err(AllocError),
-                },
-                Err(_) => Err(AllocError),
-            }
+            clear(store, codes);
+            put_zero(store, codes)
         }
         Path::Object(_) | Path::Instance(_, _) | Path::Part(_, _, _, _) => Ok(()),
     }
 }
 
-/// Does what an Execute asks for. At `Err` the error codes may be gone.
+/// Does what an Execute asks for in an instance that is there. At `Err` the error codes may be gone.
 pub(crate) fn execute(alloc: Global, store: &mut Store, path: Path) -> Result<(), AllocError>
+    requires { has_place store.old path ≡ true }
     ensures { OnOk result (store.new ≡ executed store.old path) }
 {
     if is_resource(5, 2, path) {

@@ -1,11 +1,14 @@
 //! A Write: which targets it has, what its payload gives, and how that is set.
 
-ghost use Rattle.std.specs.Prelude.{◌≡◌, ◌==◌, IfOk, OnOk, Some, None};
+ghost use Rattle.std.specs.Prelude.{◌≡◌, ◌==◌, true, false, IfOk, OnOk, Some, None};
+ghost use Rattle.instance_store.specs.Stored.{has_instance, instance_of};
+ghost use Rattle.resource_formats.specs.Changes.{has_too_many, instance_written};
+ghost use Rattle.device_requests.specs.Targets.{has_place};
 ghost use Rattle.device_requests.specs.Writes.{can_be_written, values_exceed, values_written, values_given, given_to_part, given_to_resource, event_at, event_in, is_target, is_writable, mode_at, package_in, resource_exceeds, resource_written, uri_in};
 
 use crate::targets::{defined, definition_at, is_multiple, is_readable};
 use firmware_update::FirmwareEvent;
-use instance_store::Store;
+use instance_store::{Store, StoreFault};
 use lwm2m_values::Value;
 use object_defs::{Catalog, InstancePath, Path, ResourceDef, ResourcePath};
 use resource_formats::{
@@ -241,7 +244,8 @@ pub(crate) fn exceeds(
     }
 }
 
-/// Sets what is given to a resource that keeps its values.
+/// Sets what is given to a resource of an instance that is there, where it keeps its values and has
+/// no more parts then than it may.
 fn write_resource(
     mode: Mode,
     definition: Option<ResourceDef>,
@@ -249,6 +253,8 @@ fn write_resource(
     place: ResourcePath,
     given: Given,
 ) -> Result<(), AllocError>
+    requires there { has_instance store.old (instance_of place) ≡ true }
+    requires room { resource_exceeds mode definition store.old place given ≡ false }
     ensures { OnOk result (store.new ≡ resource_written mode definition store.old place given) }
 {
     if !is_readable(definition) {
@@ -256,12 +262,33 @@ fn write_resource(
     }
     match set_given(mode, store, place, given) {
         Ok(()) => Ok(()),
-        Err(_) => Err(AllocError),
+        Err(StoreFault::Memory) => Err(AllocError),
+        Err(_) => unreachable!(),
     }
 }
 
-/// Sets what is given, where it does not exceed what a resource may have. At `Err` a part of it may
-/// be set.
+/// Sets what is given to the resources of an instance that is there, where none has more parts then
+/// than it may.
+fn write_resources(
+    mode: Mode,
+    resources: &[ResourceDef],
+    store: &mut Store,
+    place: InstancePath,
+    given: Assignments,
+) -> Result<(), AllocError>
+    requires there { has_instance store.old place ≡ true }
+    requires room { has_too_many mode resources.now store.old place given ≡ false }
+    ensures { OnOk result (store.new ≡ instance_written mode resources.now store.old place given) }
+{
+    match write_instance(mode, resources, store, place, given) {
+        Ok(()) => Ok(()),
+        Err(StoreFault::Memory) => Err(AllocError),
+        Err(_) => unreachable!(),
+    }
+}
+
+/// Sets what is given in an instance that is there, where it does not exceed what a resource may
+/// have. At `Err` a part of it may be set.
 pub(crate) fn write(
     mode: Mode,
     catalog: &Catalog,
@@ -269,6 +296,8 @@ pub(crate) fn write(
     path: Path,
     values: NewValues,
 ) -> Result<(), AllocError>
+    requires there { has_place store.old path ≡ true }
+    requires room { values_exceed mode catalog.now store.old path values ≡ false }
     ensures { OnOk result (store.new ≡ values_written mode catalog.now store.old path values) }
 {
     let definition = definition_at(catalog, path);
@@ -276,10 +305,7 @@ pub(crate) fn write(
         NewValues::Several(given) => match path {
             Path::Instance(object, instance) => {
                 let place = InstancePath { object, instance };
-                match write_instance(mode, defined(catalog, object), store, place, given) {
-                    Ok(()) => Ok(()),
-                    Err(_) => Err(AllocError),
-                }
+                write_resources(mode, defined(catalog, object), store, place, given)
             }
             Path::Object(_) | Path::Resource(_, _, _) | Path::Part(_, _, _, _) => Ok(()),
         },

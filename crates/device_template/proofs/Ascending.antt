@@ -15,7 +15,7 @@ use Rattle.device_template.specs.Built.IsBuilt.{nothing, account, object, resour
 use Rattle.device_template.specs.declared.fault.TemplateFault.TheVariants.{Range, Duplicate, Full}
 
 -- each number is below all those after it
-abbrev Rises : List ℕ → Type 0
+abbrev pub Rises : List ℕ → Type 0
 Rises [] = Unit {0}
 Rises (x ∷ xs) = AllByRecursion (λ y. x < y) xs × Rises xs
 
@@ -54,7 +54,7 @@ second_of : (a b : Bool) → (a || b) ≡ false → b ≡ false
 second_of true b h = let e : true ≡ false = h in cc
 second_of false b h = h
 
-rises-inserted : (x : ℕ) (xs : List ℕ) → list_any (λ a. eqb a x) xs ≡ false → Rises xs → Rises (inserted (λ a. a) x xs)
+pub rises-inserted : (x : ℕ) (xs : List ℕ) → list_any (λ a. eqb a x) xs ≡ false → Rises xs → Rises (inserted (λ a. a) x xs)
 rises-inserted x [] new h = (tt, tt)
 rises-inserted x (y ∷ ys) new h =
     elim (ltb x y) as (λ b. ltb x y ≡ b → Rises (cond b (x ∷ y ∷ ys) (y ∷ inserted (λ a. a) x ys))) [
@@ -67,13 +67,13 @@ is_new true b c h = let e : Some Range ≡ None = h in cc
 is_new false true c h = let e : Some Duplicate ≡ None = h in cc
 is_new false false c h = refl
 
-rises : (class : Class) → IsBuilt class → Rises class.accounts
+pub rises : (class : Class) → IsBuilt class → Rises class.accounts
 rises _ nothing = tt
 rises _ (account {class} server built free) = rises-inserted server class.accounts (is_new _ _ _ free) (rises class built)
 rises _ (object {class} id built free) = rises class built
-rises _ (resource {class} id d built free) = rises class built
-rises _ (instance {class} place built free) = rises class built
-rises _ (value {class} p v built free) = rises class built
+rises _ (resource {class} id d short built free) = rises class built
+rises _ (instance {class} place short built free) = rises class built
+rises _ (value {class} p v short good built free) = rises class built
 
 pub ascending : (class : Class) → IsBuilt class → IsStrictlyIncreasing class.accounts
 ascending class built = IsStrictlyIncreasing-from_sorted class.accounts (sorted class.accounts (rises class built))

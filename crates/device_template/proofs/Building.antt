@@ -1,6 +1,7 @@
 -- A template stays one that accepted additions made.
-use Rattle.std.proofs.Common.{◌≡◌, ℕ, List, [], Option, None, Some, Result, Ok, Err, OnOk, OnErr, option_map, refl, sym, ap, subst, ◌∙◌}
+use Rattle.std.proofs.Common.{◌≡◌, ℕ, ◌<◌, List, [], Option, None, Some, Result, Ok, Err, OnOk, OnErr, option_map, refl, sym, ap, subst, ◌∙◌}
 use Rattle.lwm2m_values.specs.declared.value.Value.{Value}
+use Rattle.lwm2m_values.specs.Value.{IsGood}
 use Rattle.object_defs.specs.Base.{base}
 use Rattle.object_defs.specs.Vendor.{inserted, with_object, with_resource, vendor_fault, resource_fault}
 use Rattle.object_defs.specs.declared.definition.ObjectDef.{ObjectDef}
@@ -11,7 +12,7 @@ use Rattle.object_defs.specs.declared.path.InstancePath.{InstancePath}
 use Rattle.instance_store.specs.Stored.{Stored, empty, with_instance, with_value}
 use Rattle.instance_store.specs.declared.fault.StoreFault.{StoreFault}
 use Rattle.device_template.specs.Class.{Class, account_fault, fault_of, instance_fault, value_fault_at}
-use Rattle.device_template.specs.Built.{IsBuilt}
+use Rattle.device_template.specs.Built.{IsBuilt, IsShort}
 use Rattle.device_template.specs.Built.IsBuilt.{nothing, account, object, resource, instance, value}
 
 abbrev pub made : List ℕ → List ObjectDef → Stored → Class
@@ -36,19 +37,19 @@ pub by_object : (a : List ℕ) (c new : List ObjectDef) (s : Stored) (id : ℕ) 
 by_object a c new s id r x built ok refuses more =
     subst (λ y. IsBuilt (made a y s)) (sym more) (object id built (ap (option_map fault_of) (not_refused (vendor_fault c id) r x ok refuses)))
 
-pub by_resource : (a : List ℕ) (c new : List ObjectDef) (s : Stored) (id : ℕ) (d : ResourceDef) (r : Result (Unit {0}) CatalogFault) (x : Unit {0}) → IsBuilt (made a c s) → r ≡ Ok x
+pub by_resource : (a : List ℕ) (c new : List ObjectDef) (s : Stored) (id : ℕ) (d : ResourceDef) (r : Result (Unit {0}) CatalogFault) (x : Unit {0}) → d.id < 65536 → IsBuilt (made a c s) → r ≡ Ok x
     → ((f : CatalogFault) → resource_fault c id d ≡ Some f → r ≡ Err f) → new ≡ with_resource c id d → IsBuilt (made a new s)
-by_resource a c new s id d r x built ok refuses more =
-    subst (λ y. IsBuilt (made a y s)) (sym more) (resource id d built (ap (option_map fault_of) (not_refused (resource_fault c id d) r x ok refuses)))
+by_resource a c new s id d r x short built ok refuses more =
+    subst (λ y. IsBuilt (made a y s)) (sym more) (resource id d short built (ap (option_map fault_of) (not_refused (resource_fault c id d) r x ok refuses)))
 
-pub by_instance : (a : List ℕ) (c : List ObjectDef) (s new : Stored) (class : Class) (place : InstancePath) (r : Result (Unit {0}) StoreFault) → IsBuilt (made a c s) → made a c s ≡ class
+pub by_instance : (a : List ℕ) (c : List ObjectDef) (s new : Stored) (class : Class) (place : InstancePath) (r : Result (Unit {0}) StoreFault) → place.object < 65536 → IsBuilt (made a c s) → made a c s ≡ class
     → instance_fault class place ≡ None → OnOk r (new ≡ with_instance s place) → OnErr r (new ≡ s) → IsBuilt (made a c new)
-by_instance a c s new class place (Ok x) built same free more kept =
-    subst (λ y. IsBuilt (made a c y)) (sym more) (instance place built (ap (λ k. instance_fault k place) same ∙ free))
-by_instance a c s new class place (Err f) built same free more kept = subst (λ y. IsBuilt (made a c y)) (sym kept) built
+by_instance a c s new class place (Ok x) short built same free more kept =
+    subst (λ y. IsBuilt (made a c y)) (sym more) (instance place short built (ap (λ k. instance_fault k place) same ∙ free))
+by_instance a c s new class place (Err f) short built same free more kept = subst (λ y. IsBuilt (made a c y)) (sym kept) built
 
-pub by_value : (a : List ℕ) (c : List ObjectDef) (s new : Stored) (class : Class) (p : FullPath) (v : Value) (r : Result (Unit {0}) StoreFault) → IsBuilt (made a c s) → made a c s ≡ class
+pub by_value : (a : List ℕ) (c : List ObjectDef) (s new : Stored) (class : Class) (p : FullPath) (v : Value) (r : Result (Unit {0}) StoreFault) → IsShort p → IsGood v → IsBuilt (made a c s) → made a c s ≡ class
     → value_fault_at class p v ≡ None → OnOk r (new ≡ with_value s p v) → OnErr r (new ≡ s) → IsBuilt (made a c new)
-by_value a c s new class p v (Ok x) built same free more kept =
-    subst (λ y. IsBuilt (made a c y)) (sym more) (value p v built (ap (λ k. value_fault_at k p v) same ∙ free))
-by_value a c s new class p v (Err f) built same free more kept = subst (λ y. IsBuilt (made a c y)) (sym kept) built
+by_value a c s new class p v (Ok x) short good built same free more kept =
+    subst (λ y. IsBuilt (made a c y)) (sym more) (value p v short good built (ap (λ k. value_fault_at k p v) same ∙ free))
+by_value a c s new class p v (Err f) short good built same free more kept = subst (λ y. IsBuilt (made a c y)) (sym kept) built

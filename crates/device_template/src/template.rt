@@ -3,7 +3,8 @@ ghost use Rattle.std.specs.List.Sorted.{IsStrictlyIncreasing};
 ghost use Rattle.instance_store.specs.Stored.{empty, with_instance, with_value};
 ghost use Rattle.object_defs.specs.Path.{full_path};
 ghost use Rattle.device_template.specs.Class.{account_fault, definition_fault, empty_class, instance_fault, kind_taken, may_stand, object_fault, value_fault, value_fault_at, with_account, with_catalogue, with_idle_firmware, with_store};
-ghost use Rattle.device_template.specs.Built.{IsBuilt};
+ghost use Rattle.device_template.specs.Built.{IsBuilt, IsShort};
+ghost use Rattle.lwm2m_values.specs.Value.{IsGood};
 ghost use Rattle.device_template.specs.Values.{has_kind, is_within_limits, with_value_at};
 ghost use Rattle.lwm2m_values.specs.declared.kind.ValueKind.{ValueKind};
 ghost use Rattle.lwm2m_values.specs.declared.value.Value.{Value};
@@ -193,7 +194,9 @@ impl Template {
     }
 
     fn value_fault(&self, path: FullPath, value: &Value) -> Option<TemplateFault>
-        ensures { result ≡ value_fault_at self.now path value.now }
+        ensures fault { result ≡ value_fault_at self.now path value.now }
+        ensures short { IsShort path }
+        ensures good { result ≡ None → IsGood value.now }
     {
         if !fits(&self.catalog, path, value) {
             return Some(TemplateFault::Range);

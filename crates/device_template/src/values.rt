@@ -1,6 +1,7 @@
 //! When a value may stand at a path, and how it comes there.
 
 ghost use Rattle.std.specs.Prelude.{◌≡◌, ◌≢◌, ◌↔◌, IsErrOf, IsFalse, IsTrue, Err, OnOk, OnErr, Some};
+ghost use Rattle.lwm2m_values.specs.Value.{IsGood};
 ghost use Rattle.instance_store.specs.Stored.{has_instance, with_value};
 ghost use Rattle.device_template.specs.Class.{plain};
 ghost use Rattle.device_template.specs.Values.{fits, fits_resource, has_all_parts, has_kind, has_place, instance_at, is_one_too_many, is_set_at_start, is_within_limits, misses, resource_at};
@@ -25,14 +26,27 @@ pub(crate) fn plain(alloc: Global, kind: ValueKind) -> Value
     }
 }
 
-/// Whether the value has a length that its kind may have.
+/// Whether the value has a length that its kind may have: then it is a good one.
 fn is_within_limits(value: &Value) -> bool
-    ensures { result ≡ is_within_limits value.now }
+    ensures short { result ≡ is_within_limits value.now }
+    ensures good { IsTrue result → IsGood value.now }
 {
     match value {
         Value::Text(text) => text.as_str().len() <= 255,
-        Value::Opaque(bytes) => bytes.len() <= 1024,
-        Value::Whole(_) | Value::Flag(_) | Value::Moment(_) | Value::Link(_, _) => true,
+        Value::Opaque(bytes) => {
+            let bytes = bytes.as_slice();
+            bytes.len() <= 1024
+        }
+        Value::Whole(number) | Value::Moment(number) => {
+            // A number that is read is known to be in its type's range.
+            let _number = *number;
+            true
+        }
+        Value::Flag(_) => true,
+        Value::Link(object, instance) => {
+            let (_object, _instance) = (*object, *instance);
+            true
+        }
     }
 }
 
@@ -79,7 +93,8 @@ fn fits_resource(path: FullPath, value: &Value, definition: Option<ResourceDef>)
 
 /// Whether the value fits its path and the definition there, if its object is known.
 pub fn fits(catalog: &Catalog, path: FullPath, value: &Value) -> bool
-    ensures { result ≡ fits catalog.now path value.now }
+    ensures fits { result ≡ fits catalog.now path value.now }
+    ensures good { IsTrue result → IsGood value.now }
 {
     if !is_within_limits(value) {
         return false;

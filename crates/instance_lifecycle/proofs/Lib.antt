@@ -1,3 +1,4 @@
+pub mod Counting
 pub mod Controls
 pub mod Deleted
 pub mod Found

@@ -175,18 +175,21 @@ fn add_control_for(
     }
 }
 
-/// Sets what the resources of an instance are given. There is an instance, and room for all its parts.
+/// Sets what the resources of an instance that is there are given, where there is room for all their parts.
 fn write(
     resources: &[ResourceDef],
     store: &mut Store,
     place: InstancePath,
     given: Assignments,
 ) -> Result<(), AllocError>
+    requires there { has_instance store.old place ≡ true }
+    requires room { has_too_many Replace resources.now store.old place given ≡ false }
     ensures { OnOk result (store.new ≡ instance_written Replace resources.now store.old place given) }
 {
     match write_instance(Mode::Replace, resources, store, place, given) {
         Ok(()) => Ok(()),
-        Err(_) => Err(AllocError),
+        Err(StoreFault::Memory) => Err(AllocError),
+        Err(_) => unreachable!(),
     }
 }
 

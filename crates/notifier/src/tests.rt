@@ -1,3 +1,5 @@
+//! Queries, attributes, observations and triggers, from the standards and this profile.
+
 use crate::{
     Attributes, Change, Level, Name, Observations, ObserveFault, QueryFault, Report, WriteFault,
     is_due, parse_query, triggers,
@@ -81,9 +83,81 @@ fn refuses_queries(rt: HostRuntime) -> Result<(), Fail> {
     Ok(())
 }
 
+/// What a query is read as at the level of a number: the number, -1 for none, or the fault.
+type Reading = Result<i64, QueryFault>;
+
+#[test]
+fn reads_queries_of_every_shape(rt: HostRuntime) -> Result<(), Fail> {
+    let rows: [(&str, Reading); 26] = [
+        // no name
+        ("", Err(QueryFault::UnknownName)),
+        ("=", Err(QueryFault::UnknownName)),
+        ("==", Err(QueryFault::UnknownName)),
+        ("=pmin", Err(QueryFault::UnknownName)),
+        ("12345678901234567890", Err(QueryFault::UnknownName)),
+        ("-", Err(QueryFault::UnknownName)),
+        // an unknown name
+        ("pmin5", Err(QueryFault::UnknownName)),
+        ("epmin=1", Err(QueryFault::UnknownName)),
+        ("Gt=1", Err(QueryFault::UnknownName)),
+        // a name without a number
+        ("pmax", Ok(-1)),
+        ("lt", Ok(-1)),
+        ("pmax=", Err(QueryFault::BadNumber)),
+        ("st=", Err(QueryFault::BadNumber)),
+        // numbers of 20 digits
+        ("pmin=12345678901234567890", Err(QueryFault::BadNumber)),
+        ("pmin=00000000000000000007", Ok(7)),
+        ("gt=12345678901234567890", Err(QueryFault::BadNumber)),
+        ("lt=00000000000000000007", Err(QueryFault::BadNumber)),
+        // signs
+        ("pmin=-5", Err(QueryFault::BadNumber)),
+        ("pmax=+5", Err(QueryFault::BadNumber)),
+        ("gt=-5", Ok(-5_000)),
+        ("gt=+5", Err(QueryFault::BadNumber)),
+        ("lt=--5", Err(QueryFault::BadNumber)),
+        ("lt=5-", Err(QueryFault::BadNumber)),
+        // two signs of equality, and a point for seconds
+        ("pmin=1=2", Err(QueryFault::BadNumber)),
+        ("pmin=5.", Err(QueryFault::BadNumber)),
+        ("gt=1.5.5", Err(QueryFault::BadNumber)),
+    ];
+    for (query, wanted) in &rows {
+        let read = number_in(rt.alloc(), query.as_bytes(), Level::Number);
+        assert!(rt; read == *wanted, "{query}");
+    }
+    Ok(())
+}
+
+#[test]
+fn reads_queries_of_255_bytes(rt: HostRuntime) -> Result<(), Fail> {
+    for (head, fill, tail, wanted) in [
+        (&b"pmin="[..], b'0', &b"86400"[..], Ok(86_400)),
+        (b"pmin=", b'9', b"", Err(QueryFault::BadNumber)),
+        (b"gt=", b'0', b"1", Err(QueryFault::BadNumber)),
+        (b"gt=1.", b'0', b"", Err(QueryFault::BadNumber)),
+        (b"pmin", b'n', b"", Err(QueryFault::UnknownName)),
+        (b"", b'=', b"", Err(QueryFault::UnknownName)),
+    ] {
+        let mut query = Vec::new(rt.alloc());
+        query.extend_from_slice(head)?;
+        for _ in head.len() + tail.len()..255 {
+            query.push(fill)?;
+        }
+        query.extend_from_slice(tail)?;
+        assert_eq!(rt; query.len(), 255);
+        let read = number_in(rt.alloc(), query.as_slice(), Level::Number);
+        assert!(rt; read == wanted);
+    }
+    Ok(())
+}
+
 #[test]
 fn reads_queries_from_the_left(rt: HostRuntime) -> Result<(), Fail> {
     let twice = parse_query(rt.alloc(), &[b"pmin=1", b"pmin="], Level::Resource);
+    assert!(rt; matches!(&twice, Err(QueryFault::Repeated)));
+    // a name that stands there already comes before its number and its level
+    let twice = parse_query(rt.alloc(), &[b"gt=1", b"pmin=1", b"gt"], Level::Number);
     assert!(rt; matches!(&twice, Err(QueryFault::Repeated)));
     let unknown = parse_query(rt.alloc(), &[b"foo", b"foo"], Level::Resource);
     assert!(rt; matches!(&unknown, Err(QueryFault::UnknownName)));

@@ -1,4 +1,6 @@
+pub mod Numbers
 mod Options
 mod Passing
 mod Places
-mod Turns
+pub mod Spans
+pub mod Turns

@@ -27,7 +27,7 @@ choose true false a P s q g = q refl refl
 choose false d a P s q g = g refl
 
 -- the verdict on an observation is one of three, each under its conditions
-by_verdict : (client : Managed) (clock : ℕ) (o : Observation) (P : Verdict → Type 0)
+pub by_verdict : (client : Managed) (clock : ℕ) (o : Observation) (P : Verdict → Type 0)
     → (is_content (present client o) ≡ true → is_due_now client clock o (present client o).payload ≡ true → P (Sends (present client o)))
     → (is_content (present client o) ≡ true → is_due_now client clock o (present client o).payload ≡ false → P Quiet)
     → (is_content (present client o) ≡ false → P (Gone (present client o)))
@@ -47,15 +47,15 @@ not_due age pmin m t pmax is h above follows = not_over age pmin pmax t (ap (λ 
 
 -- ---- lists
 
-both : {X : Type 0} (P : X → Type 0) (xs ys : List X) → AllByRecursion P xs → AllByRecursion P ys → AllByRecursion P (xs ++ ys)
+pub both : {X : Type 0} (P : X → Type 0) (xs ys : List X) → AllByRecursion P xs → AllByRecursion P ys → AllByRecursion P (xs ++ ys)
 both P [] ys h k = k
 both P (x ∷ xs) ys h k = (h.0, both P xs ys h.1 k)
 
-weaker : {X : Type 0} (P Q : X → Type 0) → ((x : X) → P x → Q x) → (xs : List X) → AllByRecursion P xs → AllByRecursion Q xs
+pub weaker : {X : Type 0} (P Q : X → Type 0) → ((x : X) → P x → Q x) → (xs : List X) → AllByRecursion P xs → AllByRecursion Q xs
 weaker P Q f [] h = tt
 weaker P Q f (x ∷ xs) h = (f x h.0, weaker P Q f xs h.1)
 
-first_of : {X : Type 0} (x : X) (xs : List X) → Contains (x ∷ xs) x
+pub first_of : {X : Type 0} (x : X) (xs : List X) → Contains (x ∷ xs) x
 first_of x xs = (0, omega arith, refl)
 
 later_of : {X : Type 0} (y x : X) (xs : List X) → Contains xs x → Contains (y ∷ xs) x

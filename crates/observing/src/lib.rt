@@ -14,7 +14,8 @@ mod verdict;
 
 pub use datagram::Datagram;
 pub use laws::{
-    counts_message_ids, counts_observe_numbers, keeps_order, sends_after_pmin, sends_before_pmax,
+    counts_message_ids, counts_observe_numbers, keeps_order, seconds_add, sends_after_pmin,
+    sends_before_pmax,
 };
 pub use outbox::Outbox;
 pub use period::{pmax_of, pmin_of};

@@ -53,12 +53,15 @@ fn observe(
     alloc: Global,
     client: &Client,
     observations: &mut Observations,
-    token: u8,
+    token: &[u8],
     clock: u64,
 ) -> Result<(), Fail> {
     let answer = client.read(1, LEVEL, None)?;
     let report = report_of(client, LEVEL, answer.payload);
-    let token = Bytes::from_slice(alloc, &[token])?;
+    if token.len() > 8 {
+        return Err(Fail::from("a token has 8 bytes at most"));
+    }
+    let token = Bytes::from_slice(alloc, token)?;
     observations.register(1, token, LEVEL, None, report, clock, 10, false)?;
     Ok(())
 }
@@ -106,7 +109,7 @@ fn sends_the_present_value_when_pmin_is_over(rt: HostRuntime) -> Result<(), Fail
         put_level(&mut client, 100)?;
         ask(alloc, &mut client, "40030030B1330130013946706D696E3D35")?;
         let mut observations = Observations::new(alloc);
-        observe(alloc, &client, &mut observations, 0xAA, 0)?;
+        observe(alloc, &client, &mut observations, &[0xAA], 0)?;
         let rows = [(100, 2, ""), (90, 1, ""), (last, 1, ""), (last, 1, sent)];
         play(&rt, alloc, &mut client, &mut observations, &rows)?;
     }
@@ -126,7 +129,7 @@ fn triggers_by_gt_and_st_and_sends_by_pmax(rt: HostRuntime) -> Result<(), Fail> 
         ask(alloc, &mut client, request)?;
     }
     let mut observations = Observations::new(alloc);
-    observe(alloc, &client, &mut observations, 0xAA, 0)?;
+    observe(alloc, &client, &mut observations, &[0xAA], 0)?;
     let rows = [
         (51, 1, " 51450000AA610160FF3531"),
         (55, 1, ""),
@@ -143,7 +146,7 @@ fn ends_an_observation_whose_target_is_gone(rt: HostRuntime) -> Result<(), Fail>
     let client = client(alloc, &[])?;
     let mut observations = Observations::new(alloc);
     for token in 0..32u8 {
-        observe(alloc, &client, &mut observations, token, 0)?;
+        observe(alloc, &client, &mut observations, &[token], 0)?;
     }
     let mut outbox = Outbox::new(alloc, 65_535);
     second(alloc, &client, &mut observations, 1, &mut outbox)?;
@@ -154,6 +157,103 @@ fn ends_an_observation_whose_target_is_gone(rt: HostRuntime) -> Result<(), Fail>
         text.as_str()
             .starts_with(" 5184FFFF00 5184000001 5184000102")
     );
+    Ok(())
+}
+
+#[test]
+fn tells_under_tokens_of_0_and_8_bytes(rt: HostRuntime) -> Result<(), Fail> {
+    let alloc = rt.alloc();
+    let long = [1, 2, 3, 4, 5, 6, 7, 8];
+    let mut client = client(alloc, &[])?;
+    put_level(&mut client, 100)?;
+    let mut observations = Observations::new(alloc);
+    observe(alloc, &client, &mut observations, &[], 0)?;
+    observe(alloc, &client, &mut observations, &long, 0)?;
+    put_level(&mut client, 90)?;
+    let mut outbox = Outbox::new(alloc, 0);
+    second(alloc, &client, &mut observations, 1, &mut outbox)?;
+    assert!(rt; observations.cancel(1, &[]));
+    put_level(&mut client, 80)?;
+    second(alloc, &client, &mut observations, 2, &mut outbox)?;
+    assert!(rt; observations.cancel(1, &long));
+    assert!(rt; observations.is_empty());
+    let text = text_of(alloc, outbox)?;
+    assert_eq!(rt;
+        text.as_str(),
+        " 50450000610160FF3930 584500010102030405060708610160FF3930 584500020102030405060708610260FF3830"
+    );
+    Ok(())
+}
+
+/// The code that answers server 1, where it writes attributes of the battery level by these options.
+fn code_of(alloc: Global, client: &mut Client, options: &[u8]) -> Result<u8, Fail> {
+    let mut bytes = hex::decode(alloc, "40030030B13301300139")?;
+    bytes.extend_from_slice(options)?;
+    let message = decode(alloc, bytes.as_slice())?;
+    let answer = client.answer(1, &message)?;
+    Ok(answer.code.byte())
+}
+
+#[test]
+fn answers_queries_of_every_shape(rt: HostRuntime) -> Result<(), Fail> {
+    let alloc = rt.alloc();
+    let mut client = client(alloc, &[])?;
+    put_level(&mut client, 100)?;
+    // the head of the option in hexadecimal, and its value
+    for (head, query, code) in [
+        ("40", "", 0x80),
+        ("41", "=", 0x80),
+        ("43", "foo", 0x80),
+        ("45", "foo=1", 0x80),
+        ("44", "pmax", 0x44),
+        ("45", "pmax=", 0x80),
+        ("4D0C", "pmin=12345678901234567890", 0x80),
+        ("4D0C", "pmin=00000000000000000007", 0x44),
+        ("4D0A", "gt=12345678901234567890", 0x80),
+        ("47", "pmin=-5", 0x80),
+        ("47", "pmin=+5", 0x80),
+        ("46", "gt=-10", 0x44),
+        ("46", "gt=+10", 0x80),
+    ] {
+        let mut options = hex::decode(alloc, head)?;
+        options.extend_from_slice(query.as_bytes())?;
+        let got = code_of(alloc, &mut client, options.as_slice())?;
+        assert_eq!(rt; got, code, "{query}");
+    }
+    assert_eq!(rt; pmin_of(&client, 1, LEVEL), 7);
+    // the same name twice changes nothing, two names change both
+    let twice = code_of(alloc, &mut client, b"\x46pmin=5\x06pmin=5")?;
+    assert_eq!(rt; twice, 0x80);
+    assert_eq!(rt; pmin_of(&client, 1, LEVEL), 7);
+    let both = code_of(alloc, &mut client, b"\x46pmin=5\x06pmax=9")?;
+    assert_eq!(rt; both, 0x44);
+    assert_eq!(rt; pmin_of(&client, 1, LEVEL), 5);
+    assert_eq!(rt; pmax_of(&client, 1, LEVEL), Some(9));
+    Ok(())
+}
+
+#[test]
+fn answers_queries_of_255_bytes(rt: HostRuntime) -> Result<(), Fail> {
+    let alloc = rt.alloc();
+    let mut client = client(alloc, &[])?;
+    put_level(&mut client, 100)?;
+    // the option has 13 + 242 bytes: six of them stand here, the filling is 249
+    for (head, filling, last, code) in [
+        (b"\x4D\xF2pmin=", b'0', b'8', 0x44),
+        (b"\x4D\xF2pmin=", b'9', b'9', 0x80),
+        (b"\x4D\xF2pminn", b'n', b'n', 0x80),
+        (b"\x4D\xF2=====", b'=', b'=', 0x80),
+    ] {
+        let mut options = Vec::new(alloc);
+        options.extend_from_slice(head)?;
+        for _ in 0..249 {
+            options.push(filling)?;
+        }
+        options.push(last)?;
+        let got = code_of(alloc, &mut client, options.as_slice())?;
+        assert_eq!(rt; got, code);
+    }
+    assert_eq!(rt; pmin_of(&client, 1, LEVEL), 8);
     Ok(())
 }
 

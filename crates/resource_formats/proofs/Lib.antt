@@ -1,9 +1,12 @@
+pub mod Apart
 pub mod Distinct
 pub mod EachOnce
 pub mod Growth
+pub mod Held
 pub mod Nesting
 pub mod Once
 pub mod Reading
+pub mod Room
 pub mod Places
 pub mod ShownAgain
 pub mod Sole

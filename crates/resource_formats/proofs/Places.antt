@@ -29,7 +29,7 @@ same_bool false false f g = refl
 abbrev pub at_number : ResourcePath → Option ℕ → FullPath
 at_number p n = record { object = p.object; instance = p.instance; resource = p.resource; part = n }
 
-same_path : (q : FullPath) (p : ResourcePath) (n : Option ℕ) → lies_in (resource_path p) q ≡ true → q.part ≡ n → q ≡ at_number p n
+pub same_path : (q : FullPath) (p : ResourcePath) (n : Option ℕ) → lies_in (resource_path p) q ≡ true → q.part ≡ n → q ≡ at_number p n
 same_path q p n h part =
     let object : q.object ≡ p.object = grind (arith, nat_tests) in
     let inst : q.instance ≡ p.instance = grind (arith, nat_tests) in
@@ -44,7 +44,7 @@ is_equal Greater h = cc
 equal_path : (q p : FullPath) → eq_by_cmp path_cmp q p ≡ true → q ≡ p
 equal_path q p h = path_exact q p (is_equal _ h)
 
-lies_own : (p : ResourcePath) (n : Option ℕ) → lies_in (resource_path p) (at_number p n) ≡ true
+pub lies_own : (p : ResourcePath) (n : Option ℕ) → lies_in (resource_path p) (at_number p n) ≡ true
 lies_own p n =
     let a : (p.object == p.object) ≡ true = grind (arith, nat_tests) in
     let b : (p.instance == p.instance) ≡ true = grind (arith, nat_tests) in
@@ -76,7 +76,7 @@ both false b h k = h
 own_part : (p : ResourcePath) (m : ℕ) → (lies_in (resource_path p) (part_of p m) && is_part m (Some m)) ≡ true
 own_part p m = let e : (m == m) ≡ true = grind (arith, nat_tests) in both _ _ (lies_own p (Some m)) e
 
-is_at_part : (q : FullPath) (p : ResourcePath) (m : ℕ) → eq_by_cmp path_cmp q (part_of p m) ≡ (lies_in (resource_path p) q && is_part m q.part)
+pub is_at_part : (q : FullPath) (p : ResourcePath) (m : ℕ) → eq_by_cmp path_cmp q (part_of p m) ≡ (lies_in (resource_path p) q && is_part m q.part)
 is_at_part q p m =
     same_bool _ _ (λ h. ap (λ k. lies_in (resource_path p) k && is_part m k.part) (equal_path q (part_of p m) h) ∙ own_part p m)
     (λ h.

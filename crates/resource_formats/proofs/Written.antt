@@ -167,7 +167,7 @@ at_written Replace resources stored place given q once =
     ∙ ap (λ o. if lies_in (instance_path place) q then by o else o) (at_lost resources given stored place q)
     ∙ (elim (lies_in (instance_path place) q) as (λ b. (if b then by (if b then left else x) else (if b then left else x)) ≡ (if b then by left else x)) [ true ↦ refl | false ↦ refl ])
 
-parts_instances : (parts : PartList) (stored : Stored) (p : ResourcePath) → (with_parts stored p parts).instances ≡ stored.instances
+pub parts_instances : (parts : PartList) (stored : Stored) (p : ResourcePath) → (with_parts stored p parts).instances ≡ stored.instances
 parts_instances [] stored p = refl
 parts_instances (e ∷ parts) stored p = parts_instances parts (with_value stored (part_of p e.0) e.1) p
 
@@ -176,7 +176,7 @@ given_instances mode (Single v) stored p = refl
 given_instances Replace (Parts parts) stored p = parts_instances parts (without_values stored (resource_path p)) p
 given_instances Update (Parts parts) stored p = parts_instances parts stored p
 
-all_instances : (mode : Mode) (resources : List ResourceDef) (given : List Assignment) (stored : Stored) (place : InstancePath) → (with_assignments mode resources stored place given).instances ≡ stored.instances
+pub all_instances : (mode : Mode) (resources : List ResourceDef) (given : List Assignment) (stored : Stored) (place : InstancePath) → (with_assignments mode resources stored place given).instances ≡ stored.instances
 all_instances mode resources [] stored place = refl
 all_instances mode resources (a ∷ given) stored place =
     all_instances mode resources given (assigned mode resources stored place a) place
@@ -185,7 +185,7 @@ all_instances mode resources (a ∷ given) stored place =
       | false ↦ refl
     ])
 
-lost_instances : (resources : List ResourceDef) (stored : Stored) (place : InstancePath) (given : List Assignment) → (without_lost resources stored place given).instances ≡ stored.instances
+pub lost_instances : (resources : List ResourceDef) (stored : Stored) (place : InstancePath) (given : List Assignment) → (without_lost resources stored place given).instances ≡ stored.instances
 lost_instances [] stored place given = refl
 lost_instances (d ∷ resources) stored place given =
     lost_instances resources (if is_lost given d then without_values stored (resource_path (resource_of place d.id)) else stored) place given

@@ -4,6 +4,7 @@ pub mod Changes
 pub mod Formats
 pub mod Given
 pub mod Nodes
+pub mod Once
 pub mod PartList
 pub mod Scanning
 pub mod Shown

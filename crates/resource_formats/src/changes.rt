@@ -1,5 +1,8 @@
-ghost use Rattle.std.specs.Prelude.{◌≡◌, OnOk, if◌then◌else◌};
-ghost use Rattle.resource_formats.specs.Changes.{is_kept, is_lost, resource_of, with_parts, with_given, with_assignments, without_lost, instance_written};
+ghost use Rattle.std.specs.Prelude.{◌≡◌, ◌≢◌, ◌&&◌, Err, IsErrOf, IsFalse, IsTrue, OnOk, if◌then◌else◌};
+ghost use Rattle.instance_store.specs.Stored.{has_instance, instance_of};
+ghost use Rattle.resource_formats.specs.Changes.{is_kept, is_lost, is_too_many, has_too_many, resource_of, with_parts, with_given, with_assignments, without_lost, instance_written};
+ghost use Rattle.resource_formats.specs.declared.given.Given.TheVariants as given;
+ghost use Rattle.resource_formats.specs.declared.given.Mode.TheVariants.{Update};
 
 use crate::definitions::{is_kept, path_to};
 use crate::given::{Assignment, Assignments, Given, Mode, Parts};
@@ -7,7 +10,10 @@ use instance_store::{Store, StoreFault};
 use object_defs::{InstancePath, ResourceDef, ResourcePath};
 
 fn put_parts(store: &mut Store, path: ResourcePath, parts: Parts) -> Result<(), StoreFault>
-    ensures { OnOk result (store.new ≡ with_parts store.old path parts) }
+    ensures ok { OnOk result (store.new ≡ with_parts store.old path parts) }
+    ensures absent { IsErrOf result StoreFault.Absent → IsFalse (has_instance store.old (instance_of path)) }
+    ensures full { IsErrOf result StoreFault.Full → IsTrue (is_too_many Update store.old path (given.Parts parts)) }
+    ensures never_exists { result ≢ Err StoreFault.Exists }
 {
     for (part, value) in parts.into_vec() {
         store.put_part(path, part, value)?;
@@ -23,7 +29,12 @@ pub fn set_given(
     path: ResourcePath,
     given: Given,
 ) -> Result<(), StoreFault>
-    ensures { OnOk result (store.new ≡ with_given mode store.old path given) }
+    ensures ok { OnOk result (store.new ≡ with_given mode store.old path given) }
+
+    // There is no such instance; or else the resource would have more than 32 parts. Otherwise only memory can be wanting.
+    ensures absent { IsErrOf result StoreFault.Absent → IsFalse (has_instance store.old (instance_of path)) }
+    ensures full { IsErrOf result StoreFault.Full → IsTrue (is_too_many mode store.old path given) }
+    ensures never_exists { result ≢ Err StoreFault.Exists }
 {
     match given {
         Given::Single(value) => store.put(path, value),
@@ -44,7 +55,10 @@ fn set_assigned(
     place: InstancePath,
     assignment: Assignment,
 ) -> Result<(), StoreFault>
-    ensures { OnOk result (store.new ≡ (if is_kept resources.now assignment then with_given mode store.old (resource_of place assignment.resource) assignment.given else store.old)) }
+    ensures ok { OnOk result (store.new ≡ (if is_kept resources.now assignment then with_given mode store.old (resource_of place assignment.resource) assignment.given else store.old)) }
+    ensures absent { IsErrOf result StoreFault.Absent → IsFalse (has_instance store.old place) }
+    ensures full { IsErrOf result StoreFault.Full → IsTrue (is_kept resources.now assignment && is_too_many mode store.old (resource_of place assignment.resource) assignment.given) }
+    ensures never_exists { result ≢ Err StoreFault.Exists }
 {
     if !is_kept(resources, assignment.resource) {
         return Ok(());
@@ -60,7 +74,10 @@ fn set_all(
     place: InstancePath,
     given: Assignments,
 ) -> Result<(), StoreFault>
-    ensures { OnOk result (store.new ≡ with_assignments mode resources.now store.old place given) }
+    ensures ok { OnOk result (store.new ≡ with_assignments mode resources.now store.old place given) }
+    ensures absent { IsErrOf result StoreFault.Absent → IsFalse (has_instance store.old place) }
+    ensures full { IsErrOf result StoreFault.Full → IsTrue (has_too_many mode resources.now store.old place given) }
+    ensures never_exists { result ≢ Err StoreFault.Exists }
 {
     for assignment in given.into_vec() {
         set_assigned(mode, resources, store, place, assignment)?;
@@ -81,7 +98,10 @@ fn clear_lost(
     place: InstancePath,
     given: &Assignments,
 ) -> Result<(), StoreFault>
-    ensures { OnOk result (store.new ≡ without_lost resources.now store.old place given.now) }
+    ensures ok { OnOk result (store.new ≡ without_lost resources.now store.old place given.now) }
+    ensures absent { IsErrOf result StoreFault.Absent → IsFalse (has_instance store.old place) }
+    ensures never_full { result ≢ Err StoreFault.Full }
+    ensures never_exists { result ≢ Err StoreFault.Exists }
 {
     for definition in resources {
         if is_lost(given, *definition) {
@@ -100,7 +120,12 @@ pub fn write_instance(
     place: InstancePath,
     given: Assignments,
 ) -> Result<(), StoreFault>
-    ensures { OnOk result (store.new ≡ instance_written mode resources.now store.old place given) }
+    ensures ok { OnOk result (store.new ≡ instance_written mode resources.now store.old place given) }
+
+    // There is no such instance; or else some resource would have more than 32 parts. Otherwise only memory can be wanting.
+    ensures absent { IsErrOf result StoreFault.Absent → IsFalse (has_instance store.old place) }
+    ensures full { IsErrOf result StoreFault.Full → IsTrue (has_too_many mode resources.now store.old place given) }
+    ensures never_exists { result ≢ Err StoreFault.Exists }
 {
     match mode {
         Mode::Replace => {

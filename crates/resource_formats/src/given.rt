@@ -1,5 +1,6 @@
-ghost use Rattle.std.specs.Prelude.{◌≡◌, ◌==◌, [], ◌∷◌, ◌++◌, OnOk};
+ghost use Rattle.std.specs.Prelude.{◌≡◌, ◌==◌, false, [], ◌∷◌, ◌++◌, OnOk};
 ghost use Rattle.std.specs.List.{list_any};
+ghost use Rattle.resource_formats.specs.Once.{ResourcesOnce};
 
 use lwm2m_values::Value;
 use std::alloc::{AllocError, Global};
@@ -99,7 +100,7 @@ pub struct Assignment {
     pub given: Given,
 }
 
-/// Assignments in their order, which contracts see as a list.
+/// Assignments in their order, each to a resource of its own, which contracts see as a list.
 #[derive(Debug, Drop)]
 pub struct Assignments {
     items: Vec<Assignment>,
@@ -108,10 +109,13 @@ pub struct Assignments {
 impl Model for Assignments {
     ghost use Rattle.std.specs.Prelude.{List};
     ghost use Rattle.resource_formats.specs.declared.given.Assignment.{Assignment};
+    ghost use Rattle.resource_formats.specs.Once.{ResourcesOnce};
 
     ghost Value = { List Assignment };
 
     ghost view = { λ a. a.items.items };
+
+    ghost invariant = { λ a. ResourcesOnce a.items.items };
 }
 
 impl Assignments {
@@ -124,8 +128,9 @@ impl Assignments {
         }
     }
 
-    /// Adds an assignment behind the others.
+    /// Adds an assignment behind the others, which are to other resources.
     pub(crate) fn push(&mut self, assignment: Assignment) -> Result<(), AllocError>
+        requires { list_any (λ a. a.resource == assignment.resource) self.old ≡ false }
         ensures { OnOk result (self.new ≡ self.old ++ assignment ∷ []) }
     {
         self.items.push(assignment)?;
@@ -134,7 +139,8 @@ impl Assignments {
 
     /// The vector that holds the assignments.
     pub(crate) fn into_vec(self) -> Vec<Assignment>
-        ensures { result.items ≡ self }
+        ensures items { result.items ≡ self }
+        ensures once { ResourcesOnce self }
     {
         self.items
     }

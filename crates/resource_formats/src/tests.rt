@@ -349,6 +349,9 @@ fn counts_parts(rt: HostRuntime) -> Result<(), Fail> {
                     want,
                     "{payload}"
                 );
+                let mut next = store.copy()?;
+                let set = set_given(mode, &mut next, resource(2, 2), given);
+                assert_eq!(rt; set.is_err(), want, "{payload}");
             }
         }
     }

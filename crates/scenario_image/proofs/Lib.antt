@@ -5,3 +5,4 @@ mod Fits
 mod Adding
 pub mod Counting
 pub mod Imaged
+pub mod Saving

@@ -1,21 +1,24 @@
 //! Scenarios, read from this profile's image of them and written as it.
 
-ghost use Rattle.std.specs.Prelude.{◌≡◌, ◌≢◌, IfOk, IfErr, IsErrAnd, MatchResult};
+ghost use Rattle.std.specs.Prelude.{◌≡◌, ◌≢◌, ◌≤◌, ◌++◌, [], length, Ok, OnOk, IfOk, IfErr, IsErrAnd, MatchResult};
 ghost use Rattle.byte_layout.specs.declared.fault.LayoutFault.{LayoutFault};
 ghost use Rattle.byte_layout.specs.declared.fault.LayoutFault.TheVariants.{Memory};
 ghost use Rattle.byte_layout.specs.Outcome.{Gives};
+ghost use Rattle.byte_layout.specs.Part.{each};
+ghost use Rattle.byte_layout.specs.Whole.{read_all};
+ghost use Rattle.class_layout.specs.Layout.{class};
 ghost use Rattle.scenario_image.specs.Script.{Script};
 ghost use Rattle.scenario_image.specs.Image.{classes, lists, image, IsImage, HasImageFault};
 
-use crate::rows::rows_at;
+use crate::rows::{put_rows, rows_at};
 use crate::scenario::Scenario;
 use byte_layout::{
-    Break, Format, Items, LayoutFault, ReadError, items_at, load as load_all, u8_at, u16_at_most,
-    u32_at,
+    Break, Format, Items, LayoutFault, ReadError, items_at, load as load_all, put_u8, put_u16,
+    put_u32, u8_at, u16_at_most, u32_at,
 };
-use class_layout::class_at;
+use class_layout::{class_at, put_class};
 use device_machine::Template;
-use std::alloc::Global;
+use std::alloc::{AllocError, Global};
 
 /// Classes, one after another.
 struct Classes;
@@ -97,4 +100,62 @@ pub fn load(alloc: Global, bytes: &[u8]) -> Result<Scenario, LayoutFault>
     ensures refused { (f : LayoutFault) → HasImageFault bytes.now f → IsErrAnd result (λ g. g ≢ Memory → g ≡ f) }
 {
     load_all::<Image>(alloc, bytes)
+}
+
+/// Writes classes, one after another. Each of them has bytes.
+fn put_each_class(out: &mut Vec<u8>, list: &[Template]) -> Result<(), AllocError>
+    ensures good { OnOk result ((each (λ before. class) (length list.now) []).Good list.now) }
+    ensures bytes { OnOk result (out.new.items ≡ out.old.items ++ (each (λ before. class) (length list.now) []).spell list.now) }
+{
+    for template in list {
+        put_class(out, template)?;
+    }
+    Ok(())
+}
+
+/// Writes the classes of a scenario.
+#[tactic(auto, using(crate::proofs::Saving::few_good), unfolding(crate::specs::Image::classes))]
+fn put_classes(out: &mut Vec<u8>, list: &[Template]) -> Result<(), AllocError>
+    requires { length list.now ≤ 256 }
+    ensures good { OnOk result (classes.Good list.now) }
+    ensures bytes { OnOk result (out.new.items ≡ out.old.items ++ classes.spell list.now) }
+{
+    put_u16(out, list.len() as u16)?;
+    put_each_class(out, list)?;
+    Ok(())
+}
+
+/// Writes the classes and the rows.
+#[tactic(auto, using(crate::proofs::Saving::lists_good, crate::proofs::Saving::valid_rows), unfolding(crate::specs::Image::lists))]
+fn put_lists(out: &mut Vec<u8>, scenario: &Scenario) -> Result<(), AllocError>
+    ensures good { OnOk result (lists.Good scenario.now) }
+    ensures bytes { OnOk result (out.new.items ≡ out.old.items ++ lists.spell scenario.now) }
+{
+    let rows = scenario.all_rows();
+    let classes = scenario.all_classes();
+    put_classes(out, classes)?;
+    put_rows(out, classes, rows)?;
+    Ok(())
+}
+
+/// Writes the image.
+#[tactic(auto, using(crate::proofs::Saving::image_good), unfolding(crate::specs::Image::image))]
+fn put_image(out: &mut Vec<u8>, scenario: &Scenario) -> Result<(), AllocError>
+    ensures good { OnOk result (image.Good scenario.now) }
+    ensures bytes { OnOk result (out.new.items ≡ out.old.items ++ image.spell scenario.now) }
+{
+    put_u32(out, 0x4C57_5343)?;
+    put_u8(out, 1)?;
+    put_lists(out, scenario)?;
+    Ok(())
+}
+
+/// The image of the scenario. Every scenario has one; nothing but want of memory is refused.
+pub fn save(alloc: Global, scenario: &Scenario) -> Result<Vec<u8>, AllocError>
+    ensures image { IfOk result (λ v. IsImage v.items scenario.now) }
+    ensures again { IfOk result (λ v. read_all image v.items ≡ Ok scenario.now) }
+{
+    let mut out = Vec::new(alloc);
+    put_image(&mut out, scenario)?;
+    Ok(out)
 }

@@ -1,6 +1,6 @@
 //! The image of a scenario: what is read of it, what is written, and the fault of other bytes.
 
-use crate::{Scenario, Step, load, one_image};
+use crate::{Scenario, Step, load, one_image, save};
 use byte_layout::LayoutFault;
 use device_machine::{Event, Template};
 use lwm2m_values::Value;
@@ -97,34 +97,74 @@ fn counts_classes_rows_and_steps(rt: HostRuntime) -> Result<(), Fail> {
     Ok(())
 }
 
+/// Whether this is the step at this place of the row that has a step of each kind.
+fn is_wanted(place: usize, step: &Step) -> bool {
+    match step {
+        Step::Event(Event::Recv { server, bytes }) => {
+            place == 0 && *server == 7 && bytes.as_slice().is_empty()
+        }
+        Step::Event(Event::Tick(seconds)) => place == 1 && *seconds == 86_400,
+        Step::Event(Event::Put { path, value }) => match value {
+            Value::Text(text) => {
+                place == 2 && *path == Path::Resource(3, 0, 9) && text.as_str() == "a"
+            }
+            Value::Link(1, 2) => place == 3 && *path == Path::Part(9, 8, 7, 6),
+            _ => false,
+        },
+        Step::Event(Event::Firmware(code)) => place == 4 && *code == 9,
+        Step::Post(group) => place == 5 && *group == 255,
+        Step::Need(group, count) => place == 6 && *group == 7 && *count == 1_000_000,
+    }
+}
+
 #[test]
 fn loads_each_kind_of_step(rt: HostRuntime) -> Result<(), Fail> {
     let scenario = load(rt.alloc(), &ALL_KINDS)?;
     let (class, steps) = scenario.row(0).ok_or("a row")?;
-    assert_eq!(rt; class, 1);
-    let [first, second, third, fourth, fifth, sixth, last] = steps else {
-        return Err("seven steps".into());
-    };
-    let Step::Event(Event::Recv { server, bytes }) = first else {
-        return Err("a datagram".into());
-    };
-    assert!(rt; *server == 7 && bytes.as_slice().is_empty());
-    assert!(rt; matches!(second, Step::Event(Event::Tick(86_400))));
-    let Step::Event(Event::Put { path, value }) = third else {
-        return Err("a put".into());
-    };
-    assert!(rt; matches!(path, Path::Resource(3, 0, 9)));
-    assert!(rt; matches!(value, Value::Text(text) if text.as_str() == "a"));
-    let Step::Event(Event::Put { path, value }) = fourth else {
-        return Err("a second put".into());
-    };
-    assert!(rt; matches!(path, Path::Part(9, 8, 7, 6)));
-    assert!(rt; matches!(value, Value::Link(1, 2)));
-    assert!(rt; matches!(fifth, Step::Event(Event::Firmware(9))));
-    assert!(rt; matches!(sixth, Step::Post(255)));
-    assert!(rt; matches!(last, Step::Need(7, 1_000_000)));
+    assert_eq!(rt; (class, steps.len()), (1, 7));
+    for (place, step) in steps.iter().enumerate() {
+        assert!(rt; is_wanted(place, step), "at {place}");
+    }
     let (class, steps) = scenario.row(1).ok_or("a second row")?;
     assert!(rt; class == 0 && steps.is_empty());
+    Ok(())
+}
+
+#[test]
+fn saves_what_was_built(rt: HostRuntime) -> Result<(), Fail> {
+    let image = save(rt.alloc(), &battery(rt.alloc())?)?;
+    assert_eq!(rt; image.as_slice(), BATTERY.as_slice());
+    let image = save(rt.alloc(), &Scenario::empty(rt.alloc()))?;
+    assert_eq!(rt; image.as_slice(), NOTHING.as_slice());
+    Ok(())
+}
+
+/// Whether the bytes are refused, or are just what is written of the scenario that is read.
+fn are_refused_or_written(alloc: Global, bytes: &[u8]) -> Result<bool, AllocError> {
+    match load(alloc, bytes) {
+        Err(fault) => Ok(fault != LayoutFault::Memory),
+        Ok(scenario) => Ok(save(alloc, &scenario)?.as_slice() == bytes),
+    }
+}
+
+#[test]
+fn each_change_of_a_byte_is_refused_or_written(rt: HostRuntime) -> Result<(), Fail> {
+    let images: [&[u8]; 3] = [&NOTHING, &BATTERY, &ALL_KINDS];
+    for image in images {
+        let mut changed = Vec::from_slice(rt.alloc(), image)?;
+        for (place, old) in image.iter().enumerate() {
+            for byte in 0..=255u8 {
+                if let Some(field) = changed.get_mut(place) {
+                    *field = byte;
+                }
+                let holds = are_refused_or_written(rt.alloc(), &changed)?;
+                assert!(rt; holds, "with {byte} at {place}");
+            }
+            if let Some(field) = changed.get_mut(place) {
+                *field = *old;
+            }
+        }
+    }
     Ok(())
 }
 
@@ -238,6 +278,8 @@ fn loads_256_classes_4096_rows_and_4096_steps_at_most(rt: HostRuntime) -> Result
         match load(rt.alloc(), &bytes) {
             Ok(scenario) => {
                 assert!(rt; fault.is_none());
+                let image = save(rt.alloc(), &scenario)?;
+                assert!(rt; image.as_slice() == bytes.as_slice());
                 assert_eq!(rt; scenario.classes(), usize::from(classes));
                 assert_eq!(rt; scenario.rows(), usize::from(rows));
                 assert_eq!(rt; scenario.steps(), usize::from(rows) * usize::from(steps));

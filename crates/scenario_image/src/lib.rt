@@ -15,7 +15,7 @@ mod step;
 mod writing;
 
 pub use fault::ScenarioFault;
-pub use image::load;
+pub use image::{load, save};
 pub use laws::{exact_layouts, one_image, states_follow, valid_have_bytes};
 pub use playing::{play, take_step, take_steps};
 pub use reading::{step_at, steps_at};

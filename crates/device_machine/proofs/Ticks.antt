@@ -1,0 +1,42 @@
+-- What holds of seconds holds of ticks.
+use Rattle.std.proofs.Common.{◌≡◌, ◌+◌, ◌++◌, map, refl, sym, ap, subst, ◌∙◌, arith}
+use Rattle.std.proofs.lemmas.List.{map-append}
+use Rattle.observing.specs.Laws.{RisesByOne}
+use Rattle.observing.specs.Second.{seconds}
+use Rattle.observing.proofs.Numbers.{seconds_count}
+use Rattle.observing.proofs.Spans.{seconds_add, seconds_send_after_pmin}
+use Rattle.observing.proofs.Turns.{seconds_send_before_pmax}
+use Rattle.device_machine.specs.Laws.{TicksAdd, TicksCount, TicksSendAfterPmin, TicksSendBeforePmax}
+use Rattle.device_machine.specs.Reactions.{later, send_of, turn_in}
+
+pub add : TicksAdd
+add f a b =
+    let all = seconds_add f.kept.client f.kept.clock a b f.kept.next_id f.kept.observations in
+    let at : f.kept.clock + (a + b) ≡ f.kept.clock + a + b = omega arith in
+    record {
+      sent = ap (λ t. map send_of t.sent) all ∙ map-append send_of (turn_in f.kept a).sent (turn_in (later f a).kept b).sent;
+      then_flat = λ j. record {
+        kept = record { client = f.kept.client; observations = (all j).left; clock = at j; next_id = (all j).next_id };
+        recorded = f.recorded;
+      };
+    }
+
+pub after_pmin : TicksSendAfterPmin
+after_pmin f n =
+    record {
+      datagrams = (turn_in f.kept n).sent;
+      sent = refl;
+      each = seconds_send_after_pmin f.kept.client f.kept.clock n f.kept.next_id f.kept.observations;
+    }
+
+pub before_pmax : TicksSendBeforePmax
+before_pmax f n = seconds_send_before_pmax f.kept.client f.kept.clock n f.kept.next_id f.kept.observations
+
+pub count : TicksCount
+count f n before after o is =
+    record {
+      datagrams = (turn_in f.kept n).sent;
+      sent = refl;
+      rises = subst (λ os. RisesByOne o (before ++ after) (seconds f.kept.client f.kept.clock n f.kept.next_id os).sent (seconds f.kept.client f.kept.clock n f.kept.next_id os).left)
+          (sym is) (seconds_count f.kept.client f.kept.clock n f.kept.next_id before after o);
+    }

@@ -1,0 +1,154 @@
+//! What a request leaves of the observations.
+
+ghost use Rattle.std.specs.Prelude.{◌≡◌, ◌≤◌, length, IfOk, OnOk};
+ghost use Rattle.device_machine.specs.Observing.{Notes, begun, entered, noted, noted_read, replies_non, reply_mid};
+ghost use Rattle.observing.specs.Second.{is_content};
+
+use crate::machine::Machine;
+use coap_codec::{Kind, Message};
+use device_requests::{Answer, Interest, interest_of};
+use notifier::{Observations, ObserveFault, Report};
+use object_defs::Path;
+use observing::report_of;
+use octets::Bytes;
+use std::alloc::AllocError;
+
+/// Whether an answer is the content of its target.
+fn is_content(answer: &Answer) -> bool
+    ensures { result ≡ is_content answer.now }
+{
+    answer.code.byte() == 0x45
+}
+
+/// The message ID of the reply to a request.
+fn reply_mid(next_id: u16, message: &Message) -> u16
+    ensures { result ≡ reply_mid next_id message.now message.now.kind }
+{
+    match message.kind() {
+        Kind::Non => next_id,
+        Kind::Con | Kind::Ack | Kind::Rst => message.mid(),
+    }
+}
+
+/// Whether the reply to a request of this type is a NON.
+fn replies_non(kind: Kind) -> bool
+    ensures { result ≡ replies_non kind }
+{
+    match kind {
+        Kind::Non => true,
+        Kind::Con | Kind::Ack | Kind::Rst => false,
+    }
+}
+
+/// A copy of the token of a message.
+fn token_of(message: &Message) -> Result<Bytes, AllocError>
+    ensures value { IfOk result (λ t. t ≡ message.now.token) }
+    ensures short { IfOk result (λ t. length t ≤ 8) }
+{
+    // the options are lent with the word that the message is well formed
+    let _options = message.options();
+    message.token().clone()
+}
+
+/// Registers an observation where there is a place for it. Answers the Observe number of the reply,
+/// the last message's.
+fn enter(
+    observations: &mut Observations,
+    server: u16,
+    token: Bytes,
+    path: Path,
+    accept: Option<u16>,
+    report: Report,
+    second: u64,
+    mid: u16,
+    non: bool,
+) -> Result<Option<u32>, AllocError>
+    requires { length token ≤ 8 }
+    ensures number { IfOk result (λ n. n ≡ (entered observations.old (record { server = server; token = token; path = path; accept = accept; report = report; second = second; number = 0; non = non; mid = mid })).number) }
+    ensures left { OnOk result (observations.new ≡ (entered observations.old (record { server = server; token = token; path = path; accept = accept; report = report; second = second; number = 0; non = non; mid = mid })).left) }
+{
+    let number = match observations.register(
+        server, token, path, accept, report, second, mid, non,
+    ) {
+        Ok(number) => number,
+        Err(ObserveFault::Full) => return Ok(None),
+        Err(ObserveFault::Memory) => return Err(AllocError),
+    };
+    Ok(Some(number))
+}
+
+impl Machine {
+    /// Registers an observation with this content where there is a place for it. Answers the Observe number.
+    fn enter(
+        &mut self,
+        server: u16,
+        message: &Message,
+        path: Path,
+        accept: Option<u16>,
+        payload: Bytes,
+    ) -> Result<Option<u32>, AllocError>
+        ensures kept { IfOk result (λ n. Notes n self.old.kept self.new.kept
+            (entered self.old.kept.observations (begun self.old.kept server message.now path accept payload))) }
+        ensures recorded { OnOk result (self.new.recorded ≡ self.old.recorded) }
+    {
+        let token = token_of(message)?;
+        let report = report_of(&self.client, path, payload);
+        let mid = reply_mid(self.next_id, message);
+        let non = replies_non(message.kind());
+        let now = self.clock;
+        let observations = &mut self.observations;
+        enter(
+            observations,
+            server,
+            token,
+            path,
+            accept,
+            report,
+            now,
+            mid,
+            non,
+        )
+    }
+
+    /// Notes a Read that registers.
+    fn note_read(
+        &mut self,
+        server: u16,
+        message: &Message,
+        path: Path,
+        accept: Option<u16>,
+        answer: &Answer,
+    ) -> Result<Option<u32>, AllocError>
+        ensures kept { IfOk result (λ n. Notes n self.old.kept self.new.kept (noted_read self.old.kept server message.now path accept answer.now)) }
+        ensures recorded { OnOk result (self.new.recorded ≡ self.old.recorded) }
+    {
+        if is_content(answer) {
+            let payload = answer.payload.clone()?;
+            return self.enter(server, message, path, accept, payload);
+        }
+        self.observations.cancel(server, message.token().as_slice());
+        Ok(None)
+    }
+
+    /// Notes what a request with this answer asks of the observations. Answers the Observe number of its reply.
+    pub(super) fn note(
+        &mut self,
+        server: u16,
+        message: &Message,
+        answer: &Answer,
+    ) -> Result<Option<u32>, AllocError>
+        ensures kept { IfOk result (λ n. Notes n self.old.kept self.new.kept (noted self.old.kept server message.now answer.now)) }
+        ensures recorded { OnOk result (self.new.recorded ≡ self.old.recorded) }
+    {
+        match interest_of(message) {
+            None => Ok(None),
+            Some(Interest::Register { path, accept }) => {
+                self.note_read(server, message, path, accept, answer)
+            }
+            Some(Interest::Cancel) => {
+                self.observations.cancel(server, message.token().as_slice());
+                Ok(None)
+            }
+        }
+    }
+}

@@ -1,0 +1,160 @@
+//! What a device does with a datagram.
+
+ghost use Rattle.std.specs.Prelude.{◌≡◌, IfOk};
+ghost use Rattle.device_machine.specs.declared.event.Event.TheVariants.{Recv};
+ghost use Rattle.device_machine.specs.Reactions.{Gives, is_request, on_fresh, on_message, on_noise, on_outcome, on_request, reaction_to, repeat_of, reply_to};
+ghost use Rattle.device_requests.specs.Requests.{outcome_of};
+
+use super::repeats::again;
+use crate::machine::Machine;
+use crate::output::Outputs;
+use crate::recorded::Recorded;
+use crate::reply::{datagram, reset, response, sent, sent_to};
+use coap_codec::{CoapFault, Kind, Message, decode, header};
+use device_requests::{Act, Answer, has_unrecognized_critical};
+use std::alloc::AllocError;
+
+/// Whether a code is a request's.
+fn is_request(code: u8) -> bool
+    ensures { result ≡ is_request code }
+{
+    code / 32 == 0 && code != 0
+}
+
+impl Machine {
+    /// The message that replies to a request with this answer and this Observe number.
+    fn reply_to(
+        &self,
+        message: &Message,
+        number: Option<u32>,
+        answer: Answer,
+    ) -> Result<Option<Message>, AllocError>
+        ensures { IfOk result (λ r. r ≡ reply_to self.now.kept.next_id message.now message.now.kind number answer) }
+    {
+        let is_refused = has_unrecognized_critical(message.options().as_slice());
+        let (kind, mid) = match message.kind() {
+            Kind::Con => (Kind::Ack, message.mid()),
+            Kind::Non => {
+                if is_refused {
+                    return Ok(None);
+                }
+                (Kind::Non, self.next_id)
+            }
+            Kind::Ack | Kind::Rst => return Ok(None),
+        };
+        let reply = response(self.alloc, kind, mid, message.token(), number, answer)?;
+        Ok(Some(reply))
+    }
+
+    /// Records a request with the message that replies to it, sends that, and acts.
+    fn reply(
+        &mut self,
+        server: u16,
+        message: &Message,
+        reply: Option<Message>,
+        act: Option<Act>,
+    ) -> Result<Outputs, AllocError>
+        ensures { IfOk result (λ o. Gives o self.new (on_fresh self.old server message.now self.old.kept reply act)) }
+    {
+        let kind = message.kind();
+        let mid = message.mid();
+        let reply = match reply {
+            None => None,
+            Some(reply) => Some(datagram(self.alloc, &reply)?),
+        };
+        let is_answered = reply.is_some();
+        let mut outputs = sent_to(self.alloc, server, &reply)?;
+        outputs.act(act)?;
+        let second = self.clock;
+        self.recorded.push(Recorded {
+            server,
+            kind,
+            mid,
+            second,
+            reply,
+        })?;
+        if kind == Kind::Non && is_answered {
+            self.next_id = self.next_id.wrapping_add(1);
+        }
+        Ok(outputs)
+    }
+
+    /// Does what a request asks for that is no repeat, answers and records it.
+    fn take_fresh(&mut self, server: u16, message: &Message) -> Result<Outputs, AllocError>
+        ensures { IfOk result
+            (λ o. Gives o self.new (on_outcome self.old server message.now (outcome_of self.old.kept.client server message.now))) }
+    {
+        let answer = self.client.answer(server, message)?;
+        let number = self.note(server, message, &answer)?;
+        let act = answer.act;
+        let reply = self.reply_to(message, number, answer)?;
+        self.reply(server, message, reply, act)
+    }
+
+    /// Takes a request.
+    fn take_request(&mut self, server: u16, message: &Message) -> Result<Outputs, AllocError>
+        ensures { IfOk result
+            (λ o. Gives o self.new (on_request self.old server message.now (repeat_of self.old server message.now))) }
+    {
+        match self.repeat_of(server, message) {
+            Some(first) => again(self.alloc, server, message.kind(), &first.reply),
+            None => self.take_fresh(server, message),
+        }
+    }
+
+    /// Takes a message.
+    fn take(&mut self, server: u16, message: &Message) -> Result<Outputs, AllocError>
+        ensures { IfOk result (λ o. Gives o self.new (on_message self.old server message.now message.now.kind)) }
+    {
+        match message.kind() {
+            Kind::Con => {
+                if is_request(message.code()) {
+                    self.take_request(server, message)
+                } else {
+                    sent(self.alloc, server, &reset(self.alloc, message.mid()))
+                }
+            }
+            Kind::Non => {
+                if is_request(message.code()) {
+                    self.take_request(server, message)
+                } else {
+                    Ok(Outputs::none(self.alloc))
+                }
+            }
+            Kind::Ack => Ok(Outputs::none(self.alloc)),
+            Kind::Rst => {
+                if message.code() == 0 {
+                    self.observations.reset(server, message.mid());
+                }
+                Ok(Outputs::none(self.alloc))
+            }
+        }
+    }
+
+    /// Takes bytes that are no message.
+    fn take_noise(&self, server: u16, bytes: &[u8]) -> Result<Outputs, AllocError>
+        ensures { IfOk result (λ o. Gives o self.now (on_noise self.now server bytes.now)) }
+    {
+        let Some((kind, mid)) = header(bytes) else {
+            return Ok(Outputs::none(self.alloc));
+        };
+        match kind {
+            Kind::Con => sent(self.alloc, server, &reset(self.alloc, mid)),
+            Kind::Non | Kind::Ack | Kind::Rst => Ok(Outputs::none(self.alloc)),
+        }
+    }
+
+    /// Takes a datagram.
+    pub(super) fn receive(&mut self, server: u16, bytes: &[u8]) -> Result<Outputs, AllocError>
+        ensures { IfOk result (λ o. Gives o self.new (reaction_to self.old (Recv server bytes.now))) }
+    {
+        if !self.client.has_account(server) {
+            return Ok(Outputs::none(self.alloc));
+        }
+        match decode(self.alloc, bytes) {
+            Ok(message) => self.take(server, &message),
+            Err(CoapFault::Memory) => Err(AllocError),
+            Err(_) => self.take_noise(server, bytes),
+        }
+    }
+}

@@ -1,0 +1,79 @@
+-- A target that exists lies in an instance that is there, and a resource that was cleared has room.
+use Rattle.std.proofs.Common.{◌≡◌, ℕ, ◌==◌, Bool, true, false, not, ◌&&◌, ◌||◌, nat_le, List, [], ◌∷◌, length, Option, None, Some, refl, sym, ap, ◌∙◌, if◌then◌else◌}
+use Rattle.std.specs.Option.{is_some, unwrap_or}
+use Rattle.std.proofs.lemmas.Bool.{and_parts}
+use Rattle.object_defs.specs.Catalogue.{object_of, definition_of}
+use Rattle.object_defs.specs.Lines.{first_line}
+use Rattle.object_defs.specs.Path.{part_of, object_in}
+use Rattle.object_defs.specs.declared.definition.ObjectDef.{ObjectDef}
+use Rattle.object_defs.specs.declared.path.Path.{Path}
+use Rattle.object_defs.specs.declared.path.Path.TheVariants.{Object, Instance, Resource, Part}
+use Rattle.object_defs.specs.declared.path.ResourcePath.{ResourcePath}
+use Rattle.instance_store.specs.Existence.{exists_as}
+use Rattle.instance_store.specs.Stored.{Stored, value_at, has_instance, is_full, resource_path, without_values}
+use Rattle.instance_lifecycle.specs.Numbers.{instance_at, number_for}
+use Rattle.instance_lifecycle.proofs.Found.{found_free}
+use Rattle.resource_formats.proofs.Apart.{none_held}
+use Rattle.device_requests.specs.declared.answer.Code.{Code}
+use Rattle.device_requests.specs.declared.answer.Code.TheVariants.{Unauthorized, NotFound, MethodNotAllowed}
+use Rattle.device_requests.specs.Access.{rights_on}
+use Rattle.device_requests.specs.Deletes.{delete_lines, is_fixed}
+use Rattle.device_requests.specs.Executes.{execute_lines, argument_lines, is_executable}
+use Rattle.device_requests.specs.Managed.{Managed}
+use Rattle.device_requests.specs.Targets.{definition_at, exists, has_place, place_of, resource_place, is_multiple}
+use Rattle.device_requests.specs.Writes.{is_target}
+
+exists_has : (catalogue : List ObjectDef) (stored : Stored) (path : Path) → exists catalogue stored path ≡ true → has_place stored path ≡ true
+exists_has catalogue stored (Object o) h = refl
+exists_has catalogue stored (Instance o i) h = (and_parts (is_some (object_of catalogue o)) (has_instance stored (place_of o i)) h).1
+exists_has catalogue stored (Resource o i r) h = (and_parts (has_instance stored (place_of o i)) (exists_as stored (resource_place o i r) (definition_of catalogue o r)) h).0
+exists_has catalogue stored (Part o i r n) h = (and_parts (has_instance stored (place_of o i)) (is_multiple (definition_of catalogue o r) && is_some (value_at stored (part_of (resource_place o i r) n))) h).0
+
+pub target_has : (catalogue : List ObjectDef) (stored : Stored) (path : Path) → is_target catalogue stored path ≡ true → has_place stored path ≡ true
+target_has catalogue stored (Object o) h = absurd cc
+target_has catalogue stored (Instance o i) h = (and_parts (is_some (object_of catalogue o)) (has_instance stored (place_of o i)) h).1
+target_has catalogue stored (Resource o i r) h = (and_parts (is_some (definition_of catalogue o r)) (has_instance stored (place_of o i)) h).1
+target_has catalogue stored (Part o i r n) h = (and_parts (is_multiple (definition_of catalogue o r)) (has_instance stored (place_of o i)) h).1
+
+-- where no line refuses, the second does not
+second_passes : (a b : Bool) (x y : Code) (lines : List (Bool × Code)) → first_line ((a, x) ∷ (not b, y) ∷ lines) ≡ None → b ≡ true
+second_passes true b x y lines h = absurd cc
+second_passes false true x y lines h = refl
+second_passes false false x y lines h = absurd cc
+
+pub execute_has : (client : Managed) (server : ℕ) (path : Path) (number : Option ℕ) (payload : List ℕ) → first_line (execute_lines client server path number payload) ≡ None → has_place client.store path ≡ true
+execute_has client server path number payload h =
+    exists_has client.catalogue client.store path (second_passes (object_in path == 0) (exists client.catalogue client.store path) Unauthorized NotFound
+    ((not (rights_on client server path).execute, Unauthorized) ∷ (not (is_executable (definition_at client.catalogue path)), MethodNotAllowed) ∷ argument_lines client path number payload) h)
+
+pub delete_has : (client : Managed) (server : ℕ) (path : Path) → first_line (delete_lines client server path) ≡ None → has_place client.store path ≡ true
+delete_has client server path h =
+    exists_has client.catalogue client.store path (second_passes (object_in path == 0) (exists client.catalogue client.store path) Unauthorized NotFound
+    ((not (rights_on client server path).delete, Unauthorized) ∷ (is_fixed (object_in path), MethodNotAllowed) ∷ []) h)
+
+and_false : (a : Bool) → (a && false) ≡ false
+and_false true = refl
+and_false false = refl
+
+-- the first part of a resource that was cleared
+pub cleared_fits : (stored : Stored) (p : ResourcePath) (n : ℕ) → is_full (without_values stored (resource_path p)) p n ≡ false
+cleared_fits stored p n =
+    let new = not (is_some (value_at (without_values stored (resource_path p)) (part_of p n))) in
+    ap (λ ns. new && nat_le 32 (length ns)) (none_held stored p) ∙ and_false new
+
+free_at : (stored : Stored) (o m n : ℕ) (b : Bool) → has_instance stored (instance_at o m) ≡ b → (if (m == 65535) || b then None else Some m) ≡ Some n → has_instance stored (instance_at o n) ≡ false
+free_at stored o m n true e h = absurd (none_is (m == 65535) m n h)
+  where
+    none_is : (a : Bool) (m n : ℕ) → (if a || true then None else Some m) ≡ Some n → ⊥
+    none_is true m n h = cc
+    none_is false m n h = cc
+free_at stored o m n false e h = named (m == 65535) h
+  where
+    named : (a : Bool) → (if a || false then None else Some m) ≡ Some n → has_instance stored (instance_at o n) ≡ false
+    named true h = absurd cc
+    named false h = ap (λ k. has_instance stored (instance_at o (unwrap_or k m))) (sym h) ∙ e
+
+-- the number of a new instance is free
+pub number_free : (stored : Stored) (o n : ℕ) (named : Option ℕ) → number_for stored o named ≡ Some n → has_instance stored (instance_at o n) ≡ false
+number_free stored o n None h = found_free stored o n h
+number_free stored o n (Some m) h = free_at stored o m n (has_instance stored (instance_at o m)) refl h

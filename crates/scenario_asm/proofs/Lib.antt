@@ -1,0 +1,3 @@
+pub mod ClassValues
+pub mod Denoting
+pub mod Lines

@@ -1,0 +1,95 @@
+-- What each statement adds to a draft, in the words of the builders of classes and scenarios, and why it is refused: what
+-- was not stated before comes first, then what does not fit, then what is there already, then limits.
+use Rattle.std.specs.Prelude.{ℕ, ◌==◌, nat_lt, Bool, true, false, List, length, Option, None, Some, option_map, Result, Ok, Err, if◌then◌else◌}
+use Rattle.std.specs.List.{list_any}
+use Rattle.device_template.specs.Class.{Class, empty_class}
+use Rattle.device_machine.specs.declared.event.Event.TheVariants as event
+use Rattle.scenario_image.specs.Script.{Script, accounts_of, class_fault, last_row, row_fault, step_fault, with_row, with_step}
+use Rattle.scenario_image.specs.declared.step.Step.{Step}
+use Rattle.scenario_image.specs.declared.step.Step.TheVariants as step
+use Rattle.scenario_words.specs.declared.cause.Cause.{Cause}
+use Rattle.scenario_words.specs.declared.cause.Cause.TheVariants.{Range, Missing, Duplicate}
+use Rattle.scenario_words.specs.Reading.{◌>>=◌}
+use Rattle.scenario_mnemonics.specs.Messages.{datagram_of, fits_mnemonic}
+use Rattle.scenario_mnemonics.specs.declared.mnemonic.Mnemonic.{Mnemonic}
+use Rattle.scenario_statements.specs.declared.statement.Statement.{Statement}
+use Rattle.scenario_statements.specs.declared.statement.Statement.TheVariants as says
+use Rattle.scenario_asm.specs.Causes.{needs, scenario_cause, unless}
+use Rattle.scenario_asm.specs.ClassLines.{account_added, definition_added, instance_added, object_added, value_added}
+use Rattle.scenario_asm.specs.Draft.{Draft, closed}
+
+-- the draft, whose open class is this one
+abbrev pub reopened : Draft → Class → Draft
+reopened d c = record { begun = d.begun; scenario = d.scenario; open_class = Some c; object = d.object }
+
+-- the same, where this object was stated last
+abbrev pub reopened_with : ℕ → Draft → Class → Draft
+reopened_with object d c = record { begun = d.begun; scenario = d.scenario; open_class = Some c; object = Some object }
+
+-- what is added to the open class, which has to be there
+abbrev pub in_class : Draft → (Class → Result Class Cause) → (Class → Draft) → Option Class → Result Draft Cause
+in_class d add make None = Err Missing
+in_class d add make (Some c) = add c >>= (λ e. Ok (make e))
+
+-- a resource needs an object line before it in its class
+abbrev pub of_object : Option ℕ → (ℕ → Class → Result Class Cause) → Class → Result Class Cause
+of_object None add c = Err Missing
+of_object (Some object) add c = add object c
+
+-- a class that is begun closes the one before it
+abbrev pub class_begun : Draft → Result Draft Cause
+class_begun d =
+    unless (option_map scenario_cause (class_fault (closed d)))
+    (record { begun = d.begun; scenario = closed d; open_class = Some empty_class; object = None })
+
+-- a device closes the class before it
+abbrev pub device_begun : ℕ → Draft → Result Draft Cause
+device_begun class d =
+    unless (option_map scenario_cause (row_fault (closed d) class))
+    (record { begun = d.begun; scenario = with_row (closed d) class; open_class = None; object = None })
+
+abbrev pub has_device : Draft → Bool
+has_device d = nat_lt 0 (length d.scenario.rows)
+
+-- the class of the device that was stated last, by its place
+abbrev pub last_class : Script → Option ℕ
+last_class s = option_map (λ r. r.class) (last_row s.rows)
+
+abbrev pub knows : Script → ℕ → Option ℕ → Bool
+knows s server None = false
+knows s server (Some class) = list_any (λ account. account == server) (accounts_of s.classes class)
+
+-- the server is an account of the class of the device that was stated last
+abbrev pub has_server : Draft → ℕ → Bool
+has_server d server = knows d.scenario server (last_class d.scenario)
+
+abbrev pub step_added : Step → Draft → Result Draft Cause
+step_added s d =
+    unless (option_map scenario_cause (step_fault d.scenario s))
+    (record { begun = d.begun; scenario = with_step d.scenario s; open_class = d.open_class; object = d.object })
+
+-- a step needs a device
+abbrev pub device_step : Step → Draft → Result Draft Cause
+device_step s d = needs (has_device d) (step_added s d)
+
+-- a mnemonic has a path of as many numbers as it needs
+abbrev pub fitting : Mnemonic → Result Draft Cause → Result Draft Cause
+fitting m x = if fits_mnemonic m then x else Err Range
+
+-- what a statement adds; each but the first needs `scenario 1` before it
+abbrev pub effect : Statement → Draft → Result Draft Cause
+effect says.Scenario d = if d.begun then Err Duplicate else Ok (record { begun = true; scenario = d.scenario; open_class = d.open_class; object = d.object })
+effect says.Class d = needs d.begun (class_begun d)
+effect (says.Account server) d = needs d.begun (in_class d (account_added server) (reopened d) d.open_class)
+effect (says.Object id) d = needs d.begun (in_class d (object_added id) (reopened_with id d) d.open_class)
+effect (says.Def r) d = needs d.begun (in_class d (of_object d.object (λ object. definition_added object r)) (reopened d) d.open_class)
+effect (says.Instance place) d = needs d.begun (in_class d (instance_added place) (reopened d) d.open_class)
+effect (says.Value p value) d = needs d.begun (in_class d (value_added p value) (reopened d) d.open_class)
+effect (says.Device class) d = needs d.begun (device_begun class d)
+effect (says.Recv server bytes) d = needs d.begun (needs (has_server d server) (step_added (step.Event (event.Recv server bytes)) d))
+effect (says.Request server m) d = needs d.begun (needs (has_server d server) (fitting m (step_added (step.Event (event.Recv server (datagram_of m))) d)))
+effect (says.Tick seconds) d = needs d.begun (device_step (step.Event (event.Tick seconds)) d)
+effect (says.Put p value) d = needs d.begun (device_step (step.Event (event.Put p value)) d)
+effect (says.Firmware code) d = needs d.begun (device_step (step.Event (event.Firmware code)) d)
+effect (says.Post group) d = needs d.begun (device_step (step.Post group) d)
+effect (says.Need group count) d = needs d.begun (device_step (step.Need group count) d)

@@ -1,0 +1,6 @@
+pub mod Causes
+pub mod ClassLines
+pub mod Denotes
+pub mod Draft
+pub mod Effect
+pub mod Text

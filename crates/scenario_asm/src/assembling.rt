@@ -1,0 +1,33 @@
+ghost use Rattle.std.specs.Prelude.{◌≡◌, ◌≢◌, Ok, Err, MatchResult};
+ghost use Rattle.scenario_words.specs.declared.cause.Cause.TheVariants.{Memory};
+ghost use Rattle.scenario_asm.specs.Text.{assembled};
+
+use crate::draft::Draft;
+use crate::fault::AsmFault;
+use scenario_image::Scenario;
+use scenario_words::next_line;
+use std::alloc::Global;
+
+/// The scenario of a text.
+///
+/// The fault is that of the first line that is refused, with the first cause in this order. In a line words are read
+/// from the left (`Missing`, `Token`, `UnknownWord`, `Range`), and no word may be left (`Token`). Then `Missing` (it
+/// needs what was not stated before, `scenario 1` in the first place), `Range` (it does not fit), `Duplicate` (it was stated before),
+/// `Limit` (a count or a length). A text that states nothing is `Missing` in line 1.
+#[tactic(auto, using(crate::proofs::Lines::goes_on, crate::proofs::Lines::stops, crate::proofs::Lines::ends))]
+pub fn assemble(alloc: Global, text: &str) -> Result<Scenario, AsmFault>
+    ensures { MatchResult result (λ s. assembled text.now ≡ Ok s) (λ f. f.cause ≢ Memory → assembled text.now ≡ Err f) }
+{
+    let mut draft = Draft::nothing(alloc);
+    let mut line = 0;
+    let mut left = Some(text.as_bytes());
+    while let Some(text) = left {
+        let (first, behind) = next_line(text);
+        line += 1;
+        if let Err(cause) = draft.take_line(alloc, first) {
+            return Err(AsmFault { line, cause });
+        }
+        left = behind;
+    }
+    draft.finish(line)
+}

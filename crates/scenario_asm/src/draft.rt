@@ -1,0 +1,299 @@
+//! What the lines of a text have stated so far.
+
+ghost use Rattle.std.specs.Prelude.{◌≡◌, ◌≢◌, ◌==◌, nat_le, length, None, Ok, Err, MatchResult, IfErr, OnOk};
+ghost use Rattle.scenario_words.specs.declared.cause.Cause.TheVariants.{Memory};
+ghost use Rattle.device_machine.specs.declared.event.Event.TheVariants as event;
+ghost use Rattle.std.specs.List.{list_any};
+ghost use Rattle.scenario_image.specs.Script.{accounts_of};
+ghost use Rattle.scenario_image.specs.declared.step.Step.TheVariants as step;
+ghost use Rattle.scenario_statements.specs.declared.statement.Statement.TheVariants as says;
+ghost use Rattle.scenario_mnemonics.specs.Messages.{datagram_of};
+ghost use Rattle.scenario_asm.specs.Causes.{Makes, needs};
+ghost use Rattle.scenario_asm.specs.ClassLines.{account_added, definition_added, instance_added, object_added, value_added};
+ghost use Rattle.scenario_asm.specs.Draft.{closed, nothing};
+ghost use Rattle.scenario_asm.specs.Effect.{class_begun, device_begun, device_step, effect, fitting, has_device, has_server, in_class, last_class, of_object, reopened, reopened_with, step_added};
+ghost use Rattle.scenario_asm.specs.Text.{line_after, whole};
+
+use crate::causes::of_scenario;
+use crate::class::{add_account, add_definition, add_instance, add_object, add_value};
+use crate::fault::AsmFault;
+use device_machine::{Event, Template};
+use lwm2m_values::Value;
+use object_defs::{InstancePath, Path, ResourceDef};
+use octets::Bytes;
+use scenario_image::{Scenario, Step};
+use scenario_mnemonics::{Mnemonic, encode};
+use scenario_statements::{Statement, read_statement};
+use scenario_words::Cause;
+use std::alloc::Global;
+use std::marker::Model;
+
+/// What the lines of a text have stated so far. A draft that refused a line is of no use any more.
+#[derive(Drop)]
+pub(crate) struct Draft {
+    begun: bool,
+    scenario: Scenario,
+    open_class: Option<Template>,
+    object: Option<u16>,
+}
+
+impl Model for Draft {
+    ghost use Rattle.std.specs.Coded.{codes};
+    ghost use Rattle.instance_store.specs.Stored.{stored_code};
+    ghost use Rattle.scenario_asm.specs.Draft.{Draft, HasRoom};
+
+    ghost Value = { Draft };
+
+    ghost coded = { Prim.hlevel (codes, stored_code) };
+
+    ghost view = { λ d. record { begun = d.begun; scenario = d.scenario; open_class = d.open_class; object = d.object } };
+
+    ghost invariant = { λ d. HasRoom (record { begun = d.begun; scenario = d.scenario; open_class = d.open_class; object = d.object }) };
+}
+
+/// Whether the server is one of the accounts.
+fn is_account(accounts: &[u16], server: u16) -> bool
+    ensures { result ≡ list_any (λ account. account == server) accounts.now }
+{
+    accounts.iter().any(|account| *account == server)
+}
+
+impl Draft {
+    /// Nothing was stated.
+    pub(crate) fn nothing(alloc: Global) -> Draft
+        ensures { result ≡ nothing }
+    {
+        Draft {
+            begun: false,
+            scenario: Scenario::empty(alloc),
+            open_class: None,
+            object: None,
+        }
+    }
+
+    fn begin(&mut self) -> Result<(), Cause>
+        ensures { Makes result self.new (effect says.Scenario self.old) }
+    {
+        if self.begun {
+            return Err(Cause::Duplicate);
+        }
+        self.begun = true;
+        Ok(())
+    }
+
+    /// Adds the open class to the scenario, if there is one.
+    fn close(&mut self) -> Result<(), Cause>
+        ensures closed { OnOk result (self.new ≡ record { begun = self.old.begun; scenario = closed self.old; open_class = None; object = None }) }
+        ensures memory { IfErr result (λ e. e ≢ Memory → ⊥) }
+    {
+        self.object = None;
+        match self.open_class.take() {
+            None => Ok(()),
+            Some(class) => of_scenario(self.scenario.add_class(class)),
+        }
+    }
+
+    /// Whether there are as many classes as there may be.
+    fn is_full(&self) -> bool
+        ensures { result ≡ nat_le 256 (length self.now.scenario.classes) }
+    {
+        self.scenario.class(255).is_some()
+    }
+
+    fn begin_class(&mut self, alloc: Global) -> Result<(), Cause>
+        ensures { Makes result self.new (class_begun self.old) }
+    {
+        self.close()?;
+        if self.is_full() {
+            return Err(Cause::Limit);
+        }
+        self.open_class = Some(Template::new(alloc)?);
+        Ok(())
+    }
+
+    fn begin_device(&mut self, class: u16) -> Result<(), Cause>
+        ensures { Makes result self.new (device_begun class self.old) }
+    {
+        self.close()?;
+        of_scenario(self.scenario.add_row(class))
+    }
+
+    fn account(&mut self, server: u16) -> Result<(), Cause>
+        ensures { Makes result self.new (in_class self.old (account_added server) (reopened self.old) self.old.open_class) }
+    {
+        match &mut self.open_class {
+            None => Err(Cause::Missing),
+            Some(class) => add_account(class, server),
+        }
+    }
+
+    fn object(&mut self, id: u16) -> Result<(), Cause>
+        ensures { Makes result self.new (in_class self.old (object_added id) (reopened_with id self.old) self.old.open_class) }
+    {
+        self.object = Some(id);
+        match &mut self.open_class {
+            None => Err(Cause::Missing),
+            Some(class) => add_object(class, id),
+        }
+    }
+
+    fn definition(&mut self, definition: ResourceDef) -> Result<(), Cause>
+        ensures { Makes result self.new
+            (in_class self.old (of_object self.old.object (λ object. definition_added object definition)) (reopened self.old) self.old.open_class) }
+    {
+        let object = self.object;
+        match (&mut self.open_class, object) {
+            (Some(class), Some(object)) => add_definition(class, object, definition),
+            _ => Err(Cause::Missing),
+        }
+    }
+
+    fn instance(&mut self, place: InstancePath) -> Result<(), Cause>
+        ensures { Makes result self.new (in_class self.old (instance_added place) (reopened self.old) self.old.open_class) }
+    {
+        match &mut self.open_class {
+            None => Err(Cause::Missing),
+            Some(class) => add_instance(class, place),
+        }
+    }
+
+    fn value(&mut self, alloc: Global, path: Path, value: Value) -> Result<(), Cause>
+        ensures { Makes result self.new (in_class self.old (value_added path value) (reopened self.old) self.old.open_class) }
+    {
+        match &mut self.open_class {
+            None => Err(Cause::Missing),
+            Some(class) => add_value(alloc, class, path, value),
+        }
+    }
+
+    /// Whether a device was stated.
+    fn has_device(&self) -> bool
+        ensures { result ≡ has_device self.now }
+    {
+        self.scenario.rows() > 0
+    }
+
+    /// The class of the device that was stated last, by its place.
+    #[tactic(auto, using(crate::proofs::Lines::class_at))]
+    fn last_class(&self) -> Option<u16>
+        ensures { result ≡ last_class self.now.scenario }
+    {
+        let rows = self.scenario.rows();
+        if rows == 0 {
+            return None;
+        }
+        let (class, _) = self.scenario.row((rows - 1) as u16)?;
+        Some(class)
+    }
+
+    /// Whether the server is an account of the class at this place.
+    fn has_account(&self, class: u16, server: u16) -> bool
+        ensures { result ≡ list_any (λ account. account == server) (accounts_of self.now.scenario.classes class) }
+    {
+        match self.scenario.class(class) {
+            None => false,
+            Some(class) => is_account(class.accounts(), server),
+        }
+    }
+
+    /// Whether the server is an account of the class of the device that was stated last.
+    fn has_server(&self, server: u16) -> bool
+        ensures { result ≡ has_server self.now server }
+    {
+        match self.last_class() {
+            None => false,
+            Some(class) => self.has_account(class, server),
+        }
+    }
+
+    fn add_step(&mut self, step: Step) -> Result<(), Cause>
+        ensures { Makes result self.new (step_added step self.old) }
+    {
+        of_scenario(self.scenario.add_step(step))
+    }
+
+    /// A step of the device that was stated last.
+    fn device_step(&mut self, step: Step) -> Result<(), Cause>
+        ensures { Makes result self.new (device_step step self.old) }
+    {
+        if !self.has_device() {
+            return Err(Cause::Missing);
+        }
+        self.add_step(step)
+    }
+
+    fn datagram(&mut self, server: u16, bytes: Bytes) -> Result<(), Cause>
+        ensures { Makes result self.new (needs (has_server self.old server) (step_added (step.Event (event.Recv server bytes)) self.old)) }
+    {
+        if !self.has_server(server) {
+            return Err(Cause::Missing);
+        }
+        self.add_step(Step::Event(Event::Recv { server, bytes }))
+    }
+
+    fn request(&mut self, alloc: Global, server: u16, mnemonic: &Mnemonic) -> Result<(), Cause>
+        ensures { Makes result self.new
+            (needs (has_server self.old server) (fitting mnemonic.now (step_added (step.Event (event.Recv server (datagram_of mnemonic.now))) self.old))) }
+    {
+        if !self.has_server(server) {
+            return Err(Cause::Missing);
+        }
+        if !mnemonic.fits() {
+            return Err(Cause::Range);
+        }
+        let bytes = encode(alloc, mnemonic)?;
+        self.add_step(Step::Event(Event::Recv { server, bytes }))
+    }
+
+    /// Takes what a line says.
+    fn apply(&mut self, alloc: Global, statement: Statement) -> Result<(), Cause>
+        ensures { Makes result self.new (effect statement self.old) }
+    {
+        match statement {
+            Statement::Scenario => self.begin(),
+            _ if !self.begun => Err(Cause::Missing),
+            Statement::Class => self.begin_class(alloc),
+            Statement::Account(server) => self.account(server),
+            Statement::Object(id) => self.object(id),
+            Statement::Def(definition) => self.definition(definition),
+            Statement::Instance(place) => self.instance(place),
+            Statement::Value { path, value } => self.value(alloc, path, value),
+            Statement::Device(class) => self.begin_device(class),
+            Statement::Recv { server, bytes } => self.datagram(server, bytes),
+            Statement::Request { server, mnemonic } => self.request(alloc, server, &mnemonic),
+            Statement::Tick(seconds) => self.device_step(Step::Event(Event::Tick(seconds))),
+            Statement::Put { path, value } => {
+                self.device_step(Step::Event(Event::Put { path, value }))
+            }
+            Statement::Firmware(code) => self.device_step(Step::Event(Event::Firmware(code))),
+            Statement::Post(group) => self.device_step(Step::Post(group)),
+            Statement::Need { group, count } => self.device_step(Step::Need(group, count)),
+        }
+    }
+
+    /// Takes a line, without the LF that ends it.
+    pub(crate) fn take_line(&mut self, alloc: Global, line: &[u8]) -> Result<(), Cause>
+        ensures { Makes result self.new (line_after line.now self.old) }
+    {
+        match read_statement(alloc, line)? {
+            None => Ok(()),
+            Some(statement) => self.apply(alloc, statement),
+        }
+    }
+
+    /// The scenario that was stated, behind so many lines.
+    pub(crate) fn finish(mut self, lines: usize) -> Result<Scenario, AsmFault>
+        ensures { MatchResult result (λ s. whole self ≡ Ok s) (λ f. f.cause ≢ Memory → whole self ≡ Err f) }
+    {
+        if !self.begun {
+            return Err(AsmFault {
+                line: 1,
+                cause: Cause::Missing,
+            });
+        }
+        match self.close() {
+            Ok(()) => Ok(self.scenario),
+            Err(cause) => Err(AsmFault { line: lines, cause }),
+        }
+    }
+}

@@ -1,0 +1,12 @@
+use scenario_words::Cause;
+use thiserror::Error;
+
+/// The first line of a text that is refused, and why.
+#[derive(Clone, Copy, Debug, PartialEq, Eq, Error)]
+#[error("line {line}: {cause}")]
+pub struct AsmFault {
+    /// The line, counted from 1.
+    pub line: usize,
+    /// Why it is refused.
+    pub cause: Cause,
+}
