@@ -1,1 +1,4 @@
+pub mod Asked
+pub mod Built
+pub mod Faults
 mod LimitedReading

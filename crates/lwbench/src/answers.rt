@@ -1,16 +1,21 @@
 //! What the program answers to each of its words.
-ghost use Rattle.std.specs.Prelude.{◌≡◌, IfOk, OnOk};
+ghost use Rattle.std.specs.Prelude.{◌≡◌, IfErr, IfOk, OnOk, option_map};
 ghost use Rattle.std.specs.Result.{IsOkAnd};
 ghost use Rattle.std.specs.Io.KnownBytes.{Appends};
 ghost use Rattle.lwbench.specs.Demo.{demo_outputs};
 ghost use Rattle.hex.specs.Hex.{decode_of};
 ghost use Rattle.std.specs.String.{string_bytes};
+ghost use Rattle.lwbench.specs.Jobs.{IsCheckDone, IsCheckRefused, IsOneDone, IsOneFault, IsRunDone, IsRunRefused};
 ghost use Rattle.lwbench.specs.Printed.{act_line, act_name, line_of, printed, send_line};
 ghost use Rattle.lwbench.specs.declared.status.Status.TheVariants.{Done};
 
+use crate::answer::say;
 use crate::demo;
 use crate::fault::Fault;
+use crate::files::Files;
 use crate::hex_text::{read_hex, write_hex};
+use crate::loading::{load_scenario, load_trace};
+use crate::runs::{judge, run_scenario};
 use crate::status::Status;
 use device_machine::{Act, Output};
 use std::alloc::{AllocError, Global};
@@ -18,16 +23,55 @@ use std::io::Write;
 
 /// `one HEX`: what the DEMO device puts out for a datagram from its server, a line for each
 /// output, or `nothing`.
+#[tactic(auto, using(crate::proofs::Built::one_done, crate::proofs::Faults::no_hex, crate::proofs::Faults::no_demo, crate::proofs::Faults::unwritten_one))]
 pub fn one<W: Write>(alloc: Global, hex: &str, writer: &mut W) -> Result<Status, Fault>
-    ensures done { IfOk result (λ status. status ≡ Done) }
-    ensures written { OnOk result (IsOkAnd (decode_of hex.now) (λ bytes.
-        Appends (W.contents writer.old) (W.contents writer.new) (printed (demo_outputs bytes)))) }
+    ensures done { IfOk result (IsOneDone (Appends (W.contents writer.old) (W.contents writer.new)) hex.now) }
+    ensures refused { IfErr result (IsOneFault hex.now) }
 {
     let outputs = demo::answer(alloc, read_hex(alloc, hex)?)?;
     let text = text_of(alloc, outputs.as_slice())?;
     writer.write_all(text.as_bytes())?;
     writer.flush()?;
     Ok(Status::Done)
+}
+
+/// `run IMAGE [--trace FILE]`: the serial run of the scenario; its trace file goes to FILE, before the line is printed.
+#[tactic(auto, using(crate::proofs::Faults::unwritten_run, crate::proofs::Built::run_done, crate::proofs::Built::run_image, crate::proofs::Built::run_work))]
+pub fn run<F: Files, W: Write>(
+    alloc: Global,
+    image: &str,
+    trace: Option<&str>,
+    files: &F,
+    writer: &mut W,
+) -> Result<Status, Fault>
+    ensures done { IfOk result (IsRunDone (F.holds files.now) (F.wrote files.now)
+        (Appends (W.contents writer.old) (W.contents writer.new)) image.now (option_map (λ p. p.now) trace.entry)) }
+    ensures refused { IfErr result (IsRunRefused (F.holds files.now) (F.fails files.now) image.now) }
+{
+    let scenario = load_scenario(alloc, image, files)?;
+    let answer = run_scenario(alloc, &scenario, trace, files)?;
+    say(&answer, writer)?;
+    Ok(answer.status)
+}
+
+/// `check IMAGE TRACE`: whether the trace is a run of the scenario, else the least place at which it breaks off.
+#[tactic(auto, using(crate::proofs::Built::check_done, crate::proofs::Built::check_image, crate::proofs::Built::check_trace, crate::proofs::Built::check_writing))]
+pub fn check<F: Files, W: Write>(
+    alloc: Global,
+    image: &str,
+    trace: &str,
+    files: &F,
+    writer: &mut W,
+) -> Result<Status, Fault>
+    ensures done { IfOk result (IsCheckDone (F.holds files.now)
+        (Appends (W.contents writer.old) (W.contents writer.new)) image.now trace.now) }
+    ensures refused { IfErr result (IsCheckRefused (F.holds files.now) (F.fails files.now) image.now trace.now) }
+{
+    let scenario = load_scenario(alloc, image, files)?;
+    let entries = load_trace(alloc, trace, files)?;
+    let answer = judge(alloc, &scenario, entries.as_slice())?;
+    say(&answer, writer)?;
+    Ok(answer.status)
 }
 
 /// The outputs, a line for each, or the line `nothing`.

@@ -1,6 +1,9 @@
 //! One command: its words, its answer, and the status that the program ends with.
-ghost use Rattle.std.specs.Prelude.{◌≡◌};
-ghost use Rattle.lwbench.specs.declared.status.Status.TheVariants.{Fault as FaultStatus};
+ghost use Rattle.std.specs.Prelude.{◌≡◌, IfErr, IfOk, OnOk, map};
+ghost use Rattle.std.specs.Io.KnownBytes.{Appends};
+ghost use Rattle.std.specs.String.{string_bytes};
+ghost use Rattle.lwbench.specs.FaultLine.{fault_line};
+ghost use Rattle.lwbench.specs.Jobs.{Ends, IsCommandFault, IsDone, IsRefused};
 
 use crate::fault::Fault;
 use crate::files::Files;
@@ -8,7 +11,7 @@ use crate::status::Status;
 use crate::words::{Asked, Job};
 use crate::{answers, words};
 use std::alloc::Global;
-use std::io::{BufRead, ErrorKind, Write};
+use std::io::{self, BufRead, ErrorKind, Write};
 
 #[cfg(test)]
 mod tests;
@@ -19,19 +22,31 @@ pub fn command<R, F: Files, B: BufRead, W: Write>(
     _rt: &R,
     alloc: Global,
     words: &[String],
-    _files: &F,
+    files: &F,
     _reader: &mut B,
     writer: &mut W,
-) -> Status {
-    match act(alloc, words, writer) {
+) -> Status
+    ensures { Ends (F.holds files.now) (F.fails files.now) (F.wrote files.now)
+        (Appends (W.contents writer.old) (W.contents writer.new)) (map string_bytes words.now) result }
+{
+    match act(alloc, words, files, writer) {
         Ok(status) => status,
         Err(fault) => tell(fault, writer),
     }
 }
 
-fn act<W: Write>(alloc: Global, words: &[String], writer: &mut W) -> Result<Status, Fault> {
+fn act<F: Files, W: Write>(
+    alloc: Global,
+    words: &[String],
+    files: &F,
+    writer: &mut W,
+) -> Result<Status, Fault>
+    ensures done { IfOk result (Ends (F.holds files.now) (F.fails files.now) (F.wrote files.now)
+        (Appends (W.contents writer.old) (W.contents writer.new)) (map string_bytes words.now)) }
+    ensures refused { IfErr result (IsCommandFault (F.holds files.now) (F.fails files.now) (map string_bytes words.now)) }
+{
     match words::read(alloc, words)? {
-        Asked::Job(Job::One { hex }) => answers::one(alloc, hex, writer),
+        Asked::Job(job) => perform(alloc, job, files, writer),
         Asked::Text { text, is_mistake } => {
             writer.write_all(text.as_bytes())?;
             writer.flush()?;
@@ -44,13 +59,38 @@ fn act<W: Write>(alloc: Global, words: &[String], writer: &mut W) -> Result<Stat
     }
 }
 
+/// Does one thing, and prints the line of its answer.
+pub fn perform<F: Files, W: Write>(
+    alloc: Global,
+    job: Job,
+    files: &F,
+    writer: &mut W,
+) -> Result<Status, Fault>
+    ensures done { IfOk result (IsDone (F.holds files.now) (F.wrote files.now)
+        (Appends (W.contents writer.old) (W.contents writer.new)) job.entry) }
+    ensures refused { IfErr result (IsRefused (F.holds files.now) (F.fails files.now) job.entry) }
+{
+    match job {
+        Job::One { hex } => answers::one(alloc, hex, writer),
+        Job::Run { image, trace } => answers::run(alloc, image, trace, files, writer),
+        Job::Check { image, trace } => answers::check(alloc, image, trace, files, writer),
+    }
+}
+
 /// Prints the line of a fault. Where that fails too the status alone tells of it.
 pub fn tell<W: Write>(fault: Fault, writer: &mut W) -> Status
     ensures { result ≡ Status.Fault }
 {
-    let _ = writeln!(writer, "fault: {fault}");
-    let _ = writer.flush();
+    let _ = print_fault(fault, writer);
     Status::Fault
+}
+
+/// Prints the line of a fault.
+pub fn print_fault<W: Write>(fault: Fault, writer: &mut W) -> io::Result<()>
+    ensures { OnOk result (Appends (W.contents writer.old) (W.contents writer.new) (fault_line fault)) }
+{
+    writeln!(writer, "fault: {fault}")?;
+    writer.flush()
 }
 
 /// Answers where the words could not be had at all.

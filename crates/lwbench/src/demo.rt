@@ -1,4 +1,5 @@
-ghost use Rattle.std.specs.Prelude.{◌≡◌, IfOk, OnOk, map};
+ghost use Rattle.std.specs.Prelude.{◌≡◌, IfErr, IfOk, OnOk, map};
+ghost use Rattle.lwbench.specs.Fault.{IsTemplateFault};
 ghost use Rattle.std.specs.List.{fold};
 ghost use Rattle.lwbench.specs.Demo.{demo_class, demo_outputs, row_of, value_of, with_place, with_row};
 
@@ -58,7 +59,8 @@ fn add_instances(template: &mut Template, places: &[(u16, u16)]) -> Result<(), T
 }
 
 fn add_values(alloc: Global, template: &mut Template, rows: &[(Path, Held)]) -> Result<(), Fault>
-    ensures { OnOk result (template.new ≡ fold with_row template.old (map row_of rows.now)) }
+    ensures added { OnOk result (template.new ≡ fold with_row template.old (map row_of rows.now)) }
+    ensures refused { IfErr result IsTemplateFault }
 {
     for (path, held) in rows {
         template.add_value(*path, value_of(alloc, *held)?)?;
@@ -68,7 +70,8 @@ fn add_values(alloc: Global, template: &mut Template, rows: &[(Path, Held)]) -> 
 
 /// The template of the DEMO device.
 pub fn template(alloc: Global) -> Result<Template, Fault>
-    ensures { IfOk result (λ t. t ≡ demo_class) }
+    ensures made { IfOk result (λ t. t ≡ demo_class) }
+    ensures refused { IfErr result IsTemplateFault }
 {
     let mut template = Template::new(alloc)?;
     template.add_account(SERVER)?;
@@ -79,7 +82,8 @@ pub fn template(alloc: Global) -> Result<Template, Fault>
 
 /// What the DEMO device, just started, puts out where its server sends these bytes.
 pub fn answer(alloc: Global, bytes: Bytes) -> Result<Outputs, Fault>
-    ensures { IfOk result (λ outputs. outputs ≡ demo_outputs bytes) }
+    ensures put_out { IfOk result (λ outputs. outputs ≡ demo_outputs bytes) }
+    ensures refused { IfErr result IsTemplateFault }
 {
     let mut device = Device::start(&template(alloc)?)?;
     let event = Event::Recv {

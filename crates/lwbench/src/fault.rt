@@ -1,24 +1,89 @@
+ghost use Rattle.std.specs.Prelude.{◌≡◌};
+ghost use Rattle.lwbench.specs.FaultLine.{fault_word, layout_word, template_word};
+
+use byte_layout::LayoutFault;
 use device_machine::TemplateFault;
 use hex::FromHexError;
 use std::alloc::{AllocError, AllocFailed};
-use std::io;
-use thiserror::Error;
+use std::{fmt, io};
+use trace_file::WriteFault;
 
 /// Why the program could not do what its words ask for. It prints as the fault's name.
-#[derive(Clone, Copy, Debug, PartialEq, Eq, Error)]
+#[derive(Clone, Copy, Debug, PartialEq, Eq)]
 pub enum Fault {
     /// A word that has to be hex is not.
-    #[error("hex")]
     Hex,
     /// No memory was left.
-    #[error("memory")]
     Memory,
-    /// The answer could not be written.
-    #[error("write")]
+    /// A file could not be read, or is larger than 64 MiB.
+    Read,
+    /// The answer or a file could not be written.
     Write,
+    /// The bytes of a file are not an image, or not a trace file.
+    Layout(LayoutFault),
+    /// A run has no trace file.
+    TooLarge,
     /// A template refused one of its parts.
-    #[error("{0}")]
     Template(TemplateFault),
+}
+
+impl fmt::Display for Fault {
+    ghost use Rattle.std.specs.Prelude.{Some};
+    ghost use Rattle.lwbench.specs.FaultLine.{fault_name};
+
+    ghost output = { λ fault. Some (fault_name fault) };
+
+    fn fmt<W: fmt::Write>(&self, f: &mut fmt::Formatter<W>) -> fmt::Result {
+        match self {
+            Fault::Layout(LayoutFault::BadField(place)) => write!(f, "bad field at {place}"),
+            Fault::Layout(LayoutFault::Limit(place)) => write!(f, "limit at {place}"),
+            _ => {
+                let word = word_of(*self);
+                write!(f, "{word}")
+            }
+        }
+    }
+}
+
+/// The name of a fault; of one with a place, without it.
+fn word_of(fault: Fault) -> &'static str
+    ensures { result.now ≡ fault_word fault }
+{
+    match fault {
+        Fault::Hex => "hex",
+        Fault::Memory => "memory",
+        Fault::Read => "read",
+        Fault::Write => "write",
+        Fault::TooLarge => "too large",
+        Fault::Layout(fault) => layout_word(fault),
+        Fault::Template(fault) => template_word(fault),
+    }
+}
+
+fn layout_word(fault: LayoutFault) -> &'static str
+    ensures { result.now ≡ layout_word fault }
+{
+    match fault {
+        LayoutFault::Magic => "magic",
+        LayoutFault::Version => "version",
+        LayoutFault::Cut => "cut",
+        LayoutFault::Trailing => "trailing",
+        LayoutFault::BadField(_) => "bad field",
+        LayoutFault::Limit(_) => "limit",
+        LayoutFault::Memory => "memory",
+    }
+}
+
+fn template_word(fault: TemplateFault) -> &'static str
+    ensures { result.now ≡ template_word fault }
+{
+    match fault {
+        TemplateFault::Range => "range",
+        TemplateFault::Missing => "missing",
+        TemplateFault::Duplicate => "duplicate",
+        TemplateFault::Full => "full",
+        TemplateFault::Memory => "memory",
+    }
 }
 
 impl From<AllocError> for Fault {
@@ -58,6 +123,10 @@ impl From<FromHexError> for Fault {
 }
 
 impl From<io::Error> for Fault {
+    ghost use Rattle.lwbench.specs.Fault.{IsWritingFault};
+
+    ghost from_gives = { λ _ e. IsWritingFault e };
+
     fn from(error: io::Error) -> Fault {
         match error.kind() {
             io::ErrorKind::OutOfMemory => Fault::Memory,
@@ -67,10 +136,42 @@ impl From<io::Error> for Fault {
 }
 
 impl From<TemplateFault> for Fault {
+    ghost use Rattle.lwbench.specs.Fault.{IsTemplateFault};
+
+    ghost from_gives = { λ _ e. IsTemplateFault e };
+
     fn from(fault: TemplateFault) -> Fault {
         match fault {
             TemplateFault::Memory => Fault::Memory,
             _ => Fault::Template(fault),
+        }
+    }
+}
+
+impl From<LayoutFault> for Fault {
+    ghost use Rattle.std.specs.Prelude.{◌≡◌};
+    ghost use Rattle.lwbench.specs.Fault.{layout_fault};
+
+    ghost from_gives = { λ fault e. e ≡ layout_fault fault };
+
+    fn from(fault: LayoutFault) -> Fault {
+        match fault {
+            LayoutFault::Memory => Fault::Memory,
+            _ => Fault::Layout(fault),
+        }
+    }
+}
+
+impl From<WriteFault> for Fault {
+    ghost use Rattle.std.specs.Prelude.{◌≡◌};
+    ghost use Rattle.lwbench.specs.Fault.{trace_fault};
+
+    ghost from_gives = { λ fault e. e ≡ trace_fault fault };
+
+    fn from(fault: WriteFault) -> Fault {
+        match fault {
+            WriteFault::TooLarge => Fault::TooLarge,
+            WriteFault::Memory => Fault::Memory,
         }
     }
 }

@@ -1,12 +1,15 @@
 //! `lwbench`: a bench of emulated LwM2M devices.
 #![tactic(auto)]
 
+mod answer;
 mod answers;
 mod command;
 mod demo;
 mod fault;
 mod files;
 mod hex_text;
+mod loading;
+mod runs;
 mod status;
 mod words;
 

@@ -1,6 +1,7 @@
 use super::*;
-use crate::files::{FileFault, SystemFiles, read_at_most};
+use crate::files::{FileFault, LARGEST, SystemFiles, read_at_most};
 use std::alloc::AllocError;
+use std::cell::RefCell;
 use std::io;
 use std::test::Fail;
 
@@ -10,15 +11,24 @@ fn status_of<R: std::rt::Files, W: Write>(
     words: &[&str],
     writer: &mut W,
 ) -> Result<Status, AllocError> {
+    status_over(rt, alloc, words, &SystemFiles { rt }, writer)
+}
+
+fn status_over<R, F: Files, W: Write>(
+    rt: &R,
+    alloc: Global,
+    words: &[&str],
+    files: &F,
+    writer: &mut W,
+) -> Result<Status, AllocError> {
     let mut all = Vec::new(alloc);
     all.push(String::from_str(alloc, "lwbench")?)?;
     for word in words {
         all.push(String::from_str(alloc, word)?)?;
     }
     let mut reader = "".as_bytes();
-    let files = SystemFiles { rt };
     let words = all.as_slice();
-    Ok(command(rt, alloc, words, &files, &mut reader, writer))
+    Ok(command(rt, alloc, words, files, &mut reader, writer))
 }
 
 #[test]
@@ -198,6 +208,271 @@ fn reads_what_was_written(rt: HostRuntime) -> Result<(), Fail> {
     for (most, count) in [(8, Some(7)), (7, Some(7)), (6, None), (0, None)] {
         let read = read_at_most(alloc, "7777777".as_bytes(), most);
         assert_eq!(rt; read.ok().map(|it| it.len()), count, "at most {most}");
+    }
+    Ok(())
+}
+
+/// The files of the tests below, by name, in hex.
+const FILES: [(&str, &str); 16] = [
+    // One device of server 1, whose battery is at 100 and which is asked for its level; and the trace of its serial run.
+    (
+        "reader",
+        "4C57534301000101000100000100030000000100030000000900010000000000000064000100000001010001000A40010001B13301300139",
+    ),
+    (
+        "reader.trace",
+        "4C5754520100000001000000000000000000000001010001000960450001C0FF313030",
+    ),
+    // The same under another worker's number; with another output byte; with a device that is not there; with none of its entries; with its last byte left out, and with one more.
+    (
+        "other worker",
+        "4C5754520100000001000700000000000000000001010001000960450001C0FF313030",
+    ),
+    (
+        "other byte",
+        "4C5754520100000001000000000000000000000001010001000960450001C0FF313031",
+    ),
+    (
+        "other device",
+        "4C5754520100000001000000010000000000000001010001000960450001C0FF313030",
+    ),
+    ("empty", "4C5754520100000000"),
+    (
+        "cut",
+        "4C5754520100000001000000000000000000000001010001000960450001C0FF3130",
+    ),
+    (
+        "longer",
+        "4C5754520100000001000000000000000000000001010001000960450001C0FF31303000",
+    ),
+    // The image in another version; with a step of a server that is no account; with 257 classes.
+    (
+        "version 9",
+        "4C57534309000101000100000100030000000100030000000900010000000000000064000100000001010001000A40010001B13301300139",
+    ),
+    (
+        "stranger",
+        "4C57534301000101000100000100030000000100030000000900010000000000000064000100000001010002000A40010001B13301300139",
+    ),
+    ("257 classes", "4C575343010101"),
+    // No class and no row.
+    ("nobody", "4C5753430100000000"),
+    // Two devices. The first waits for group 0 and then posts to 1, the second waits for 1 and then posts to 0.
+    (
+        "deadlock",
+        "4C5753430100010000000000000002000000020600000000010501000000020601000000010500",
+    ),
+    // The same with the first one's steps exchanged, and the trace of its serial run.
+    (
+        "turns",
+        "4C5753430100010000000000000002000000020501060000000001000000020601000000010500",
+    ),
+    (
+        "turns.trace",
+        "4C5754520100000004000000000000000000000000000000010000000000000000000000010000000100000000000000000000000100000000",
+    ),
+    // The first one's entries alone.
+    (
+        "alone",
+        "4C5754520100000002000000000000000000000000000000000000000100000000",
+    ),
+];
+
+/// Files in memory: those above, and what was written, by name. Nothing can be written to `full`.
+#[derive(Drop)]
+struct MemoryFiles {
+    alloc: Global,
+    written: RefCell<Vec<(String, Vec<u8>)>>,
+}
+
+impl Files for MemoryFiles {
+    ghost holds = { λ _ _ _. Unit {0} };
+
+    ghost fails = { λ _ _. Unit {0} };
+
+    ghost wrote = { λ _ _ _. Unit {0} };
+
+    fn read_all(&self, alloc: Global, path: &str) -> Result<Vec<u8>, FileFault> {
+        for (name, hex) in FILES {
+            if name == path {
+                let bytes = hex::decode(alloc, hex).or(Err(FileFault::Failed))?;
+                return read_at_most(alloc, bytes.as_slice(), LARGEST);
+            }
+        }
+        Err(FileFault::Failed)
+    }
+
+    fn write_all(&self, path: &str, bytes: &[u8]) -> Result<(), FileFault> {
+        if path == "full" {
+            return Err(FileFault::Failed);
+        }
+        let name = String::from_str(self.alloc, path).or(Err(FileFault::Memory))?;
+        let bytes = bytes.to_vec(self.alloc).or(Err(FileFault::Memory))?;
+        match self.written.try_borrow_mut() {
+            Ok(mut written) => written.push((name, bytes)).or(Err(FileFault::Memory)),
+            Err(_) => Err(FileFault::Failed),
+        }
+    }
+}
+
+/// Whether nothing was written, where there are no bytes; else these bytes, in hex, to `out`, and nothing more.
+fn has_written(files: &MemoryFiles, hex: &str) -> bool {
+    let Ok(written) = files.written.try_borrow() else {
+        return false;
+    };
+    match written.as_slice() {
+        [] => hex.is_empty(),
+        [(name, bytes)] => match hex::encode_upper(files.alloc, bytes.as_slice()) {
+            Ok(text) => name.as_str() == "out" && text.as_str() == hex,
+            Err(_) => false,
+        },
+        _ => false,
+    }
+}
+
+/// Words, joined by `/`; the status; what is printed; and what is written to `out`, in hex.
+type Row = (&'static str, Status, &'static str, &'static str);
+
+const ROWS: [Row; 34] = [
+    ("run/reader", Status::Done, "done 1\n", ""),
+    (
+        "run/reader/--trace/out",
+        Status::Done,
+        "done 1\n",
+        "4C5754520100000001000000000000000000000001010001000960450001C0FF313030",
+    ),
+    (
+        "run/--trace=out/reader",
+        Status::Done,
+        "done 1\n",
+        "4C5754520100000001000000000000000000000001010001000960450001C0FF313030",
+    ),
+    (
+        "run/nobody/--trace/out",
+        Status::Done,
+        "done 0\n",
+        "4C5754520100000000",
+    ),
+    (
+        "run/deadlock",
+        Status::NotRun,
+        "stalled 0 waiting 0 1\n",
+        "",
+    ),
+    (
+        "run/deadlock/--trace/out",
+        Status::NotRun,
+        "stalled 0 waiting 0 1\n",
+        "4C5754520100000000",
+    ),
+    (
+        "run/turns/--trace/out",
+        Status::Done,
+        "done 4\n",
+        "4C5754520100000004000000000000000000000000000000010000000000000000000000010000000100000000000000000000000100000000",
+    ),
+    (
+        "run/reader/--trace/full",
+        Status::Fault,
+        "fault: write\n",
+        "",
+    ),
+    (
+        "run/missing/--trace/out",
+        Status::Fault,
+        "fault: read\n",
+        "",
+    ),
+    (
+        "run/reader.trace/--trace/out",
+        Status::Fault,
+        "fault: magic\n",
+        "",
+    ),
+    ("run/version 9", Status::Fault, "fault: version\n", ""),
+    (
+        "run/stranger",
+        Status::Fault,
+        "fault: bad field at 42\n",
+        "",
+    ),
+    ("run/257 classes", Status::Fault, "fault: limit at 5\n", ""),
+    ("run", Status::Usage, "error: ", ""),
+    ("run/reader/reader", Status::Usage, "error: ", ""),
+    ("run/reader/--trace", Status::Usage, "error: ", ""),
+    (
+        "run/reader/--trace/out/--trace/out",
+        Status::Usage,
+        "error: ",
+        "",
+    ),
+    ("run/reader/--workers/2", Status::Usage, "error: ", ""),
+    ("run/reader/--batch/16", Status::Usage, "error: ", ""),
+    ("check/reader/reader.trace", Status::Done, "run\n", ""),
+    ("check/reader/other worker", Status::Done, "run\n", ""),
+    ("check/reader/empty", Status::Done, "run\n", ""),
+    (
+        "check/reader/other byte",
+        Status::NotRun,
+        "not a run at 0\n",
+        "",
+    ),
+    (
+        "check/reader/other device",
+        Status::NotRun,
+        "not a run at 0\n",
+        "",
+    ),
+    ("check/turns/turns.trace", Status::Done, "run\n", ""),
+    ("check/turns/alone", Status::NotRun, "not a run at 1\n", ""),
+    (
+        "check/deadlock/turns.trace",
+        Status::NotRun,
+        "not a run at 0\n",
+        "",
+    ),
+    ("check/reader/cut", Status::Fault, "fault: cut\n", ""),
+    (
+        "check/reader/longer",
+        Status::Fault,
+        "fault: trailing\n",
+        "",
+    ),
+    ("check/reader/reader", Status::Fault, "fault: magic\n", ""),
+    ("check/missing/missing", Status::Fault, "fault: read\n", ""),
+    (
+        "check/version 9/missing",
+        Status::Fault,
+        "fault: version\n",
+        "",
+    ),
+    ("check/reader", Status::Usage, "error: ", ""),
+    (
+        "check/reader/reader.trace/out",
+        Status::Usage,
+        "error: ",
+        "",
+    ),
+];
+
+#[test]
+fn runs_and_checks(rt: HostRuntime) -> Result<(), Fail> {
+    let alloc = rt.alloc();
+    for (line, status, wanted, hex) in ROWS {
+        let words: Vec<&str> = line.split('/').collect(alloc)?;
+        let files = MemoryFiles {
+            alloc,
+            written: RefCell::new(Vec::new(alloc)),
+        };
+        let mut writer: Vec<u8> = Vec::new(alloc);
+        let got = status_over(&rt, alloc, words.as_slice(), &files, &mut writer)?;
+        assert_eq!(rt; got, status, "{line}");
+        assert!(rt; writer.as_slice().starts_with(wanted.as_bytes()), "{line}");
+        assert!(rt;
+            status == Status::Usage || writer.len() == wanted.len(),
+            "{line}"
+        );
+        assert!(rt; has_written(&files, hex), "{line}");
     }
     Ok(())
 }

@@ -5,8 +5,8 @@ use Rattle.device_machine.specs.State.{Flat, Shows}
 use Rattle.lwbench.specs.Demo.{demo_class, demo_outputs}
 use Rattle.lwbench.proofs.demo.answer.Goals as goal
 
-pub returns-in-Ok : goal.returns-in-Ok
+pub returns-in-Ok-clause-put_out : goal.returns-in-Ok-clause-put_out
 unfolding demo_outputs
-returns-in-Ok c =
+returns-in-Ok-clause-put_out c =
     c.in-Ok.ensures.outputs (record { kept = start_of demo_class; recorded = [] })
-    (rw (← c.in_ok-template.ensures) c.in_ok-device.ensures)
+    (rw (← c.in_ok-template.ensures.made) c.in_ok-device.ensures)
