@@ -2,12 +2,15 @@
 use Rattle.std.specs.Prelude.{⊤}
 use Rattle.hex.specs.declared.error.FromHexError.{FromHexError}
 use Rattle.hex.specs.declared.error.FromHexError.TheVariants.{InvalidHexCharacter, OddLength, InvalidStringLength, OutOfMemory}
+use Rattle.scenario_words.specs.declared.cause.Cause.{Cause}
+use Rattle.scenario_words.specs.declared.cause.Cause.TheVariants as cause
+use Rattle.scenario_asm.specs.declared.fault.AsmFault.{AsmFault}
 use Rattle.byte_layout.specs.declared.fault.LayoutFault.{LayoutFault}
 use Rattle.byte_layout.specs.declared.fault.LayoutFault.TheVariants as layout
 use Rattle.trace_file.specs.declared.fault.WriteFault.{WriteFault}
 use Rattle.trace_file.specs.declared.fault.WriteFault.TheVariants as trace
 use Rattle.lwbench.specs.declared.fault.Fault.{Fault}
-use Rattle.lwbench.specs.declared.fault.Fault.TheVariants.{Hex, Memory, Read, Write, Layout, TooLarge, Template}
+use Rattle.lwbench.specs.declared.fault.Fault.TheVariants.{Hex, Memory, Read, Write, Layout, Text, TooLarge, Template}
 
 -- the fault of a text that could not be read as hex: want of memory is not the text's fault
 abbrev pub hex_fault : FromHexError → Fault
@@ -25,6 +28,14 @@ layout_fault layout.Trailing = Layout layout.Trailing
 layout_fault (layout.BadField place) = Layout (layout.BadField place)
 layout_fault (layout.Limit place) = Layout (layout.Limit place)
 layout_fault layout.Memory = Memory
+
+abbrev pub refused_text : Cause → AsmFault → Fault
+refused_text cause.Memory fault = Memory
+refused_text _ fault = Text fault
+
+-- the fault of a text that denotes no scenario: want of memory is not the text's fault
+abbrev pub text_fault : AsmFault → Fault
+text_fault fault = refused_text fault.cause fault
 
 -- the fault of entries that got no trace file
 abbrev pub trace_fault : WriteFault → Fault

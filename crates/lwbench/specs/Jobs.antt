@@ -9,6 +9,7 @@ use Rattle.byte_layout.specs.declared.fault.LayoutFault.{LayoutFault}
 use Rattle.byte_layout.specs.Whole.{HasFault}
 use Rattle.scenario_image.specs.Script.{Script}
 use Rattle.scenario_image.specs.Image.{IsImage, HasImageFault}
+use Rattle.scenario_printing.specs.Canonical as canonical
 use Rattle.trace_file.specs.declared.entry.Entry.{Entry}
 use Rattle.trace_file.specs.Layout.{trace_file, IsTraceFile}
 use Rattle.lwbench.specs.Demo.{demo_outputs}
@@ -20,6 +21,7 @@ use Rattle.lwbench.specs.declared.fault.Fault.TheVariants as faults
 use Rattle.lwbench.specs.declared.status.Status.{Status}
 use Rattle.lwbench.specs.declared.status.Status.TheVariants.{Done}
 use Rattle.lwbench.specs.declared.status.Status.TheVariants as ends
+use Rattle.lwbench.specs.Texts.{IsTextAt, IsTextFault, IsImageAt, count_line}
 use Rattle.lwbench.specs.Words.{AsksNothing, IsAsked}
 use Rattle.lwbench.specs.declared.words.Job.{Job}
 use Rattle.lwbench.specs.declared.words.Job.TheVariants as jobs
@@ -64,6 +66,21 @@ pub record IsOneDone (appended : List ℕ → Type 0) (hex : List ℕ) (status :
   pub printed_is : IsOkAnd (decode_of hex) (λ bytes. appended (printed (demo_outputs bytes)))
   pub status_is : status ≡ Done
 
+-- `asm IN OUT`: the scenario that the text denotes
+pub record IsAsmDone (holds wrote : List ℕ → List ℕ → Type 0) (appended : List ℕ → Type 0) (input output : List ℕ) (status : Status) : Type 0 where
+  pub scenario : Script
+  pub found : IsTextAt holds input scenario
+  pub saved : IsImageAt wrote output scenario
+  pub printed_is : appended (count_line scenario)
+  pub status_is : status ≡ Done
+
+-- `dis IN`: the scenario's canonical text
+pub record IsDisDone (holds : List ℕ → List ℕ → Type 0) (appended : List ℕ → Type 0) (input : List ℕ) (status : Status) : Type 0 where
+  pub scenario : Script
+  pub found : IsScenarioAt holds input scenario
+  pub printed_is : appended (canonical.printed scenario)
+  pub status_is : status ≡ Done
+
 -- `run IMAGE [--trace FILE]`: the serial run of the scenario
 pub record IsRunDone (holds wrote : List ℕ → List ℕ → Type 0) (appended : List ℕ → Type 0) (image : List ℕ) (trace : Option (List ℕ)) (status : Status) : Type 0 where
   pub scenario : Script
@@ -85,6 +102,8 @@ pub record IsCheckDone (holds : List ℕ → List ℕ → Type 0) (appended : Li
 -- what the words ask for was done
 abbrev pub IsDone : (List ℕ → List ℕ → Type 0) → (List ℕ → List ℕ → Type 0) → (List ℕ → Type 0) → Job → Status → Type 0
 IsDone holds wrote appended (jobs.One hex) status = IsOneDone appended hex.now status
+IsDone holds wrote appended (jobs.Asm input output) status = IsAsmDone holds wrote appended input.now output.now status
+IsDone holds wrote appended (jobs.Dis input) status = IsDisDone holds appended input.now status
 IsDone holds wrote appended (jobs.Run image trace) status = IsRunDone holds wrote appended image.now (option_map (λ p. p.now) trace) status
 IsDone holds wrote appended (jobs.Check image trace) status = IsCheckDone holds appended image.now trace.now status
 
@@ -104,6 +123,18 @@ pub record IsWorkFault (holds : List ℕ → List ℕ → Type 0) (image : List 
   pub found : IsScenarioAt holds image scenario
   pub fault : faulty scenario
 
+-- first the text is to blame, and then what takes the image and the answer
+pub record IsTextWorkFault (holds : List ℕ → List ℕ → Type 0) (input : List ℕ) (fault : Fault) : Type 0 where
+  pub scenario : Script
+  pub found : IsTextAt holds input scenario
+  pub writing : IsWritingFault fault
+
+abbrev pub IsAsmRefused : (List ℕ → List ℕ → Type 0) → (List ℕ → Type 0) → List ℕ → Fault → Type 0
+IsAsmRefused holds fails input fault = IsTextFault holds fails input fault ⊎ IsTextWorkFault holds input fault
+
+abbrev pub IsDisRefused : (List ℕ → List ℕ → Type 0) → (List ℕ → Type 0) → List ℕ → Fault → Type 0
+IsDisRefused holds fails input fault = IsImageFault holds fails input fault ⊎ IsWorkFault holds input (λ s. IsWritingFault fault)
+
 abbrev pub IsRunRefused : (List ℕ → List ℕ → Type 0) → (List ℕ → Type 0) → List ℕ → Fault → Type 0
 IsRunRefused holds fails image fault = IsImageFault holds fails image fault ⊎ IsWorkFault holds image (λ s. IsRunFault s fault)
 
@@ -114,6 +145,8 @@ IsCheckRefused holds fails image trace fault = IsImageFault holds fails image fa
 -- what the words ask for was not done, for this fault
 abbrev pub IsRefused : (List ℕ → List ℕ → Type 0) → (List ℕ → Type 0) → Job → Fault → Type 0
 IsRefused holds fails (jobs.One hex) fault = IsOneFault hex.now fault
+IsRefused holds fails (jobs.Asm input output) fault = IsAsmRefused holds fails input.now fault
+IsRefused holds fails (jobs.Dis input) fault = IsDisRefused holds fails input.now fault
 IsRefused holds fails (jobs.Run image trace) fault = IsRunRefused holds fails image.now fault
 IsRefused holds fails (jobs.Check image trace) fault = IsCheckRefused holds fails image.now trace.now fault
 

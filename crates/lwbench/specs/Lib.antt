@@ -6,4 +6,5 @@ pub mod Printed
 pub mod Runs
 pub mod Serial
 pub mod Status
+pub mod Texts
 pub mod Words

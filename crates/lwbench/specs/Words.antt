@@ -1,5 +1,5 @@
 -- The words of the command line: which `clap` takes, and what they then ask for.
-use Rattle.std.specs.Prelude.{◌≡◌, ℕ, Bool, true, false, List, Option, Some, option_map, codes}
+use Rattle.std.specs.Prelude.{◌≡◌, true, List, Some, option_map, codes}
 use Rattle.clap.specs.Words.{App, Row, Rule, Text as Word, first_of, new_app, new_rule, subcommand_of, takes, with_rule, with_subcommand}
 use Rattle.lwbench.specs.declared.words.Job.{Job}
 use Rattle.lwbench.specs.declared.words.Job.TheVariants as jobs
@@ -20,6 +20,14 @@ file name = record (new_rule name) { long = Some name; value_names = 1 }
 abbrev pub one_app : App
 one_app = with_rule (new_app (codes "one")) (needed (codes "HEX"))
 
+-- `asm IN OUT`
+abbrev pub asm_app : App
+asm_app = with_rule (with_rule (new_app (codes "asm")) (needed (codes "IN"))) (needed (codes "OUT"))
+
+-- `dis IN`
+abbrev pub dis_app : App
+dis_app = with_rule (new_app (codes "dis")) (needed (codes "IN"))
+
 -- `run IMAGE [--trace FILE]`
 abbrev pub run_app : App
 run_app = with_rule (with_rule (new_app (codes "run")) (needed (codes "IMAGE"))) (file (codes "trace"))
@@ -34,13 +42,19 @@ with_need a = record a { top = record a.top { subcommand_required = true } }
 
 -- the program
 abbrev pub bench_app : App
-bench_app = with_subcommand (with_subcommand (with_subcommand (with_need (new_app (codes "lwbench"))) one_app.top) run_app.top) check_app.top
+bench_app =
+    with_subcommand
+    (with_subcommand (with_subcommand (with_subcommand (with_subcommand (with_need (new_app (codes "lwbench"))) one_app.top) asm_app.top) dis_app.top) run_app.top)
+    check_app.top
 
 -- ---- what is asked for
 
 -- a subcommand with its values asks for this
 abbrev pub AsksFor : Word × List Row → Job → Type 0
 AsksFor found (jobs.One hex) = (found.0 ≡ codes "one") × (first_of (codes "HEX") found.1 ≡ Some hex.now)
+AsksFor found (jobs.Asm input output) =
+    (found.0 ≡ codes "asm") × (first_of (codes "IN") found.1 ≡ Some input.now) × (first_of (codes "OUT") found.1 ≡ Some output.now)
+AsksFor found (jobs.Dis input) = (found.0 ≡ codes "dis") × (first_of (codes "IN") found.1 ≡ Some input.now)
 AsksFor found (jobs.Run image trace) =
     (found.0 ≡ codes "run") × (first_of (codes "IMAGE") found.1 ≡ Some image.now) × (first_of (codes "trace") found.1 ≡ option_map (λ p. p.now) trace)
 AsksFor found (jobs.Check image trace) =

@@ -5,19 +5,21 @@ ghost use Rattle.std.specs.Io.KnownBytes.{Appends};
 ghost use Rattle.lwbench.specs.Demo.{demo_outputs};
 ghost use Rattle.hex.specs.Hex.{decode_of};
 ghost use Rattle.std.specs.String.{string_bytes};
-ghost use Rattle.lwbench.specs.Jobs.{IsCheckDone, IsCheckRefused, IsOneDone, IsOneFault, IsRunDone, IsRunRefused};
+ghost use Rattle.lwbench.specs.Jobs.{IsAsmDone, IsAsmRefused, IsCheckDone, IsCheckRefused, IsDisDone, IsDisRefused, IsOneDone, IsOneFault, IsRunDone, IsRunRefused};
 ghost use Rattle.lwbench.specs.Printed.{act_line, act_name, line_of, printed, send_line};
 ghost use Rattle.lwbench.specs.declared.status.Status.TheVariants.{Done};
 
-use crate::answer::say;
+use crate::answer::{Answer, say};
 use crate::demo;
 use crate::fault::Fault;
 use crate::files::Files;
 use crate::hex_text::{read_hex, write_hex};
-use crate::loading::{load_scenario, load_trace};
+use crate::loading::{load_scenario, load_text, load_trace};
 use crate::runs::{judge, run_scenario};
 use crate::status::Status;
+use crate::texts::{count_line, save_scenario};
 use device_machine::{Act, Output};
+use scenario_asm::disassemble;
 use std::alloc::{AllocError, Global};
 use std::io::Write;
 
@@ -30,9 +32,43 @@ pub fn one<W: Write>(alloc: Global, hex: &str, writer: &mut W) -> Result<Status,
 {
     let outputs = demo::answer(alloc, read_hex(alloc, hex)?)?;
     let text = text_of(alloc, outputs.as_slice())?;
-    writer.write_all(text.as_bytes())?;
-    writer.flush()?;
-    Ok(Status::Done)
+    say(&Answer::done(text), writer)
+}
+
+/// `asm IN OUT`: the scenario of a text, whose image goes to OUT before its line is printed.
+#[tactic(auto, using(crate::proofs::Built::asm_done, crate::proofs::Built::asm_text, crate::proofs::Built::asm_work))]
+pub fn asm<F: Files, W: Write>(
+    alloc: Global,
+    input: &str,
+    output: &str,
+    files: &F,
+    writer: &mut W,
+) -> Result<Status, Fault>
+    ensures done { IfOk result (IsAsmDone (F.holds files.now) (F.wrote files.now)
+        (Appends (W.contents writer.old) (W.contents writer.new)) input.now output.now) }
+    ensures refused { IfErr result (IsAsmRefused (F.holds files.now) (F.fails files.now) input.now) }
+{
+    let scenario = load_text(alloc, input, files)?;
+    save_scenario(alloc, &scenario, output, files)?;
+    let text = count_line(alloc, &scenario)?;
+    say(&Answer::done(text), writer)
+}
+
+/// `dis IN`: the canonical text of a scenario.
+#[tactic(auto, using(crate::proofs::Built::dis_done, crate::proofs::Built::dis_image, crate::proofs::Built::dis_work))]
+pub fn dis<F: Files, W: Write>(
+    alloc: Global,
+    input: &str,
+    files: &F,
+    writer: &mut W,
+) -> Result<Status, Fault>
+    ensures done { IfOk result (IsDisDone (F.holds files.now)
+        (Appends (W.contents writer.old) (W.contents writer.new)) input.now) }
+    ensures refused { IfErr result (IsDisRefused (F.holds files.now) (F.fails files.now) input.now) }
+{
+    let scenario = load_scenario(alloc, input, files)?;
+    let text = disassemble(alloc, &scenario)?;
+    say(&Answer::done(text), writer)
 }
 
 /// `run IMAGE [--trace FILE]`: the serial run of the scenario; its trace file goes to FILE, before the line is printed.
@@ -50,8 +86,7 @@ pub fn run<F: Files, W: Write>(
 {
     let scenario = load_scenario(alloc, image, files)?;
     let answer = run_scenario(alloc, &scenario, trace, files)?;
-    say(&answer, writer)?;
-    Ok(answer.status)
+    say(&answer, writer)
 }
 
 /// `check IMAGE TRACE`: whether the trace is a run of the scenario, else the least place at which it breaks off.
@@ -70,8 +105,7 @@ pub fn check<F: Files, W: Write>(
     let scenario = load_scenario(alloc, image, files)?;
     let entries = load_trace(alloc, trace, files)?;
     let answer = judge(alloc, &scenario, entries.as_slice())?;
-    say(&answer, writer)?;
-    Ok(answer.status)
+    say(&answer, writer)
 }
 
 /// The outputs, a line for each, or the line `nothing`.

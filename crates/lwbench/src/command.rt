@@ -59,7 +59,7 @@ fn act<F: Files, W: Write>(
     }
 }
 
-/// Does one thing, and prints the line of its answer.
+/// Does one thing, and prints its answer.
 pub fn perform<F: Files, W: Write>(
     alloc: Global,
     job: Job,
@@ -72,6 +72,8 @@ pub fn perform<F: Files, W: Write>(
 {
     match job {
         Job::One { hex } => answers::one(alloc, hex, writer),
+        Job::Asm { input, output } => answers::asm(alloc, input, output, files, writer),
+        Job::Dis { input } => answers::dis(alloc, input, files, writer),
         Job::Run { image, trace } => answers::run(alloc, image, trace, files, writer),
         Job::Check { image, trace } => answers::check(alloc, image, trace, files, writer),
     }

@@ -1,9 +1,11 @@
 ghost use Rattle.std.specs.Prelude.{◌≡◌};
-ghost use Rattle.lwbench.specs.FaultLine.{fault_word, layout_word, template_word};
+ghost use Rattle.lwbench.specs.FaultLine.{cause_words, fault_word, layout_word, template_word};
 
 use byte_layout::LayoutFault;
 use device_machine::TemplateFault;
 use hex::FromHexError;
+use scenario_asm::AsmFault;
+use scenario_words::Cause;
 use std::alloc::{AllocError, AllocFailed};
 use std::{fmt, io};
 use trace_file::WriteFault;
@@ -15,12 +17,14 @@ pub enum Fault {
     Hex,
     /// No memory was left.
     Memory,
-    /// A file could not be read, or is larger than 64 MiB.
+    /// A file could not be read, is larger than 64 MiB, or is no UTF-8 where it has to be text.
     Read,
     /// The answer or a file could not be written.
     Write,
     /// The bytes of a file are not an image, or not a trace file.
     Layout(LayoutFault),
+    /// A line of a scenario's text is refused.
+    Text(AsmFault),
     /// A run has no trace file.
     TooLarge,
     /// A template refused one of its parts.
@@ -37,6 +41,10 @@ impl fmt::Display for Fault {
         match self {
             Fault::Layout(LayoutFault::BadField(place)) => write!(f, "bad field at {place}"),
             Fault::Layout(LayoutFault::Limit(place)) => write!(f, "limit at {place}"),
+            Fault::Text(AsmFault { line, cause }) => {
+                let words = cause_words(*cause);
+                write!(f, "line {line}: {words}")
+            }
             _ => {
                 let word = word_of(*self);
                 write!(f, "{word}")
@@ -45,7 +53,7 @@ impl fmt::Display for Fault {
     }
 }
 
-/// The name of a fault; of one with a place, without it.
+/// The name of a fault; of one with a place or a line, without it.
 fn word_of(fault: Fault) -> &'static str
     ensures { result.now ≡ fault_word fault }
 {
@@ -56,6 +64,7 @@ fn word_of(fault: Fault) -> &'static str
         Fault::Write => "write",
         Fault::TooLarge => "too large",
         Fault::Layout(fault) => layout_word(fault),
+        Fault::Text(fault) => cause_words(fault.cause),
         Fault::Template(fault) => template_word(fault),
     }
 }
@@ -71,6 +80,20 @@ fn layout_word(fault: LayoutFault) -> &'static str
         LayoutFault::BadField(_) => "bad field",
         LayoutFault::Limit(_) => "limit",
         LayoutFault::Memory => "memory",
+    }
+}
+
+fn cause_words(cause: Cause) -> &'static str
+    ensures { result.now ≡ cause_words cause }
+{
+    match cause {
+        Cause::Missing => "missing",
+        Cause::Token => "token",
+        Cause::UnknownWord => "unknown word",
+        Cause::Range => "range",
+        Cause::Duplicate => "duplicate",
+        Cause::Limit => "limit",
+        Cause::Memory => "memory",
     }
 }
 
@@ -158,6 +181,20 @@ impl From<LayoutFault> for Fault {
         match fault {
             LayoutFault::Memory => Fault::Memory,
             _ => Fault::Layout(fault),
+        }
+    }
+}
+
+impl From<AsmFault> for Fault {
+    ghost use Rattle.std.specs.Prelude.{◌≡◌};
+    ghost use Rattle.lwbench.specs.Fault.{text_fault};
+
+    ghost from_gives = { λ fault e. e ≡ text_fault fault };
+
+    fn from(fault: AsmFault) -> Fault {
+        match fault.cause {
+            Cause::Memory => Fault::Memory,
+            _ => Fault::Text(fault),
         }
     }
 }

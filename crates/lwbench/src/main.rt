@@ -11,6 +11,7 @@ mod hex_text;
 mod loading;
 mod runs;
 mod status;
+mod texts;
 mod words;
 
 use std::process::ExitCode;

@@ -3,7 +3,7 @@ ghost use Rattle.std.specs.Prelude.{◌≡◌, ◌≢◌, ◌⊎◌, List, None,
 ghost use Rattle.std.specs.String.{string_bytes};
 ghost use Rattle.clap.specs.Words.{Row, Text as Word, app_of, first_of, found_of, kind_of, rows_of, rule_of, subcommand_rows_of};
 ghost use Rattle.lwbench.specs.declared.words.Job.{Job as JobData};
-ghost use Rattle.lwbench.specs.Words.{AsksFor, IsReadAs, bench_app, check_app, file, needed, one_app, run_app};
+ghost use Rattle.lwbench.specs.Words.{AsksFor, IsReadAs, asm_app, bench_app, check_app, dis_app, file, needed, one_app, run_app};
 
 use clap::error::ErrorKind;
 use clap::{Arg, ArgMatches, Command, Error};
@@ -20,6 +20,18 @@ pub enum Job<'a> {
     One {
         /// The bytes of the datagram, in hex.
         hex: &'a str,
+    },
+    /// The image of a scenario, from its text.
+    Asm {
+        /// The path of the text.
+        input: &'a str,
+        /// Where the image goes.
+        output: &'a str,
+    },
+    /// The canonical text of a scenario.
+    Dis {
+        /// The path of the scenario's image.
+        input: &'a str,
     },
     /// The serial run of a scenario.
     Run {
@@ -80,13 +92,15 @@ fn job_of<'a>(found: &ArgMatches<'a>) -> Option<Job<'a>>
     }
 }
 
-#[tactic(auto, using(crate::proofs::Asked::no_one, crate::proofs::Asked::no_run, crate::proofs::Asked::no_check))]
+#[tactic(auto, using(crate::proofs::Asked::no_one, crate::proofs::Asked::no_asm, crate::proofs::Asked::no_dis, crate::proofs::Asked::no_run, crate::proofs::Asked::no_check))]
 fn job_in<'a>(name: &str, found: &ArgMatches<'a>) -> Option<Job<'a>>
     ensures some { IfSome result (AsksFor (name.now, rows_of (found_of found.now))) }
     ensures none { IfNone result ((job : JobData) → AsksFor (name.now, rows_of (found_of found.now)) job → ⊥) }
 {
     match name {
         "one" => one_job(found),
+        "asm" => asm_job(found),
+        "dis" => dis_job(found),
         "run" => run_job(found),
         "check" => check_job(found),
         _ => None,
@@ -99,6 +113,26 @@ fn one_job<'a>(found: &ArgMatches<'a>) -> Option<Job<'a>>
 {
     Some(Job::One {
         hex: value_of(found, "HEX")?,
+    })
+}
+
+fn asm_job<'a>(found: &ArgMatches<'a>) -> Option<Job<'a>>
+    ensures some { IfSome result (AsksFor (codes "asm", rows_of (found_of found.now))) }
+    ensures none { IfNone result ((first_of (codes "IN") (rows_of (found_of found.now)) ≡ None)
+        ⊎ (first_of (codes "OUT") (rows_of (found_of found.now)) ≡ None)) }
+{
+    Some(Job::Asm {
+        input: value_of(found, "IN")?,
+        output: value_of(found, "OUT")?,
+    })
+}
+
+fn dis_job<'a>(found: &ArgMatches<'a>) -> Option<Job<'a>>
+    ensures some { IfSome result (AsksFor (codes "dis", rows_of (found_of found.now))) }
+    ensures none { IfNone result (first_of (codes "IN") (rows_of (found_of found.now)) ≡ None) }
+{
+    Some(Job::Dis {
+        input: value_of(found, "IN")?,
     })
 }
 
@@ -151,6 +185,8 @@ fn bench<'a>(alloc: Global) -> Result<Command<'a>, AllocError>
         .about("A bench of emulated OMA LwM2M devices over CoAP")
         .subcommand_required(true)
         .subcommand(one_command(alloc)?)?
+        .subcommand(asm_command(alloc)?)?
+        .subcommand(dis_command(alloc)?)?
         .subcommand(run_command(alloc)?)?
         .subcommand(check_command(alloc)?)
 }
@@ -161,6 +197,23 @@ fn one_command<'a>(alloc: Global) -> Result<Command<'a>, AllocError>
     Command::new(alloc, "one")
         .about("Gives the DEMO device one datagram from server 1")
         .arg(needed(alloc, "HEX").help("The bytes of the datagram, in hex"))
+}
+
+fn asm_command<'a>(alloc: Global) -> Result<Command<'a>, AllocError>
+    ensures { IfOk result (λ c. app_of c ≡ asm_app) }
+{
+    Command::new(alloc, "asm")
+        .about("Makes a scenario's image from its text")
+        .arg(needed(alloc, "IN").help("The scenario, as text"))?
+        .arg(needed(alloc, "OUT").help("Where the image goes"))
+}
+
+fn dis_command<'a>(alloc: Global) -> Result<Command<'a>, AllocError>
+    ensures { IfOk result (λ c. app_of c ≡ dis_app) }
+{
+    Command::new(alloc, "dis")
+        .about("Prints a scenario's text")
+        .arg(needed(alloc, "IN").help("The scenario, as an image"))
 }
 
 fn run_command<'a>(alloc: Global) -> Result<Command<'a>, AllocError>

@@ -212,8 +212,33 @@ fn reads_what_was_written(rt: HostRuntime) -> Result<(), Fail> {
     Ok(())
 }
 
+/// The text of the first file below.
+const READER: &str =
+    "scenario 1\nclass\naccount 1\ninstance 3 0\nvalue /3/0/9 integer 100\ndevice 0\nread 1 con 1 - /3/0/9 any\n";
+
+/// The texts of the tests below, by name.
+const TEXTS: [(&str, &str); 11] = [
+    ("reader.txt", READER),
+    (
+        "free.txt",
+        "# one\n\n  scenario  1\nclass\ninstance 3 0 # the device\naccount 1\nvalue /3/0/9 integer 100\ndevice 0\nrecv 1 40010001b13301300139",
+    ),
+    ("nobody.txt", "scenario 1\n"),
+    ("empty.txt", ""),
+    ("unstated.txt", "class\n"),
+    ("leading zero.txt", "scenario 01\n"),
+    ("word.txt", "scenario 1\nclass\nfoo\n"),
+    ("range.txt", "scenario 1\nclass\ndevice 0\ntick 86401\n"),
+    ("missing.txt", "scenario 1\ntick 5\n"),
+    ("duplicate.txt", "scenario 1\nscenario 1\n"),
+    (
+        "limit.txt",
+        "scenario 1\nclass\naccount 1\naccount 2\naccount 3\naccount 4\naccount 5\n",
+    ),
+];
+
 /// The files of the tests below, by name, in hex.
-const FILES: [(&str, &str); 16] = [
+const FILES: [(&str, &str); 17] = [
     // One device of server 1, whose battery is at 100 and which is asked for its level; and the trace of its serial run.
     (
         "reader",
@@ -271,6 +296,8 @@ const FILES: [(&str, &str); 16] = [
         "turns.trace",
         "4C5754520100000004000000000000000000000000000000010000000000000000000000010000000100000000000000000000000100000000",
     ),
+    // Bytes that are no UTF-8.
+    ("no text", "7363656E6172696F2031FF"),
     // The first one's entries alone.
     (
         "alone",
@@ -297,6 +324,11 @@ impl Files for MemoryFiles {
             if name == path {
                 let bytes = hex::decode(alloc, hex).or(Err(FileFault::Failed))?;
                 return read_at_most(alloc, bytes.as_slice(), LARGEST);
+            }
+        }
+        for (name, text) in TEXTS {
+            if name == path {
+                return read_at_most(alloc, text.as_bytes(), LARGEST);
             }
         }
         Err(FileFault::Failed)
@@ -333,7 +365,83 @@ fn has_written(files: &MemoryFiles, hex: &str) -> bool {
 /// Words, joined by `/`; the status; what is printed; and what is written to `out`, in hex.
 type Row = (&'static str, Status, &'static str, &'static str);
 
-const ROWS: [Row; 34] = [
+const ROWS: [Row; 55] = [
+    (
+        "asm/reader.txt/out",
+        Status::Done,
+        "ok 1 classes 1 devices 1 steps\n",
+        "4C57534301000101000100000100030000000100030000000900010000000000000064000100000001010001000A40010001B13301300139",
+    ),
+    (
+        "asm/free.txt/out",
+        Status::Done,
+        "ok 1 classes 1 devices 1 steps\n",
+        "4C57534301000101000100000100030000000100030000000900010000000000000064000100000001010001000A40010001B13301300139",
+    ),
+    (
+        "asm/nobody.txt/out",
+        Status::Done,
+        "ok 0 classes 0 devices 0 steps\n",
+        "4C5753430100000000",
+    ),
+    (
+        "asm/empty.txt/out",
+        Status::Fault,
+        "fault: line 1: missing\n",
+        "",
+    ),
+    (
+        "asm/unstated.txt/out",
+        Status::Fault,
+        "fault: line 1: missing\n",
+        "",
+    ),
+    (
+        "asm/leading zero.txt/out",
+        Status::Fault,
+        "fault: line 1: token\n",
+        "",
+    ),
+    (
+        "asm/word.txt/out",
+        Status::Fault,
+        "fault: line 3: unknown word\n",
+        "",
+    ),
+    (
+        "asm/range.txt/out",
+        Status::Fault,
+        "fault: line 4: range\n",
+        "",
+    ),
+    (
+        "asm/missing.txt/out",
+        Status::Fault,
+        "fault: line 2: missing\n",
+        "",
+    ),
+    (
+        "asm/duplicate.txt/out",
+        Status::Fault,
+        "fault: line 2: duplicate\n",
+        "",
+    ),
+    (
+        "asm/limit.txt/out",
+        Status::Fault,
+        "fault: line 7: limit\n",
+        "",
+    ),
+    ("asm/no text/out", Status::Fault, "fault: read\n", ""),
+    ("asm/missing/out", Status::Fault, "fault: read\n", ""),
+    ("asm/reader.txt/full", Status::Fault, "fault: write\n", ""),
+    ("asm/reader.txt", Status::Usage, "error: ", ""),
+    ("dis/reader", Status::Done, READER, ""),
+    ("dis/nobody", Status::Done, "scenario 1\n", ""),
+    ("dis/version 9", Status::Fault, "fault: version\n", ""),
+    ("dis/reader.txt", Status::Fault, "fault: magic\n", ""),
+    ("dis/missing", Status::Fault, "fault: read\n", ""),
+    ("dis/reader/out", Status::Usage, "error: ", ""),
     ("run/reader", Status::Done, "done 1\n", ""),
     (
         "run/reader/--trace/out",
@@ -456,7 +564,7 @@ const ROWS: [Row; 34] = [
 ];
 
 #[test]
-fn runs_and_checks(rt: HostRuntime) -> Result<(), Fail> {
+fn answers_from_files(rt: HostRuntime) -> Result<(), Fail> {
     let alloc = rt.alloc();
     for (line, status, wanted, hex) in ROWS {
         let words: Vec<&str> = line.split('/').collect(alloc)?;

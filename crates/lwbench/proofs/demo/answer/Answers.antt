@@ -1,7 +1,5 @@
 use Rattle.std.proofs.Common.{[]}
 use Rattle.device_machine.specs.Class.{start_of}
-use Rattle.device_template.specs.Class.{Class}
-use Rattle.device_machine.specs.State.{Flat, Shows}
 use Rattle.lwbench.specs.Demo.{demo_class, demo_outputs}
 use Rattle.lwbench.proofs.demo.answer.Goals as goal
 

@@ -1,0 +1,53 @@
+#!/bin/sh
+# Runs the scenario beside it, whole and broken, and compares what the program prints with README.md.
+# A word, where there is one, is the program to run; else it is lwbench at the root of the repository.
+# Status 0: all as README.md says. 1: not so, and a line for each difference.
+
+here=$(CDPATH='' cd -- "$(dirname -- "$0")" && pwd) || exit 2
+program=${1:-$here/../lwbench}
+work=$(mktemp -d) || exit 2
+trap 'rm -rf "$work"' EXIT
+differences=0
+
+differs() {
+    echo "$*"
+    differences=$((differences + 1))
+}
+
+# says STATUS LINE WORD..: the program, run with these words, prints this line and ends with this status.
+says() {
+    status=$1
+    line=$2
+    shift 2
+    printed=$("$program" "$@")
+    ended=$?
+    [ "$ended" = "$status" ] && [ "$printed" = "$line" ] || differs "$1: status $ended, $printed; awaited: status $status, $line"
+}
+
+# broken SCRIPT: the text, changed by a script of sed.
+broken() {
+    sed "$1" "$here/fleet.txt" >"$work/broken.txt"
+}
+
+all='ok 2 classes 3 devices 89 steps'
+says 0 "$all" asm "$here/fleet.txt" "$work/fleet.image"
+
+"$program" dis "$work/fleet.image" >"$work/canonical.txt" || differs "dis: status $?"
+[ "$(wc -l <"$work/canonical.txt")" -eq 177 ] || differs "dis: not 177 lines"
+says 0 "$all" asm "$work/canonical.txt" "$work/again.image"
+cmp -s "$work/fleet.image" "$work/again.image" || differs "dis: its text has another image"
+
+says 0 'done 89' run "$work/fleet.image" --trace "$work/fleet.trace"
+says 0 'run' check "$work/fleet.image" "$work/fleet.trace"
+
+broken 's/^tick 10 /tick 0 /'
+says 1 'fault: line 126: range' asm "$work/broken.txt" "$work/broken.image"
+broken '60,$ { /^instance 3 0$/d; }'
+says 1 'fault: line 96: missing' asm "$work/broken.txt" "$work/broken.image"
+broken 's/^write    2 /write    3 /'
+says 1 'fault: line 201: missing' asm "$work/broken.txt" "$work/broken.image"
+broken '/^post 2 /d'
+says 0 'ok 2 classes 3 devices 88 steps' asm "$work/broken.txt" "$work/broken.image"
+says 3 'stalled 77 waiting 0 1 2' run "$work/broken.image"
+
+[ "$differences" -eq 0 ] && echo "all as README.md says"
