@@ -5,7 +5,7 @@ use Rattle.std.specs.Map.{values_of}
 use Rattle.notifier.specs.declared.observation.Observation.{Observation}
 use Rattle.notifier.specs.declared.observation.Report.{Report}
 use Rattle.notifier.specs.declared.observations.Key.{Key}
-use Rattle.notifier.specs.Observed.{HasToken, IsKeyed}
+use Rattle.notifier.specs.Observed.{HasToken, HasNumber, IsKeyed}
 use Rattle.notifier.specs.contracts.observations.KeyClone.TheImpl.{is_clone-value as key_clone}
 use Rattle.notifier.specs.contracts.observation.ReportClone.TheImpl.{is_clone-value as report_clone}
 use Rattle.notifier.specs.contracts.observation.ObservationClone.TheImpl.{is_clone-value as observation_clone}
@@ -57,6 +57,7 @@ keyed_clones (e ∷ es) (f ∷ fs) h k =
         server = key.0 ∙ k.0.server ∙ ap (λ o. o.server) (sym same);
         token = key.1 ∙ k.0.token ∙ ap (λ o. o.token) (sym same);
         short = subst HasToken (sym same) k.0.short;
+        number = subst HasNumber (sym same) k.0.number;
       },
       keyed_clones es fs h.1 k.1,
     )

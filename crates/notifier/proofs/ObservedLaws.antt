@@ -1,6 +1,7 @@
 -- The observations of an insertion-ordered map whose keys are their names.
-use Rattle.std.proofs.Common.{◌≡◌, ℕ, ◌≤◌, length, arith, zero, suc, ◌==◌, Bool, true, false, cond, ◌&&◌, ◌||◌, List, [], ◌∷◌, ◌++◌, Option, None, Some, filter, remove, slice_get, slice_set, IfSome, refl, sym, ap, subst, ◌∙◌, if◌then◌else◌, eqb-true}
+use Rattle.std.proofs.Common.{◌≡◌, ℕ, ◌+◌, ◌<◌, ◌≤◌, length, arith, zero, suc, ◌==◌, Bool, true, false, cond, ◌&&◌, ◌||◌, List, [], ◌∷◌, ◌++◌, Option, None, Some, filter, remove, slice_get, slice_set, IfSome, refl, sym, ap, subst, ◌∙◌, if◌then◌else◌, eqb-true}
 use Rattle.std.proofs.lemmas.Bool.{and_parts}
+use Rattle.std.proofs.lemmas.Nat.{mod_below}
 use Rattle.std.proofs.lemmas.Slice.Eq.{bytes_eq-Decides}
 use Rattle.std.specs.List.{AllByRecursion, IsDistinct, list_any}
 use Rattle.std.specs.Option.{option_map_or}
@@ -9,7 +10,7 @@ use Rattle.std.specs.Str.{bytes_eq}
 use Rattle.indexmap.specs.IndexMap.{set_value_at}
 use Rattle.notifier.specs.declared.observation.Observation.{Observation}
 use Rattle.notifier.specs.declared.observations.Key.{Key}
-use Rattle.notifier.specs.Observed.{HasToken, IsKeyed, HaveDistinctNames, is_named, next_number, number_for, registered}
+use Rattle.notifier.specs.Observed.{HasNumber, IsKeyed, HaveDistinctNames, is_named, next_number, number_for, registered}
 use Rattle.notifier.proofs.Places.{IsFirst, find_first, find_none, passes_first}
 
 -- ---- the values of a map
@@ -57,30 +58,40 @@ pub each-append : {X : Type 0} (P : X → Type 0) (xs : List X) (x : X) → AllB
 each-append P [] x h p = (p, tt)
 each-append P (y ∷ ys) x h p = (h.0, each-append P ys x h.1 p)
 
+-- a number that comes next has 24 bits
+pub next_fits : (n m : ℕ) → m ≡ next_number n → m < 16777216
+next_fits n m next = let positive : 0 < 16777216 = omega arith in subst (λ (k : ℕ). k < 16777216) (sym next) (mod_below (n + 1) 16777216 positive)
+
 -- an observation that comes in the place of another of its name
-pub keyed_set : (es : List (Key × Observation)) (i : ℕ) (o w : Observation) → AllByRecursion IsKeyed es → slice_get (values_of es) i ≡ Some o → o.server ≡ w.server → o.token ≡ w.token → AllByRecursion IsKeyed (set_value_at es i w)
-keyed_set [] i o w h at server token = tt
-keyed_set (e ∷ es) zero o w h at server token =
+pub keyed_set : (es : List (Key × Observation)) (i : ℕ) (o w : Observation) → AllByRecursion IsKeyed es → slice_get (values_of es) i ≡ Some o → o.server ≡ w.server → o.token ≡ w.token → HasNumber w → AllByRecursion IsKeyed (set_value_at es i w)
+keyed_set [] i o w h at server token number = tt
+keyed_set (e ∷ es) zero o w h at server token number =
     let same : e.1 ≡ o = cc in (
       record {
         server = h.0.server ∙ ap (λ x. x.server) same ∙ server;
         token = h.0.token ∙ ap (λ x. x.token) same ∙ token;
         short = subst (λ (t : List ℕ). length t ≤ 8) (ap (λ x. x.token) same ∙ token) h.0.short;
+        number = number;
       },
       h.1,
     )
-keyed_set (e ∷ es) (suc i) o w h at server token = (h.0, keyed_set es i o w h.1 at server token)
+keyed_set (e ∷ es) (suc i) o w h at server token number = (h.0, keyed_set es i o w h.1 at server token number)
 
--- the observation at a place has a token
-pub token_at : (es : List (Key × Observation)) (i : ℕ) (o : Observation) → AllByRecursion IsKeyed es → slice_get (values_of es) i ≡ Some o → HasToken o
-token_at [] i o h at = cc
-token_at (e ∷ es) zero o h at = let same : e.1 ≡ o = cc in subst HasToken same h.0.short
-token_at (e ∷ es) (suc i) o h at = token_at es i o h.1 at
+-- what the keys say of each observation holds of the one at a place
+holds_at : (P : Observation → Type 0) → ((e : Key × Observation) → IsKeyed e → P e.1) → (es : List (Key × Observation)) (i : ℕ) (o : Observation) → AllByRecursion IsKeyed es → slice_get (values_of es) i ≡ Some o → P o
+holds_at P says [] i o h at = cc
+holds_at P says (e ∷ es) zero o h at = let same : e.1 ≡ o = cc in subst P same (says e h.0)
+holds_at P says (e ∷ es) (suc i) o h at = holds_at P says es i o h.1 at
 
 -- the same of a place that may be none
-pub tokens : (es : List (Key × Observation)) (i : ℕ) (r : Option Observation) → AllByRecursion IsKeyed es → r ≡ slice_get (values_of es) i → IfSome r HasToken
-tokens es i None h at = tt
-tokens es i (Some o) h at = token_at es i o h (sym at)
+pub if_at : (P : Observation → Type 0) → ((e : Key × Observation) → IsKeyed e → P e.1) → (es : List (Key × Observation)) (i : ℕ) (r : Option Observation) → AllByRecursion IsKeyed es → r ≡ slice_get (values_of es) i → IfSome r P
+if_at P says es i None h at = tt
+if_at P says es i (Some o) h at = holds_at P says es i o h (sym at)
+
+-- the numbers of all of them have 24 bits
+pub numbers_fit : (es : List (Key × Observation)) → AllByRecursion IsKeyed es → AllByRecursion HasNumber (values_of es)
+numbers_fit [] h = tt
+numbers_fit (e ∷ es) h = (h.0.number, numbers_fit es h.1)
 
 -- the test by which keys are looked up
 abbrev pub tests_names : (Key → Key → Bool) → Type 0
@@ -127,10 +138,10 @@ registered-none (x ∷ os) new none =
 pub name_is : (server : ℕ) (token : List ℕ) (o : Observation) → is_named server token o ≡ true → (o.server ≡ server) × (o.token ≡ token)
 name_is server token o h = let parts = and_parts _ _ h in (sym (eqb-true server o.server parts.0), sym ((bytes_eq-Decides token o.token).0 parts.1))
 
-pub keyed_renewed : (es : List (Key × Observation)) (i : ℕ) (o w : Observation) → AllByRecursion IsKeyed es → IsFirst (is_named w.server w.token) (values_of es) i → slice_get (values_of es) i ≡ Some o → AllByRecursion IsKeyed (set_value_at es i w)
-keyed_renewed es i o w h first at =
+pub keyed_renewed : (es : List (Key × Observation)) (i : ℕ) (o w : Observation) → AllByRecursion IsKeyed es → IsFirst (is_named w.server w.token) (values_of es) i → slice_get (values_of es) i ≡ Some o → HasNumber w → AllByRecursion IsKeyed (set_value_at es i w)
+keyed_renewed es i o w h first at number =
     let name = name_is w.server w.token o (passes_first _ (values_of es) i o first at) in
-    keyed_set es i o w h at name.0 name.1
+    keyed_set es i o w h at name.0 name.1 number
 
 -- ---- how many there are, and that their names differ
 

@@ -1,9 +1,12 @@
 -- Queries, read one after another.
-use Rattle.std.proofs.Common.{◌≡◌, ℕ, List, [], ◌∷◌, ◌++◌, Result, Ok, Err, map, drop, get_or, length, ◌+◌, ◌<◌, sym, ap, ◌∙◌, add-one, drop-cons, Bor}
+use Rattle.std.proofs.Common.{◌≡◌, ◌≢◌, ℕ, Bool, true, false, if◌then◌else◌, Option, None, Some, List, [], ◌∷◌, ◌++◌, Result, Ok, Err, map, drop, get_or, length, ◌+◌, ◌<◌, ℤ, sym, ap, ◌∙◌, add-one, drop-cons, Bor}
+use Rattle.std.specs.List.{list_any}
 use Rattle.notifier.specs.declared.attribute.Change.{Change}
 use Rattle.notifier.specs.declared.attribute.Level.{Level}
 use Rattle.notifier.specs.declared.fault.QueryFault.{QueryFault}
-use Rattle.notifier.specs.Query.{reading_of, changes_of}
+use Rattle.notifier.specs.declared.attribute.Name.{Name}
+use Rattle.notifier.specs.declared.fault.QueryFault.TheVariants as fault
+use Rattle.notifier.specs.Query.{reading_of, change_of, change_to, changes_of, is_of, name_of, name_part, number_part, stands_at, target_of}
 
 -- where the first query spells a change, the others follow it
 pub after_first : (before c : List Change) (level : Level) (q : List ℕ) (qs : List (List ℕ)) → changes_of before level (q ∷ []) ≡ Ok c → changes_of before level (q ∷ qs) ≡ changes_of c level qs
@@ -32,3 +35,21 @@ one_read before c level qs i d inside h =
 
 pub one_refused : (before : List Change) (level : Level) (qs : List (Bor (List ℕ))) (i : ℕ) (d : Bor (List ℕ)) (e : QueryFault) → i < length qs → changes_of before level ((get_or qs i d).now ∷ []) ≡ Err e → changes_of before level (map (λ q. q.now) (drop i qs)) ≡ Err e
 one_refused before level qs i d e inside h = ap (changes_of before level) (from_place qs i d inside) ∙ fault_first before level (get_or qs i d).now (map (λ q. q.now) (drop (i + 1) qs)) e h
+
+-- ---- memory
+
+neither : (b : Bool) (x y : Result Change QueryFault) → x ≢ Err fault.Memory → y ≢ Err fault.Memory → (if b then x else y) ≢ Err fault.Memory
+neither true x y first second = first
+neither false x y first second = second
+
+plain_target : (level : Level) (n : Name) (target : Option (Option ℤ)) → change_to level n target ≢ Err fault.Memory
+plain_target level n None = λ h. cc
+plain_target level n (Some z) = neither (stands_at n level) (Ok (record { name = n; number = z })) (Err fault.Level) (λ h. cc) (λ h. cc)
+
+plain_change : (before : List Change) (level : Level) (n : Option Name) (text : Option (List ℕ)) → change_of before level n text ≢ Err fault.Memory
+plain_change before level None text = λ h. cc
+plain_change before level (Some n) text = neither (list_any (is_of n) before) (Err fault.Repeated) (change_to level n (target_of n text)) (λ h. cc) (plain_target level n (target_of n text))
+
+-- want of memory is no fault of a query
+pub reading_is_plain : (before : List Change) (level : Level) (q : List ℕ) → reading_of before level q ≢ Err fault.Memory
+reading_is_plain before level q = plain_change before level (name_of (name_part q)) (number_part q)

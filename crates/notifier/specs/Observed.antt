@@ -1,5 +1,5 @@
 -- The observations of a device, in the order of registration, and how a call changes them (RFC 7641).
-use Rattle.std.specs.Prelude.{◌≡◌, ℕ, ◌+◌, ◌%◌, ◌≤◌, ◌==◌, Bool, true, not, ◌&&◌, if◌then◌else◌, List, [], ◌∷◌, length, find, filter, slice_get, slice_set, bytes_eq, IsFalse}
+use Rattle.std.specs.Prelude.{◌≡◌, ℕ, ◌+◌, ◌%◌, ◌<◌, ◌≤◌, ◌==◌, Bool, true, not, ◌&&◌, if◌then◌else◌, List, [], ◌∷◌, length, find, filter, slice_get, slice_set, bytes_eq, IsFalse}
 use Rattle.std.specs.List.{list_any}
 use Rattle.std.specs.Option.{option_map_or}
 use Rattle.notifier.specs.declared.observation.Observation.{Observation}
@@ -57,8 +57,13 @@ with_sent all place now mid report = option_map_or (λ o. slice_set all place (n
 abbrev pub HasToken : Observation → Type 0
 HasToken o = length o.token ≤ 8
 
--- a key is the name of its observation, whose token is one
+-- an Observe number has 24 bits (RFC 7641 section 2)
+abbrev pub HasNumber : Observation → Type 0
+HasNumber o = o.number < 16777216
+
+-- a key is the name of its observation, whose token and Observe number are some
 pub record IsKeyed (e : Key × Observation) : Type 0 where
   pub server : e.0.server ≡ e.1.server
   pub token : e.0.token.items ≡ e.1.token
   pub short : HasToken e.1
+  pub number : HasNumber e.1

@@ -3,7 +3,7 @@ ghost use Rattle.std.specs.Option.{option_copied, option_map};
 ghost use Rattle.std.specs.List.{AllByRecursion};
 ghost use Rattle.notifier.specs.declared.observation.Observation.{Observation};
 ghost use Rattle.indexmap.specs.IndexMap.{values, index_map_len, set_value_at};
-ghost use Rattle.notifier.specs.Observed.{is_named, has_name, next_number, number_for, registered, cancelled, was_sent, without_reset, with_sent, HasToken, IsKeyed, HaveDistinctNames};
+ghost use Rattle.notifier.specs.Observed.{is_named, has_name, next_number, number_for, registered, cancelled, was_sent, without_reset, with_sent, HasToken, HasNumber, IsKeyed, HaveDistinctNames};
 
 use crate::fault::ObserveFault;
 use crate::observation::{Observation, Report, next_number};
@@ -74,6 +74,7 @@ fn add(
     requires keyed { AllByRecursion IsKeyed entries.old.entries }
     requires absent { has_name (values entries.old) observation.server observation.token ≡ false }
     requires short { HasToken observation }
+    requires number { HasNumber observation }
     ensures ok { OnOk result (values entries.new ≡ values entries.old ++ observation ∷ []) }
     ensures keyed { AllByRecursion IsKeyed entries.new.entries }
     ensures len { length entries.new.entries ≤ length entries.old.entries + 1 }
@@ -304,11 +305,13 @@ impl Observations {
         remove_at(&mut self.entries, place);
     }
 
-    /// How many observations there are. They are 32 at most, and no two have one name.
+    /// How many observations there are. They are 32 at most, no two have one name, and their Observe
+    /// numbers are below 2^24.
     pub fn len(&self) -> usize
         ensures len { result ≡ length self.now }
         ensures few { length self.now ≤ 32 }
         ensures names { HaveDistinctNames self.now }
+        ensures numbers { AllByRecursion HasNumber self.now }
     {
         self.entries.len()
     }
@@ -320,10 +323,12 @@ impl Observations {
         self.len() == 0
     }
 
-    /// The observation at a place, lent. Its token has 8 bytes at most.
+    /// The observation at a place, lent. Its token has 8 bytes at most, and its Observe number is
+    /// below 2^24.
     pub fn at(&self, place: usize) -> Option<&Observation>
         ensures value { option_copied result ≡ slice_get self.now place }
         ensures token { IfSome (option_copied result) HasToken }
+        ensures number { IfSome (option_copied result) HasNumber }
     {
         observation_at(&self.entries, place)
     }

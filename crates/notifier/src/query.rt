@@ -1,4 +1,4 @@
-ghost use Rattle.std.specs.Prelude.{◌≡◌, ◌≢◌, ◌∷◌, [], map, OnOk, OnErr, IfErr, IfOk, Ok, Err, Some};
+ghost use Rattle.std.specs.Prelude.{◌≡◌, ◌≢◌, ◌∷◌, [], map, OnOk, OnErr, IfErr, IfOk, IsErrOf, IsOk, Ok, Err, Some};
 ghost use Rattle.std.specs.Option.{option_copied};
 ghost use Rattle.std.specs.List.{list_any};
 ghost use Rattle.notifier.specs.Query.{name_of, name_part, number_part, number_of, target_of, stands_at, is_of, change_to, change_of, reading_of, changes_of, is_number_level};
@@ -145,9 +145,13 @@ impl Changes {
     }
 
     /// Adds the change that one query spells, `name=number` or `name`, behind these.
+    #[tactic(auto, using(crate::proofs::QueryLaws::reading_is_plain))]
     pub fn add_query(&mut self, query: &[u8], level: Level) -> Result<(), QueryFault>
         ensures ok { OnOk result (changes_of self.old level (query.now ∷ []) ≡ Ok self.new) }
         ensures fault { IfErr result (λ e. e ≢ QueryFault.Memory → changes_of self.old level (query.now ∷ []) ≡ Err e) }
+
+        // Only a query that spells a change takes memory.
+        ensures grows { IsErrOf result QueryFault.Memory → IsOk (reading_of self.old level query.now) }
         ensures unchanged { OnErr result (self.new ≡ self.old) }
     {
         let change = reading_of(self.items.as_slice(), level, query)?;

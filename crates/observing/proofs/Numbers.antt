@@ -1,9 +1,9 @@
 -- The Observe numbers of an observation rise by one through many seconds.
-use Rattle.std.proofs.Common.{◌≡◌, ℕ, zero, suc, ◌+◌, ◌%◌, Bool, true, false, List, [], ◌∷◌, ◌++◌, Option, None, Some, refl, sym, ap, subst, ◌∙◌, arith}
-use Rattle.std.specs.List.{AllByRecursion, Contains}
+use Rattle.std.proofs.Common.{◌≡◌, ℕ, zero, suc, ◌+◌, ◌%◌, List, [], ◌∷◌, ◌++◌, Option, None, Some, refl, sym, ap, subst, ◌∙◌}
+use Rattle.std.specs.List.{AllByRecursion}
 use Rattle.std.proofs.lemmas.List.{append_assoc}
 use Rattle.std.proofs.lemmas.List.Elements.{Contains-append_right}
-use Rattle.std.proofs.Math.Logic.{◌⊎◌, inl, inr}
+use Rattle.std.proofs.Math.Logic.{inl, inr}
 use Rattle.notifier.specs.Observed.{next_number, notified}
 use Rattle.notifier.specs.declared.observation.Observation.{Observation}
 use Rattle.coap_codec.specs.Message.{spelling}
@@ -17,7 +17,6 @@ use Rattle.observing.specs.Message.{datagram_of, format_option, observe_option}
 use Rattle.observing.specs.Posted.{id_after}
 use Rattle.observing.specs.Report.{report_of}
 use Rattle.observing.specs.Second.{Turn, and_then, beside, present, second, seconds, turn_by, turn_of}
-use Rattle.observing.specs.declared.verdict.Verdict.{Verdict}
 use Rattle.observing.proofs.Turns.{both, by_verdict, first_of, weaker}
 
 -- ---- namesakes

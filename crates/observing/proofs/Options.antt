@@ -1,7 +1,7 @@
 -- The options of a notification are in order, and short.
-use Rattle.std.proofs.Common.{◌≡◌, ℕ, ◌/◌, ◌%◌, ◌<◌, ◌≤◌, nat_lt, Bool, true, false, List, [], ◌∷◌, ◌++◌, length, Option, None, Some, arith}
+use Rattle.std.proofs.Common.{ℕ, ◌/◌, ◌%◌, ◌≤◌, nat_lt, Bool, true, false, [], ◌∷◌, ◌++◌, length, Option, None, Some, arith}
 use Rattle.std.specs.Bool.{if◌then◌else◌}
-use Rattle.coap_codec.specs.Message.{IsOptionList, MayFollow}
+use Rattle.coap_codec.specs.Message.{IsOptionList}
 use Rattle.coap_codec.specs.Number.{shortest}
 use Rattle.observing.specs.Message.{format_option, observe_option}
 

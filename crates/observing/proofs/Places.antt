@@ -1,9 +1,8 @@
 -- How far a second has come, at a place of the list.
-use Rattle.std.proofs.Common.{◌≡◌, ℕ, zero, suc, ◌+◌, ◌-◌, ◌<◌, ◌≤◌, List, [], ◌∷◌, ◌++◌, length, take, drop, slice_get, slice_set, remove, Some, refl, sym, ap, subst, ◌∙◌, arith}
+use Rattle.std.proofs.Common.{◌≡◌, ℕ, zero, suc, ◌+◌, ◌-◌, ◌<◌, ◌≤◌, List, [], ◌∷◌, ◌++◌, length, take, drop, slice_get, slice_set, remove, Some, refl, sym, ap, ◌∙◌, arith}
 use Rattle.std.proofs.lemmas.List.{append-nil, append_assoc, drop_all, length-drop, take_all}
 use Rattle.notifier.specs.declared.observation.Observation.{Observation}
 use Rattle.device_requests.specs.Managed.{Managed}
-use Rattle.observing.specs.declared.datagram.Datagram.{Datagram}
 use Rattle.observing.specs.Posted.{Posted}
 use Rattle.observing.specs.Progress.{Leaves, Passes}
 use Rattle.observing.specs.Second.{Turn, quiet, beside, and_then, second, seconds, turn_of}

@@ -1,25 +1,22 @@
 -- What a turn does, by the three verdicts, and what a second does by its turns.
-use Rattle.std.proofs.Common.{◌≡◌, ℕ, zero, suc, ◌+◌, ◌-◌, ◌%◌, ◌<◌, ◌≤◌, nat_le, nat_lt, Bool, true, false, ◌&&◌, ◌||◌, List, [], ◌∷◌, ◌++◌, length, Option, None, Some, refl, sym, ap, subst, ◌∙◌, arith}
+use Rattle.std.proofs.Common.{◌≡◌, ℕ, zero, suc, ◌+◌, ◌-◌, ◌%◌, ◌<◌, ◌≤◌, Bool, true, false, List, [], ◌∷◌, ◌++◌, length, Option, None, Some, refl, sym, ap, subst, ◌∙◌, arith}
 use Rattle.std.specs.Bool.{if◌then◌else◌}
-use Rattle.std.specs.List.{AllByRecursion, Contains, slice_index_or}
+use Rattle.std.specs.List.{AllByRecursion, Contains}
 use Rattle.std.proofs.lemmas.Bool.Decides.{nat_tests}
 use Rattle.std.proofs.lemmas.List.{length-append}
 use Rattle.std.proofs.Math.Logic.{◌⊎◌, inl, inr}
-use Rattle.notifier.specs.Trigger.{is_due, is_over}
-use Rattle.notifier.specs.Observed.{next_number, notified}
+use Rattle.notifier.specs.Trigger.{is_due}
 use Rattle.notifier.specs.declared.observation.Observation.{Observation}
 use Rattle.device_requests.specs.Managed.{Managed}
 use Rattle.device_requests.specs.declared.answer.Answer.{Answer}
-use Rattle.observing.specs.declared.datagram.Datagram.{Datagram}
 use Rattle.observing.specs.declared.verdict.Verdict.{Verdict}
 use Rattle.observing.specs.declared.verdict.Verdict.TheVariants.{Quiet, Sends, Gone}
-use Rattle.observing.specs.Laws.{Notifies, Ends, IsOf, IsFresh, Stays, StayInOrder}
+use Rattle.observing.specs.Laws.{IsOf, IsFresh, StayInOrder}
 use Rattle.observing.specs.Laws.Stays.{as_it_was, told}
 use Rattle.observing.specs.Laws.StayInOrder.{none, stays, goes}
 use Rattle.observing.specs.Message.{datagram_of}
 use Rattle.observing.specs.Period.{pmin_of, pmax_of}
-use Rattle.observing.specs.Report.{report_of}
-use Rattle.observing.specs.Second.{Turn, age_of, is_content, is_due_now, present, second, seconds, triggers_now, turn_by, turn_of, verdict_of}
+use Rattle.observing.specs.Second.{age_of, is_content, is_due_now, present, second, seconds, triggers_now, turn_by, turn_of, verdict_of}
 
 choose : (c d : Bool) (a : Answer) (P : Verdict → Type 0) → (c ≡ true → d ≡ true → P (Sends a)) → (c ≡ true → d ≡ false → P Quiet) → (c ≡ false → P (Gone a)) → P (if c then (if d then Sends a else Quiet) else Gone a)
 choose true true a P s q g = s refl refl

@@ -1,5 +1,5 @@
 -- What follows of notifications and their times, in the words of those who observe (RFC 7641; OMA LwM2M 1.1 Core, attributes).
-use Rattle.std.specs.Prelude.{◌≡◌, ℕ, ◌+◌, ◌-◌, ◌%◌, ◌<◌, ◌≤◌, Bool, true, false, List, [], ◌∷◌, ◌++◌, length, Option, None, Some, ◌⊎◌}
+use Rattle.std.specs.Prelude.{◌≡◌, ℕ, ◌+◌, ◌%◌, ◌<◌, ◌≤◌, true, false, List, [], ◌∷◌, ◌++◌, length, Option, None, Some, ◌⊎◌}
 use Rattle.std.specs.List.{AllByRecursion, Contains}
 use Rattle.notifier.specs.Observed.{next_number, notified}
 use Rattle.notifier.specs.declared.observation.Observation.{Observation}

@@ -1,5 +1,5 @@
 -- What the observations of a device do in a second.
-use Rattle.std.specs.Prelude.{ℕ, zero, suc, ◌+◌, ◌-◌, ◌==◌, Bool, List, [], ◌∷◌, ◌++◌, Option, None, Some, if◌then◌else◌}
+use Rattle.std.specs.Prelude.{ℕ, zero, suc, ◌+◌, ◌-◌, ◌==◌, Bool, List, [], ◌∷◌, ◌++◌, None, Some, if◌then◌else◌}
 use Rattle.notifier.specs.Attributes.{assigned}
 use Rattle.notifier.specs.Observed.{next_number, notified}
 use Rattle.notifier.specs.Trigger.{is_due, is_triggered}

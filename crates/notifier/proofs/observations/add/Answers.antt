@@ -26,4 +26,4 @@ returns-clause-ok c = ap values_of (last c) ∙ values-append c.args.entries.now
 pub returns-clause-keyed : goal.returns-clause-keyed
 unfolding key
 returns-clause-keyed c =
-    subst (AllByRecursion IsKeyed) (sym (last c)) (each-append IsKeyed c.args.entries.now.entries (key c, c.args.observation) c.requires.keyed (record { server = refl; token = c.in_ok-from_slice.ensures.items ∙ c.as_slice.ensures; short = c.requires.short }))
+    subst (AllByRecursion IsKeyed) (sym (last c)) (each-append IsKeyed c.args.entries.now.entries (key c, c.args.observation) c.requires.keyed (record { server = refl; token = c.in_ok-from_slice.ensures.items ∙ c.as_slice.ensures; short = c.requires.short; number = c.requires.number }))

@@ -3,7 +3,7 @@ use Rattle.std.proofs.Common.{refl, sym, ap, ◌∙◌, slice_set}
 use Rattle.std.specs.Map.{values_of}
 use Rattle.std.specs.Option.{option_map_or}
 use Rattle.notifier.specs.Observed.{notified}
-use Rattle.notifier.proofs.ObservedLaws.{values-set_value_at, keyed_set}
+use Rattle.notifier.proofs.ObservedLaws.{values-set_value_at, next_fits, keyed_set}
 use Rattle.notifier.proofs.observations.notify.Goals as goal
 
 pub returns-clause-values : goal.returns-clause-values
@@ -14,7 +14,7 @@ returns-clause-values c =
     ∙ ap (λ f. option_map_or (λ o. slice_set all c.args.place (notified c.args.now c.args.mid c.args.report o)) f all) (sym c.index_mut-observation.ensures.value)
 
 pub returns-clause-keyed : goal.returns-clause-keyed
-returns-clause-keyed c = keyed_set _ _ c.index_mut-observation.result.now _ c.requires.keyed c.index_mut-observation.ensures.value refl refl
+returns-clause-keyed c = keyed_set _ _ c.index_mut-observation.result.now _ c.requires.keyed c.index_mut-observation.ensures.value refl refl (next_fits c.index_mut-observation.result.now.number c.next_number-number.result c.next_number-number.ensures)
 
 pub returns-clause-len : goal.returns-clause-len
 returns-clause-len c = index_map_len-with_value_at c.args.entries.now c.args.place _

@@ -3,7 +3,7 @@ use Rattle.std.proofs.Common.{sym, ap, ◌∙◌, slice_set}
 use Rattle.std.specs.Map.{values_of}
 use Rattle.notifier.specs.Observed.{is_named}
 use Rattle.notifier.proofs.Places.{IsFirst, first_place}
-use Rattle.notifier.proofs.ObservedLaws.{values-set_value_at, number_for-first, registered-first, keyed_renewed}
+use Rattle.notifier.proofs.ObservedLaws.{values-set_value_at, number_for-first, registered-first, next_fits, keyed_renewed}
 use Rattle.notifier.proofs.observations.renew.Goals as goal
 
 first : (c : goal.After-drop-index_mut-2) → IsFirst (is_named c.args.observation.server c.args.observation.token) (values_of c.args.entries.now.entries) c.args.place
@@ -21,7 +21,7 @@ returns-clause-values c =
     ∙ sym (registered-first (values_of c.args.entries.now.entries) c.args.observation c.index.result.now c.args.place (first c) c.index.ensures)
 
 pub returns-clause-keyed : goal.returns-clause-keyed
-returns-clause-keyed c = keyed_renewed c.args.entries.now.entries c.args.place c.index.result.now (record c.args.observation { number = c.next_number-number.result }) c.requires.keyed (first c) c.index.ensures
+returns-clause-keyed c = keyed_renewed c.args.entries.now.entries c.args.place c.index.result.now (record c.args.observation { number = c.next_number-number.result }) c.requires.keyed (first c) c.index.ensures (next_fits c.index.result.now.number c.next_number-number.result c.next_number-number.ensures)
 
 pub returns-clause-len : goal.returns-clause-len
 returns-clause-len c = index_map_len-with_value_at c.args.entries.now c.args.place _
