@@ -3,7 +3,7 @@ use Rattle.std.proofs.Common.{◌≡◌, ℕ, ◌<◌, ◌≤◌, List, [], ◌+
 use Rattle.std.specs.Int.{w8, w16, w32}
 use Rattle.std.proofs.lemmas.Bool.{ltb-true}
 use Rattle.byte_layout.specs.declared.fault.Break.TheVariants.{Magic, Version}
-use Rattle.byte_layout.specs.Part.{number, at_most, last, marked}
+use Rattle.byte_layout.specs.Part.{number, at_most, marked}
 use Rattle.byte_layout.specs.Exact.{IsBytes, IsExact}
 use Rattle.byte_layout.proofs.Fields.{number_exact, wide32}
 use Rattle.byte_layout.proofs.Steps.{behind_front, front_bytes}

@@ -1,18 +1,35 @@
 -- A device that takes steps one after another.
-use Rattle.std.proofs.Common.{◌≡◌, ℕ, zero, suc, ◌+◌, ◌≤◌, ◌⊎◌, inl, inr, List, [], ◌∷◌, ◌++◌, length, take, Option, None, Some, slice_get, refl, sym, ap, subst, ◌∙◌, arith, length-append}
+use Rattle.std.proofs.Common.{◌≡◌, ℕ, zero, suc, ◌+◌, ◌≤◌, ◌⊎◌, inl, inr, Bool, ◌||◌, true, false, List, [], ◌∷◌, ◌++◌, length, map, take, Option, None, Some, is_some, slice_get, Ok, Err, ◌↔◌, refl, sym, ap, subst, ◌∙◌, arith, length-append}
 use Rattle.std.proofs.lemmas.Grind.{take_at_read}
-use Rattle.std.proofs.lemmas.List.{take_all}
+use Rattle.std.proofs.lemmas.List.{take_all, map-append, length-take-le}
+use Rattle.std.proofs.lemmas.List.Folds.{list_any-append}
 use Rattle.std.proofs.lemmas.Option.{slice_get_within, get_or_from_slice_get}
+use Rattle.std.specs.Bool.{IsTrue}
+use Rattle.std.specs.List.{list_any}
+use Rattle.device_machine.specs.declared.fault.StepFault.TheVariants.{Spent}
 use Rattle.device_machine.specs.declared.output.Output.{Output}
 use Rattle.device_machine.specs.State.{Flat, Shown, Shows}
+use Rattle.device_machine.specs.Reactions.{passes_end}
 use Rattle.scenario_image.specs.declared.step.Step.{Step}
-use Rattle.scenario_image.specs.Play.{step_after, step_outputs, state_after, PutsOut, outputs_in}
+use Rattle.scenario_image.specs.declared.step.Step.TheVariants.{Event, Post, Need}
+use Rattle.scenario_image.specs.Play.{step_after, step_outputs, state_after, PutsOut, is_step_refused, shown, IsStopped, is_event, outputs_in}
+
+-- so many of the steps are not refused behind those before them
+abbrev pub AreTaken : Flat → List Step → ℕ → Type 0
+AreTaken f steps n = (k : ℕ) (s : Step) → slice_get (take n steps) k ≡ Some s → is_step_refused (shown (state_after f (take k steps))) s ≡ false
+
+-- a spent device, which has heard of none of these steps
+abbrev pub IsDeaf : Shown → List Step → Type 0
+IsDeaf device steps = (device.spent ≡ true) × (list_any is_event steps ≡ false)
 
 -- a device has taken the first n of these steps, and this is what they put out
 pub record IsPlayed (old new : Shown) (steps : List Step) (n : ℕ) (all : List (Option (List Output))) : Type 0 where
   pub count : length all ≡ n
   pub shows : (f : Flat) → Shows old f → Shows new (state_after f (take n steps))
   pub outputs : (f : Flat) → Shows old f → (k : ℕ) (o : Option (List Output)) → slice_get all k ≡ Some o → PutsOut f steps k (outputs_in o)
+  pub asked : map is_some all ≡ map is_event (take n steps)
+  pub taken : (f : Flat) → Shows old f → AreTaken f steps n
+  pub deaf : old.spent ≡ true → IsDeaf new (take n steps)
 
 -- the state behind one step more
 pub after_push : (f : Flat) (steps : List Step) (step : Step) → state_after f (steps ++ step ∷ []) ≡ step_after (state_after f steps) step
@@ -51,21 +68,99 @@ by_place f steps n all step o k p count at put_out before (inr h) =
     subst (λ m. PutsOut f steps m (outputs_in p)) (sym (h.0 ∙ count)) (record { step = step; stands = at; put_out = ap outputs_in (sym h.1) ∙ put_out })
 
 pub starts : (device : Shown) (steps : List Step) → IsPlayed device device steps 0 []
-starts device steps = record { count = refl; shows = λ f h. h; outputs = λ f h k o e. absurd (never k o e) }
+starts device steps =
+    record { count = refl; shows = λ f h. h; outputs = λ f h k o e. absurd (never k o e); asked = refl; taken = λ f h k s e. absurd (never k s e); deaf = λ h. (h, refl) }
+
+-- a device refuses what the one that shows its flat state refuses
+same_refusal : (x : Shown) (f : Flat) (step : Step) → Shows x f → is_step_refused x step ≡ is_step_refused (shown f) step
+same_refusal x f (Event e) h = ap (λ b. b || passes_end x.flat.kept.clock e) h.ready ∙ ap (λ (g : Flat). passes_end g.kept.clock e) h.holds
+same_refusal x f (Post group) h = refl
+same_refusal x f (Need group count) h = refl
+
+taken_by_place : (f : Flat) (steps : List Step) (n : ℕ) (step : Step) (k : ℕ) (s : Step)
+    → length (take n steps) ≡ n → is_step_refused (shown (state_after f (take n steps))) step ≡ false → AreTaken f steps n
+    → (slice_get (take n steps) k ≡ Some s) ⊎ ((k ≡ length (take n steps)) × (step ≡ s)) → is_step_refused (shown (state_after f (take k steps))) s ≡ false
+taken_by_place f steps n step k s count free before (inl h) = before k s h
+taken_by_place f steps n step k s count free before (inr h) =
+    subst (λ m. is_step_refused (shown (state_after f (take m steps))) s ≡ false) (sym (h.0 ∙ count))
+    (subst (λ t. is_step_refused (shown (state_after f (take n steps))) t ≡ false) h.1 free)
+
+taken_more : (f : Flat) (steps : List Step) (n : ℕ) (step : Step) → slice_get steps n ≡ Some step
+    → is_step_refused (shown (state_after f (take n steps))) step ≡ false → AreTaken f steps n → AreTaken f steps (n + 1)
+taken_more f steps n step at free before k s h =
+    let within = slice_get_within steps n step at in
+    taken_by_place f steps n step k s (length-take-le n steps (omega (arith, within))) free before
+    (pushed (take n steps) step k s (ap (λ xs. slice_get xs k) (sym (take_more steps n step at)) ∙ h))
+
+-- a step that is taken is not refused
+pub accepted : {T : Type 0} (o : T) (b : Bool) → ((Ok o ≡ Err Spent) ↔ IsTrue b) → b ≡ false
+accepted o false h = refl
+accepted o true h = let e : Ok o ≡ Err Spent = h.1 refl in absurd cc
+
+never_both : (b : Bool) → b ≡ true → b ≡ false → ⊥
+never_both b h k = let e : true ≡ false = sym h ∙ k in cc
+
+-- a spent device refuses each event
+spent_refusal : (x : Shown) (step : Step) → x.spent ≡ true → is_step_refused x step ≡ false → is_event step ≡ false
+spent_refusal x (Event e) spent free =
+    let all : (x.spent || passes_end x.flat.kept.clock e) ≡ true = ap (λ b. b || passes_end x.flat.kept.clock e) spent in
+    absurd (never_both (x.spent || passes_end x.flat.kept.clock e) all free)
+spent_refusal x (Post group) spent free = refl
+spent_refusal x (Need group count) spent free = refl
+
+deaf_more : (new newer : Shown) (steps : List Step) (n : ℕ) (step : Step) → slice_get steps n ≡ Some step → is_step_refused new step ≡ false
+    → (is_event step ≡ false → newer ≡ new) → IsDeaf new (take n steps) → IsDeaf newer (take (n + 1) steps)
+deaf_more new newer steps n step at free unheard deaf =
+    let silent : is_event step ≡ false = spent_refusal new step deaf.0 free in (
+      ap (λ (x : Shown). x.spent) (unheard silent) ∙ deaf.0,
+      ap (list_any is_event) (take_more steps n step at) ∙ list_any-append is_event (take n steps) (step ∷ [])
+          ∙ ap (λ b. b || (is_event step || false)) deaf.1 ∙ ap (λ b. b || false) silent,
+    )
 
 -- one step more is taken
 pub goes_on : (old new newer : Shown) (steps : List Step) (n : ℕ) (all more : List (Option (List Output))) (step : Step) (o : Option (List Output))
     → IsPlayed old new steps n all → slice_get steps n ≡ Some step
     → ((f : Flat) → Shows new f → outputs_in o ≡ step_outputs f step) → ((f : Flat) → Shows new f → Shows newer (step_after f step))
+    → is_some o ≡ is_event step → is_step_refused new step ≡ false → (is_event step ≡ false → newer ≡ new)
     → more ≡ all ++ o ∷ [] → IsPlayed old newer steps (n + 1) more
-goes_on old new newer steps n all more step o played at put_out shows e =
+goes_on old new newer steps n all more step o played at put_out shows asked free unheard e =
     record {
       count = omega (arith, played.count, ap length e, length-append all (o ∷ []));
       shows = λ f h. subst (Shows newer) (sym (next_state f steps n step at)) (shows (state_after f (take n steps)) (played.shows f h));
       outputs = λ f h k p q. by_place f steps n all step o k p played.count at (put_out (state_after f (take n steps)) (played.shows f h))
           (played.outputs f h k p) (pushed all o k p (ap (λ xs. slice_get xs k) (sym e) ∙ q));
+      asked = ap (map is_some) e ∙ map-append is_some all (o ∷ []) ∙ ap (λ bs. bs ++ is_some o ∷ []) played.asked
+          ∙ ap (λ b. map is_event (take n steps) ++ b ∷ []) asked
+          ∙ sym (ap (map is_event) (take_more steps n step at) ∙ map-append is_event (take n steps) (step ∷ []));
+      taken = λ f h. taken_more f steps n step at (sym (same_refusal new (state_after f (take n steps)) step (played.shows f h)) ∙ free) (played.taken f h);
+      deaf = λ h. deaf_more new newer steps n step at free unheard (played.deaf h);
     }
+
+-- a device that refuses a step stops there
+pub stops : (old new : Shown) (steps : List Step) (n : ℕ) (all : List (Option (List Output))) (step : Step)
+    → IsPlayed old new steps n all → slice_get steps n ≡ Some step → is_step_refused new step ≡ true → (f : Flat) → Shows old f → IsStopped f steps
+stops old new steps n all step played at refused f h =
+    record {
+      place = n;
+      step = step;
+      stands = at;
+      refused = sym (same_refusal new (state_after f (take n steps)) step (played.shows f h)) ∙ refused;
+    }
+
+-- a device that has taken all of the steps was not stopped
+pub never_stopped : (old new : Shown) (steps : List Step) (n : ℕ) (all : List (Option (List Output)))
+    → IsPlayed old new steps n all → length steps ≤ n → (f : Flat) → Shows old f → IsStopped f steps → ⊥
+never_stopped old new steps n all played past f h stopped =
+    never_both _ stopped.refused (played.taken f h stopped.place stopped.step (ap (λ xs. slice_get xs stopped.place) (take_all n steps past) ∙ stopped.stands))
+
+pub all_asked : (old new : Shown) (steps : List Step) (n : ℕ) (all : List (Option (List Output)))
+    → IsPlayed old new steps n all → length steps ≤ n → map is_some all ≡ map is_event steps
+all_asked old new steps n all played past = played.asked ∙ ap (map is_event) (take_all n steps past)
 
 pub finished : (old new : Shown) (steps : List Step) (n : ℕ) (all : List (Option (List Output))) → IsPlayed old new steps n all → length steps ≤ n → n ≤ length steps → (n ≡ length steps) × ((f : Flat) → Shows old f → Shows new (state_after f steps))
 finished old new steps n all played past within =
     (omega (arith, past, within), λ f h. subst (λ xs. Shows new (state_after f xs)) (take_all n steps past) (played.shows f h))
+
+pub all_unheard : (old new : Shown) (steps : List Step) (n : ℕ) (all : List (Option (List Output)))
+    → IsPlayed old new steps n all → length steps ≤ n → old.spent ≡ true → list_any is_event steps ≡ false
+all_unheard old new steps n all played past spent = ap (list_any is_event) (sym (take_all n steps past)) ∙ (played.deaf spent).1

@@ -1,9 +1,9 @@
 -- The states of a row's device, and what each of its steps puts out.
-use Rattle.std.specs.Prelude.{◌≡◌, ℕ, Bool, false, List, [], ◌∷◌, take, Option, None, Some, slice_get}
+use Rattle.std.specs.Prelude.{◌≡◌, ℕ, Bool, true, false, List, [], ◌∷◌, take, Option, None, Some, slice_get}
 use Rattle.device_template.specs.Class.{Class}
 use Rattle.device_machine.specs.declared.output.Output.{Output}
 use Rattle.device_machine.specs.Class.{start_of}
-use Rattle.device_machine.specs.State.{Flat, Shown}
+use Rattle.device_machine.specs.State.{Flat, Shown, living}
 use Rattle.device_machine.specs.Reactions.{outputs_of, flat_after, is_refused}
 use Rattle.scenario_image.specs.declared.step.Step.{Step}
 use Rattle.scenario_image.specs.declared.step.Step.TheVariants.{Event, Post, Need}
@@ -51,6 +51,23 @@ abbrev pub is_step_refused : Shown → Step → Bool
 is_step_refused device (Event event) = is_refused device event
 is_step_refused device (Post group) = false
 is_step_refused device (Need group count) = false
+
+-- the device that shows this flat state
+abbrev pub shown : Flat → Shown
+shown f = record { spent = false; flat = living f }
+
+-- one of the steps, of a device that is in this flat state before step 0, is refused behind those before it
+pub record IsStopped (f : Flat) (steps : List Step) : Type 0 where
+  pub place : ℕ
+  pub step : Step
+  pub stands : slice_get steps place ≡ Some step
+  pub refused : is_step_refused (shown (state_after f (take place steps))) step ≡ true
+
+-- the device hears of events alone
+abbrev pub is_event : Step → Bool
+is_event (Event event) = true
+is_event (Post group) = false
+is_event (Need group count) = false
 
 -- what was put out, nothing where the device was not asked
 abbrev pub outputs_in : Option (List Output) → List Output

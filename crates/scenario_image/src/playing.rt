@@ -1,7 +1,9 @@
-ghost use Rattle.std.specs.Prelude.{◌≡◌, ℕ, ◌↔◌, ◌++◌, ◌∷◌, [], List, Option, Some, Err, length, slice_get, IfOk, OnOk, IsTrue};
+ghost use Rattle.std.specs.Prelude.{◌≡◌, ℕ, ◌↔◌, ◌++◌, ◌∷◌, [], List, Option, Some, Err, false, is_some, length, map, slice_get, IfOk, OnOk, IsTrue};
+ghost use Rattle.std.specs.List.{list_any};
+ghost use Rattle.std.specs.Result.{IsErr};
 ghost use Rattle.device_machine.specs.declared.output.Output.{Output};
 ghost use Rattle.device_machine.specs.State.{Flat, Shows};
-ghost use Rattle.scenario_image.specs.Play.{start, state_at, step_outputs, step_after, state_after, PutsOut, is_step_refused, outputs_in};
+ghost use Rattle.scenario_image.specs.Play.{start, state_at, step_outputs, step_after, state_after, PutsOut, is_step_refused, is_event, outputs_in, IsStopped};
 
 use crate::step::Step;
 use device_machine::{Device, Outputs, StepFault, Template};
@@ -15,6 +17,8 @@ pub fn take_step(device: &mut Device, step: &Step) -> Result<Option<Outputs>, St
     ensures shows { (f : Flat) → Shows device.old f → OnOk result (Shows device.new (step_after f step.now)) }
     ensures spent { (result ≡ Err StepFault.Spent) ↔ IsTrue (is_step_refused device.old step.now) }
     ensures unchanged { result ≡ Err StepFault.Spent → device.new ≡ device.old }
+    ensures unheard { is_event step.now ≡ false → device.new ≡ device.old }
+    ensures asked { IfOk result (λ o. is_some o ≡ is_event step.now) }
     ensures memory { result ≡ Err StepFault.Memory → IsTrue device.new.spent }
 {
     match step {
@@ -36,7 +40,8 @@ fn keep(all: &mut Vec<Option<Outputs>>, outputs: Option<Outputs>) -> Result<(), 
 
 /// Lets a device take steps, one after another, and gives what each puts out.
 ///
-/// After an `Err` the device may have taken some of them.
+/// `Spent` says that the device refuses one of them behind those before it: a spent one refuses each event. After an `Err` the
+/// device may have taken some of them.
 pub fn take_steps(
     alloc: Global,
     device: &mut Device,
@@ -46,6 +51,10 @@ pub fn take_steps(
     ensures outputs { (f : Flat) → Shows device.old f → IfOk result (λ v.
         (k : ℕ) (o : Option (List Output)) → slice_get v.items k ≡ Some o → PutsOut f steps.now k (outputs_in o)) }
     ensures shows { (f : Flat) → Shows device.old f → OnOk result (Shows device.new (state_after f steps.now)) }
+    ensures asked { IfOk result (λ v. map is_some v.items ≡ map is_event steps.now) }
+    ensures spent { (f : Flat) → Shows device.old f → result ≡ Err StepFault.Spent → IsStopped f steps.now }
+    ensures stopped { (f : Flat) → Shows device.old f → IsStopped f steps.now → IsErr result }
+    ensures deaf { IsTrue device.old.spent → OnOk result (list_any is_event steps.now ≡ false) }
 {
     let mut all = Vec::with_capacity(alloc, steps.len())?;
     for step in steps {
@@ -56,6 +65,8 @@ pub fn take_steps(
 }
 
 /// Lets a new device of the class take steps, and gives the device and what each step puts out.
+///
+/// `Spent` says that the device refuses one of them behind those before it.
 pub fn play(
     alloc: Global,
     class: &Template,
@@ -65,6 +76,9 @@ pub fn play(
     ensures outputs { IfOk result (λ r. (k : ℕ) (o : Option (List Output)) → slice_get r.1.items k ≡ Some o
         → PutsOut (start class.now) steps.now k (outputs_in o)) }
     ensures shows { IfOk result (λ r. Shows r.0 (state_at class.now steps.now (length steps.now))) }
+    ensures asked { IfOk result (λ r. map is_some r.1.items ≡ map is_event steps.now) }
+    ensures spent { result ≡ Err StepFault.Spent → IsStopped (start class.now) steps.now }
+    ensures stopped { IsStopped (start class.now) steps.now → IsErr result }
 {
     let mut device = Device::start(class)?;
     let all = take_steps(alloc, &mut device, steps)?;

@@ -1,4 +1,4 @@
-use Rattle.std.proofs.Common.{length, ap, ◌∙◌, arith}
+use Rattle.std.proofs.Common.{length, ap, arith}
 use Rattle.scenario_image.proofs.Counting.{one_row_more, few_steps}
 use Rattle.scenario_image.proofs.scenario.Scenario.steps.Goals as goal
 
