@@ -17,7 +17,7 @@ use Rattle.object_defs.specs.Base.{base}
 use Rattle.object_defs.specs.Catalogue.{definition_of, object_of}
 use Rattle.object_defs.specs.Lines.{first_line}
 use Rattle.object_defs.specs.Path.{full_path, instance_cmp, path_cmp}
-use Rattle.object_defs.specs.Vendor.{inserted, is_vendor, new_object, with_object, with_resource}
+use Rattle.object_defs.specs.Vendor.{is_vendor, new_object, with_object, with_resource}
 use Rattle.object_defs.specs.declared.definition.ObjectDef.{ObjectDef}
 use Rattle.object_defs.specs.declared.definition.ResourceDef.{ResourceDef}
 use Rattle.object_defs.specs.declared.path.FullPath.{FullPath}

@@ -1,9 +1,9 @@
 -- Lines that are taken one after another.
-use Rattle.std.proofs.Common.{◌≡◌, ℕ, zero, suc, ◌+◌, ◌-◌, List, [], ◌∷◌, length, Option, None, Some, Result, Ok, Err, option_map, refl, sym, ap, ◌∙◌}
+use Rattle.std.proofs.Common.{◌≡◌, ℕ, suc, ◌+◌, List, [], ◌∷◌, length, Option, None, Some, Result, Ok, Err, option_map, sym, ap, ◌∙◌}
 use Rattle.std.specs.List.{slice_get}
-use Rattle.scenario_image.specs.Script.{Row, Script, last_row}
+use Rattle.scenario_image.specs.Script.{Row}
 use Rattle.scenario_words.specs.declared.cause.Cause.{Cause}
-use Rattle.scenario_words.specs.Words.{lines, parts_behind}
+use Rattle.scenario_words.specs.Words.{lines}
 use Rattle.scenario_asm.specs.declared.fault.AsmFault.{AsmFault}
 use Rattle.scenario_asm.specs.Draft.{Draft, nothing}
 use Rattle.scenario_asm.specs.Text.{assembled, at_line, line_after, lines_after, then_lines, whole, whole_of}

@@ -1,6 +1,6 @@
 -- What a line adds to the open class, in the words of its builder, and why it is refused: what was not stated before comes
 -- first, then what does not fit, then what is there already, then limits.
-use Rattle.std.specs.Prelude.{ℕ, nat_le, Bool, true, not, ◌&&◌, List, [], ◌∷◌, Option, None, Some, is_some, option_map, Result}
+use Rattle.std.specs.Prelude.{ℕ, nat_le, Bool, true, not, ◌&&◌, [], ◌∷◌, Option, None, Some, is_some, option_map, Result}
 use Rattle.lwm2m_values.specs.declared.value.Value.{Value}
 use Rattle.object_defs.specs.Catalogue.{object_of}
 use Rattle.object_defs.specs.Lines.{first_line}

@@ -1,5 +1,5 @@
 -- What the lines of a scenario's text have stated so far.
-use Rattle.std.specs.Prelude.{ℕ, ◌<◌, Bool, false, List, [], length, Option, None, Some, IfSome}
+use Rattle.std.specs.Prelude.{ℕ, ◌<◌, Bool, false, [], length, Option, None, Some, IfSome}
 use Rattle.device_template.specs.Class.{Class}
 use Rattle.scenario_image.specs.Script.{Script, with_class}
 

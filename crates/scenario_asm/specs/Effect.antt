@@ -1,6 +1,6 @@
 -- What each statement adds to a draft, in the words of the builders of classes and scenarios, and why it is refused: what
 -- was not stated before comes first, then what does not fit, then what is there already, then limits.
-use Rattle.std.specs.Prelude.{ℕ, ◌==◌, nat_lt, Bool, true, false, List, length, Option, None, Some, option_map, Result, Ok, Err, if◌then◌else◌}
+use Rattle.std.specs.Prelude.{ℕ, ◌==◌, nat_lt, Bool, true, false, length, Option, None, Some, option_map, Result, Ok, Err, if◌then◌else◌}
 use Rattle.std.specs.List.{list_any}
 use Rattle.device_template.specs.Class.{Class, empty_class}
 use Rattle.device_machine.specs.declared.event.Event.TheVariants as event

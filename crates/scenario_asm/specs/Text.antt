@@ -1,5 +1,5 @@
 -- What a text denotes: the statements of its lines, one after another.
-use Rattle.std.specs.Prelude.{◌≡◌, ℕ, ◌+◌, true, List, [], ◌∷◌, length, suc, Option, None, Some, Result, Ok, Err, if◌then◌else◌}
+use Rattle.std.specs.Prelude.{ℕ, ◌+◌, List, [], ◌∷◌, Option, None, Some, Result, Ok, Err, if◌then◌else◌}
 use Rattle.scenario_image.specs.Script.{Script}
 use Rattle.scenario_words.specs.declared.cause.Cause.{Cause}
 use Rattle.scenario_words.specs.declared.cause.Cause.TheVariants.{Missing}

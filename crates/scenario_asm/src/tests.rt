@@ -1,6 +1,6 @@
 //! Texts and their scenarios; and refused lines, each cause in its place.
 
-use crate::{AsmFault, assemble, texts_denote};
+use crate::{AsmFault, assemble, canonical_text, disassemble, texts_denote};
 use device_machine::Event;
 use lwm2m_values::Value;
 use object_defs::Path;
@@ -102,6 +102,39 @@ fn takes_a_scenario_without_classes(rt: HostRuntime) -> Result<(), Fail> {
     let empty = assemble(rt.alloc(), "scenario 1\n")?;
     assert!(rt; empty.class(0).is_none());
     assert_eq!(rt; empty.rows(), 0);
+    Ok(())
+}
+
+/// A text that uses what a text is free in: comments, lines without words, further spaces, hex in lower case, escapes of bytes that
+/// need none, the bytes of a datagram for its mnemonic, any order in a class, a class begun behind a device, no LF at the end.
+const FREE: &str =
+    "  # a text\n\n   \nscenario   1 # the first statement\nclass\ninstance 3 0 \n  value /3/0/16 text \"\\55\"\n\
+    value /3/0/0 text \"a #1 \\c3\\a9 \\22\" # and more\nobject 10250\nobject 10241\ndef 7 rw single optional opaque\n\
+    def 0 r multiple mandatory link\naccount 9\naccount 2\ninstance 10241 5\ninstance 10241 1\ninstance 1 0\n\
+    value /10241/1/7 opaque abCd\nvalue /10241/1/0/3 link 3:0\nvalue /10241/1/0/1 link 1:65535\nvalue /1/0/6 boolean 1\n\
+    device 0\nrecv 2 40010001b13301300139\nrecv 9 4001\nwrite 9 non 18 ab /2/0/2 tlv 80ff # a payload\nclass # behind a device\n\
+    account 1\ntick 5\ndevice   1\nput /3/0/13 time -1\ndevice 0\nneed 1 2";
+
+/// The same scenario in its canonical text.
+const CANONICAL: &str =
+    "scenario 1\nclass\naccount 2\naccount 9\nobject 10241\ndef 0 r multiple mandatory link\ndef 7 rw single optional opaque\n\
+    object 10250\ninstance 1 0\ninstance 3 0\ninstance 10241 1\ninstance 10241 5\nvalue /1/0/6 boolean 1\n\
+    value /3/0/0 text \"a #1 \\C3\\A9 \\22\"\nvalue /3/0/16 text \"U\"\nvalue /10241/1/0/1 link 1:65535\n\
+    value /10241/1/0/3 link 3:0\nvalue /10241/1/7 opaque ABCD\nclass\naccount 1\ndevice 0\nread 2 con 1 - /3/0/9 any\n\
+    recv 9 4001\nwrite 9 non 18 AB /2/0/2 tlv 80FF\ntick 5\ndevice 1\nput /3/0/13 time -1\ndevice 0\nneed 1 2\n";
+
+#[test]
+fn writes_what_it_reads_in_canonical_form(rt: HostRuntime) -> Result<(), Fail> {
+    canonical_text();
+    for (text, canonical) in [
+        (BATTERY, BATTERY),
+        (FREE, CANONICAL),
+        (CANONICAL, CANONICAL),
+    ] {
+        let scenario = assemble(rt.alloc(), text)?;
+        let written = disassemble(rt.alloc(), &scenario)?;
+        assert_eq!(rt; written.as_str(), canonical);
+    }
     Ok(())
 }
 
