@@ -1,18 +1,19 @@
 #!/usr/bin/env python3
-"""Measures the serial run of `lwbench`: steps per second, CPU time a step, and memory.
+"""Measures the serial run of `lwbench`: processor time a step, steps a second, and memory.
 
     bench/serial.py PROGRAM [TIMES]
 
 PROGRAM is the built program, crates/lwbench/out/lwbench. The script writes each scenario's image itself, in a
-folder of its own, runs `PROGRAM run IMAGE` on it TIMES times (3), and prints one line a scenario, with the least time
-of these runs. Python's standard library is all that it needs. README.md says what the scenarios are.
+folder of its own, lets PROGRAM start it, run it, write its trace and check that, TIMES times (3) each, and prints one
+line a scenario, with the least time of these runs. Python's standard library is all that it needs. README.md says what
+the scenarios and the columns are.
 """
 import os
+import resource
 import struct
 import subprocess
 import sys
 import tempfile
-import time
 
 SERVER = 1
 BATTERY = (3, 0, 9)
@@ -90,56 +91,98 @@ def image(rows):
     return b"".join(parts)
 
 
+def ticks(count):
+    return [tick()] * count
+
+
+# A trace of no entries.
+EMPTY = struct.pack(">IBI", 0x4C575452, 1, 0)
+
+
 def scenarios():
     """Name, devices, and the steps of each device."""
-    for devices in (1, 64, 512, 4096):
+    for devices in (1, 64, 512, 1024, 2048, 4096):
         yield "mixed", devices, mixed(100)
-    for steps in (10, 25, 50, 100, 200):
+    for steps in (12, 24, 48, 200, 400, 800):
         yield "mixed", 1024, mixed(steps)
-    for steps in (512, 1024, 2048, 4096):
-        yield "reads", 1, reads(steps)
+    for steps in (200, 400):
+        yield "mixed", 4096, mixed(steps)
     for steps in (512, 1024, 2048, 4096):
         yield "mixed", 1, mixed(steps)
-    for devices in (64, 512, 4096):
+    for steps in (512, 1024, 2048, 4096):
+        yield "reads", 1, reads(steps)
+    for steps in (100, 200, 400):
+        yield "ticks", 4096, ticks(steps)
+    for devices in (64, 512, 1024, 2048, 4096):
         yield "posts", devices, posts(10)
 
 
-def measure(command):
-    """Seconds, CPU seconds and KiB of memory of one run, and its line."""
-    start = time.monotonic()
+def write_apart(path, steps, devices):
+    """Writes the image from a process of its own: what this one had in memory would count as the program's."""
+    child = os.fork()
+    if child == 0:
+        with open(path, "wb") as out:
+            out.write(image([steps] * devices))
+        os._exit(0)
+    if os.waitpid(child, 0)[1] != 0:
+        sys.exit(f"{path} was not written")
+
+
+def once(command, wanted):
+    """Processor seconds and KiB of memory of one run, which has to print this line."""
     child = subprocess.Popen(command, stdout=subprocess.PIPE)
     line = child.stdout.read().decode()
     _, status, usage = os.wait4(child.pid, 0)
     child.returncode = os.waitstatus_to_exitcode(status)
-    seconds = time.monotonic() - start
-    if child.returncode != 0:
-        sys.exit(f"{command}: status {child.returncode}, {line!r}")
-    return seconds, usage.ru_utime + usage.ru_stime, usage.ru_maxrss, line
+    child.stdout.close()
+    if child.returncode != 0 or line != wanted:
+        sys.exit(f"{command}: status {child.returncode}, {line!r} in place of {wanted!r}")
+    return usage.ru_utime + usage.ru_stime, usage.ru_maxrss
+
+
+def measure(times, command, wanted):
+    """The least processor seconds and the most MiB of memory of so many runs."""
+    runs = [once(command, wanted) for _ in range(times)]
+    return min(run[0] for run in runs), max(run[1] for run in runs) / 1024
+
+
+COLUMNS = ["Steps", "Devices", "Steps each", "Steps in all", "Start s", "Run s", "CPU a step", "Steps a CPU second", "Check s",
+           "Image MiB", "Trace MiB", "Start MiB", "Run MiB"]
+
+
+def mebibytes(memory):
+    """The memory, where it can be told: a child counts what this process had at its start."""
+    own = resource.getrusage(resource.RUSAGE_SELF).ru_maxrss / 1024
+    return f"{memory:.1f}" if memory > own + 1 else "-"
+
+
+def row(cells):
+    print("| " + " | ".join(cells) + " |", flush=True)
 
 
 def main():
-    if len(sys.argv) not in (2, 3):
+    if len(sys.argv) not in (2, 3) or sys.argv[1].startswith("-"):
         sys.exit(__doc__)
     program = os.path.abspath(sys.argv[1])
     times = int(sys.argv[2]) if len(sys.argv) == 3 else 3
-    print("| Steps | Devices | Steps each | Steps in all | Seconds | CPU seconds | Steps a second | CPU a step | Memory |")
-    print("|---|---|---|---|---|---|---|---|---|")
+    row(COLUMNS)
+    print("|---" * len(COLUMNS) + "|", flush=True)
     with tempfile.TemporaryDirectory() as folder:
+        file, trace, empty = (os.path.join(folder, name) for name in ("image", "trace", "empty"))
+        with open(empty, "wb") as out:
+            out.write(EMPTY)
         for name, devices, steps in scenarios():
-            file = os.path.join(folder, "image")
-            with open(file, "wb") as out:
-                out.write(image([steps] * devices))
+            write_apart(file, steps, devices)
             total = devices * len(steps)
-            runs = [measure([program, "run", file]) for _ in range(times)]
-            wanted = f"done {total}\n"
-            for run in runs:
-                if run[3] != wanted:
-                    sys.exit(f"{name} {devices} x {len(steps)}: {run[3]!r} in place of {wanted!r}")
-            seconds = min(run[0] for run in runs)
-            cpu = min(run[1] for run in runs)
-            memory = max(run[2] for run in runs) / 1024
-            print(f"| {name} | {devices} | {len(steps)} | {total} | {seconds:.3f} | {cpu:.3f} | {total / seconds:,.0f}"
-                  f" | {cpu / total * 1e6:.2f} µs | {memory:.0f} MiB |", flush=True)
+            done = f"done {total}\n"
+            start, start_memory = measure(times, [program, "check", file, empty], "run\n")
+            run, run_memory = measure(times, [program, "run", file], done)
+            once([program, "run", file, "--trace", trace], done)
+            check, _ = measure(times, [program, "check", file, trace], "run\n")
+            taken = run - start
+            row([name, str(devices), str(len(steps)), str(total), f"{start:.3f}", f"{run:.3f}", f"{taken / total * 1e6:.2f} µs",
+                 f"{total / taken:,.0f}" if taken > 0 else "", f"{check:.3f}", f"{os.path.getsize(file) / 2**20:.2f}",
+                 f"{os.path.getsize(trace) / 2**20:.2f}", mebibytes(start_memory), mebibytes(run_memory)])
 
 
 if __name__ == "__main__":
