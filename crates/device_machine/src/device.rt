@@ -75,10 +75,11 @@ impl Device {
         })
     }
 
-    /// The second that the device's clock shows, from 0 at its start. What a spent device shows is
-    /// open.
+    /// The second that the device's clock shows, from 0 at its start; that of a spent device is the
+    /// one that it was left with.
     pub fn clock(&self) -> u64
-        ensures { (f : Flat) → Shows self.now f → result ≡ f.kept.clock }
+        ensures shown { (f : Flat) → Shows self.now f → result ≡ f.kept.clock }
+        ensures left { result ≡ self.now.flat.kept.clock }
     {
         self.machine.clock()
     }
@@ -102,23 +103,28 @@ impl Device {
         Ok(outputs)
     }
 
-    /// The attributes that servers set, lent. What a spent device lends is open.
+    /// The attributes that servers set, lent; a spent device lends those that it was left with.
     pub fn attributes(&self) -> &Attributes
-        ensures { (f : Flat) → Shows self.now f → result.now ≡ f.kept.client.attributes }
+        ensures shown { (f : Flat) → Shows self.now f → result.now ≡ f.kept.client.attributes }
+        ensures left { result.now ≡ self.now.flat.kept.client.attributes }
     {
         self.machine.attributes()
     }
 
-    /// The observations, lent, in the order of registration. What a spent device lends is open.
+    /// The observations, lent, in the order of registration; a spent device lends those that it was
+    /// left with.
     pub fn observations(&self) -> &Observations
-        ensures { (f : Flat) → Shows self.now f → result.now ≡ f.kept.observations }
+        ensures shown { (f : Flat) → Shows self.now f → result.now ≡ f.kept.observations }
+        ensures left { result.now ≡ self.now.flat.kept.observations }
     {
         self.machine.observations()
     }
 
-    /// The value at a path of three or four numbers, lent. What a spent device lends is open.
+    /// The value at a path of three or four numbers, lent; a spent device lends the one that it was
+    /// left with.
     pub fn value(&self, path: &Path) -> Option<&Value>
-        ensures { (f : Flat) → Shows self.now f → option_copied result ≡ value_in f.kept (full_path path.now) }
+        ensures shown { (f : Flat) → Shows self.now f → option_copied result ≡ value_in f.kept (full_path path.now) }
+        ensures left { option_copied result ≡ value_in self.now.flat.kept (full_path path.now) }
     {
         let path = path.full()?;
         self.machine.store().get(path)
