@@ -4,9 +4,9 @@
     bench/serial.py PROGRAM [TIMES]
 
 PROGRAM is the built program, crates/lwbench/out/lwbench. The script writes each scenario's image itself, in a
-folder of its own, lets PROGRAM start it, run it, write its trace and check that, TIMES times (3) each, and prints one
-line a scenario, with the least time of these runs. Python's standard library is all that it needs. README.md says what
-the scenarios and the columns are.
+folder of its own, lets PROGRAM start it, run it, write its trace and check that, in TIMES rounds (3) over all of them,
+and prints one line a scenario, with the least time of all rounds. Python's standard library is all that it needs.
+README.md says what the scenarios and the columns are.
 """
 import os
 import resource
@@ -101,19 +101,19 @@ EMPTY = struct.pack(">IBI", 0x4C575452, 1, 0)
 
 def scenarios():
     """Name, devices, and the steps of each device."""
-    for devices in (1, 64, 512, 1024, 2048, 4096):
+    for devices in (64, 512, 1024, 2048, 4096):
         yield "mixed", devices, mixed(100)
-    for steps in (12, 24, 48, 200, 400, 800):
-        yield "mixed", 1024, mixed(steps)
     for steps in (200, 400):
         yield "mixed", 4096, mixed(steps)
+    for steps in (25, 50, 200, 400, 800):
+        yield "mixed", 1024, mixed(steps)
     for steps in (512, 1024, 2048, 4096):
         yield "mixed", 1, mixed(steps)
     for steps in (512, 1024, 2048, 4096):
         yield "reads", 1, reads(steps)
     for steps in (100, 200, 400):
         yield "ticks", 4096, ticks(steps)
-    for devices in (64, 512, 1024, 2048, 4096):
+    for devices in (512, 1024, 2048, 4096):
         yield "posts", devices, posts(10)
 
 
@@ -140,24 +140,30 @@ def once(command, wanted):
     return usage.ru_utime + usage.ru_stime, usage.ru_maxrss
 
 
-def measure(times, command, wanted):
-    """The least processor seconds and the most MiB of memory of so many runs."""
-    runs = [once(command, wanted) for _ in range(times)]
-    return min(run[0] for run in runs), max(run[1] for run in runs) / 1024
+class Least:
+    """The least processor seconds and the most KiB of memory of several runs."""
+
+    def __init__(self):
+        self.seconds, self.memory = float("inf"), 0
+
+    def add(self, run):
+        self.seconds, self.memory = min(self.seconds, run[0]), max(self.memory, run[1])
+
+    def milliseconds(self):
+        return f"{self.seconds * 1e3:.1f}"
+
+    def mebibytes(self):
+        """The memory, where it can be told: a child counts what this process had at its start."""
+        own = resource.getrusage(resource.RUSAGE_SELF).ru_maxrss
+        return f"{self.memory / 1024:.1f}" if self.memory > own + 1024 else "-"
 
 
-COLUMNS = ["Steps", "Devices", "Steps each", "Steps in all", "Start s", "Run s", "CPU a step", "Steps a CPU second", "Check s",
-           "Image MiB", "Trace MiB", "Start MiB", "Run MiB"]
-
-
-def mebibytes(memory):
-    """The memory, where it can be told: a child counts what this process had at its start."""
-    own = resource.getrusage(resource.RUSAGE_SELF).ru_maxrss / 1024
-    return f"{memory:.1f}" if memory > own + 1 else "-"
+COLUMNS = ["Steps", "Devices", "Steps each", "Steps in all", "Start ms", "Run ms", "CPU a step", "Steps a CPU second",
+           "Check ms", "Image MiB", "Trace MiB", "Start MiB", "Run MiB"]
 
 
 def row(cells):
-    print("| " + " | ".join(cells) + " |", flush=True)
+    print("| " + " | ".join(cells) + " |")
 
 
 def main():
@@ -165,24 +171,30 @@ def main():
         sys.exit(__doc__)
     program = os.path.abspath(sys.argv[1])
     times = int(sys.argv[2]) if len(sys.argv) == 3 else 3
-    row(COLUMNS)
-    print("|---" * len(COLUMNS) + "|", flush=True)
+    found = {}
     with tempfile.TemporaryDirectory() as folder:
-        file, trace, empty = (os.path.join(folder, name) for name in ("image", "trace", "empty"))
+        empty, trace = (os.path.join(folder, name) for name in ("empty", "trace"))
         with open(empty, "wb") as out:
             out.write(EMPTY)
         for name, devices, steps in scenarios():
+            file = os.path.join(folder, f"{name}-{devices}-{len(steps)}")
             write_apart(file, steps, devices)
-            total = devices * len(steps)
-            done = f"done {total}\n"
-            start, start_memory = measure(times, [program, "check", file, empty], "run\n")
-            run, run_memory = measure(times, [program, "run", file], done)
+            done = f"done {devices * len(steps)}\n"
             once([program, "run", file, "--trace", trace], done)
-            check, _ = measure(times, [program, "check", file, trace], "run\n")
-            taken = run - start
-            row([name, str(devices), str(len(steps)), str(total), f"{start:.3f}", f"{run:.3f}", f"{taken / total * 1e6:.2f} µs",
-                 f"{total / taken:,.0f}" if taken > 0 else "", f"{check:.3f}", f"{os.path.getsize(file) / 2**20:.2f}",
-                 f"{os.path.getsize(trace) / 2**20:.2f}", mebibytes(start_memory), mebibytes(run_memory)])
+            os.rename(trace, file + ".trace")
+            sizes = [f"{os.path.getsize(it) / 2**20:.2f}" for it in (file, file + ".trace")]
+            found[name, devices, len(steps)] = file, done, sizes, Least(), Least(), Least()
+        for _ in range(times):
+            for file, done, _, start, run, check in found.values():
+                start.add(once([program, "check", file, empty], "run\n"))
+                run.add(once([program, "run", file], done))
+                check.add(once([program, "check", file, file + ".trace"], "run\n"))
+    row(COLUMNS)
+    row(["---"] * len(COLUMNS))
+    for (name, devices, steps), (_, _, sizes, start, run, check) in found.items():
+        total, taken = devices * steps, run.seconds - start.seconds
+        row([name, str(devices), str(steps), str(total), start.milliseconds(), run.milliseconds(), f"{taken / total * 1e6:.2f} µs",
+             f"{total / taken:,.0f}", check.milliseconds(), *sizes, start.mebibytes(), run.mebibytes()])
 
 
 if __name__ == "__main__":
