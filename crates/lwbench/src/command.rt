@@ -1,5 +1,5 @@
 //! One command: its words, its answer, and the status that the program ends with.
-ghost use Rattle.std.specs.Prelude.{◌≡◌, IfErr, IfOk, OnOk, map};
+ghost use Rattle.std.specs.Prelude.{◌≡◌, ◌⊎◌, IfErr, IfOk, OnOk, map};
 ghost use Rattle.std.specs.Io.KnownBytes.{Appends};
 ghost use Rattle.std.specs.String.{string_bytes};
 ghost use Rattle.lwbench.specs.FaultLine.{fault_line};
@@ -8,7 +8,7 @@ ghost use Rattle.lwbench.specs.Jobs.{Ends, IsCommandFault, IsDone, IsRefused};
 use crate::fault::Fault;
 use crate::files::Files;
 use crate::status::Status;
-use crate::words::{Asked, Job};
+use crate::words::{Asked, Job, NO_TEXT};
 use crate::{answers, words};
 use std::alloc::Global;
 use std::io::{self, BufRead, ErrorKind, Write};
@@ -95,11 +95,15 @@ pub fn print_fault<W: Write>(fault: Fault, writer: &mut W) -> io::Result<()>
     writer.flush()
 }
 
-/// Answers where the words could not be had at all.
-pub fn refuse<W: Write>(why: ErrorKind, writer: &mut W) -> Status {
+/// Answers where the words could not be had at all: one of them is no text, or memory ran out.
+pub fn refuse<W: Write>(why: ErrorKind, writer: &mut W) -> Status
+    ensures ends { (result ≡ Status.Usage) ⊎ (result ≡ Status.Fault) }
+    ensures memory { why ≡ ErrorKind.OutOfMemory → result ≡ Status.Fault }
+    ensures printed { result ≡ Status.Usage → Appends (W.contents writer.old) (W.contents writer.new) NO_TEXT.now }
+{
     match why {
         ErrorKind::OutOfMemory => tell(Fault::Memory, writer),
-        _ => match writer.write_all(words::NO_TEXT.as_bytes()) {
+        _ => match writer.write_all(NO_TEXT.as_bytes()) {
             Ok(()) => Status::Usage,
             Err(error) => tell(Fault::from(error), writer),
         },
