@@ -1,6 +1,7 @@
 -- The serial run, entry by entry.
-use Rattle.std.proofs.Common.{◌≡◌, ℕ, zero, suc, ◌+◌, ◌*◌, ◌-◌, ◌<◌, ◌≤◌, true, false, ◌⊎◌, inl, inr, List, [], ◌∷◌, ◌++◌, length, Option, None, Some, slice_get, refl, sym, ap, subst, ◌∙◌, arith}
-use Rattle.std.proofs.lemmas.Bool.{cases_lt, false≢true}
+use Rattle.std.proofs.Common.{◌≡◌, ℕ, zero, suc, ◌+◌, ◌*◌, ◌-◌, ◌<◌, ◌≤◌, true, false, ◌⊎◌, inl, inr, List, [], ◌∷◌, ◌++◌, length, min, Option, None, Some, slice_get, slice_index, slice_set, refl, sym, ap, subst, ◌∙◌, arith, get_or-set_other}
+use Rattle.std.proofs.lemmas.List.{length-set}
+use Rattle.std.proofs.lemmas.Bool.{cases_lt, ne_eqb, false≢true}
 use Rattle.std.proofs.lemmas.Option.{slice_get_past, slice_get_within}
 use Rattle.scenario_image.specs.declared.step.Step.{Step}
 use Rattle.scenario_image.specs.declared.step.Step.TheVariants.{Event, Post, Need}
@@ -8,55 +9,119 @@ use Rattle.scenario_image.specs.Script.{Row, Script}
 use Rattle.trace_file.specs.declared.entry.Entry.{Entry}
 use Rattle.fleet_core.specs.Along.{Along}
 use Rattle.fleet_core.specs.Run.{steps_in, step_in, step_at, made_by, is_post, posts_of, may_pass, is_enabled, entry_of, Fits, IsLowest, IsSerial}
-use Rattle.fleet_core.specs.Board.{Seen, with_entry, cursor_after}
+use Rattle.fleet_core.specs.Board.{Seen, with_entry, cursor_after, marks_after, marks_with}
 use Rattle.fleet_core.proofs.Along.{along-append, along_weaker}
 use Rattle.fleet_core.proofs.Posts.{one, made_same, made_other, posts-push, fits_enabled, enabled_fits, blocked_ended}
 
+-- ---- the marks
+
+-- a lower number at one place makes none higher
+set-below : (xs : List ℕ) (i j y : ℕ) → y ≤ slice_index xs i → slice_index (slice_set xs i y) j ≤ slice_index xs j
+set-below [] i j y h = omega arith
+set-below (z ∷ zs) zero zero y h = h
+set-below (z ∷ zs) zero (suc j) y h = omega arith
+set-below (z ∷ zs) (suc i) zero y h = omega arith
+set-below (z ∷ zs) (suc i) (suc j) y h = set-below zs i j y h
+
+set-own : (xs : List ℕ) (i y : ℕ) → slice_index (slice_set xs i y) i ≤ y
+set-own [] i y = omega arith
+set-own (z ∷ zs) zero y = omega arith
+set-own (z ∷ zs) (suc i) y = set-own zs i y
+
+after_length : (wake : List ℕ) (o : Option Step) → length (marks_after wake o) ≡ length wake
+after_length wake None = refl
+after_length wake (Some (Event event)) = refl
+after_length wake (Some (Post group)) = length-set wake group 65535
+after_length wake (Some (Need group count)) = refl
+
+with_length : (wake : List ℕ) (o : Option Step) (low : ℕ) → length (marks_with wake o low) ≡ length wake
+with_length wake None low = refl
+with_length wake (Some (Event event)) low = refl
+with_length wake (Some (Post group)) low = refl
+with_length wake (Some (Need group count)) low = length-set wake group (min (slice_index wake group) low)
+
+with_below : (wake : List ℕ) (o : Option Step) (low g : ℕ) → slice_index (marks_with wake o low) g ≤ slice_index wake g
+with_below wake None low g = omega arith
+with_below wake (Some (Event event)) low g = omega arith
+with_below wake (Some (Post group)) low g = omega arith
+with_below wake (Some (Need group count)) low g = set-below wake group g (min (slice_index wake group) low) (omega arith)
+
+with_own : (wake : List ℕ) (low g n : ℕ) → slice_index (marks_with wake (Some (Need g n)) low) g ≤ low
+with_own wake low g n = omega (arith, set-own wake g (min (slice_index wake g) low))
+
 -- ---- the invariant
 
--- the entries so far are always the lowest, and no device below the cursor can go
-pub record IsOnWay (s : Script) (low : ℕ) (v : Seen) : Type 0 where
+-- the device can't go, and where it waits for a group, the group's mark is at most at it
+pub record IsBlocked (s : Script) (es : List Entry) (wake : List ℕ) (d : ℕ) : Type 0 where
+  pub stands : is_enabled s es d ≡ false
+  pub marked : (g n : ℕ) → step_at s d (made_by d es) ≡ Some (Need g n) → slice_index wake g ≤ d
+
+-- the entries so far are always the lowest, and the devices below the cursor are blocked
+pub record IsOnWay (s : Script) (low : ℕ) (wake : List ℕ) (v : Seen) : Type 0 where
   pub scenario : v.scenario ≡ s
   pub ready : v.spent ≡ false
   pub along : Along (IsLowest s) [] v.entries
   pub within : low ≤ length s.rows
-  pub blocked : (d : ℕ) → d < low → is_enabled s v.entries d ≡ false
+  pub groups : length wake ≡ 256
+  pub blocked : (d : ℕ) → d < low → IsBlocked s v.entries wake d
 
-pub sets_out : (s : Script) (v : Seen) → v ≡ record { scenario = s; entries = []; spent = false } → IsOnWay s 0 v
-sets_out s v e = subst (λ w. IsOnWay s 0 w) (sym e)
-    (record { scenario = refl; ready = refl; along = tt; within = omega arith; blocked = λ d h. absurd (omega (arith, h)) })
+pub sets_out : (s : Script) (wake : List ℕ) (v : Seen) → v ≡ record { scenario = s; entries = []; spent = false } → length wake ≡ 256 → IsOnWay s 0 wake v
+sets_out s wake v e groups = subst (λ w. IsOnWay s 0 wake w) (sym e)
+    (record { scenario = refl; ready = refl; along = tt; within = omega arith; groups = groups; blocked = λ d h. absurd (omega (arith, h)) })
 
-pass_same : (p q : ℕ → ℕ) (o : Option Step) → ((g : ℕ) → p g ≡ q g) → may_pass p o ≡ may_pass q o
+pass_same : (p q : ℕ → ℕ) (o : Option Step) → ((g n : ℕ) → o ≡ Some (Need g n) → p g ≡ q g) → may_pass p o ≡ may_pass q o
 pass_same p q None h = refl
 pass_same p q (Some (Event event)) h = refl
 pass_same p q (Some (Post group)) h = refl
-pass_same p q (Some (Need group count)) h = ap (λ n. may_pass (λ g. n) (Some (Need group count))) (h group)
+pass_same p q (Some (Need group count)) h = ap (λ n. may_pass (λ g. n) (Some (Need group count))) (h group count refl)
 
--- a step that is no post lets no other device go
-quiet : (s : Script) (es : List Entry) (e : Entry) (d : ℕ) → ((g : ℕ) → is_post g (step_at s e.device e.step) ≡ false) → (e.device ≡ d → ⊥)
+-- a step that is no post to the group that another device waits for lets that device not go
+quiet : (s : Script) (es : List Entry) (e : Entry) (d : ℕ)
+    → ((g n : ℕ) → step_at s d (made_by d es) ≡ Some (Need g n) → is_post g (step_at s e.device e.step) ≡ false) → (e.device ≡ d → ⊥)
     → is_enabled s es d ≡ false → is_enabled s (es ++ e ∷ []) d ≡ false
 quiet s es e d none other was =
-    let posts : (g : ℕ) → posts_of s g (es ++ e ∷ []) ≡ posts_of s g es = λ g.
-    posts-push s g es e ∙ (ap (λ b. posts_of s g es + one b) (none g) ∙ omega arith) in
+    let posts : (g n : ℕ) → step_at s d (made_by d es) ≡ Some (Need g n) → posts_of s g (es ++ e ∷ []) ≡ posts_of s g es = λ g n h.
+    posts-push s g es e ∙ (ap (λ b. posts_of s g es + one b) (none g n h) ∙ omega arith) in
     ap (λ k. may_pass (λ g. posts_of s g (es ++ e ∷ [])) (step_at s d k)) (made_other d es e other)
     ∙ (pass_same (λ g. posts_of s g (es ++ e ∷ [])) (λ g. posts_of s g es) (step_at s d (made_by d es)) posts ∙ was)
 
--- below the cursor behind the step no device can go
-still_blocked : (s : Script) (es : List Entry) (e : Entry) (o : Option Step) → step_at s e.device e.step ≡ o
-    → ((d : ℕ) → d < e.device → is_enabled s es d ≡ false) → (d : ℕ) → d < cursor_after o e.device → is_enabled s (es ++ e ∷ []) d ≡ false
-still_blocked s es e None at blocked d below =
-    quiet s es e d (λ g. ap (is_post g) at) (λ h. omega (arith, h, below)) (blocked d below)
-still_blocked s es e (Some (Event event)) at blocked d below =
-    quiet s es e d (λ g. ap (is_post g) at) (λ h. omega (arith, h, below)) (blocked d below)
-still_blocked s es e (Some (Post group)) at blocked d below = absurd (omega (arith, below))
-still_blocked s es e (Some (Need group count)) at blocked d below =
-    quiet s es e d (λ g. ap (is_post g) at) (λ h. omega (arith, h, below)) (blocked d below)
+keeps : (s : Script) (es : List Entry) (e : Entry) (wake marks : List ℕ) (d : ℕ) → IsBlocked s es wake d → (e.device ≡ d → ⊥)
+    → ((g n : ℕ) → step_at s d (made_by d es) ≡ Some (Need g n) → is_post g (step_at s e.device e.step) ≡ false)
+    → ((g n : ℕ) → step_at s d (made_by d es) ≡ Some (Need g n) → slice_index marks g ≤ d) → IsBlocked s (es ++ e ∷ []) marks d
+keeps s es e wake marks d was other none marked =
+    record {
+      stands = quiet s es e d none other was.stands;
+      marked = λ g n at. marked g n (sym (ap (step_at s d) (made_other d es e other)) ∙ at);
+    }
 
-cursor_within : (o : Option Step) (low : ℕ) → cursor_after o low ≤ low
-cursor_within None low = omega arith
-cursor_within (Some (Event event)) low = omega arith
-cursor_within (Some (Post group)) low = omega arith
-cursor_within (Some (Need group count)) low = omega arith
+-- one that is blocked below the mark of a group waits for no posts to it
+keeps_apart : (s : Script) (es : List Entry) (wake : List ℕ) (d group g n : ℕ) → IsBlocked s es wake d → d < slice_index wake group
+    → step_at s d (made_by d es) ≡ Some (Need g n) → group ≡ g → ⊥
+keeps_apart s es wake d group g n was below at q =
+    let m : slice_index wake group ≤ d = subst (λ i. slice_index wake i ≤ d) (sym q) (was.marked g n at) in omega (arith, m, below)
+
+-- below the cursor behind the step the devices are blocked
+still_blocked : (s : Script) (es : List Entry) (e : Entry) (wake : List ℕ) (o : Option Step) → step_at s e.device e.step ≡ o
+    → ((d : ℕ) → d < e.device → IsBlocked s es wake d) → (d : ℕ) → d < cursor_after wake o e.device → IsBlocked s (es ++ e ∷ []) (marks_after wake o) d
+still_blocked s es e wake None at blocked d below =
+    keeps s es e wake wake d (blocked d below) (λ h. omega (arith, h, below)) (λ g n h. ap (is_post g) at) (blocked d below).marked
+still_blocked s es e wake (Some (Event event)) at blocked d below =
+    keeps s es e wake wake d (blocked d below) (λ h. omega (arith, h, below)) (λ g n h. ap (is_post g) at) (blocked d below).marked
+still_blocked s es e wake (Some (Post group)) at blocked d below =
+    let early : d < e.device = omega (arith, below) in
+    let first : d < slice_index wake group = omega (arith, below) in
+    let was = blocked d early in
+    keeps s es e wake (slice_set wake group 65535) d was (λ h. omega (arith, h, early))
+    (λ g n h. ap (is_post g) at ∙ ne_eqb group g (keeps_apart s es wake d group g n was first h))
+    (λ g n h. subst (λ x. x ≤ d) (sym (get_or-set_other wake group g 65535 0 (λ q. keeps_apart s es wake d group g n was first h (sym q)))) (was.marked g n h))
+still_blocked s es e wake (Some (Need group count)) at blocked d below =
+    keeps s es e wake wake d (blocked d below) (λ h. omega (arith, h, below)) (λ g n h. ap (is_post g) at) (blocked d below).marked
+
+cursor_within : (wake : List ℕ) (o : Option Step) (low : ℕ) → cursor_after wake o low ≤ low
+cursor_within wake None low = omega arith
+cursor_within wake (Some (Event event)) low = omega arith
+cursor_within wake (Some (Post group)) low = omega arith
+cursor_within wake (Some (Need group count)) low = omega arith
 
 lowest : (s : Script) (es : List Entry) (low : ℕ) → ((d : ℕ) → d < low → is_enabled s es d ≡ false) → (other : Entry) → Fits s es other
     → (low ≤ other.device) ⊎ (other.device < low) → low ≤ other.device
@@ -68,14 +133,20 @@ either a b (inl h) = inr h
 either a b (inr h) = inl h
 
 -- the device at the cursor goes
-pub goes_on : (s : Script) (low next : ℕ) (v new : Seen) → IsOnWay s low v → true ≡ is_enabled v.scenario v.entries low
-    → next ≡ cursor_after (step_at v.scenario low (made_by low v.entries)) low → new ≡ with_entry v 0 low → IsOnWay s next new
-goes_on s low next v new way can at is =
+pub goes_on : (s : Script) (low next : ℕ) (wake marks : List ℕ) (v new : Seen) → IsOnWay s low wake v → true ≡ is_enabled v.scenario v.entries low
+    → next ≡ cursor_after wake (step_at v.scenario low (made_by low v.entries)) low → marks ≡ marks_after wake (step_at v.scenario low (made_by low v.entries))
+    → new ≡ with_entry v 0 low → IsOnWay s next marks new
+goes_on s low next wake marks v new way can at noted is =
     let go : is_enabled s v.entries low ≡ true = ap (λ t. is_enabled t v.entries low) (sym way.scenario) ∙ sym can in
-    let step : next ≡ cursor_after (step_at s low (made_by low v.entries)) low = at ∙ ap (λ t. cursor_after (step_at t low (made_by low v.entries)) low) way.scenario in
+    let step : next ≡ cursor_after wake (step_at s low (made_by low v.entries)) low =
+    at ∙ ap (λ t. cursor_after wake (step_at t low (made_by low v.entries)) low) way.scenario in
+    let then : marks ≡ marks_after wake (step_at s low (made_by low v.entries)) = noted ∙ ap (λ t. marks_after wake (step_at t low (made_by low v.entries))) way.scenario in
     let more : new ≡ record { scenario = s; entries = v.entries ++ entry_of s 0 low v.entries ∷ []; spent = false } =
     is ∙ ap (λ t. record { scenario = t; entries = v.entries ++ entry_of t 0 low v.entries ∷ []; spent = false }) way.scenario in
-    subst (λ w. IsOnWay s next w) (sym more) (subst (λ n. IsOnWay s n (record { scenario = s; entries = v.entries ++ entry_of s 0 low v.entries ∷ []; spent = false })) (sym step)
+    subst (λ w. IsOnWay s next marks w) (sym more)
+    (subst (λ n. IsOnWay s n marks (record { scenario = s; entries = v.entries ++ entry_of s 0 low v.entries ∷ []; spent = false })) (sym step)
+    (subst (λ m. IsOnWay s (cursor_after wake (step_at s low (made_by low v.entries)) low) m
+    (record { scenario = s; entries = v.entries ++ entry_of s 0 low v.entries ∷ []; spent = false })) (sym then)
     (record {
       scenario = refl;
       ready = refl;
@@ -83,30 +154,47 @@ goes_on s low next v new way can at is =
         (record {
           fits = enabled_fits s v.entries 0 low go;
           worker = refl;
-          lowest = λ other fits. lowest s v.entries low way.blocked other fits (either other.device low (cases_lt other.device low));
+          lowest = λ other fits. lowest s v.entries low (λ d h. (way.blocked d h).stands) other fits (either other.device low (cases_lt other.device low));
         }),
         tt,
       );
-      within = omega (arith, way.within, cursor_within (step_at s low (made_by low v.entries)) low);
-      blocked = λ d below. still_blocked s v.entries (entry_of s 0 low v.entries) (step_at s low (made_by low v.entries)) refl way.blocked d below;
-    }))
+      within = omega (arith, way.within, cursor_within wake (step_at s low (made_by low v.entries)) low);
+      groups = after_length wake (step_at s low (made_by low v.entries)) ∙ way.groups;
+      blocked = λ d below. still_blocked s v.entries (entry_of s 0 low v.entries) wake (step_at s low (made_by low v.entries)) refl way.blocked d below;
+    })))
 
-below_more : (s : Script) (es : List Entry) (low d : ℕ) → ((d : ℕ) → d < low → is_enabled s es d ≡ false) → is_enabled s es low ≡ false → (d < low) ⊎ (low ≤ d) → d < low + 1
-    → is_enabled s es d ≡ false
-below_more s es low d blocked here (inl h) within = blocked d h
-below_more s es low d blocked here (inr h) within = subst (λ i. is_enabled s es i ≡ false) (omega (arith, h, within)) here
+here_marked : (s : Script) (es : List Entry) (wake : List ℕ) (low g n : ℕ) → step_at s low (made_by low es) ≡ Some (Need g n)
+    → slice_index (marks_with wake (step_at s low (made_by low es)) low) g ≤ low
+here_marked s es wake low g n at =
+    subst (λ o. slice_index (marks_with wake o low) g ≤ low) (sym at) (with_own wake low g n)
+
+below_more : (s : Script) (es : List Entry) (wake : List ℕ) (low d : ℕ) → ((d : ℕ) → d < low → IsBlocked s es wake d) → is_enabled s es low ≡ false
+    → (d < low) ⊎ (low ≤ d) → d < low + 1 → IsBlocked s es (marks_with wake (step_at s low (made_by low es)) low) d
+below_more s es wake low d blocked here (inl h) within =
+    record {
+      stands = (blocked d h).stands;
+      marked = λ g n at. omega (arith, with_below wake (step_at s low (made_by low es)) low g, (blocked d h).marked g n at);
+    }
+below_more s es wake low d blocked here (inr h) within =
+    subst (λ i. IsBlocked s es (marks_with wake (step_at s low (made_by low es)) low) i) (omega (arith, h, within))
+    (record { stands = here; marked = λ g n at. here_marked s es wake low g n at })
 
 -- the device at the cursor can't go
-pub passes_on : (s : Script) (low : ℕ) (v : Seen) → IsOnWay s low v → false ≡ is_enabled v.scenario v.entries low → low < length s.rows → IsOnWay s (low + 1) v
-passes_on s low v way can room =
+pub passes_on : (s : Script) (low : ℕ) (wake marks : List ℕ) (v : Seen) → IsOnWay s low wake v → false ≡ is_enabled v.scenario v.entries low
+    → marks ≡ marks_with wake (step_at v.scenario low (made_by low v.entries)) low → low < length s.rows → IsOnWay s (low + 1) marks v
+passes_on s low wake marks v way can noted room =
     let here : is_enabled s v.entries low ≡ false = ap (λ t. is_enabled t v.entries low) (sym way.scenario) ∙ sym can in
-    record {
+    let then : marks ≡ marks_with wake (step_at s low (made_by low v.entries)) low =
+    noted ∙ ap (λ t. marks_with wake (step_at t low (made_by low v.entries)) low) way.scenario in
+    subst (λ m. IsOnWay s (low + 1) m v) (sym then)
+    (record {
       scenario = way.scenario;
       ready = way.ready;
       along = way.along;
       within = omega (arith, room);
-      blocked = λ d h. below_more s v.entries low d way.blocked here (cases_lt d low) h;
-    }
+      groups = with_length wake (step_at s low (made_by low v.entries)) low ∙ way.groups;
+      blocked = λ d h. below_more s v.entries wake low d way.blocked here (cases_lt d low) h;
+    })
 
 no_row : (s : Script) (es : List Entry) (d : ℕ) → length s.rows ≤ d → is_enabled s es d ≡ false
 no_row s es d past = ap (λ o. may_pass (λ g. posts_of s g es) (slice_get (steps_in o) (made_by d es))) (slice_get_past s.rows d past)
@@ -116,12 +204,12 @@ all_blocked s es low d blocked past (inl h) = blocked d h
 all_blocked s es low d blocked past (inr h) = no_row s es d (omega (arith, past, h))
 
 -- the cursor is past the last device
-pub arrives : (s : Script) (low : ℕ) (v : Seen) → IsOnWay s low v → length s.rows ≤ low → IsSerial s v.entries
-arrives s low v way past =
+pub arrives : (s : Script) (low : ℕ) (wake : List ℕ) (v : Seen) → IsOnWay s low wake v → length s.rows ≤ low → IsSerial s v.entries
+arrives s low wake v way past =
     record {
       complete = record {
         run = record { along = along_weaker (IsLowest s) (Fits s) (λ b e h. h.fits) [] v.entries way.along };
-        ended = blocked_ended s v.entries (λ d. all_blocked s v.entries low d way.blocked past (cases_lt d low));
+        ended = blocked_ended s v.entries (λ d. all_blocked s v.entries low d (λ i h. (way.blocked i h).stands) past (cases_lt d low));
       };
       along = way.along;
     }

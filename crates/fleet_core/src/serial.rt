@@ -1,10 +1,10 @@
 //! The serial run.
 
-ghost use Rattle.std.specs.Prelude.{◌≡◌, ℕ, ◌++◌, ◌∷◌, List, true, false, IfOk, OnOk};
+ghost use Rattle.std.specs.Prelude.{◌≡◌, ℕ, ◌++◌, ◌∷◌, List, length, true, false, IfOk, OnOk};
 ghost use Rattle.std.specs.Option.{option_copied};
 ghost use Rattle.trace_file.specs.declared.entry.Entry.{Entry};
 ghost use Rattle.fleet_core.specs.Run.{is_enabled, IsComplete, IsSerial, IsSame};
-ghost use Rattle.fleet_core.specs.Board.{with_entry, cursor_after};
+ghost use Rattle.fleet_core.specs.Board.{with_entry, cursor_after, marks_after, marks_with};
 
 use crate::fault::CommitFault;
 use crate::fleet::Fleet;
@@ -25,31 +25,56 @@ fn add_entry(fleet: &mut Fleet, device: u16) -> Result<(), AllocError>
     }
 }
 
-/// The lowest device that may be able to go behind a step of this one: a post may let any device go, another step none that couldn't.
-fn cursor_after(step: Option<&Step>, low: u16) -> u16
-    ensures { result ≡ cursor_after (option_copied step.entry) low }
+/// The cursor behind a step of the device at it. A post may let a device go that waits for its group, so the cursor goes back to the group's mark, which is taken away. Another step lets none go that couldn't.
+fn cursor_after(wake: &mut Vec<u16>, step: Option<&Step>, low: u16) -> u16
+    requires groups { length wake.old.items ≡ 256 }
+    ensures cursor { result ≡ cursor_after wake.old.items (option_copied step.entry) low }
+    ensures marks { wake.new.items ≡ marks_after wake.old.items (option_copied step.entry) }
 {
     match step {
-        Some(Step::Post(_)) => 0,
+        Some(Step::Post(group)) => {
+            let at = usize::from(*group);
+            let first = wake[at];
+            wake[at] = u16::MAX;
+            low.min(first)
+        }
         None | Some(Step::Event(_) | Step::Need(_, _)) => low,
     }
 }
 
+/// Marks the group that the device at the cursor waits for, if it waits for one.
+fn mark(wake: &mut Vec<u16>, step: Option<&Step>, low: u16)
+    requires groups { length wake.old.items ≡ 256 }
+    ensures { wake.new.items ≡ marks_with wake.old.items (option_copied step.entry) low }
+{
+    match step {
+        Some(Step::Need(group, _)) => {
+            let at = usize::from(*group);
+            let first = wake[at];
+            wake[at] = first.min(low);
+        }
+        None | Some(Step::Event(_) | Step::Post(_)) => {}
+    }
+}
+
 /// The serial run. A cursor stands at a device below which none can go: where it can go, it goes; else the cursor moves on by one.
+/// Each group has a mark, at most at the lowest device below the cursor that waits for its posts.
 fn serial_entries(alloc: Global, scenario: &Scenario) -> Result<Entries, AllocError>
     ensures { IfOk result (λ es. IsSerial scenario.now es) }
 {
     let rows = scenario.rows();
     let mut fleet = Fleet::new(alloc, scenario)?;
+    let mut wake = vec![in alloc; u16::MAX; 256]?;
     let mut low = 0u16;
     'turns: while usize::from(low) < rows {
+        let step = fleet.next_step(low);
         if !fleet.enabled(low) {
+            mark(&mut wake, step, low);
             low += 1;
             continue 'turns;
         }
-        let next = cursor_after(fleet.next_step(low), low);
         add_entry(&mut fleet, low)?;
-        low = next;
+        low = cursor_after(&mut wake, step, low);
     }
     Ok(fleet.into_entries())
 }
