@@ -95,6 +95,9 @@ def ticks(count):
     return [tick()] * count
 
 
+# Less processor time than this, in seconds, tells nothing of a step.
+SHORTEST = 0.0005
+
 # A trace of no entries.
 EMPTY = struct.pack(">IBI", 0x4C575452, 1, 0)
 
@@ -114,7 +117,7 @@ def scenarios():
     for steps in (100, 200, 400):
         yield "ticks", 4096, ticks(steps)
     for devices in (512, 1024, 2048, 4096):
-        yield "posts", devices, posts(10)
+        yield "posts", devices, posts(100)
 
 
 def write_apart(path, steps, devices):
@@ -193,8 +196,9 @@ def main():
     row(["---"] * len(COLUMNS))
     for (name, devices, steps), (_, _, sizes, start, run, check) in found.items():
         total, taken = devices * steps, run.seconds - start.seconds
-        row([name, str(devices), str(steps), str(total), start.milliseconds(), run.milliseconds(), f"{taken / total * 1e6:.2f} µs",
-             f"{total / taken:,.0f}", check.milliseconds(), *sizes, start.mebibytes(), run.mebibytes()])
+        step = [f"{taken / total * 1e6:.2f} µs", f"{total / taken:,.0f}"] if taken > SHORTEST else ["-", "-"]
+        row([name, str(devices), str(steps), str(total), start.milliseconds(), run.milliseconds(), *step, check.milliseconds(), *sizes,
+             start.mebibytes(), run.mebibytes()])
 
 
 if __name__ == "__main__":
