@@ -1,12 +1,13 @@
 //! The image of a scenario: what is read of it, what is written, and the fault of other bytes.
 
+use crate::tests::{add_read, add_row, add_step, class_of, received, row_of, scenario};
 use crate::{Scenario, Step, load, one_image, save};
 use byte_layout::LayoutFault;
 use device_machine::{Event, Template};
 use lwm2m_values::Value;
 use object_defs::Path;
-use octets::Bytes;
 use std::alloc::{AllocError, Global};
+use std::process::Abort;
 use std::test::*;
 
 /// No class and no row.
@@ -34,66 +35,78 @@ const ALL_KINDS: [u8; 245] = [
     1, 0, 6, 5, 0, 1, 0, 2, 4, 9, 5, 0xFF, 6, 7, 0, 0x0F, 0x42, 0x40, 0, 0, 0, 0,
 ];
 
+/// The scenario of the image, or its fault. It has no clauses, and nor have the other helpers: so the tests that call them are proved
+/// at little cost.
+fn loaded(alloc: Global, bytes: &[u8]) -> Result<Scenario, LayoutFault> {
+    load(alloc, bytes)
+}
+
+fn saved(alloc: Global, scenario: &Scenario) -> Result<Vec<u8>, AllocError> {
+    save(alloc, scenario)
+}
+
+/// How many classes, rows and steps there are.
+fn counts(scenario: &Scenario) -> (usize, usize, usize) {
+    (scenario.classes(), scenario.rows(), scenario.steps())
+}
+
 /// The scenario of the battery level, as it is built.
 fn battery(alloc: Global) -> Result<Scenario, Fail> {
-    let mut class = Template::new(alloc)?;
-    class.add_account(1)?;
-    class.add_instance(3, 0)?;
-    class.add_value(Path::Resource(3, 0, 9), Value::Whole(100))?;
-    let mut scenario = Scenario::empty(alloc);
-    scenario.add_class(class)?;
-    scenario.add_row(0)?;
-    let bytes = [0x40, 1, 0, 1, 0xB1, 0x33, 1, 0x30, 1, 0x39];
-    let bytes = Bytes::from_slice(alloc, &bytes)?;
-    scenario.add_step(Step::Event(Event::Recv { server: 1, bytes }))?;
+    let mut scenario = scenario(alloc)?;
+    add_read(alloc, &mut scenario)?;
     Ok(scenario)
+}
+
+/// The battery level of a device of the class.
+fn level(class: &Template) -> Result<Option<&Value>, Fail> {
+    let path = Path::Resource(3, 0, 9).full().ok_or("a full path")?;
+    Ok(class.store().get(path))
+}
+
+#[test]
+fn calls_the_law_of_images() {
+    one_image();
+}
+
+#[test]
+fn loads_the_class_of_a_device(rt: HostRuntime) -> Result<(), Fail> {
+    let scenario = loaded(rt.alloc(), &BATTERY)?;
+    assert_eq!(rt; counts(&scenario), (1, 1, 1));
+    let class = class_of(&scenario, 0)?;
+    assert_eq!(rt; class.accounts(), [1].as_slice());
+    assert_eq!(rt; class.store().instances(3), [0].as_slice());
+    assert!(rt; matches!(level(class)?, Some(Value::Whole(100))));
+    Ok(())
 }
 
 #[test]
 fn loads_what_a_device_of_the_class_takes(rt: HostRuntime) -> Result<(), Fail> {
-    one_image();
-    let scenario = load(rt.alloc(), &BATTERY)?;
-    assert_eq!(rt;
-        (scenario.classes(), scenario.rows(), scenario.steps()),
-        (1, 1, 1)
-    );
-    let class = scenario.class(0).ok_or("a class")?;
-    assert_eq!(rt; class.accounts(), [1].as_slice());
-    assert_eq!(rt; class.store().instances(3), [0].as_slice());
-    let path = Path::Resource(3, 0, 9).full().ok_or("a full path")?;
-    assert!(rt; matches!(class.store().get(path), Some(Value::Whole(100))));
-    let (class, steps) = scenario.row(0).ok_or("a row")?;
+    let scenario = loaded(rt.alloc(), &BATTERY)?;
+    let (class, steps) = row_of(&scenario, 0)?;
     assert_eq!(rt; class, 0);
-    let [Step::Event(Event::Recv { server: 1, bytes })] = steps else {
-        return Err("one datagram".into());
-    };
     assert_eq!(rt;
-        bytes.as_slice(),
+        received(steps)?,
         b"\x40\x01\x00\x01\xB13\x010\x019".as_slice()
     );
     Ok(())
 }
 
 #[test]
-fn counts_classes_rows_and_steps(rt: HostRuntime) -> Result<(), Fail> {
-    let scenario = load(rt.alloc(), &NOTHING)?;
-    assert_eq!(rt;
-        (scenario.classes(), scenario.rows(), scenario.steps()),
-        (0, 0, 0)
-    );
-    let scenario = load(rt.alloc(), &ALL_KINDS)?;
-    assert_eq!(rt;
-        (scenario.classes(), scenario.rows(), scenario.steps()),
-        (2, 2, 7)
-    );
+fn counts_classes_rows_and_steps_of_images(rt: HostRuntime) -> Result<(), Fail> {
+    let scenario = loaded(rt.alloc(), &NOTHING)?;
+    assert_eq!(rt; counts(&scenario), (0, 0, 0));
+    let scenario = loaded(rt.alloc(), &ALL_KINDS)?;
+    assert_eq!(rt; counts(&scenario), (2, 2, 7));
+    Ok(())
+}
+
+#[test]
+fn counts_classes_rows_and_steps_that_are_added(rt: HostRuntime) -> Result<(), Fail> {
     let mut scenario = battery(rt.alloc())?;
-    scenario.add_step(Step::Post(1))?;
-    scenario.add_row(0)?;
-    scenario.add_step(Step::Post(2))?;
-    assert_eq!(rt;
-        (scenario.classes(), scenario.rows(), scenario.steps()),
-        (1, 2, 3)
-    );
+    add_step(&mut scenario, Step::Post(1))?;
+    add_row(&mut scenario, 0)?;
+    add_step(&mut scenario, Step::Post(2))?;
+    assert_eq!(rt; counts(&scenario), (1, 2, 3));
     Ok(())
 }
 
@@ -119,31 +132,36 @@ fn is_wanted(place: usize, step: &Step) -> bool {
 
 #[test]
 fn loads_each_kind_of_step(rt: HostRuntime) -> Result<(), Fail> {
-    let scenario = load(rt.alloc(), &ALL_KINDS)?;
-    let (class, steps) = scenario.row(0).ok_or("a row")?;
+    let scenario = loaded(rt.alloc(), &ALL_KINDS)?;
+    let (class, steps) = row_of(&scenario, 0)?;
     assert_eq!(rt; (class, steps.len()), (1, 7));
     for (place, step) in steps.iter().enumerate() {
         assert!(rt; is_wanted(place, step), "at {place}");
     }
-    let (class, steps) = scenario.row(1).ok_or("a second row")?;
+    let (class, steps) = row_of(&scenario, 1)?;
     assert!(rt; class == 0 && steps.is_empty());
     Ok(())
 }
 
 #[test]
 fn saves_what_was_built(rt: HostRuntime) -> Result<(), Fail> {
-    let image = save(rt.alloc(), &battery(rt.alloc())?)?;
+    let image = saved(rt.alloc(), &battery(rt.alloc())?)?;
     assert_eq!(rt; image.as_slice(), BATTERY.as_slice());
-    let image = save(rt.alloc(), &Scenario::empty(rt.alloc()))?;
+    let image = saved(rt.alloc(), &Scenario::empty(rt.alloc()))?;
     assert_eq!(rt; image.as_slice(), NOTHING.as_slice());
     Ok(())
 }
 
+/// Whether the bytes are what is written of the scenario.
+fn is_written_as(alloc: Global, scenario: &Scenario, bytes: &[u8]) -> Result<bool, AllocError> {
+    Ok(saved(alloc, scenario)?.as_slice() == bytes)
+}
+
 /// Whether the bytes are refused, or are just what is written of the scenario that is read.
 fn are_refused_or_written(alloc: Global, bytes: &[u8]) -> Result<bool, AllocError> {
-    match load(alloc, bytes) {
+    match loaded(alloc, bytes) {
         Err(fault) => Ok(fault != LayoutFault::Memory),
-        Ok(scenario) => Ok(save(alloc, &scenario)?.as_slice() == bytes),
+        Ok(scenario) => is_written_as(alloc, &scenario, bytes),
     }
 }
 
@@ -166,51 +184,59 @@ fn change_read_amiss(alloc: Global, image: &[u8]) -> Result<Option<(usize, u8)>,
 }
 
 #[test]
-fn changes_of_the_empty_scenario_are_refused_or_written(rt: HostRuntime) -> Result<(), Fail> {
-    assert_eq!(rt; change_read_amiss(rt.alloc(), &NOTHING)?, None);
+fn changes_of_one_byte_are_refused_or_written(rt: HostRuntime) -> Result<(), Fail> {
+    let images: [&[u8]; 3] = [&NOTHING, &BATTERY, &ALL_KINDS];
+    for image in images {
+        assert_eq!(rt; change_read_amiss(rt.alloc(), image)?, None, "in {image:?}");
+    }
     Ok(())
 }
 
-#[test]
-fn changes_of_the_battery_level_are_refused_or_written(rt: HostRuntime) -> Result<(), Fail> {
-    assert_eq!(rt; change_read_amiss(rt.alloc(), &BATTERY)?, None);
-    Ok(())
-}
-
-#[test]
-fn changes_of_all_kinds_are_refused_or_written(rt: HostRuntime) -> Result<(), Fail> {
-    assert_eq!(rt; change_read_amiss(rt.alloc(), &ALL_KINDS)?, None);
-    Ok(())
+/// Each proper prefix of the image is cut.
+fn prefixes_are_cut(rt: &impl Abort, alloc: Global, image: &[u8]) {
+    for end in 0..image.len() {
+        assert!(rt; matches!(loaded(alloc, &image[..end]), Err(LayoutFault::Cut)));
+    }
 }
 
 #[test]
 fn each_proper_prefix_is_cut(rt: HostRuntime) {
     let images: [&[u8]; 3] = [&NOTHING, &BATTERY, &ALL_KINDS];
     for image in images {
-        for end in 0..image.len() {
-            assert!(rt; matches!(load(rt.alloc(), &image[..end]), Err(LayoutFault::Cut)));
-        }
+        prefixes_are_cut(&rt, rt.alloc(), image);
     }
+}
+
+/// The image with a byte behind it.
+fn with_one_more(alloc: Global, image: &[u8]) -> Result<Vec<u8>, Fail> {
+    let mut bytes = Vec::from_slice(alloc, image)?;
+    bytes.push(0)?;
+    Ok(bytes)
 }
 
 #[test]
 fn one_byte_more_is_trailing(rt: HostRuntime) -> Result<(), Fail> {
     let images: [&[u8]; 3] = [&NOTHING, &BATTERY, &ALL_KINDS];
     for image in images {
-        let mut bytes = Vec::from_slice(rt.alloc(), image)?;
-        bytes.push(0)?;
-        assert!(rt; matches!(load(rt.alloc(), &bytes), Err(LayoutFault::Trailing)));
+        let bytes = with_one_more(rt.alloc(), image)?;
+        assert!(rt; matches!(loaded(rt.alloc(), &bytes), Err(LayoutFault::Trailing)));
     }
     Ok(())
 }
 
-/// The fault of the image of the battery level with these two bytes at this place.
-fn fault_with(alloc: Global, place: usize, bytes: [u8; 2]) -> Result<LayoutFault, Fail> {
+/// The image of the battery level with these two bytes at this place.
+fn battery_with(alloc: Global, place: usize, bytes: [u8; 2]) -> Result<Vec<u8>, Fail> {
     let mut changed = Vec::from_slice(alloc, &BATTERY)?;
     let [first, second] = bytes;
     *changed.get_mut(place).ok_or("a place")? = first;
     *changed.get_mut(place + 1).ok_or("a place behind it")? = second;
-    Ok(load(alloc, &changed).err().ok_or("a fault")?)
+    Ok(changed)
+}
+
+/// The fault of the image of the battery level with these two bytes at this place.
+fn fault_with(alloc: Global, place: usize, bytes: [u8; 2]) -> Result<LayoutFault, Fail> {
+    let changed = battery_with(alloc, place, bytes)?;
+    Ok(loaded(alloc, &changed).err().ok_or("a fault")?)
 }
 
 #[test]
@@ -250,15 +276,14 @@ fn finds_the_fault_of_changed_bytes(rt: HostRuntime) -> Result<(), Fail> {
 }
 
 #[test]
-fn counts_that_are_too_large_for_the_bytes_are_cut(rt: HostRuntime) -> Result<(), Fail> {
+fn counts_that_are_too_large_for_the_bytes_are_cut(rt: HostRuntime) {
     // A class of 65,535 values, and rows that are not there.
     let values: [u8; 20] = [
         0x4C, 0x57, 0x53, 0x43, 1, 0, 1, 0, 0, 0, 1, 0, 3, 0, 0, 0xFF, 0xFF, 0, 3, 0,
     ];
-    assert!(rt; matches!(load(rt.alloc(), &values), Err(LayoutFault::Cut)));
+    assert!(rt; matches!(loaded(rt.alloc(), &values), Err(LayoutFault::Cut)));
     let rows: [u8; 9] = [0x4C, 0x57, 0x53, 0x43, 1, 0, 0, 0x10, 0];
-    assert!(rt; matches!(load(rt.alloc(), &rows), Err(LayoutFault::Cut)));
-    Ok(())
+    assert!(rt; matches!(loaded(rt.alloc(), &rows), Err(LayoutFault::Cut)));
 }
 
 /// The image of so many classes that have nothing, and so many rows of the first, each with so many posts.
@@ -290,19 +315,31 @@ fn loads_256_classes_4096_rows_and_4096_steps_at_most(rt: HostRuntime) -> Result
     ];
     for (classes, rows, steps, fault) in rows {
         let bytes = posts(rt.alloc(), classes, rows, steps)?;
-        match load(rt.alloc(), &bytes) {
+        match loaded(rt.alloc(), &bytes) {
             Ok(scenario) => {
                 assert!(rt; fault.is_none());
-                let image = save(rt.alloc(), &scenario)?;
-                assert!(rt; image.as_slice() == bytes.as_slice());
-                assert_eq!(rt; scenario.classes(), usize::from(classes));
-                assert_eq!(rt; scenario.rows(), usize::from(rows));
-                assert_eq!(rt; scenario.steps(), usize::from(rows) * usize::from(steps));
+                assert!(rt; is_written_as(rt.alloc(), &scenario, &bytes)?);
+                let (classes, rows, steps) = (
+                    usize::from(classes),
+                    usize::from(rows),
+                    usize::from(steps),
+                );
+                assert_eq!(rt; counts(&scenario), (classes, rows, rows * steps));
             }
             Err(found) => assert_eq!(rt; Some(found), fault),
         }
     }
     Ok(())
+}
+
+/// The image of the battery level up to its step, this front of a step, and so many bytes behind it.
+fn long_step(alloc: Global, front: &[u8], len: usize) -> Result<Vec<u8>, Fail> {
+    let mut bytes = Vec::from_slice(alloc, &BATTERY[..41])?;
+    bytes.extend_from_slice(front)?;
+    for _ in 0..len {
+        bytes.push(0x61)?;
+    }
+    Ok(bytes)
 }
 
 #[test]
@@ -320,12 +357,8 @@ fn loads_the_longest_datagrams_and_values(rt: HostRuntime) -> Result<(), Fail> {
         (&[3, 0, 3, 0, 0, 0, 9, 0, 0, 0xFF], 255, None),
     ];
     for (front, len, fault) in rows {
-        let mut bytes = Vec::from_slice(rt.alloc(), &BATTERY[..41])?;
-        bytes.extend_from_slice(front)?;
-        for _ in 0..len {
-            bytes.push(0x61)?;
-        }
-        let found = load(rt.alloc(), &bytes).err();
+        let bytes = long_step(rt.alloc(), front, len)?;
+        let found = loaded(rt.alloc(), &bytes).err();
         assert_eq!(rt; found, fault);
     }
     Ok(())
