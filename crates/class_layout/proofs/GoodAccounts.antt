@@ -10,7 +10,7 @@ use Rattle.device_template.specs.Class.{Class}
 use Rattle.device_template.specs.Built.{IsBuilt}
 use Rattle.device_template.specs.Built.IsBuilt.{nothing, account, object, resource, instance, value}
 use Rattle.device_template.proofs.Ascending.{Rises, rises}
-use Rattle.class_layout.specs.Layout.{with_accounts, accounts}
+use Rattle.class_layout.specs.Layout.{accounts}
 use Rattle.class_layout.specs.Layout as layout
 use Rattle.class_layout.proofs.Between.{all_of, all_more, length_more, inserted_more, shorter, each_good, rising_front, all_below, none_there, three_lines, no_three, is_below, below}
 use Rattle.class_layout.proofs.Filling.{taken_none}

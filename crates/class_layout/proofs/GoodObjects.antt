@@ -26,7 +26,7 @@ use Rattle.device_template.specs.Class.{Class, fault_of}
 use Rattle.device_template.specs.Built.{IsBuilt}
 use Rattle.device_template.specs.Built.IsBuilt.{nothing, account, object, resource, instance, value}
 use Rattle.device_template.proofs.Ascending.{Rises, rises-inserted}
-use Rattle.class_layout.specs.Layout.{objects_in, with_objects, defined, objects}
+use Rattle.class_layout.specs.Layout.{objects_in, defined, objects}
 use Rattle.class_layout.specs.Layout as layout
 use Rattle.class_layout.proofs.Between.{all_of, all_more, all_weaker, length_more, inserted_more, map_inserted, shorter, each_good, rising_front, all_below, found_any, three_lines, no_three, is_below, below, not_false, not_true}
 use Rattle.class_layout.proofs.Defined.{none_found, other}

@@ -27,7 +27,7 @@ use Rattle.object_defs.specs.declared.path.ResourcePath.{ResourcePath}
 use Rattle.object_defs.proofs.LookUps.{resource_absent, definition_of-with_resource_other}
 use Rattle.object_defs.proofs.PathOrder.{path_total, instance_total}
 use Rattle.instance_store.specs.Stored.{lies_in, resource_path, value_at, value_count}
-use Rattle.value_layout.specs.Layout.{number_of, value}
+use Rattle.value_layout.specs.Layout.{value}
 use Rattle.value_layout.specs.Layout as fields
 use Rattle.value_layout.proofs.Good.{path_good, value_good}
 use Rattle.device_template.specs.Class.{Class, kind_taken, kind_taken_by, plain, value_fault_at}
