@@ -63,6 +63,12 @@ pub record Alike (a b : Reaction) : Type 0 where
 abbrev flat_of : Kept → List Recorded → Flat
 flat_of k xs = record { kept = k; recorded = xs }
 
+-- where only those that live are kept, the same ones live
+pub forgotten : (k : Kept) (kept all : List Recorded) → kept ≡ filter (λ r. is_live k.clock r) all → living (flat_of k kept) ≡ living (flat_of k all)
+forgotten k kept all h =
+    ap (λ rs. flat_of k (filter (λ r. is_live k.clock r) rs)) h
+    ∙ ap (λ rs. flat_of k rs) (filter-filter (λ r. is_live k.clock r) (λ r. is_live k.clock r) (λ r e. e) all)
+
 abbrev put_in : Kept → Option FullPath → Value → Kept
 put_in k place value =
     with_client k (with_stored k.client (with_value_at k.client.store place value))

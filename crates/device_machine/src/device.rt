@@ -99,6 +99,7 @@ impl Device {
         }
         self.spent = true;
         let outputs = self.machine.react(event)?;
+        self.machine.forget(event);
         self.spent = false;
         Ok(outputs)
     }

@@ -1,11 +1,12 @@
 //! The requests that a device has recorded, and what those get that come again.
 
-ghost use Rattle.std.specs.Prelude.{◌≡◌, ◌==◌, ◌&&◌, find, IfOk};
+ghost use Rattle.std.specs.Prelude.{◌≡◌, ◌==◌, ◌&&◌, filter, find, IfOk};
 ghost use Rattle.std.specs.Option.{option_copied};
 ghost use Rattle.coap_codec.specs.Message.{kind_number};
-ghost use Rattle.device_machine.specs.State.{is_live};
+ghost use Rattle.device_machine.specs.State.{is_live, living};
 ghost use Rattle.device_machine.specs.Reactions.{again, repeat_of};
 
+use crate::event::Event;
 use crate::machine::Machine;
 use crate::output::Outputs;
 use crate::recorded::Recorded;
@@ -60,6 +61,13 @@ fn first_repeat(
         .find(|r| is_live(clock, r) && is_same(r, server, kind, mid))
 }
 
+/// Keeps the living requests.
+fn keep_living(recorded: &mut Vec<Recorded>, clock: u64)
+    ensures { recorded.new.items ≡ filter (λ r. is_live clock r) recorded.old.items }
+{
+    recorded.retain(|r| is_live(clock, r));
+}
+
 /// A copy of recorded requests.
 pub(super) fn copy_of(alloc: Global, recorded: &[Recorded]) -> Result<Vec<Recorded>, AllocError>
     ensures { IfOk result (λ v. v.items ≡ recorded.now) }
@@ -87,6 +95,16 @@ pub(super) fn again(
 }
 
 impl Machine {
+    /// Forgets, behind an event, the recorded requests that no longer live. Only a tick can end a
+    /// request's life.
+    pub(crate) fn forget(&mut self, event: &Event)
+        ensures { living self.new ≡ living self.old }
+    {
+        if let Event::Tick(_) = event {
+            keep_living(&mut self.recorded, self.clock);
+        }
+    }
+
     /// The first receipt of a request that is repeated within its lifetime.
     pub(super) fn repeat_of(&self, server: u16, message: &Message) -> Option<&Recorded>
         ensures { option_copied result ≡ repeat_of self.now server message.now }

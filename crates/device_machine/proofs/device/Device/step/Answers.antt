@@ -13,6 +13,7 @@ pub returns-clause-shows : goal.returns-clause-shows
 returns-clause-shows c =
     λ f shows. record {
       ready = refl;
-      holds = ap living c.in_ok-outputs.ensures.then_flat
+      holds = c.forget.ensures
+          ∙ ap living c.in_ok-outputs.ensures.then_flat
           ∙ (alike c.self.inside.machine f (ap (λ s. s.flat) c.self.view_is ∙ shows.holds) c.args.event.now).living_then;
     }
