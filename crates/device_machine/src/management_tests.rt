@@ -1,8 +1,9 @@
 //! Rights, Execute, Create, Delete and firmware on a small device, from the standards and this profile.
 
-use crate::{Act, Device, Event, Output, Template};
-use lwm2m_values::{Value, ValueKind};
-use object_defs::{Ops, Path, ResourceDef};
+use crate::tests::{add_instances, add_numbered_object, add_numbers, class, started};
+use crate::{Act, Device, Event, Output};
+use lwm2m_values::Value;
+use object_defs::Path;
 use octets::Bytes;
 use std::alloc::Global;
 use std::process::Abort;
@@ -34,6 +35,12 @@ fn outputs(alloc: Global, device: &mut Device, event: &Event) -> Result<String, 
     Ok(text)
 }
 
+/// A datagram, in hexadecimal, of a server.
+fn received(alloc: Global, server: u16, datagram: &str) -> Result<Event, Fail> {
+    let bytes = Bytes::from_vec(hex::decode(alloc, datagram)?);
+    Ok(Event::Recv { server, bytes })
+}
+
 /// Sends each datagram in turn to one device: the server, the datagram, and what the device puts out.
 fn exchange(
     rt: &impl Abort,
@@ -42,12 +49,8 @@ fn exchange(
     rows: &[(u16, &str, &str)],
 ) -> Result<(), Fail> {
     for (server, request, wanted) in rows {
-        let event = Event::Recv {
-            server: *server,
-            bytes: Bytes::from_vec(hex::decode(alloc, request)?),
-        };
-        let got = outputs(alloc, device, &event)?;
-        assert_eq!(rt; got.as_str(), *wanted, "{request} of {server}");
+        let got = outputs(alloc, device, &received(alloc, *server, request)?)?;
+        assert_eq!(rt; got.as_str(), *wanted);
     }
     Ok(())
 }
@@ -66,28 +69,11 @@ fn device(
     instances: &[(u16, u16)],
     numbers: &[(Path, i64)],
 ) -> Result<Device, Fail> {
-    let mut template = Template::new(alloc)?;
-    for server in accounts {
-        template.add_account(*server)?;
-    }
-    template.add_object(10250)?;
-    template.add_resource(
-        10250,
-        ResourceDef {
-            id: 0,
-            ops: Ops::RW,
-            multiple: false,
-            mandatory: true,
-            kind: ValueKind::Whole,
-        },
-    )?;
-    for (object, instance) in instances {
-        template.add_instance(*object, *instance)?;
-    }
-    for (path, number) in numbers {
-        template.add_value(*path, Value::Whole(*number))?;
-    }
-    Ok(Device::start(&template)?)
+    let mut template = class(alloc, accounts)?;
+    add_numbered_object(&mut template)?;
+    add_instances(&mut template, instances)?;
+    add_numbers(&mut template, numbers)?;
+    started(&template)
 }
 
 #[test]
@@ -179,6 +165,14 @@ fn creates_with_the_least_free_number(rt: HostRuntime) -> Result<(), Fail> {
     )
 }
 
+/// Stops where the resources of instance 1 of Access Control have other numbers than these.
+fn has_rights(rt: &impl Abort, device: &Device, resources: &[(u16, Option<i64>)]) {
+    for (resource, number) in resources {
+        let got = number_at(device, Path::Resource(2, 1, *resource));
+        assert_eq!(rt; got, *number);
+    }
+}
+
 #[test]
 fn creates_and_deletes_with_rights(rt: HostRuntime) -> Result<(), Fail> {
     let alloc = rt.alloc();
@@ -195,9 +189,8 @@ fn creates_and_deletes_with_rights(rt: HostRuntime) -> Result<(), Fail> {
         "604100408531303235300130",
     );
     exchange(&rt, alloc, &mut device, &[made])?;
-    assert_eq!(rt; number_at(&device, Path::Resource(2, 1, 0)), Some(10250));
-    assert_eq!(rt; number_at(&device, Path::Resource(2, 1, 1)), Some(0));
-    assert_eq!(rt; number_at(&device, Path::Resource(2, 1, 3)), Some(1));
+    let made = [(0, Some(10250)), (1, Some(0)), (3, Some(1))];
+    has_rights(&rt, &device, &made);
     exchange(
         &rt,
         alloc,
@@ -207,7 +200,7 @@ fn creates_and_deletes_with_rights(rt: HostRuntime) -> Result<(), Fail> {
             (1, "40040042B531303235300130", "60420042"),
         ],
     )?;
-    assert_eq!(rt; number_at(&device, Path::Resource(2, 1, 0)), None);
+    has_rights(&rt, &device, &[(0, None)]);
     Ok(())
 }
 
@@ -220,7 +213,7 @@ fn ends(
 ) -> Result<(), Fail> {
     let (code, wanted, state, outcome) = row;
     let got = outputs(alloc, device, &Event::Firmware(code))?;
-    assert_eq!(rt; got.as_str(), wanted, "{code}");
+    assert_eq!(rt; got.as_str(), wanted);
     assert_eq!(rt; number_at(device, Path::Resource(5, 0, 3)), Some(state));
     assert_eq!(rt; number_at(device, Path::Resource(5, 0, 5)), Some(outcome));
     Ok(())

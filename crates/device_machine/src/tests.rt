@@ -5,31 +5,98 @@ mod reads;
 mod writes;
 
 use crate::{Act, Device, Event, Output, Template};
-use lwm2m_values::{Text, Value};
-use object_defs::Path;
+use lwm2m_values::{Text, Value, ValueKind};
+use object_defs::{Ops, Path, ResourceDef};
 use octets::Bytes;
 use std::alloc::Global;
 use std::process::Abort;
 use std::test::Fail;
 
-/// A device of server 1 with Server, Device and Firmware Update.
-fn template(alloc: Global) -> Result<Template, Fail> {
+/// Adds these instances to a class.
+pub(crate) fn add_instances(template: &mut Template, instances: &[(u16, u16)]) -> Result<(), Fail> {
+    for (object, instance) in instances {
+        template.add_instance(*object, *instance)?;
+    }
+    Ok(())
+}
+
+/// Adds these numbers to a class.
+pub(crate) fn add_numbers(template: &mut Template, numbers: &[(Path, i64)]) -> Result<(), Fail> {
+    for (path, number) in numbers {
+        template.add_value(*path, Value::Whole(*number))?;
+    }
+    Ok(())
+}
+
+/// Adds these texts to a class.
+fn add_texts(alloc: Global, template: &mut Template, texts: &[(Path, &str)]) -> Result<(), Fail> {
+    for (path, value) in texts {
+        template.add_value(*path, text(alloc, value)?)?;
+    }
+    Ok(())
+}
+
+/// A class of these servers.
+pub(crate) fn class(alloc: Global, accounts: &[u16]) -> Result<Template, Fail> {
     let mut template = Template::new(alloc)?;
-    template.add_account(1)?;
-    template.add_instance(1, 0)?;
-    template.add_instance(3, 0)?;
-    template.add_instance(5, 0)?;
-    template.add_value(Path::Resource(1, 0, 0), Value::Whole(1))?;
-    template.add_value(Path::Resource(1, 0, 1), Value::Whole(300))?;
-    template.add_value(Path::Resource(1, 0, 6), Value::Flag(false))?;
-    template.add_value(Path::Resource(1, 0, 7), text(alloc, "U")?)?;
-    template.add_value(Path::Resource(3, 0, 0), text(alloc, "Bench")?)?;
-    template.add_value(Path::Part(3, 0, 6, 0), Value::Whole(1))?;
-    template.add_value(Path::Part(3, 0, 6, 1), Value::Whole(5))?;
-    template.add_value(Path::Resource(3, 0, 9), Value::Whole(100))?;
-    template.add_value(Path::Part(3, 0, 11, 0), Value::Whole(0))?;
-    template.add_value(Path::Resource(3, 0, 16), text(alloc, "U")?)?;
+    for server in accounts {
+        template.add_account(*server)?;
+    }
     Ok(template)
+}
+
+/// A class of server 1 with Server, Device and Firmware Update.
+fn template(alloc: Global) -> Result<Template, Fail> {
+    let mut template = class(alloc, &[1])?;
+    add_instances(&mut template, &[(1, 0), (3, 0), (5, 0)])?;
+    add_numbers(
+        &mut template,
+        &[
+            (Path::Resource(1, 0, 0), 1),
+            (Path::Resource(1, 0, 1), 300),
+            (Path::Part(3, 0, 6, 0), 1),
+            (Path::Part(3, 0, 6, 1), 5),
+            (Path::Resource(3, 0, 9), 100),
+            (Path::Part(3, 0, 11, 0), 0),
+        ],
+    )?;
+    template.add_value(Path::Resource(1, 0, 6), Value::Flag(false))?;
+    add_texts(
+        alloc,
+        &mut template,
+        &[
+            (Path::Resource(1, 0, 7), "U"),
+            (Path::Resource(3, 0, 0), "Bench"),
+            (Path::Resource(3, 0, 16), "U"),
+        ],
+    )?;
+    Ok(template)
+}
+
+/// Adds object 10250 of one mandatory number to a class.
+pub(crate) fn add_numbered_object(template: &mut Template) -> Result<(), Fail> {
+    template.add_object(10250)?;
+    template.add_resource(
+        10250,
+        ResourceDef {
+            id: 0,
+            ops: Ops::RW,
+            multiple: false,
+            mandatory: true,
+            kind: ValueKind::Whole,
+        },
+    )?;
+    Ok(())
+}
+
+/// A device of a class, at its start.
+pub(crate) fn started(template: &Template) -> Result<Device, Fail> {
+    Ok(Device::start(template)?)
+}
+
+/// A device of server 1 with Server, Device and Firmware Update, at its start.
+fn device(alloc: Global) -> Result<Device, Fail> {
+    started(&template(alloc)?)
 }
 
 fn text(alloc: Global, text: &str) -> Result<Value, Fail> {
@@ -67,13 +134,18 @@ fn sent(alloc: Global, device: &mut Device, server: u16, datagram: Bytes) -> Res
     outputs(alloc, device, &event)
 }
 
-/// A fresh device for each datagram, so that the first message ID of a NON reply is 0.
+/// What a fresh device of a class sends on a datagram; so the first message ID of a NON reply is 0.
+fn answer(alloc: Global, template: &Template, request: &str) -> Result<String, Fail> {
+    let mut device = started(template)?;
+    sent(alloc, &mut device, 1, bytes_of(alloc, request)?)
+}
+
+/// Sends each datagram to a fresh device.
 fn answers(rt: &impl Abort, alloc: Global, rows: &[(&str, &str)]) -> Result<(), Fail> {
     let template = template(alloc)?;
     for (request, reply) in rows {
-        let mut device = Device::start(&template)?;
-        let got = sent(alloc, &mut device, 1, bytes_of(alloc, request)?)?;
-        assert_eq!(rt; got.as_str(), *reply, "{request}");
+        let got = answer(alloc, &template, request)?;
+        assert_eq!(rt; got.as_str(), *reply);
     }
     Ok(())
 }
@@ -104,7 +176,7 @@ fn answers_at_the_message_layer(rt: HostRuntime) -> Result<(), Fail> {
 #[test]
 fn shows_the_values_of_its_class(rt: HostRuntime) -> Result<(), Fail> {
     let alloc = rt.alloc();
-    let device = Device::start(&template(alloc)?)?;
+    let device = device(alloc)?;
     for (path, is_held) in [
         (Path::Part(3, 0, 6, 1), true),
         (Path::Part(3, 0, 6, 2), false),
@@ -112,7 +184,7 @@ fn shows_the_values_of_its_class(rt: HostRuntime) -> Result<(), Fail> {
         (Path::Resource(3, 0, 6), false),
         (Path::Instance(3, 0), false),
     ] {
-        assert_eq!(rt; device.value(&path).is_some(), is_held, "{path:?}");
+        assert_eq!(rt; (path, device.value(&path).is_some()), (path, is_held));
     }
     Ok(())
 }
@@ -208,6 +280,13 @@ fn put(alloc: Global, device: &mut Device, path: Path, number: i64) -> Result<St
     outputs(alloc, device, &event)
 }
 
+/// Lets seconds pass in which a device puts out nothing.
+fn wait(rt: &impl Abort, alloc: Global, device: &mut Device, seconds: u32) -> Result<(), Fail> {
+    let quiet = outputs(alloc, device, &Event::Tick(seconds))?;
+    assert_eq!(rt; quiet.as_str(), "");
+    Ok(())
+}
+
 /// Sends each datagram in turn to one device, each after a number of seconds.
 fn exchange(
     rt: &impl Abort,
@@ -216,10 +295,9 @@ fn exchange(
     rows: &[(u32, &str, &str)],
 ) -> Result<(), Fail> {
     for (seconds, request, reply) in rows {
-        let quiet = outputs(alloc, device, &Event::Tick(*seconds))?;
-        assert_eq!(rt; quiet.as_str(), "");
+        wait(rt, alloc, device, *seconds)?;
         let got = sent(alloc, device, 1, bytes_of(alloc, request)?)?;
-        assert_eq!(rt; got.as_str(), *reply, "{request} after {seconds} s");
+        assert_eq!(rt; got.as_str(), *reply);
     }
     Ok(())
 }
@@ -227,8 +305,7 @@ fn exchange(
 #[test]
 fn counts_message_ids_of_non_confirmable_replies(rt: HostRuntime) -> Result<(), Fail> {
     let alloc = rt.alloc();
-    let template = template(alloc)?;
-    let mut device = Device::start(&template)?;
+    let mut device = device(alloc)?;
     exchange(
         &rt,
         alloc,
@@ -247,20 +324,20 @@ fn counts_message_ids_of_non_confirmable_replies(rt: HostRuntime) -> Result<(), 
     Ok(())
 }
 
+/// Sets the battery level, on which a device puts out nothing.
+fn put_level(rt: &impl Abort, alloc: Global, device: &mut Device, level: i64) -> Result<(), Fail> {
+    let quiet = put(alloc, device, Path::Resource(3, 0, 9), level)?;
+    assert_eq!(rt; quiet.as_str(), "");
+    Ok(())
+}
+
 #[test]
 fn repeats_a_request_within_its_lifetime(rt: HostRuntime) -> Result<(), Fail> {
     let alloc = rt.alloc();
-    let template = template(alloc)?;
-    let mut device = Device::start(&template)?;
-    let first = sent(
-        alloc,
-        &mut device,
-        1,
-        bytes_of(alloc, "40010001B13301300139")?,
-    )?;
-    assert_eq!(rt; first.as_str(), "60450001C0FF313030");
-    let changed = put(alloc, &mut device, Path::Resource(3, 0, 9), 90)?;
-    assert_eq!(rt; changed.as_str(), "");
+    let mut device = device(alloc)?;
+    let first = [(0, "40010001B13301300139", "60450001C0FF313030")];
+    exchange(&rt, alloc, &mut device, &first)?;
+    put_level(&rt, alloc, &mut device, 90)?;
     exchange(
         &rt,
         alloc,
@@ -283,8 +360,7 @@ fn repeats_a_request_within_its_lifetime(rt: HostRuntime) -> Result<(), Fail> {
 #[test]
 fn copy_goes_its_own_way(rt: HostRuntime) -> Result<(), Fail> {
     let alloc = rt.alloc();
-    let template = template(alloc)?;
-    let device = Device::start(&template)?;
+    let device = device(alloc)?;
     let mut copy = device.copy()?;
     let _ = outputs(alloc, &mut copy, &Event::Tick(1))?;
     assert_eq!(rt; copy.clock(), 1);
@@ -294,11 +370,10 @@ fn copy_goes_its_own_way(rt: HostRuntime) -> Result<(), Fail> {
 
 /// Puts a number at each path.
 fn puts(rt: &impl Abort, paths: &[Path], wanted: &str, alloc: Global) -> Result<(), Fail> {
-    let template = template(alloc)?;
-    let mut device = Device::start(&template)?;
+    let mut device = device(alloc)?;
     for path in paths {
         let got = put(alloc, &mut device, *path, 7)?;
-        assert_eq!(rt; got.as_str(), wanted, "{path:?}");
+        assert_eq!(rt; (path, got.as_str()), (path, wanted));
     }
     Ok(())
 }
@@ -330,19 +405,26 @@ fn misses_what_does_not_fit(rt: HostRuntime) -> Result<(), Fail> {
     puts(&rt, &missed, "missed", rt.alloc())
 }
 
+/// A Read without a path, with a payload of so many bytes.
+fn padded(alloc: Global, length: usize) -> Result<Bytes, Fail> {
+    let mut datagram = hex::decode(alloc, "40010001FF")?;
+    for _ in 0..length {
+        datagram.push(0)?;
+    }
+    Ok(Bytes::from_vec(datagram))
+}
+
+/// What a fresh device sends on a Read without a path, with a payload of so many bytes.
+fn answer_to_padded(alloc: Global, length: usize) -> Result<String, Fail> {
+    let mut device = device(alloc)?;
+    sent(alloc, &mut device, 1, padded(alloc, length)?)
+}
+
 #[test]
 fn answers_datagrams_of_any_length(rt: HostRuntime) -> Result<(), Fail> {
-    let alloc = rt.alloc();
-    let template = template(alloc)?;
-    for length in [65_535, 70_000] {
-        let mut device = Device::start(&template)?;
-        let mut datagram = Vec::from_elem(alloc, 0u8, length)?;
-        for (place, byte) in [0x40u8, 1, 0, 1, 0xFF].iter().enumerate() {
-            if let Some(at) = datagram.get_mut(place) {
-                *at = *byte;
-            }
-        }
-        let got = sent(alloc, &mut device, 1, Bytes::from_vec(datagram))?;
+    // 65,535 and 70,000 bytes
+    for length in &[65_530, 69_995] {
+        let got = answer_to_padded(rt.alloc(), *length)?;
         assert_eq!(rt; got.as_str(), "60840001");
     }
     Ok(())

@@ -1,9 +1,12 @@
 //! What Write-Attributes, Observe, cancel and Reset answer, and what observations send in ticks.
 
-use super::{bytes_of, outputs, template};
-use crate::{Device, Event, Output, Template};
-use lwm2m_values::{Value, ValueKind};
-use object_defs::{Ops, Path, ResourceDef};
+use super::{
+    add_instances, add_numbered_object, add_numbers, bytes_of, class, device, outputs, started,
+};
+use crate::{Device, Event, Output};
+use lwm2m_values::Value;
+use object_defs::Path;
+use octets::Bytes;
 use std::alloc::Global;
 use std::process::Abort;
 use std::test::Fail;
@@ -50,7 +53,7 @@ fn take(
 #[test]
 fn notifies_behind_the_minimum_period(rt: HostRuntime) -> Result<(), Fail> {
     let alloc = rt.alloc();
-    let mut device = Device::start(&template(alloc)?)?;
+    let mut device = device(alloc)?;
     take(
         &rt,
         alloc,
@@ -94,10 +97,26 @@ fn notifies_behind_the_minimum_period(rt: HostRuntime) -> Result<(), Fail> {
     )
 }
 
+fn datagram_of(alloc: Global, output: Option<&Output>) -> Result<String, Fail> {
+    match output {
+        Some(Output::Send { bytes, .. }) => Ok(hex::encode_upper(alloc, bytes.as_slice())?),
+        _ => Err(Fail::from("no datagram")),
+    }
+}
+
+/// How many datagrams a device sends in a day, and in hexadecimal the first and the last.
+fn sent_in_a_day(alloc: Global, device: &mut Device) -> Result<(usize, String, String), Fail> {
+    let day = device.step(&Event::Tick(86_400))?;
+    let sent = day.as_slice();
+    let first = datagram_of(alloc, sent.first())?;
+    let last = datagram_of(alloc, sent.last())?;
+    Ok((sent.len(), first, last))
+}
+
 #[test]
 fn notifies_by_gt_and_st_and_the_maximum_period(rt: HostRuntime) -> Result<(), Fail> {
     let alloc = rt.alloc();
-    let mut device = Device::start(&template(alloc)?)?;
+    let mut device = device(alloc)?;
     let attributes = "40030001B133013001394567743D35300573743D313007706D61783D3630";
     take(
         &rt,
@@ -118,28 +137,17 @@ fn notifies_by_gt_and_st_and_the_maximum_period(rt: HostRuntime) -> Result<(), F
             (Step::Tick(1), "51450001AA610260FF3631"),
         ],
     )?;
-    let day = device.step(&Event::Tick(86_400))?;
-    let sent = day.as_slice();
-    assert_eq!(rt; sent.len(), 1440);
-    for (output, wanted) in [
-        (sent.first(), "51450002AA610360FF3631"),
-        (sent.last(), "514505A1AA6205A260FF3631"),
-    ] {
-        match output {
-            Some(Output::Send { bytes, .. }) => {
-                let got = hex::encode_upper(alloc, bytes.as_slice())?;
-                assert_eq!(rt; got.as_str(), wanted);
-            }
-            _ => return Err(Fail::from("no datagram")),
-        }
-    }
+    let (count, first, last) = sent_in_a_day(alloc, &mut device)?;
+    assert_eq!(rt; count, 1440);
+    assert_eq!(rt; first.as_str(), "51450002AA610360FF3631");
+    assert_eq!(rt; last.as_str(), "514505A1AA6205A260FF3631");
     Ok(())
 }
 
 #[test]
 fn registers_renews_and_ends(rt: HostRuntime) -> Result<(), Fail> {
     let alloc = rt.alloc();
-    let mut device = Device::start(&template(alloc)?)?;
+    let mut device = device(alloc)?;
     take(
         &rt,
         alloc,
@@ -197,22 +205,11 @@ fn registers_renews_and_ends(rt: HostRuntime) -> Result<(), Fail> {
 
 /// A device with object 10250 of one mandatory number, and an instance of it with 7.
 fn numbered(alloc: Global) -> Result<Device, Fail> {
-    let mut template = Template::new(alloc)?;
-    template.add_account(1)?;
-    template.add_object(10250)?;
-    template.add_resource(
-        10250,
-        ResourceDef {
-            id: 0,
-            ops: Ops::RW,
-            multiple: false,
-            mandatory: true,
-            kind: ValueKind::Whole,
-        },
-    )?;
-    template.add_instance(10250, 0)?;
-    template.add_value(Path::Resource(10250, 0, 0), Value::Whole(7))?;
-    Ok(Device::start(&template)?)
+    let mut template = class(alloc, &[1])?;
+    add_numbered_object(&mut template)?;
+    add_instances(&mut template, &[(10250, 0)])?;
+    add_numbers(&mut template, &[(Path::Resource(10250, 0, 0), 7)])?;
+    started(&template)
 }
 
 #[test]
@@ -289,24 +286,32 @@ fn ends_with_the_error_of_its_target(rt: HostRuntime) -> Result<(), Fail> {
     )
 }
 
+/// How many bytes a device answers a Read of `/10250/0` with Observe 0 and this token with.
+fn observed_under(alloc: Global, device: &mut Device, token: u8) -> Result<usize, Fail> {
+    let datagram = [
+        0x41, 0x01, 0x00, token, token, 0x60, 0x55, 0x31, 0x30, 0x32, 0x35, 0x30, 0x01, 0x30,
+    ];
+    let bytes = Bytes::from_slice(alloc, &datagram)?;
+    let outputs = device.step(&Event::Recv { server: 1, bytes })?;
+    match outputs.as_slice() {
+        [Output::Send { bytes, .. }] => Ok(bytes.as_slice().len()),
+        _ => Err(Fail::from("no datagram")),
+    }
+}
+
+/// How many datagrams a device sends in a second.
+fn sent_in_a_second(device: &mut Device) -> Result<usize, Fail> {
+    Ok(device.step(&Event::Tick(1))?.as_slice().len())
+}
+
 #[test]
 fn observes_32_at_most(rt: HostRuntime) -> Result<(), Fail> {
     let alloc = rt.alloc();
     let mut device = numbered(alloc)?;
     for token in 0u8..33 {
-        // a GET of /10250/0 with Observe 0
-        let datagram = [
-            0x41, 0x01, 0x00, token, token, 0x60, 0x55, 0x31, 0x30, 0x32, 0x35, 0x30, 0x01, 0x30,
-        ];
-        let bytes = octets::Bytes::from_slice(alloc, &datagram)?;
-        let outputs = device.step(&Event::Recv { server: 1, bytes })?;
-        match outputs.as_slice() {
-            // the last one is answered as a Read: no Observe, which takes a byte
-            [Output::Send { bytes, .. }] => {
-                assert_eq!(rt; bytes.as_slice().len(), if token < 32 { 13 } else { 12 });
-            }
-            _ => return Err(Fail::from("no datagram")),
-        }
+        // the last one is answered as a Read: no Observe, which takes a byte
+        let length = if token < 32 { 13 } else { 12 };
+        assert_eq!(rt; observed_under(alloc, &mut device, token)?, length);
     }
     assert_eq!(rt; device.observations().len(), 32);
     take(
@@ -315,8 +320,7 @@ fn observes_32_at_most(rt: HostRuntime) -> Result<(), Fail> {
         &mut device,
         &[(Step::Recv("40040100B531303235300130"), "60420100")],
     )?;
-    let outputs = device.step(&Event::Tick(1))?;
-    assert_eq!(rt; outputs.as_slice().len(), 32);
+    assert_eq!(rt; sent_in_a_second(&mut device)?, 32);
     assert!(rt; device.observations().is_empty());
     Ok(())
 }

@@ -1,9 +1,9 @@
 //! What Read and Discover answer.
 
-use super::{answers, bytes_of, sent, text};
-use crate::{Device, Template};
-use lwm2m_values::Value;
+use super::{add_instances, add_texts, answers, bytes_of, class, sent, started};
+use crate::Device;
 use object_defs::Path;
+use std::alloc::Global;
 use std::test::Fail;
 
 #[test]
@@ -88,47 +88,67 @@ fn discovers_what_exists(rt: HostRuntime) -> Result<(), Fail> {
     )
 }
 
+fn letters(alloc: Global, length: usize) -> Result<String, Fail> {
+    Ok(String::from_utf8(Vec::from_elem(alloc, b'a', length)?).or(Err("text"))?)
+}
+
+/// A device with one text in three resources, and another in a fourth one.
+fn talkative(alloc: Global, long: &str, last: &str) -> Result<Device, Fail> {
+    let mut template = class(alloc, &[1])?;
+    add_instances(&mut template, &[(3, 0)])?;
+    add_texts(
+        alloc,
+        &mut template,
+        &[
+            (Path::Resource(3, 0, 0), long),
+            (Path::Resource(3, 0, 1), long),
+            (Path::Resource(3, 0, 2), long),
+            (Path::Resource(3, 0, 3), last),
+        ],
+    )?;
+    started(&template)
+}
+
+/// What it sends on a Read of Device, where the last text is of so many letters.
+fn talk(alloc: Global, length: usize) -> Result<String, Fail> {
+    let long = letters(alloc, 255)?;
+    let last = letters(alloc, length)?;
+    let mut device = talkative(alloc, long.as_str(), last.as_str())?;
+    sent(alloc, &mut device, 1, bytes_of(alloc, "40010001B1330130")?)
+}
+
 #[test]
 fn sends_a_payload_of_1024_bytes(rt: HostRuntime) -> Result<(), Fail> {
-    let alloc = rt.alloc();
-    let letters = String::from_utf8(Vec::from_elem(alloc, b'a', 255)?).or(Err("text"))?;
-    for (length, wanted) in [(247, "6045"), (248, "60A0")] {
-        let mut template = Template::new(alloc)?;
-        template.add_account(1)?;
-        template.add_instance(3, 0)?;
-        for resource in [0, 1, 2] {
-            let value = text(alloc, letters.as_str())?;
-            template.add_value(Path::Resource(3, 0, resource), value)?;
-        }
-        let last = String::from_utf8(Vec::from_elem(alloc, b'a', length)?).or(Err("text"))?;
-        template.add_value(Path::Resource(3, 0, 3), text(alloc, last.as_str())?)?;
-        let mut device = Device::start(&template)?;
-        let got = sent(alloc, &mut device, 1, bytes_of(alloc, "40010001B1330130")?)?;
-        assert_eq!(rt; got.as_str().get(..4), Some(wanted));
-        let bytes = if length == 247 {
-            2 * (4 + 3 + 1 + 1024)
-        } else {
-            8
-        };
-        assert_eq!(rt; got.len(), bytes);
+    for (length, wanted, bytes) in &[(247, "6045", 2 * (4 + 3 + 1 + 1024)), (248, "60A0", 8)] {
+        let got = talk(rt.alloc(), *length)?;
+        assert_eq!(rt; got.as_str().get(..4), Some(*wanted));
+        assert_eq!(rt; got.len(), *bytes);
     }
     Ok(())
 }
 
+/// A device with so many instances of Server.
+fn served(alloc: Global, instances: u16) -> Result<Device, Fail> {
+    let mut template = class(alloc, &[1])?;
+    for instance in 0..instances {
+        template.add_instance(1, instance)?;
+    }
+    started(&template)
+}
+
+/// What it sends on a Discover of them.
+fn links(alloc: Global, instances: u16) -> Result<String, Fail> {
+    let mut device = served(alloc, instances)?;
+    sent(alloc, &mut device, 1, bytes_of(alloc, "40010023B1316128")?)
+}
+
 #[test]
 fn sends_links_of_1024_bytes(rt: HostRuntime) -> Result<(), Fail> {
-    let alloc = rt.alloc();
     // `</1>`, and for each instance `,</1/10>,</1/10/4>,</1/10/8>`, which exist without a value:
     // 1,010 bytes, behind 7 others, and 1,038
-    for (instances, wanted) in [(37, 2 * (7 + 1010)), (38, 8)] {
-        let mut template = Template::new(alloc)?;
-        template.add_account(1)?;
-        for instance in 0..instances {
-            template.add_instance(1, instance)?;
-        }
-        let mut device = Device::start(&template)?;
-        let got = sent(alloc, &mut device, 1, bytes_of(alloc, "40010023B1316128")?)?;
-        assert_eq!(rt; got.len(), wanted);
+    for (instances, wanted) in &[(37, 2 * (7 + 1010)), (38, 8)] {
+        let got = links(rt.alloc(), *instances)?;
+        assert_eq!(rt; got.len(), *wanted);
     }
     Ok(())
 }

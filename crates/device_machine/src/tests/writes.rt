@@ -1,18 +1,29 @@
 //! What a Write answers, and what is read then.
 
-use super::{bytes_of, exchange, outputs, sent, template, text};
+use super::{add_instances, device, exchange, outputs, sent, started, template, text};
 use crate::{Device, Event};
 use lwm2m_values::Value;
 use object_defs::Path;
 use octets::Bytes;
+use std::alloc::Global;
+use std::ops::Range;
+use std::process::Abort;
 use std::test::Fail;
+
+/// The device with an instance of Access Control too, which has 1 at these parts of the rights.
+fn guarded(alloc: Global, parts: Range<u16>) -> Result<Device, Fail> {
+    let mut template = template(alloc)?;
+    add_instances(&mut template, &[(2, 0)])?;
+    for part in parts {
+        template.add_value(Path::Part(2, 0, 2, part), Value::Whole(1))?;
+    }
+    started(&template)
+}
 
 #[test]
 fn refuses_writes_and_leaves_the_store(rt: HostRuntime) -> Result<(), Fail> {
     let alloc = rt.alloc();
-    let mut template = template(alloc)?;
-    template.add_instance(2, 0)?;
-    let mut device = Device::start(&template)?;
+    let mut device = guarded(alloc, 0..0)?;
     exchange(
         &rt,
         alloc,
@@ -51,8 +62,7 @@ fn refuses_writes_and_leaves_the_store(rt: HostRuntime) -> Result<(), Fail> {
 #[test]
 fn writes_and_reads_again(rt: HostRuntime) -> Result<(), Fail> {
     let alloc = rt.alloc();
-    let template = template(alloc)?;
-    let mut device = Device::start(&template)?;
+    let mut device = device(alloc)?;
     exchange(
         &rt,
         alloc,
@@ -81,10 +91,7 @@ fn writes_and_reads_again(rt: HostRuntime) -> Result<(), Fail> {
 #[test]
 fn writes_parts(rt: HostRuntime) -> Result<(), Fail> {
     let alloc = rt.alloc();
-    let mut template = template(alloc)?;
-    template.add_instance(2, 0)?;
-    template.add_value(Path::Part(2, 0, 2, 2), Value::Whole(1))?;
-    let mut device = Device::start(&template)?;
+    let mut device = guarded(alloc, 2..3)?;
     exchange(
         &rt,
         alloc,
@@ -111,23 +118,33 @@ fn writes_parts(rt: HostRuntime) -> Result<(), Fail> {
     )
 }
 
+/// Sets the UTC offset, on which a device puts out nothing.
+fn put_offset(
+    rt: &impl Abort,
+    alloc: Global,
+    device: &mut Device,
+    offset: &str,
+) -> Result<(), Fail> {
+    let event = Event::Put {
+        path: Path::Resource(3, 0, 14),
+        value: text(alloc, offset)?,
+    };
+    let quiet = outputs(alloc, device, &event)?;
+    assert_eq!(rt; quiet.as_str(), "");
+    Ok(())
+}
+
 #[test]
 fn repeats_a_write_within_its_lifetime(rt: HostRuntime) -> Result<(), Fail> {
     let alloc = rt.alloc();
-    let template = template(alloc)?;
-    let mut device = Device::start(&template)?;
+    let mut device = device(alloc)?;
     exchange(
         &rt,
         alloc,
         &mut device,
         &[(0, "40030060B1330130023134FF2B30313A3030", "60440060")],
     )?;
-    let event = Event::Put {
-        path: Path::Resource(3, 0, 14),
-        value: text(alloc, "x")?,
-    };
-    let quiet = outputs(alloc, &mut device, &event)?;
-    assert_eq!(rt; quiet.as_str(), "");
+    put_offset(&rt, alloc, &mut device, "x")?;
     exchange(
         &rt,
         alloc,
@@ -144,12 +161,7 @@ fn repeats_a_write_within_its_lifetime(rt: HostRuntime) -> Result<(), Fail> {
 #[test]
 fn refuses_a_33rd_part(rt: HostRuntime) -> Result<(), Fail> {
     let alloc = rt.alloc();
-    let mut template = template(alloc)?;
-    template.add_instance(2, 0)?;
-    for part in 0..32 {
-        template.add_value(Path::Part(2, 0, 2, part), Value::Whole(1))?;
-    }
-    let mut device = Device::start(&template)?;
+    let mut device = guarded(alloc, 0..32)?;
     exchange(
         &rt,
         alloc,
@@ -164,28 +176,35 @@ fn refuses_a_33rd_part(rt: HostRuntime) -> Result<(), Fail> {
     )
 }
 
+/// A Write of the UTC offset in plain text, of so many letters.
+fn offset_of(alloc: Global, length: usize) -> Result<Bytes, Fail> {
+    let mut datagram = hex::decode(alloc, "40030001B1330130023134")?;
+    if length > 0 {
+        datagram.push(0xFF)?;
+    }
+    for _ in 0..length {
+        datagram.push(b'a')?;
+    }
+    Ok(Bytes::from_vec(datagram))
+}
+
+fn has_offset(device: &Device) -> bool {
+    device.value(&Path::Resource(3, 0, 14)).is_some()
+}
+
 #[test]
 fn takes_a_text_of_255_bytes(rt: HostRuntime) -> Result<(), Fail> {
     let alloc = rt.alloc();
-    let template = template(alloc)?;
     for (length, wanted) in [
         (0, "60440001"),
         (255, "60440001"),
         (256, "60800001"),
         (1500, "60800001"),
     ] {
-        let mut device = Device::start(&template)?;
-        let mut datagram = bytes_of(alloc, "40030001B1330130023134")?.into_vec();
-        if length > 0 {
-            datagram.push(0xFF)?;
-        }
-        for _ in 0..length {
-            datagram.push(b'a')?;
-        }
-        let got = sent(alloc, &mut device, 1, Bytes::from_vec(datagram))?;
-        assert_eq!(rt; got.as_str(), wanted, "{length}");
-        let is_held = device.value(&Path::Resource(3, 0, 14)).is_some();
-        assert_eq!(rt; is_held, length <= 255, "{length}");
+        let mut device = device(alloc)?;
+        let got = sent(alloc, &mut device, 1, offset_of(alloc, length)?)?;
+        assert_eq!(rt; got.as_str(), wanted);
+        assert_eq!(rt; has_offset(&device), length <= 255);
     }
     Ok(())
 }
