@@ -24,20 +24,20 @@ use Rattle.object_defs.specs.declared.path.FullPath.{FullPath}
 use Rattle.object_defs.specs.declared.path.InstancePath.{InstancePath}
 use Rattle.object_defs.proofs.LookUps.{same_number}
 use Rattle.instance_store.specs.Stored.{has_instance, instances_of, value_at, value_count, with_instance, with_value}
-use Rattle.value_layout.specs.Layout.{kind_numbered, number_of, of_kind, opaque, text, value}
+use Rattle.scenario_layout.specs.Value.{kind_numbered, number_of, of_kind, opaque, text, value}
 use Rattle.std.specs.Int.{w8}
-use Rattle.value_layout.specs.Definition.{resource, resources}
+use Rattle.scenario_layout.specs.Definition.{resource, resources}
 use Rattle.device_template.specs.Class.{Class, account_fault, empty_class, instance_fault, kind_taken, kind_taken_by, object_fault, plain, value_fault, value_fault_at, may_stand, with_account, with_catalogue, with_store}
 use Rattle.device_template.specs.Values.{fits_object, has_all_parts, has_place, is_within_limits, with_value_at}
 use Rattle.device_template.specs.Built.{IsBuilt}
 use Rattle.device_template.specs.declared.fault.TemplateFault.{TemplateFault}
 use Rattle.device_template.specs.declared.fault.TemplateFault.TheVariants as template
-use Rattle.class_layout.specs.Layout.{account, accounts, class, behind_accounts, behind_instances, behind_objects, defined, entry, instance, instances, instances_in, is_taken, object, object_id, objects, objects_in, value_path, values, values_in, with_accounts, with_instances, with_objects, with_values}
-use Rattle.class_layout.proofs.Defined.{defined_end, not_refused_at}
-use Rattle.class_layout.proofs.Filling.{instance_added as more_instances, instances_itself, instances_none, value_added as more_values, values_itself, values_none}
-use Rattle.class_layout.proofs.GoodClass.{class_good}
-use Rattle.class_layout.proofs.Items.{instance_made, object_vendor, value_made}
-use Rattle.class_layout.proofs.Ordered.{both_true, inserted_end}
+use Rattle.scenario_layout.specs.Class.{account, accounts, class, behind_accounts, behind_instances, behind_objects, defined, entry, instance, instances, instances_in, is_taken, object, object_id, objects, objects_in, value_path, values, values_in, with_accounts, with_instances, with_objects, with_values}
+use Rattle.scenario_layout.proofs.Defined.{defined_end, not_refused_at}
+use Rattle.scenario_layout.proofs.Filling.{instance_added as more_instances, instances_itself, instances_none, value_added as more_values, values_itself, values_none}
+use Rattle.scenario_layout.proofs.GoodClass.{class_good}
+use Rattle.scenario_layout.proofs.Items.{instance_made, object_vendor, value_made}
+use Rattle.scenario_layout.proofs.Ordered.{both_true, inserted_end}
 use Rattle.scenario_image.specs.Layout.{path_to, path_with}
 use Rattle.scenario_image.specs.Script.{Script, class_fault}
 use Rattle.scenario_image.specs.declared.fault.ScenarioFault.TheVariants as scenario

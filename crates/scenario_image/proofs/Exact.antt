@@ -10,8 +10,8 @@ use Rattle.byte_layout.specs.Exact.{IsExact}
 use Rattle.byte_layout.proofs.Fields.{number_exact, wide32}
 use Rattle.byte_layout.proofs.Parts.{fits_exact, at_most_exact, split_exact, last_exact, sized_exact}
 use Rattle.byte_layout.proofs.Lists.{counted_exact}
-use Rattle.value_layout.specs.Layout.{path, value}
-use Rattle.value_layout.proofs.Exact.{path_exact, value_exact, short_exact, byte_exact}
+use Rattle.scenario_layout.specs.Value.{path, value}
+use Rattle.scenario_layout.proofs.ExactValue.{path_exact, value_exact, short_exact, byte_exact}
 use Rattle.device_template.specs.Class.{Class}
 use Rattle.device_machine.specs.declared.event.Event.TheVariants.{Recv, Put, Firmware, Tick}
 use Rattle.scenario_image.specs.declared.kind.StepKind.{StepKind}

@@ -16,10 +16,10 @@ use Rattle.object_defs.specs.Path.{full_path}
 use Rattle.object_defs.specs.declared.path.Path.{Path}
 use Rattle.object_defs.specs.declared.path.Path.TheVariants.{Object, Instance, Resource, Part as ResourcePart}
 use Rattle.object_defs.specs.declared.path.FullPath.{FullPath}
-use Rattle.value_layout.specs.Layout.{path, part_number, text, opaque, value}
+use Rattle.scenario_layout.specs.Value.{path, part_number, text, opaque, value}
 use Rattle.std.specs.Str.{IsUtf8}
 use Rattle.std.proofs.lemmas.Str.{IsUtf8-from_is_utf8}
-use Rattle.value_layout.proofs.Good.{path_good, value_good, good_value}
+use Rattle.scenario_layout.proofs.GoodValue.{path_good, value_good, good_value}
 use Rattle.device_template.specs.Class.{Class}
 use Rattle.device_template.specs.Values.{is_within_limits as is_short}
 use Rattle.device_machine.specs.declared.event.Event.TheVariants.{Recv, Put, Firmware, Tick}

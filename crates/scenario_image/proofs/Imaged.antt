@@ -9,10 +9,10 @@ use Rattle.byte_layout.proofs.Fields.{number_exact, wide32}
 use Rattle.byte_layout.proofs.Steps.{behind_front, front_bytes}
 use Rattle.byte_layout.proofs.Parts.{at_most_exact, split_exact, last_exact, marked_exact}
 use Rattle.byte_layout.proofs.Lists.{counted_exact}
-use Rattle.value_layout.proofs.Exact.{short_exact, byte_exact}
+use Rattle.scenario_layout.proofs.ExactValue.{short_exact, byte_exact}
 use Rattle.device_template.specs.Class.{Class}
-use Rattle.class_layout.specs.Layout.{class}
-use Rattle.class_layout.proofs.Exact.{class_exact}
+use Rattle.scenario_layout.specs.Class.{class}
+use Rattle.scenario_layout.proofs.ExactClass.{class_exact}
 use Rattle.scenario_image.specs.Script.{Row, Script, IsValid}
 use Rattle.scenario_image.specs.Layout.{rows}
 use Rattle.scenario_image.specs.Image.{classes, script_of, behind_classes, lists, image, IsImage}

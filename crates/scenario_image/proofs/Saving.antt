@@ -7,7 +7,7 @@ use Rattle.std.proofs.lemmas.List.{take_more, take_all}
 use Rattle.byte_layout.specs.Part.{each}
 use Rattle.byte_layout.proofs.Fields.{number_good}
 use Rattle.device_template.specs.Class.{Class}
-use Rattle.class_layout.specs.Layout.{class}
+use Rattle.scenario_layout.specs.Class.{class}
 use Rattle.scenario_image.specs.Script.{Script, IsValid}
 use Rattle.scenario_image.specs.Layout.{rows}
 use Rattle.scenario_image.specs.Image.{classes, lists, image}

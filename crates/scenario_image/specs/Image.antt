@@ -6,7 +6,7 @@ use Rattle.byte_layout.specs.declared.fault.LayoutFault.{LayoutFault}
 use Rattle.byte_layout.specs.Part.{Part, number, at_most, split, last, marked, counted}
 use Rattle.byte_layout.specs.Whole.{IsAll, HasFault}
 use Rattle.device_template.specs.Class.{Class}
-use Rattle.class_layout.specs.Layout.{class}
+use Rattle.scenario_layout.specs.Class.{class}
 use Rattle.scenario_image.specs.Script.{Row, Script}
 use Rattle.scenario_image.specs.Layout.{rows}
 

@@ -10,7 +10,7 @@ use Rattle.object_defs.specs.Path.{full_path}
 use Rattle.object_defs.specs.declared.path.Path.{Path}
 use Rattle.object_defs.specs.declared.path.Path.TheVariants.{Resource, Part as ResourcePart}
 use Rattle.object_defs.specs.declared.path.FullPath.{FullPath}
-use Rattle.value_layout.specs.Layout.{path, value}
+use Rattle.scenario_layout.specs.Value.{path, value}
 use Rattle.device_template.specs.Class.{Class}
 use Rattle.device_machine.specs.declared.event.Event.TheVariants.{Recv, Put, Firmware, Tick}
 use Rattle.scenario_image.specs.declared.kind.StepKind.{StepKind}

@@ -6,7 +6,7 @@ ghost use Rattle.byte_layout.specs.declared.fault.LayoutFault.TheVariants.{Memor
 ghost use Rattle.byte_layout.specs.Outcome.{Gives};
 ghost use Rattle.byte_layout.specs.Part.{each};
 ghost use Rattle.byte_layout.specs.Whole.{read_all};
-ghost use Rattle.class_layout.specs.Layout.{class};
+ghost use Rattle.scenario_layout.specs.Class.{class};
 ghost use Rattle.scenario_image.specs.Script.{Script};
 ghost use Rattle.scenario_image.specs.Image.{classes, lists, image, IsImage, HasImageFault};
 
@@ -16,7 +16,7 @@ use byte_layout::{
     Break, Format, Items, LayoutFault, ReadError, items_at, load as load_all, put_u8, put_u16,
     put_u32, u8_at, u16_at_most, u32_at,
 };
-use class_layout::{class_at, put_class};
+use scenario_layout::{class_at, put_class};
 use device_machine::Template;
 use std::alloc::{AllocError, Global};
 
@@ -24,7 +24,7 @@ use std::alloc::{AllocError, Global};
 struct Classes;
 
 impl Items for Classes {
-    ghost use Rattle.class_layout.specs.Layout.{class};
+    ghost use Rattle.scenario_layout.specs.Class.{class};
 
     type Item = Template;
 

@@ -13,7 +13,7 @@ use device_machine::Event;
 use object_defs::{FullPath, Path};
 use octets::Bytes;
 use std::alloc::Global;
-use value_layout::{path_at, value_at};
+use scenario_layout::{path_at, value_at};
 
 /// The path of three or four numbers.
 fn path_to(full: FullPath) -> Path

@@ -2,7 +2,7 @@
 
 ghost use Rattle.std.specs.Prelude.{◌≡◌, ◌++◌, length, None, OnOk, unwrap_or};
 ghost use Rattle.object_defs.specs.Path.{full_path};
-ghost use Rattle.value_layout.specs.Layout.{value};
+ghost use Rattle.scenario_layout.specs.Value.{value};
 ghost use Rattle.scenario_image.specs.Layout.{kind, kind_of, datagram, of_kind, step, steps};
 
 use crate::kind::put_kind;
@@ -14,7 +14,7 @@ use lwm2m_values::Value;
 use object_defs::{FullPath, Path};
 use octets::Bytes;
 use std::alloc::AllocError;
-use value_layout::{put_path, put_value};
+use scenario_layout::{put_path, put_value};
 
 /// Writes a datagram of at most 1,500 bytes.
 #[tactic(auto, unfolding(crate::specs::Layout::datagram))]

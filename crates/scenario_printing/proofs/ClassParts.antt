@@ -19,7 +19,7 @@ use Rattle.device_template.specs.declared.fault.TemplateFault.TheVariants.{Range
 use Rattle.device_template.specs.Class.{Class, most_accounts, account_fault, instance_fault, may_stand}
 use Rattle.device_template.specs.Built.{IsBuilt, IsShort}
 use Rattle.device_template.specs.Built.IsBuilt.{nothing, account, object, resource, instance, value}
-use Rattle.class_layout.proofs.Items.{object_vendor}
+use Rattle.scenario_layout.proofs.Items.{object_vendor}
 use Rattle.scenario_statements.specs.Spelling.{IsWithin}
 use Rattle.scenario_printing.proofs.Each.{each_inserted, each_put}
 use Rattle.scenario_printing.proofs.OwnObjects.{HasOwn, object_more, resource_more, definition_vendor}

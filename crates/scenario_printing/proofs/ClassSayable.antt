@@ -12,7 +12,7 @@ use Rattle.object_defs.specs.declared.path.FullPath.{FullPath}
 use Rattle.object_defs.specs.declared.path.InstancePath.{InstancePath}
 use Rattle.device_template.specs.Class.{Class}
 use Rattle.device_template.specs.Built.{IsBuilt, IsShort}
-use Rattle.class_layout.specs.Layout.{objects_in, instances_in, values_in}
+use Rattle.scenario_layout.specs.Class.{objects_in, instances_in, values_in}
 use Rattle.scenario_image.specs.Layout.{path_with}
 use Rattle.scenario_words.specs.PathWord.{IsPath}
 use Rattle.scenario_statements.specs.declared.statement.Statement.TheVariants as says

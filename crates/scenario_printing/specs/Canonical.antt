@@ -6,7 +6,7 @@ use Rattle.object_defs.specs.declared.definition.ObjectDef.{ObjectDef}
 use Rattle.object_defs.specs.declared.path.FullPath.{FullPath}
 use Rattle.device_template.specs.Class.{Class}
 use Rattle.device_machine.specs.declared.event.Event.TheVariants.{Recv, Put, Firmware, Tick}
-use Rattle.class_layout.specs.Layout.{objects_in, instances_in, values_in}
+use Rattle.scenario_layout.specs.Class.{objects_in, instances_in, values_in}
 use Rattle.scenario_image.specs.declared.step.Step.{Step}
 use Rattle.scenario_image.specs.declared.step.Step.TheVariants.{Event, Post, Need}
 use Rattle.scenario_image.specs.Layout.{path_to}

@@ -5,7 +5,7 @@ ghost use Rattle.std.specs.List.{flat_map, AllByRecursion};
 ghost use Rattle.std.specs.String.{string_bytes};
 ghost use Rattle.instance_store.specs.Listing.{shown_pairs};
 ghost use Rattle.device_template.specs.Built.{IsBuilt};
-ghost use Rattle.class_layout.specs.Layout.{objects_in};
+ghost use Rattle.scenario_layout.specs.Class.{objects_in};
 ghost use Rattle.scenario_image.specs.Layout.{path_to};
 ghost use Rattle.scenario_statements.specs.declared.statement.Statement.TheVariants.{Account, Def, Instance};
 ghost use Rattle.scenario_printing.specs.Canonical.{of_class, of_object, of_value, printed_line, printed_lines};

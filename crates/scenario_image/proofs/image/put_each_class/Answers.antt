@@ -1,5 +1,5 @@
 use Rattle.byte_layout.proofs.Written.{writes_on, all_written}
-use Rattle.class_layout.specs.Layout.{class}
+use Rattle.scenario_layout.specs.Class.{class}
 use Rattle.scenario_image.proofs.Saving.{one_more, all_good}
 use Rattle.scenario_image.proofs.image.put_each_class.Goals as goal
 

@@ -2,7 +2,7 @@
 use Rattle.std.proofs.Common.{◌≡◌, ◌++◌, [], take}
 use Rattle.std.specs.List.{AllByRecursion}
 use Rattle.byte_layout.proofs.Written.{spelled}
-use Rattle.class_layout.specs.Layout.{class}
+use Rattle.scenario_layout.specs.Class.{class}
 use Rattle.scenario_image.proofs.image.put_each_class.Given as goal
 
 abbrev pub invariant-loop-template : goal.invariant-loop-template

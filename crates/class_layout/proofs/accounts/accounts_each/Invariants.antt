@@ -1,9 +1,0 @@
-use Rattle.std.proofs.Common.{◌-◌, []}
-use Rattle.byte_layout.specs.Part.{each}
-use Rattle.class_layout.specs.Layout.{account, with_accounts}
-use Rattle.class_layout.proofs.Growth.{IsFilled}
-use Rattle.class_layout.proofs.accounts.accounts_each.Given as goal
-
--- the class has the accounts that were read
-abbrev pub invariant-loop : goal.invariant-loop
-invariant-loop l = IsFilled (λ c. account) (λ c. c.accounts) (λ c. with_accounts) l.fn.template l.template (l.count - l.counter) l.rest ((each account l.count []).read l.fn.bytes)

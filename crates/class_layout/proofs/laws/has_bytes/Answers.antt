@@ -1,5 +1,0 @@
-use Rattle.class_layout.proofs.GoodClass.{class_good}
-use Rattle.class_layout.proofs.laws.has_bytes.Goals as goal
-
-pub returns : goal.returns
-returns c = class_good c.args.template.now c.accounts-accounts.ensures.built

@@ -1,9 +1,0 @@
-use Rattle.std.proofs.Common.{◌≡◌, ◌++◌, [], take}
-use Rattle.byte_layout.proofs.Written.{spelled}
-use Rattle.instance_store.specs.Listing.{shown_pairs}
-use Rattle.device_template.specs.Class.{Class}
-use Rattle.class_layout.specs.Layout.{entry}
-use Rattle.class_layout.proofs.writing.put_each_value.Given as goal
-
-abbrev pub invariant-loop-path : goal.invariant-loop-path
-invariant-loop-path l = (k : Class) → l.out.items ≡ l.fn.out.items ++ spelled (entry k) [] (shown_pairs (take l.path-index l.list))

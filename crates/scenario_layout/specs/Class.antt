@@ -1,0 +1,104 @@
+-- A class of devices as bytes, in this profile's image of a scenario.
+use Rattle.std.specs.Prelude.{ℕ, ◌&&◌, not, Bool, nat_lt, List, ◌++◌, length, map, drop, Option, is_some}
+use Rattle.std.specs.List.{list_all}
+use Rattle.std.specs.Int.{w8, w16}
+use Rattle.std.specs.Ordering.{is_lt}
+use Rattle.std.specs.FinMap as finite
+use Rattle.byte_layout.specs.declared.fault.Break.TheVariants.{BadField}
+use Rattle.byte_layout.specs.Part.{Part, number, judged, at_most, split, last, counted}
+use Rattle.lwm2m_values.specs.declared.value.Value.{Value}
+use Rattle.object_defs.specs.Base.{base}
+use Rattle.object_defs.specs.Path.{path_cmp, instance_cmp}
+use Rattle.object_defs.specs.declared.definition.ObjectDef.{ObjectDef}
+use Rattle.object_defs.specs.declared.definition.ResourceDef.{ResourceDef}
+use Rattle.object_defs.specs.declared.path.FullPath.{FullPath}
+use Rattle.object_defs.specs.declared.path.InstancePath.{InstancePath}
+use Rattle.scenario_layout.specs.Value.{place, path, value}
+use Rattle.scenario_layout.specs.Definition.{resources}
+use Rattle.device_template.specs.declared.fault.TemplateFault.{TemplateFault}
+use Rattle.device_template.specs.Class.{Class, empty_class, with_catalogue, with_store, most_accounts, account_fault, object_fault, instance_fault, kind_taken}
+
+-- ---- what is written of a class, each in ascending order
+
+-- the objects of the class's own: those behind the base objects
+abbrev pub objects_in : Class → List ObjectDef
+objects_in c = drop (length base) c.catalogue
+
+abbrev pub instances_in : Class → List InstancePath
+instances_in c = finite.keys c.store.instances
+
+abbrev pub values_in : Class → List (FullPath × Value)
+values_in c = finite.entries c.store.values
+
+-- ---- a class that has these
+
+abbrev pub with_accounts : List ℕ → Class
+with_accounts accounts = record { accounts = accounts; catalogue = empty_class.catalogue; store = empty_class.store }
+
+abbrev pub with_objects : Class → List ObjectDef → Class
+with_objects c objects = with_catalogue c (base ++ objects)
+
+abbrev pub with_instances : Class → List InstancePath → Class
+with_instances c places = with_store c (record { values = c.store.values; instances = finite.from_sorted (map (λ p. (p, tt)) places) })
+
+abbrev pub with_values : Class → List (FullPath × Value) → Class
+with_values c values = with_store c (record { values = finite.from_sorted values; instances = c.store.instances })
+
+-- ---- the parts
+
+-- an addition that the class does not refuse
+abbrev pub is_taken : Option TemplateFault → Bool
+is_taken fault = not (is_some fault)
+
+-- an account above those before it, which the class takes
+unfoldable pub account : List ℕ → Part ℕ
+account before = judged BadField (λ n. list_all (λ m. nat_lt m n) before && is_taken (account_fault (with_accounts before) n)) (number w16)
+
+unfoldable pub accounts : Part (List ℕ)
+accounts = counted (at_most most_accounts (number w8)) account
+
+abbrev pub defined : ℕ → List ResourceDef → ObjectDef
+defined id definitions = record { id = id; resources = definitions }
+
+-- the number of an object, above those that the class has, which the class takes
+unfoldable pub object_id : Class → List ObjectDef → Part ℕ
+object_id c before = judged BadField (λ id. list_all (λ o. nat_lt o.id id) (base ++ before) && is_taken (object_fault (with_objects c before) id)) (number w16)
+
+-- an object of the class's own: its number, and the definitions of its resources
+unfoldable pub object : Class → List ObjectDef → Part ObjectDef
+object c before = split (λ o. o.id) (object_id c before) (λ id. last (λ o. o.resources) (defined id) resources)
+
+unfoldable pub objects : Class → Part (List ObjectDef)
+objects c = counted (at_most 11 (number w8)) (object c)
+
+-- an instance behind those before it, which the class takes
+unfoldable pub instance : Class → List InstancePath → Part InstancePath
+instance c before = judged BadField (λ p. list_all (λ q. is_lt (instance_cmp q p)) before && is_taken (instance_fault (with_instances c before) p)) place
+
+unfoldable pub instances : Class → Part (List InstancePath)
+instances c = counted (number w16) (instance c)
+
+-- the path of a value, behind those before it, at which the class takes values of some kind
+unfoldable pub value_path : Class → List (FullPath × Value) → Part FullPath
+value_path c before = judged BadField (λ p. list_all (λ e. is_lt (path_cmp e.0 p)) before && is_some (kind_taken (with_values c before) p)) path
+
+-- a path, and a value of the kind that is taken there
+unfoldable pub entry : Class → List (FullPath × Value) → Part (FullPath × Value)
+entry c before = split (λ e. e.0) (value_path c before) (λ p. last (λ e. e.1) (λ v. (p, v)) (value (kind_taken (with_values c before) p)))
+
+unfoldable pub values : Class → Part (List (FullPath × Value))
+values c = counted (number w16) (entry c)
+
+-- ---- the class: its accounts, the objects of its own, its instances, its values
+
+unfoldable pub behind_instances : Class → Part Class
+behind_instances c = last values_in (with_values c) (values c)
+
+unfoldable pub behind_objects : Class → Part Class
+behind_objects c = split instances_in (instances c) (λ places. behind_instances (with_instances c places))
+
+unfoldable pub behind_accounts : Class → Part Class
+behind_accounts c = split objects_in (objects c) (λ defs. behind_objects (with_objects c defs))
+
+unfoldable pub class : Part Class
+class = split (λ c. c.accounts) accounts (λ numbers. behind_accounts (with_accounts numbers))

@@ -1,0 +1,4 @@
+pub mod Value
+pub mod Definition
+pub mod Class
+pub mod Growing

@@ -1,0 +1,148 @@
+//! A class, written at the end of a vector. Where memory runs out, some of its bytes may have been written.
+
+ghost use Rattle.std.specs.Prelude.{◌≡◌, ◌≤◌, ◌<◌, ◌++◌, List, [], All, length, drop, OnOk};
+ghost use Rattle.byte_layout.specs.Part.{each};
+ghost use Rattle.lwm2m_values.specs.declared.value.Value.{Value};
+ghost use Rattle.lwm2m_values.specs.Value.{IsGood};
+ghost use Rattle.object_defs.specs.Base.{base};
+ghost use Rattle.object_defs.specs.declared.definition.ObjectDef.{ObjectDef};
+ghost use Rattle.instance_store.specs.Listing.{shown_pairs};
+ghost use Rattle.scenario_layout.specs.Definition.{resources};
+ghost use Rattle.device_template.specs.Class.{Class};
+ghost use Rattle.scenario_layout.specs.Class.{account, accounts, class, entry, instance, instances, object, objects, values};
+
+use crate::definition::put_resources;
+use crate::laws::{class_has_bytes, good_parts};
+use crate::path::{put_path, put_place};
+use crate::value_writing::put_value;
+use byte_layout::{put_u8, put_u16};
+use device_template::Template;
+use lwm2m_values::Value;
+use object_defs::{Catalog, FullPath, InstancePath, ObjectDef};
+use std::alloc::AllocError;
+
+/// Writes a class: each that there is has bytes, so nothing is refused. Where memory runs out, some of its bytes may have been written.
+#[tactic(auto, unfolding(crate::specs::Class::class, crate::specs::Class::behind_accounts, crate::specs::Class::behind_objects, crate::specs::Class::behind_instances))]
+pub fn put_class(out: &mut Vec<u8>, template: &Template) -> Result<(), AllocError>
+    ensures good { class.Good template.now }
+    ensures bytes { OnOk result (out.new.items ≡ out.old.items ++ class.spell template.now) }
+{
+    class_has_bytes(template);
+    good_parts(template);
+    put_accounts(out, template.accounts())?;
+    put_objects(out, own_objects(template.catalog()))?;
+    let places = template.store().all_instances()?;
+    put_instances(out, &places)?;
+    let pairs = template.store().values()?;
+    put_values(out, &pairs)
+}
+
+/// The objects of a class's own, behind the five base objects.
+fn own_objects(catalog: &Catalog) -> &[ObjectDef]
+    ensures { result.now ≡ drop (length base) catalog.now }
+{
+    let objects = catalog.objects();
+    let [_, _, _, _, _, own @ ..] = objects else {
+        return &objects[..0];
+    };
+    own
+}
+
+#[tactic(auto, unfolding(crate::specs::Class::accounts))]
+fn put_accounts(out: &mut Vec<u8>, list: &[u16]) -> Result<(), AllocError>
+    requires { accounts.Good list.now }
+    ensures { OnOk result (out.new.items ≡ out.old.items ++ accounts.spell list.now) }
+{
+    put_u8(out, list.len() as u8)?;
+    put_each_account(out, list)
+}
+
+fn put_each_account(out: &mut Vec<u8>, list: &[u16]) -> Result<(), AllocError>
+    requires { (each account (length list.now) []).Good list.now }
+    ensures { OnOk result (out.new.items ≡ out.old.items ++ (each account (length list.now) []).spell list.now) }
+{
+    for number in list {
+        put_u16(out, *number)?;
+    }
+    Ok(())
+}
+
+#[tactic(auto, unfolding(crate::specs::Class::objects))]
+fn put_objects(out: &mut Vec<u8>, list: &[ObjectDef]) -> Result<(), AllocError>
+    requires few { length list.now ≤ 11 }
+    requires defined { All (λ o. resources.Good o.resources) list.now }
+    ensures { OnOk result ((c : Class) → (objects c).Good list.now → out.new.items ≡ out.old.items ++ (objects c).spell list.now) }
+{
+    put_u8(out, list.len() as u8)?;
+    put_each_object(out, list)
+}
+
+fn put_each_object(out: &mut Vec<u8>, list: &[ObjectDef]) -> Result<(), AllocError>
+    requires { All (λ o. resources.Good o.resources) list.now }
+    ensures { OnOk result ((c : Class) → (each (object c) (length list.now) []).Good list.now
+        → out.new.items ≡ out.old.items ++ (each (object c) (length list.now) []).spell list.now) }
+{
+    for object in list {
+        put_object(out, object)?;
+    }
+    Ok(())
+}
+
+#[tactic(auto, unfolding(crate::specs::Class::object, crate::specs::Class::object_id))]
+fn put_object(out: &mut Vec<u8>, definition: &ObjectDef) -> Result<(), AllocError>
+    requires { resources.Good definition.now.resources }
+    ensures { OnOk result ((c : Class) (before : List ObjectDef) → out.new.items ≡ out.old.items ++ (object c before).spell definition.now) }
+{
+    put_u16(out, definition.id)?;
+    put_resources(out, definition.resources.as_slice())
+}
+
+#[tactic(auto, unfolding(crate::specs::Class::instances))]
+fn put_instances(out: &mut Vec<u8>, list: &[InstancePath]) -> Result<(), AllocError>
+    requires { length list.now < 65536 }
+    ensures { OnOk result ((c : Class) → (instances c).Good list.now → out.new.items ≡ out.old.items ++ (instances c).spell list.now) }
+{
+    put_u16(out, list.len() as u16)?;
+    put_each_instance(out, list)
+}
+
+fn put_each_instance(out: &mut Vec<u8>, list: &[InstancePath]) -> Result<(), AllocError>
+    ensures { OnOk result ((c : Class) → (each (instance c) (length list.now) []).Good list.now
+        → out.new.items ≡ out.old.items ++ (each (instance c) (length list.now) []).spell list.now) }
+{
+    for place in list {
+        put_place(out, *place)?;
+    }
+    Ok(())
+}
+
+#[tactic(auto, unfolding(crate::specs::Class::values))]
+fn put_values(out: &mut Vec<u8>, list: &[(FullPath, &Value)]) -> Result<(), AllocError>
+    requires few { length list.now < 65536 }
+    requires good { All (λ e. IsGood e.1) (shown_pairs list.now) }
+    ensures { OnOk result ((c : Class) → (values c).Good (shown_pairs list.now)
+        → out.new.items ≡ out.old.items ++ (values c).spell (shown_pairs list.now)) }
+{
+    put_u16(out, list.len() as u16)?;
+    put_each_value(out, list)
+}
+
+fn put_each_value(out: &mut Vec<u8>, list: &[(FullPath, &Value)]) -> Result<(), AllocError>
+    requires { All (λ e. IsGood e.1) (shown_pairs list.now) }
+    ensures { OnOk result ((c : Class) → (each (entry c) (length list.now) []).Good (shown_pairs list.now)
+        → out.new.items ≡ out.old.items ++ (each (entry c) (length list.now) []).spell (shown_pairs list.now)) }
+{
+    for (path, value) in list {
+        put_entry(out, *path, value)?;
+    }
+    Ok(())
+}
+
+#[tactic(auto, unfolding(crate::specs::Class::entry, crate::specs::Class::value_path))]
+fn put_entry(out: &mut Vec<u8>, path: FullPath, value: &Value) -> Result<(), AllocError>
+    requires { IsGood value.now }
+    ensures { OnOk result ((c : Class) (before : List (FullPath × Value)) → out.new.items ≡ out.old.items ++ (entry c before).spell (path, value.now)) }
+{
+    put_path(out, path)?;
+    put_value(out, value)
+}

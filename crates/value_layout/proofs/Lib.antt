@@ -1,4 +1,0 @@
-pub mod Utf8
-pub mod Exact
-pub mod Good
-pub mod Definitions
