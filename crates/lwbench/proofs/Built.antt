@@ -4,7 +4,7 @@ use Rattle.std.specs.Result.{IsOkAnd}
 use Rattle.hex.specs.Hex.{decode_of}
 use Rattle.scenario_image.specs.Script.{Script}
 use Rattle.scenario_image.specs.Image.{IsImage}
-use Rattle.scenario_printing.specs.Canonical as canonical
+use Rattle.scenario_asm.specs.Canonical as canonical
 use Rattle.scenario_asm.specs.Text.{assembled}
 use Rattle.scenario_asm.proofs.Denoting.{so_denotes}
 use Rattle.trace_file.specs.declared.entry.Entry.{Entry}

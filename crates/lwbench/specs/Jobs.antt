@@ -9,7 +9,7 @@ use Rattle.byte_layout.specs.declared.fault.LayoutFault.{LayoutFault}
 use Rattle.byte_layout.specs.Whole.{HasFault}
 use Rattle.scenario_image.specs.Script.{Script}
 use Rattle.scenario_image.specs.Image.{IsImage, HasImageFault}
-use Rattle.scenario_printing.specs.Canonical as canonical
+use Rattle.scenario_asm.specs.Canonical as canonical
 use Rattle.trace_file.specs.declared.entry.Entry.{Entry}
 use Rattle.trace_file.specs.Layout.{trace_file, IsTraceFile}
 use Rattle.lwbench.specs.Demo.{demo_outputs}

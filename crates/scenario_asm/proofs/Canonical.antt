@@ -6,10 +6,10 @@ use Rattle.scenario_words.specs.Reading.{◌>>=◌}
 use Rattle.scenario_words.specs.Words.{lines, words}
 use Rattle.scenario_statements.specs.declared.statement.Statement.{Statement}
 use Rattle.scenario_statements.specs.Grammar.{statement_of}
-use Rattle.scenario_printing.specs.Canonical.{printed, statements}
-use Rattle.scenario_printing.specs.Reading.{IsScenario, behind, said_in}
-use Rattle.scenario_printing.proofs.ReadAgain.{said_again}
-use Rattle.scenario_printing.proofs.Sayable.{all_said}
+use Rattle.scenario_asm.specs.Canonical.{printed, statements}
+use Rattle.scenario_asm.specs.Reading.{IsScenario, behind, said_in}
+use Rattle.scenario_asm.proofs.ReadAgain.{said_again}
+use Rattle.scenario_asm.proofs.Sayable.{all_said}
 use Rattle.scenario_asm.specs.Draft.{Draft, closed, nothing}
 use Rattle.scenario_asm.specs.Denotes.{AreSaid, Lead}
 use Rattle.scenario_asm.specs.Denotes.AreSaid.{done, blank, stated}

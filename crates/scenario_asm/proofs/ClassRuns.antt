@@ -44,7 +44,7 @@ use Rattle.scenario_image.specs.declared.fault.ScenarioFault.TheVariants as scen
 use Rattle.scenario_words.specs.Reading.{◌>>=◌}
 use Rattle.scenario_statements.specs.declared.statement.Statement.{Statement}
 use Rattle.scenario_statements.specs.declared.statement.Statement.TheVariants as says
-use Rattle.scenario_printing.specs.Canonical.{of_class, of_object, of_value}
+use Rattle.scenario_asm.specs.Canonical.{of_class, of_object, of_value}
 use Rattle.scenario_asm.specs.Causes.{needs, scenario_cause, template_cause, unless}
 use Rattle.scenario_asm.specs.ClassLines.{has_object, is_stated, value_cause}
 use Rattle.scenario_asm.specs.Draft.{Draft, closed}

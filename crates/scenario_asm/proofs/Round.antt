@@ -2,8 +2,8 @@
 use Rattle.std.proofs.Common.{◌≡◌, ℕ, List, [], length, Ok, refl, ap, ◌∙◌}
 use Rattle.std.specs.List.{flat_map}
 use Rattle.scenario_image.specs.Script.{Script}
-use Rattle.scenario_printing.specs.Canonical.{of_class, of_row, printed}
-use Rattle.scenario_printing.specs.Reading.{IsScenario}
+use Rattle.scenario_asm.specs.Canonical.{of_class, of_row, printed}
+use Rattle.scenario_asm.specs.Reading.{IsScenario}
 use Rattle.scenario_asm.specs.Text.{assembled}
 use Rattle.scenario_asm.proofs.Canonical.{canonical, lead_append}
 use Rattle.scenario_asm.proofs.ClassRuns.{classes_lead}

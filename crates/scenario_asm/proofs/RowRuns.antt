@@ -20,8 +20,8 @@ use Rattle.scenario_mnemonics.specs.declared.mnemonic.Mnemonic.{Mnemonic}
 use Rattle.scenario_mnemonics.specs.declared.mnemonic.Mnemonic.TheVariants as mnemonic
 use Rattle.scenario_mnemonics.proofs.Fitting.{denotes}
 use Rattle.scenario_statements.specs.declared.statement.Statement.TheVariants as says
-use Rattle.scenario_printing.specs.Canonical.{of_datagram, of_row, of_step}
-use Rattle.scenario_printing.proofs.Numbers.{bytes_all}
+use Rattle.scenario_asm.specs.Canonical.{of_datagram, of_row, of_step}
+use Rattle.scenario_asm.proofs.Numbers.{bytes_all}
 use Rattle.scenario_asm.specs.Causes.{needs, scenario_cause, unless}
 use Rattle.scenario_asm.specs.Draft.{Draft, closed}
 use Rattle.scenario_asm.specs.Effect.{device_begun, effect, fitting, has_device, has_server, knows, step_added}

@@ -32,9 +32,9 @@ in_class d add make None = Err Missing
 in_class d add make (Some c) = add c >>= (λ e. Ok (make e))
 
 -- a resource needs an object line before it in its class
-abbrev pub of_object : Option ℕ → (ℕ → Class → Result Class Cause) → Class → Result Class Cause
-of_object None add c = Err Missing
-of_object (Some object) add c = add object c
+abbrev pub in_object : Option ℕ → (ℕ → Class → Result Class Cause) → Class → Result Class Cause
+in_object None add c = Err Missing
+in_object (Some object) add c = add object c
 
 -- a class that is begun closes the one before it
 abbrev pub class_begun : Draft → Result Draft Cause
@@ -82,7 +82,7 @@ effect says.Scenario d = if d.begun then Err Duplicate else Ok (record { begun =
 effect says.Class d = needs d.begun (class_begun d)
 effect (says.Account server) d = needs d.begun (in_class d (account_added server) (reopened d) d.open_class)
 effect (says.Object id) d = needs d.begun (in_class d (object_added id) (reopened_with id d) d.open_class)
-effect (says.Def r) d = needs d.begun (in_class d (of_object d.object (λ object. definition_added object r)) (reopened d) d.open_class)
+effect (says.Def r) d = needs d.begun (in_class d (in_object d.object (λ object. definition_added object r)) (reopened d) d.open_class)
 effect (says.Instance place) d = needs d.begun (in_class d (instance_added place) (reopened d) d.open_class)
 effect (says.Value p value) d = needs d.begun (in_class d (value_added p value) (reopened d) d.open_class)
 effect (says.Device class) d = needs d.begun (device_begun class d)

@@ -11,7 +11,7 @@ ghost use Rattle.scenario_mnemonics.specs.Messages.{datagram_of};
 ghost use Rattle.scenario_asm.specs.Causes.{Makes, needs};
 ghost use Rattle.scenario_asm.specs.ClassLines.{account_added, definition_added, instance_added, object_added, value_added};
 ghost use Rattle.scenario_asm.specs.Draft.{closed, nothing};
-ghost use Rattle.scenario_asm.specs.Effect.{class_begun, device_begun, device_step, effect, fitting, has_device, has_server, in_class, last_class, of_object, reopened, reopened_with, step_added};
+ghost use Rattle.scenario_asm.specs.Effect.{class_begun, device_begun, device_step, effect, fitting, has_device, has_server, in_class, in_object, last_class, reopened, reopened_with, step_added};
 ghost use Rattle.scenario_asm.specs.Text.{line_after, whole};
 
 use crate::causes::of_scenario;
@@ -139,7 +139,7 @@ impl Draft {
 
     fn definition(&mut self, definition: ResourceDef) -> Result<(), Cause>
         ensures { Makes result self.new
-            (in_class self.old (of_object self.old.object (λ object. definition_added object definition)) (reopened self.old) self.old.open_class) }
+            (in_class self.old (in_object self.old.object (λ object. definition_added object definition)) (reopened self.old) self.old.open_class) }
     {
         let object = self.object;
         match (&mut self.open_class, object) {

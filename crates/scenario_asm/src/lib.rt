@@ -1,4 +1,5 @@
-//! Scenarios from their text: what each statement adds, and the first line that is refused.
+//! Scenarios from their text, and their text: what each statement adds, the first line that is refused, and the
+//! canonical text of a scenario. docs/TEXT.md has it in words.
 #![tactic(auto)]
 
 mod assembling;
@@ -7,12 +8,9 @@ mod class;
 mod draft;
 mod fault;
 mod laws;
-mod text;
+mod printing;
 
 pub use assembling::assemble;
 pub use fault::AsmFault;
-pub use laws::{canonical_text, texts_denote};
-pub use text::disassemble;
-
-#[cfg(test)]
-mod tests;
+pub use laws::{canonical_lines, canonical_text, statements_are_sayable, texts_denote};
+pub use printing::disassemble;

@@ -1,0 +1,35 @@
+//! The canonical text of a scenario: each statement once, in a line of its own; and that it is read as the scenario again.
+
+ghost use Rattle.std.specs.Prelude.{◌≡◌, Ok, IfOk, OnOk};
+ghost use Rattle.std.specs.String.{string_bytes};
+ghost use Rattle.scenario_asm.specs.Canonical.{printed};
+ghost use Rattle.scenario_asm.specs.Reading.{IsScenario};
+ghost use Rattle.scenario_asm.specs.Text.{assembled};
+
+mod classes;
+mod lines;
+mod rows;
+
+use self::classes::put_classes;
+use self::lines::put_statement;
+use self::rows::put_rows;
+use scenario_image::Scenario;
+use scenario_statements::Statement;
+use std::alloc::{AllocError, Global};
+
+/// The canonical text of a scenario: a line for each statement, its words with one space between each two, and an LF
+/// behind the last line too. A datagram that a mnemonic denotes is written as that mnemonic, any other as `recv`.
+#[tactic(auto, using(crate::proofs::Round::text_again))]
+pub fn disassemble(alloc: Global, scenario: &Scenario) -> Result<String, AllocError>
+    ensures text { IfOk result (λ t. string_bytes t ≡ printed scenario.now) }
+
+    // So each line of the text is read as its statement (`canonical_lines`).
+    ensures scenario { OnOk result (IsScenario scenario.now) }
+    ensures again { IfOk result (λ t. assembled (string_bytes t) ≡ Ok scenario.now) }
+{
+    let mut out = String::new(alloc);
+    put_statement(alloc, &mut out, &Statement::Scenario)?;
+    put_classes(alloc, &mut out, scenario)?;
+    put_rows(alloc, &mut out, scenario)?;
+    Ok(out)
+}

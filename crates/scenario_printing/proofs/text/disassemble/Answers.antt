@@ -1,4 +1,0 @@
-use Rattle.scenario_printing.proofs.text.disassemble.Goals as goal
-
-pub returns-clause-scenario : goal.returns-clause-scenario
-returns-clause-scenario c = record { valid = c.in_ok-put_rows.ensures.valid; built = c.in_ok-put_classes.ensures.built }

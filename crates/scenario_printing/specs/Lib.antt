@@ -1,2 +1,0 @@
-pub mod Canonical
-pub mod Reading
