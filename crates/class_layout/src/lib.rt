@@ -1,4 +1,4 @@
-//! A class of devices as bytes, in this profile's image of a scenario: `specs/Layout.antt` has the layout, docs/CLASSES.md its words.
+//! A class of devices as bytes, in this profile's image of a scenario: `specs/Layout.antt` has the layout, docs/use/files.md its words.
 #![tactic(auto)]
 
 mod accounts;

@@ -1,4 +1,4 @@
-//! The canonical text of a scenario: each statement once, in a line of its own. docs/TEXT.md has it in words.
+//! The canonical text of a scenario: each statement once, in a line of its own. docs/use/scenario-text.md has it in words.
 #![tactic(auto)]
 
 mod classes;

@@ -1,4 +1,4 @@
-//! Paths, kinds and values as bytes, in this profile's formats: `specs/Layout.antt` has the layout, docs/LAYOUT.md its words.
+//! Paths, kinds and values as bytes, in this profile's formats: `specs/Layout.antt` has the layout, docs/use/files.md its words.
 #![tactic(auto)]
 
 mod definition;
