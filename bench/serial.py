@@ -161,8 +161,8 @@ class Least:
         return f"{self.memory / 1024:.1f}" if self.memory > own + 1024 else "-"
 
 
-COLUMNS = ["Steps", "Devices", "Steps each", "Steps in all", "Start ms", "Run ms", "CPU a step", "Steps a CPU second",
-           "Check ms", "Image MiB", "Trace MiB", "Start MiB", "Run MiB"]
+COLUMNS = ["Steps", "Devices", "Each", "All", "Start ms", "Run ms", "A step", "Steps/s", "Check ms", "Image", "Trace",
+           "Start MiB", "Run MiB"]
 
 
 def row(cells):

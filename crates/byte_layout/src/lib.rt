@@ -1,5 +1,5 @@
 //! Formats of bytes, field by field: how a value is spelled, which values have a spelling, where other bytes break off,
-//! and the fields that formats share, read and written. docs/LAYOUT.md has it in words.
+//! and the fields that formats share, read and written. docs/inside/layouts.md has it in words.
 #![tactic(auto)]
 
 mod fault;

@@ -1,4 +1,4 @@
-//! The entries of a run, and the file of a trace, which holds them. docs/LAYOUT.md has the file in words.
+//! The entries of a run, and the file of a trace, which holds them. docs/use/files.md has the file in words.
 #![tactic(auto)]
 
 mod entries;
