@@ -3,9 +3,14 @@
 #![tactic(auto)]
 
 mod case;
+mod catalogue;
 mod forms;
+mod lines;
 mod messages;
+mod records;
 mod tally;
+mod values;
+mod words;
 
 use case::{Case, Line};
 use std::alloc::{AllocError, Global};
@@ -18,7 +23,19 @@ fn answer(alloc: Global, subject: &str, rest: &str) -> Result<Option<String>, Al
     if let Some(text) = messages::answer(alloc, subject, rest)? {
         return Ok(Some(text));
     }
-    Ok(None)
+    if let Some(text) = values::answer(alloc, subject, rest)? {
+        return Ok(Some(text));
+    }
+    if let Some(text) = records::answer(alloc, subject, rest)? {
+        return Ok(Some(text));
+    }
+    if let Some(text) = catalogue::answer(alloc, subject, rest)? {
+        return Ok(Some(text));
+    }
+    if let Some(text) = words::answer(alloc, subject, rest)? {
+        return Ok(Some(text));
+    }
+    lines::answer(alloc, subject, rest)
 }
 
 /// Asks a question, and prints the line where its answer is another, or where it has none.
