@@ -21,6 +21,3 @@ pub use number::{uint, uint_bytes};
 pub use option::{Opt, Options};
 pub use reading::decode;
 pub use writing::encode;
-
-#[cfg(test)]
-mod tests;

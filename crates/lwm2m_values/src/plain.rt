@@ -117,6 +117,3 @@ pub fn write_text(alloc: Global, value: &Value) -> Result<Bytes, AllocError>
 {
     shortest_text(alloc, value)
 }
-
-#[cfg(test)]
-mod tests;

@@ -70,6 +70,3 @@ pub fn read_tlv(alloc: Global, bytes: &[u8]) -> Result<Vec<Node>, TlvFault>
 {
     nodes_of(alloc, Level::Top, bytes)
 }
-
-#[cfg(test)]
-mod tests;

@@ -101,6 +101,3 @@ pub fn bytes_of(alloc: Global, value: &Value) -> Result<Bytes, AllocError>
 {
     shortest_bytes(alloc, value)
 }
-
-#[cfg(test)]
-mod tests;

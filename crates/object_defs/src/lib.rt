@@ -13,6 +13,3 @@ pub use decimal::decimal_number;
 pub use definition::{ObjectDef, Ops, ResourceDef, Resources};
 pub use fault::CatalogFault;
 pub use path::{FullPath, InstancePath, Path, ResourcePath};
-
-#[cfg(test)]
-mod tests;

@@ -29,6 +29,3 @@ pub use request_type::RequestType;
 pub use token::Token;
 pub use verb::{Keyword, Verb};
 pub use writing::spell;
-
-#[cfg(test)]
-mod tests;

@@ -11,6 +11,3 @@ pub use laws::statements_read_again;
 pub use reading::read_statement;
 pub use statement::Statement;
 pub use writing::{line_of, recv_line, value_line};
-
-#[cfg(test)]
-mod tests;

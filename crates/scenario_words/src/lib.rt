@@ -23,6 +23,3 @@ pub use number::{integer, natural};
 pub use paths::{path, path_word};
 pub use quotes::{quoted, quoted_word};
 pub use values::{is_too_long, kind, kind_word, name_fault, spell, value};
-
-#[cfg(test)]
-mod tests;
