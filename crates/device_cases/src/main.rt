@@ -1,16 +1,22 @@
 //! `device_cases`: reads cases of emulated devices from standard input, plays each, and prints what differs from what it states.
 #![tactic(auto)]
 
+mod blocks;
 mod cases;
+mod entry_lines;
 mod files;
+mod made;
+mod more_bytes;
 mod named;
 mod pieces;
 mod report;
 mod stated;
+mod sweeps;
+mod trial;
 
 use cases::{Case, cases_of};
 use report::Report;
-use scenario_words::{is_name, next_word};
+use scenario_words::next_word;
 use std::alloc::{AllocError, Global};
 use std::io;
 use std::process::ExitCode;
@@ -39,9 +45,7 @@ fn run(alloc: Global, case: &Case, report: &mut Report) -> Result<(), AllocError
     let body = case.body.as_slice();
     match first_word(body) {
         None => report.malformed(case.line, "a case without a body"),
-        Some(word) if is_name(word, "image") || is_name(word, "trace") => {
-            files::run(alloc, body, report)
-        }
+        Some(b"image" | b"text" | b"trace" | b"entries") => files::run(alloc, body, report),
         Some(_) => Ok(()),
     }
 }
