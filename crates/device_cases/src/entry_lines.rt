@@ -1,4 +1,5 @@
-//! The entries of a trace in words, a line each: `worker 0 device 2 step 1: send 1 60840025, act reboot`, or `nothing` after the colon.
+//! The entries of a trace in words, a line each: `worker 0 device 2 step 1: send 1 60840025, act reboot`, or `nothing`
+//! after the colon.
 
 use crate::named::act_name;
 use crate::pieces::bytes_of;

@@ -1,26 +1,29 @@
 //! Cases whose body gives a file: an image or a trace file, or a text or entries of which such a file is made.
 
 use crate::blocks::blocks_of;
-use crate::made::Kind;
+use crate::found::FileKind;
 use crate::report::Report;
 use crate::stated::Stated;
 use crate::trial::Trial;
-use scenario_words::next_word;
 use std::alloc::{AllocError, Global};
 
 /// What a body gives that begins with this line.
-fn kind_of(line: &str) -> Option<Kind> {
-    let (word, _) = next_word(line.as_bytes())?;
-    match word {
-        b"image" => Some(Kind::Image),
-        b"text" => Some(Kind::Text),
-        b"trace" => Some(Kind::Trace),
-        b"entries" => Some(Kind::Entries),
-        _ => None,
+fn kind_of(line: &str) -> Option<FileKind> {
+    if line == "text" {
+        Some(FileKind::Text)
+    } else if line == "entries" {
+        Some(FileKind::Entries)
+    } else if line.starts_with("image ") {
+        Some(FileKind::Image)
+    } else if line.starts_with("trace ") {
+        Some(FileKind::Trace)
+    } else {
+        None
     }
 }
 
-/// Plays a case whose body, line by line with the lines' numbers in the file, begins with `image`, `text`, `trace` or `entries`.
+/// Plays a case whose body, line by line with the lines' numbers in the file, begins with `image`, `text`, `trace` or
+/// `entries`.
 pub fn run(alloc: Global, body: &[(u32, &str)], report: &mut Report) -> Result<(), AllocError> {
     let blocks = blocks_of(alloc, body, report)?;
     let Some((first, others)) = blocks.as_slice().split_first() else {

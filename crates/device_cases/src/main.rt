@@ -3,9 +3,10 @@
 
 mod blocks;
 mod cases;
+mod copies;
 mod entry_lines;
 mod files;
-mod made;
+mod found;
 mod more_bytes;
 mod named;
 mod pieces;

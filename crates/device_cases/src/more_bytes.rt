@@ -5,7 +5,8 @@ use scenario_words::{Cause, next_word, quoted};
 use std::alloc::{AllocError, Global};
 use std::str;
 
-/// Adds the bytes of the words of a line, which a comment may end. It gives whether each of them is in pieces, or in quotes.
+/// Adds the bytes of the words of a line, which a comment may end. It gives whether each of them is in pieces, or in
+/// quotes.
 pub fn add_words(alloc: Global, out: &mut Vec<u8>, line: &str) -> Result<bool, AllocError> {
     let mut rest = line.as_bytes();
     for _ in line.bytes() {

@@ -1,5 +1,6 @@
-//! What the bench makes of the bytes of a case.
+//! What is found in the bytes of a case: what they say, or their fault.
 
+use crate::copies::{copy_of_entries, copy_of_scenario};
 use crate::entry_lines::{entries_of, lines_of};
 use crate::named::{cause_name, layout_fault};
 use byte_layout::LayoutFault;
@@ -8,11 +9,11 @@ use scenario_image::{Scenario, load, save};
 use scenario_words::Cause;
 use std::alloc::{AllocError, Global};
 use std::str;
-use trace_file::{Entries, Entry, WriteFault, read_entries, write_entries};
+use trace_file::{Entries, WriteFault, read_entries, write_entries};
 
 /// What the bytes of a case are.
 #[derive(Clone, Copy, Debug, PartialEq, Eq)]
-pub enum Kind {
+pub enum FileKind {
     /// The image of a scenario.
     Image,
     /// A scenario's text.
@@ -23,9 +24,9 @@ pub enum Kind {
     Entries,
 }
 
-/// What is made of the bytes of a case.
+/// What is found in the bytes of a case.
 #[derive(Drop)]
-pub struct Made {
+pub struct Found {
     /// `ok` and what there is, or `fault` and its name.
     pub verdict: String,
     /// The canonical text of a scenario, or the entries of a trace in words.
@@ -34,7 +35,7 @@ pub struct Made {
     pub file: Vec<u8>,
 }
 
-impl Made {
+impl Found {
     /// The text, or the verdict where there is none.
     pub fn shown_text(&self) -> &str {
         if self.text.is_empty() {
@@ -53,50 +54,50 @@ impl Made {
     }
 }
 
-/// What is made of the bytes.
-pub fn make(alloc: Global, kind: Kind, bytes: &[u8]) -> Result<Made, AllocError> {
+/// What is found in the bytes.
+pub fn found_in(alloc: Global, kind: FileKind, bytes: &[u8]) -> Result<Found, AllocError> {
     match kind {
-        Kind::Image => of_image(alloc, bytes),
-        Kind::Trace => of_trace(alloc, bytes),
-        Kind::Text => match str::from_utf8(bytes) {
+        FileKind::Image => of_image(alloc, bytes),
+        FileKind::Trace => of_trace(alloc, bytes),
+        FileKind::Text => match str::from_utf8(bytes) {
             Ok(text) => of_text(alloc, text),
             Err(_) => refused_as(alloc, "fault read"),
         },
-        Kind::Entries => match str::from_utf8(bytes) {
+        FileKind::Entries => match str::from_utf8(bytes) {
             Ok(text) => of_words(alloc, text),
             Err(_) => refused_as(alloc, "no entries"),
         },
     }
 }
 
-/// What is made where there is nothing but this verdict.
-pub fn refused(alloc: Global, verdict: String) -> Made {
-    Made {
+/// What is found where there is nothing but this verdict.
+pub fn refused(alloc: Global, verdict: String) -> Found {
+    Found {
         verdict,
         text: String::new(alloc),
         file: Vec::new(alloc),
     }
 }
 
-fn refused_as(alloc: Global, verdict: &str) -> Result<Made, AllocError> {
+fn refused_as(alloc: Global, verdict: &str) -> Result<Found, AllocError> {
     Ok(refused(alloc, String::from_str(alloc, verdict)?))
 }
 
-/// What is made of a file with this fault.
-fn broken(alloc: Global, fault: LayoutFault) -> Result<Made, AllocError> {
+/// What is found in a file with this fault.
+fn broken(alloc: Global, fault: LayoutFault) -> Result<Found, AllocError> {
     let name = layout_fault(alloc, fault)?;
     let verdict = format!(in alloc; "fault {name}")?;
     Ok(refused(alloc, verdict))
 }
 
-fn of_image(alloc: Global, bytes: &[u8]) -> Result<Made, AllocError> {
+fn of_image(alloc: Global, bytes: &[u8]) -> Result<Found, AllocError> {
     match load(alloc, bytes) {
         Ok(scenario) => as_given(alloc, of_scenario(alloc, &scenario)?, bytes),
         Err(fault) => broken(alloc, fault),
     }
 }
 
-fn of_text(alloc: Global, text: &str) -> Result<Made, AllocError> {
+fn of_text(alloc: Global, text: &str) -> Result<Found, AllocError> {
     match assemble(alloc, text) {
         Ok(scenario) => of_scenario(alloc, &scenario),
         Err(
@@ -113,36 +114,37 @@ fn of_text(alloc: Global, text: &str) -> Result<Made, AllocError> {
     }
 }
 
-fn of_scenario(alloc: Global, scenario: &Scenario) -> Result<Made, AllocError> {
+fn of_scenario(alloc: Global, scenario: &Scenario) -> Result<Found, AllocError> {
     let classes = scenario.classes();
     let devices = scenario.rows();
     let steps = scenario.steps();
-    Ok(Made {
+    let copy = copy_of_scenario(alloc, scenario)?;
+    Ok(Found {
         verdict: format!(in alloc; "ok {classes} classes {devices} devices {steps} steps")?,
         text: disassemble(alloc, scenario)?,
-        file: save(alloc, scenario)?,
+        file: save(alloc, &copy)?,
     })
 }
 
-fn of_trace(alloc: Global, bytes: &[u8]) -> Result<Made, AllocError> {
+fn of_trace(alloc: Global, bytes: &[u8]) -> Result<Found, AllocError> {
     match read_entries(alloc, bytes) {
         Ok(entries) => as_given(alloc, of_entries(alloc, &entries)?, bytes),
         Err(fault) => broken(alloc, fault),
     }
 }
 
-fn of_words(alloc: Global, text: &str) -> Result<Made, AllocError> {
+fn of_words(alloc: Global, text: &str) -> Result<Found, AllocError> {
     match entries_of(alloc, text)? {
         Some(entries) => of_entries(alloc, &entries),
         None => refused_as(alloc, "no entries"),
     }
 }
 
-fn of_entries(alloc: Global, entries: &Entries) -> Result<Made, AllocError> {
+fn of_entries(alloc: Global, entries: &Entries) -> Result<Found, AllocError> {
     let count = entries.len();
-    let copies = copies_of(alloc, entries.as_slice())?;
+    let copies = copy_of_entries(alloc, entries.as_slice())?;
     match write_entries(alloc, copies.as_slice()) {
-        Ok(file) => Ok(Made {
+        Ok(file) => Ok(Found {
             verdict: format!(in alloc; "ok {count} entries")?,
             text: lines_of(alloc, entries.as_slice())?,
             file: file.into_vec(),
@@ -152,18 +154,10 @@ fn of_entries(alloc: Global, entries: &Entries) -> Result<Made, AllocError> {
     }
 }
 
-fn copies_of(alloc: Global, entries: &[Entry]) -> Result<Entries, AllocError> {
-    let mut copies = Entries::new(alloc);
-    for entry in entries {
-        copies.push(entry.copy()?)?;
-    }
-    Ok(copies)
-}
-
-/// What is made of a file that was read: written again, it has to be the bytes that were given.
-fn as_given(alloc: Global, made: Made, bytes: &[u8]) -> Result<Made, AllocError> {
-    if made.file.as_slice() == bytes {
-        return Ok(made);
+/// What is found in a file that was read: written again, it has to be the bytes that were given.
+fn as_given(alloc: Global, found: Found, bytes: &[u8]) -> Result<Found, AllocError> {
+    if found.file.as_slice() == bytes {
+        return Ok(found);
     }
     refused_as(alloc, "written again as other bytes")
 }
