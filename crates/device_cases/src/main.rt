@@ -2,10 +2,16 @@
 #![tactic(auto)]
 
 mod cases;
+mod ends;
 mod files;
+mod items;
 mod named;
+mod outputs;
 mod pieces;
+mod playing;
+mod questions;
 mod report;
+mod scenarios;
 mod stated;
 
 use cases::{Case, cases_of};
@@ -42,7 +48,7 @@ fn run(alloc: Global, case: &Case, report: &mut Report) -> Result<(), AllocError
         Some(word) if is_name(word, "image") || is_name(word, "trace") => {
             files::run(alloc, body, report)
         }
-        Some(_) => Ok(()),
+        Some(_) => scenarios::run(alloc, case.line, body, report),
     }
 }
 
