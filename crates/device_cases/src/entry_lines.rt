@@ -2,6 +2,7 @@
 //! after the colon.
 
 use crate::named::act_name;
+use crate::outputs::lines_of;
 use crate::pieces::bytes_of;
 use device_machine::{Act, Output};
 use octets::Bytes;
@@ -17,7 +18,7 @@ const ACTS: [Act; 5] = [
 ];
 
 /// The entries, a line for each.
-pub fn lines_of(alloc: Global, entries: &[Entry]) -> Result<String, AllocError> {
+pub fn text_of(alloc: Global, entries: &[Entry]) -> Result<String, AllocError> {
     let mut text = String::new(alloc);
     for entry in entries {
         add_entry(alloc, &mut text, entry)?;
@@ -28,29 +29,17 @@ pub fn lines_of(alloc: Global, entries: &[Entry]) -> Result<String, AllocError> 
 fn add_entry(alloc: Global, text: &mut String, entry: &Entry) -> Result<(), AllocError> {
     let (worker, device, step) = (entry.worker, entry.device, entry.step);
     write!(text, "worker {worker} device {device} step {step}:")?;
-    if entry.outputs.as_slice().is_empty() {
+    let outputs = lines_of(alloc, entry.outputs.as_slice())?;
+    if outputs.is_empty() {
         text.push_str(" nothing")?;
     }
     let mut before = " ";
-    for output in entry.outputs.as_slice() {
+    for output in outputs {
         text.push_str(before)?;
-        add_output(alloc, text, output)?;
+        text.push_str(output.as_str())?;
         before = ", ";
     }
     text.push('\n')
-}
-
-fn add_output(alloc: Global, text: &mut String, output: &Output) -> Result<(), AllocError> {
-    match output {
-        Output::Send { server, bytes } => {
-            let hex = hex::encode_upper(alloc, bytes.as_slice())?;
-            write!(text, "send {server} {hex}")
-        }
-        Output::Act(act) => {
-            let name = act_name(*act);
-            write!(text, "act {name}")
-        }
-    }
 }
 
 /// The entries that these lines say, or none where a line says no entry.

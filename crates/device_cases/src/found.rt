@@ -1,7 +1,7 @@
 //! What is found in the bytes of a case: what they say, or their fault.
 
 use crate::copies::{copy_of_entries, copy_of_scenario};
-use crate::entry_lines::{entries_of, lines_of};
+use crate::entry_lines::{entries_of, text_of};
 use crate::named::{cause_name, layout_fault};
 use byte_layout::LayoutFault;
 use scenario_asm::{AsmFault, assemble, disassemble};
@@ -146,7 +146,7 @@ fn of_entries(alloc: Global, entries: &Entries) -> Result<Found, AllocError> {
     match write_entries(alloc, copies.as_slice()) {
         Ok(file) => Ok(Found {
             verdict: format!(in alloc; "ok {count} entries")?,
-            text: lines_of(alloc, entries.as_slice())?,
+            text: text_of(alloc, entries.as_slice())?,
             file: file.into_vec(),
         }),
         Err(WriteFault::TooLarge) => refused_as(alloc, "fault too large"),

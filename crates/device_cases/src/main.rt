@@ -4,13 +4,19 @@
 mod blocks;
 mod cases;
 mod copies;
+mod ends;
 mod entry_lines;
 mod files;
 mod found;
+mod items;
 mod more_bytes;
 mod named;
+mod outputs;
 mod pieces;
+mod playing;
+mod questions;
 mod report;
+mod scenarios;
 mod stated;
 mod sweeps;
 mod trial;
@@ -46,8 +52,8 @@ fn run(alloc: Global, case: &Case, report: &mut Report) -> Result<(), AllocError
     let body = case.body.as_slice();
     match first_word(body) {
         None => report.malformed(case.line, "a case without a body"),
-        Some(b"image" | b"text" | b"trace" | b"entries") => files::run(alloc, body, report),
-        Some(_) => Ok(()),
+        Some(b"image" | b"trace" | b"text" | b"entries") => files::run(alloc, body, report),
+        Some(_) => scenarios::run(alloc, case.line, body, report),
     }
 }
 

@@ -39,7 +39,11 @@ fn counted(piece: &str) -> Option<(&str, u32)> {
 /// How many times something is repeated, by its word.
 pub fn times_of(word: &str) -> Option<u32> {
     let times: u32 = word.parse().ok()?;
-    if times > MOST { None } else { Some(times) }
+    if times == 0 || times > MOST {
+        None
+    } else {
+        Some(times)
+    }
 }
 
 /// The bytes of at least one pair of hex digits.
@@ -51,5 +55,38 @@ fn decoded(alloc: Global, hex: &str) -> Result<Option<Vec<u8>>, AllocError> {
         Ok(bytes) => Ok(Some(bytes)),
         Err(FromHexError::OutOfMemory) => Err(AllocError),
         Err(_) => Ok(None),
+    }
+}
+
+/// A line in which each word in pieces that has a `*` is replaced by its bytes in hex.
+pub fn expanded(alloc: Global, line: &str) -> Result<String, AllocError> {
+    let mut text = String::new(alloc);
+    for word in line.split(' ') {
+        if !text.is_empty() {
+            text.push(' ')?;
+        }
+        match repeated(alloc, word)? {
+            Some(bytes) => text.push_str(hex::encode_upper(alloc, bytes.as_slice())?.as_str())?,
+            None => text.push_str(word)?,
+        }
+    }
+    Ok(text)
+}
+
+/// The bytes of a word in pieces that has a `*`.
+fn repeated(alloc: Global, word: &str) -> Result<Option<Bytes>, AllocError> {
+    if word.contains('*') {
+        bytes_of(alloc, word)
+    } else {
+        Ok(None)
+    }
+}
+
+/// Bytes in hex, in upper case; `-` for none.
+pub fn hex_of(alloc: Global, bytes: &[u8]) -> Result<String, AllocError> {
+    if bytes.is_empty() {
+        String::from_str(alloc, "-")
+    } else {
+        hex::encode_upper(alloc, bytes)
     }
 }

@@ -119,7 +119,10 @@ impl<'a> Trial<'a> {
             _ if !bytes.is_empty() => {
                 report.malformed(stated.line, "an answer that no line may continue")
             }
-            words => stated.judge(words, found.verdict.as_str(), report),
+            words if words.starts_with("ok ") || words.starts_with("fault ") => {
+                stated.judge(words, found.verdict.as_str(), report)
+            }
+            _ => report.malformed(stated.line, "no such answer"),
         }
     }
 
