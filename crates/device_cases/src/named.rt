@@ -1,0 +1,43 @@
+//! What the program `lwbench` calls things.
+
+use byte_layout::LayoutFault;
+use device_machine::Act;
+use scenario_words::Cause;
+use std::alloc::{AllocError, Global};
+
+/// What a device does, as `lwbench one` prints it.
+pub fn act_name(act: Act) -> &'static str {
+    match act {
+        Act::Reboot => "reboot",
+        Act::FactoryReset => "factory reset",
+        Act::RegUpdate => "reg update",
+        Act::Disable => "disable",
+        Act::Missed => "missed",
+    }
+}
+
+/// Why a line of a text is refused, as `lwbench asm` prints it.
+pub fn cause_name(cause: Cause) -> &'static str {
+    match cause {
+        Cause::Missing => "missing",
+        Cause::Token => "token",
+        Cause::UnknownWord => "unknown word",
+        Cause::Range => "range",
+        Cause::Duplicate => "duplicate",
+        Cause::Limit => "limit",
+        Cause::Memory => "memory",
+    }
+}
+
+/// Why the bytes of a file are refused, as `lwbench dis` and `lwbench check` print it.
+pub fn layout_fault(alloc: Global, fault: LayoutFault) -> Result<String, AllocError> {
+    match fault {
+        LayoutFault::Magic => String::from_str(alloc, "magic"),
+        LayoutFault::Version => String::from_str(alloc, "version"),
+        LayoutFault::Cut => String::from_str(alloc, "cut"),
+        LayoutFault::Trailing => String::from_str(alloc, "trailing"),
+        LayoutFault::BadField(place) => format!(in alloc; "bad field at {place}"),
+        LayoutFault::Limit(place) => format!(in alloc; "limit at {place}"),
+        LayoutFault::Memory => Err(AllocError),
+    }
+}
