@@ -103,6 +103,7 @@ fn resource(alloc: Global, catalog: &Catalog, rest: &str) -> Result<String, Unan
     let Some(found) = catalog.resource(object, id) else {
         return forms::fixed(alloc, "none");
     };
+    let number = found.id;
     let ops = ops_name(found.ops);
     let count = if found.multiple { "multiple" } else { "single" };
     let need = if found.mandatory {
@@ -111,7 +112,7 @@ fn resource(alloc: Global, catalog: &Catalog, rest: &str) -> Result<String, Unan
         "optional"
     };
     let kind = values::kind_name(found.kind);
-    Ok(format!(in alloc; "{ops} {count} {need} {kind}")?)
+    Ok(format!(in alloc; "{number} {ops} {count} {need} {kind}")?)
 }
 
 /// `objects`: the numbers of the objects, in the order in which they stand.

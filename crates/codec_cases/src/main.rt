@@ -93,10 +93,21 @@ fn check_all(rt: &impl Print, alloc: Global, table: &str) -> io::Result<Tally> {
     Ok(tally)
 }
 
-fn main(rt: HostRuntime) -> io::Result<ExitCode> {
+/// Reads the table, checks it, and prints how many cases there were.
+fn run(rt: &(impl Input + Print + AllocGlobal)) -> io::Result<Tally> {
     let table = io::read_to_string(rt.alloc(), rt.reader())?;
-    let tally = check_all(&rt, rt.alloc(), table.as_str())?;
+    let tally = check_all(rt, rt.alloc(), table.as_str())?;
     let (cases, differ) = (tally.cases(), tally.differ());
     println!(rt; "{cases} cases, {differ} differ")?;
-    Ok(ExitCode::from(tally.status()))
+    Ok(tally)
+}
+
+fn main(rt: HostRuntime) -> ExitCode {
+    match run(&rt) {
+        Ok(tally) => ExitCode::from(tally.status()),
+        Err(error) => {
+            let _ = eprintln!(rt; "codec_cases: {error}");
+            ExitCode::from(2)
+        }
+    }
 }
