@@ -7,6 +7,3 @@ mod letters;
 
 pub use control::{control_of, may_create, rights};
 pub use letters::Rights;
-
-#[cfg(test)]
-mod tests;

@@ -6,4 +6,3 @@ pub mod Signed
 pub mod Whole
 pub mod Loop
 pub mod Written
-pub mod Example

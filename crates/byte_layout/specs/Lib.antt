@@ -2,4 +2,3 @@ pub mod Part
 pub mod Whole
 pub mod Outcome
 pub mod Exact
-pub mod Example

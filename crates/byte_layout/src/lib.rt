@@ -15,6 +15,3 @@ pub use items::{Items, PutItems, items_at, put_items};
 pub use laws::{exact_fields, one_reading};
 pub use reading::{bytes_at, i64_at, u8_at, u8_at_most, u16_at, u16_at_most, u32_at};
 pub use writing::{put_bytes, put_i64, put_u8, put_u16, put_u32};
-
-#[cfg(test)]
-mod tests;

@@ -4,10 +4,18 @@
 
 mod case;
 mod catalogue;
+mod firmware;
 mod forms;
+mod layouts;
 mod lines;
+mod managing;
 mod messages;
+mod notifying;
+mod observing;
+mod payloads;
+mod places;
 mod records;
+mod stores;
 mod tally;
 mod values;
 mod words;
@@ -33,6 +41,24 @@ fn answer(alloc: Global, subject: &str, rest: &str) -> Result<Option<String>, Al
         return Ok(Some(text));
     }
     if let Some(text) = words::answer(alloc, subject, rest)? {
+        return Ok(Some(text));
+    }
+    if let Some(text) = payloads::answer(alloc, subject, rest)? {
+        return Ok(Some(text));
+    }
+    if let Some(text) = notifying::answer(alloc, subject, rest)? {
+        return Ok(Some(text));
+    }
+    if let Some(text) = observing::answer(alloc, subject, rest)? {
+        return Ok(Some(text));
+    }
+    if let Some(text) = stores::answer(alloc, subject, rest)? {
+        return Ok(Some(text));
+    }
+    if let Some(text) = firmware::answer(alloc, subject, rest)? {
+        return Ok(Some(text));
+    }
+    if let Some(text) = layouts::answer(alloc, subject, rest)? {
         return Ok(Some(text));
     }
     lines::answer(alloc, subject, rest)

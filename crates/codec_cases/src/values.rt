@@ -75,7 +75,7 @@ fn read(alloc: Global, found: Result<Value, ValueFault>) -> Result<String, Unans
 }
 
 /// The words `KIND VALUE` of a value.
-fn value_words(alloc: Global, value: &Value) -> Result<String, AllocError> {
+pub fn value_words(alloc: Global, value: &Value) -> Result<String, AllocError> {
     let mut out = String::from_str(alloc, kind_name(value.kind()))?;
     out.push(' ')?;
     match value {
@@ -91,7 +91,7 @@ fn value_words(alloc: Global, value: &Value) -> Result<String, AllocError> {
 }
 
 /// The value of the words `KIND VALUE`.
-fn value_at(alloc: Global, rest: &str) -> Result<Value, Unanswered> {
+pub fn value_at(alloc: Global, rest: &str) -> Result<Value, Unanswered> {
     let (kind, rest) = kind_at(rest)?;
     match kind {
         ValueKind::Text => text_value(alloc, rest),

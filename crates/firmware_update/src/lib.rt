@@ -8,6 +8,3 @@ mod update;
 
 pub use event::FirmwareEvent;
 pub use update::{take, takes};
-
-#[cfg(test)]
-mod tests;

@@ -9,6 +9,3 @@ mod number;
 pub use creation::{create, has_no_room};
 pub use deletion::delete;
 pub use number::{free_number, number_for};
-
-#[cfg(test)]
-mod tests;

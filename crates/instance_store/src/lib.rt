@@ -11,6 +11,3 @@ mod store;
 
 pub use fault::StoreFault;
 pub use store::Store;
-
-#[cfg(test)]
-mod tests;

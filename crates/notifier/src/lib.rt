@@ -9,8 +9,6 @@ mod numerals;
 mod observation;
 mod observations;
 mod query;
-#[cfg(test)]
-mod tests;
 mod trigger;
 
 pub use attribute::{AttributeKey, Change, Level, Name};

@@ -133,21 +133,3 @@ pub fn are_arguments(payload: &[u8]) -> bool
 {
     are_read(payload)
 }
-
-#[cfg(test)]
-mod tests {
-    use crate::are_arguments;
-
-    #[test]
-    fn reads_items_joined_by_commas(rt: HostRuntime) {
-        for text in ["", "0", "0='a,b',1", "0=''", "9,9,9='!~[]'"] {
-            assert!(rt; are_arguments(text.as_bytes()), "{text}");
-        }
-        for text in [
-            "10", "0=", "0='", "a", "0,", "0='a b'", ",0", "0='a''", "0=''1", "='a'", "0='\"'",
-            "0='\\'", "0=''=''",
-        ] {
-            assert!(rt; !are_arguments(text.as_bytes()), "{text}");
-        }
-    }
-}

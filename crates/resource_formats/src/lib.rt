@@ -25,6 +25,3 @@ pub use instance::{creation_given, instance_given};
 pub use laws::{reads, writes};
 pub use payloads::{object_tlv, values_tlv, write_part, write_single};
 pub use resource::{part_given, resource_given};
-
-#[cfg(test)]
-mod tests;

@@ -1,0 +1,255 @@
+//! The attributes that servers write (OMA LwM2M 1.1 Core), and the observations of a device (RFC 7641): what operations on
+//! them answer.
+
+use crate::forms::{Unanswered, answered, bytes, end, fixed, half, natural, word};
+use crate::notifying::{change_of, name, name_word};
+use crate::places::{add, listed, only_path, path, yes_no};
+use notifier::{Attributes, Name, Observations, ObserveFault, Report, WriteFault};
+use object_defs::Path;
+use octets::Bytes;
+use scenario_words::path_word;
+use std::alloc::{AllocError, Global};
+
+/// The answer to a question of this subject, or `None` where the subject is none of this module's.
+pub fn answer(alloc: Global, subject: &str, rest: &str) -> Result<Option<String>, AllocError> {
+    let found = match subject {
+        "attributes" => of_attributes(alloc, rest),
+        "observations" => of_observations(alloc, rest),
+        _ => return Ok(None),
+    };
+    answered(alloc, found)
+}
+
+/// `attributes OPERATIONS`: what each answers, of a device whose servers set none before.
+fn of_attributes(alloc: Global, rest: &str) -> Result<String, Unanswered> {
+    let mut attributes = Attributes::new(alloc);
+    let mut kept = Attributes::new(alloc);
+    let mut list = String::new(alloc);
+    for operation in rest.split(';') {
+        let answer = match operation.trim() {
+            "copy" => {
+                kept = attributes.copy()?;
+                fixed(alloc, "ok")?
+            }
+            "restore" => {
+                attributes = kept.copy()?;
+                fixed(alloc, "ok")?
+            }
+            operation => with_attributes(alloc, &mut attributes, operation)?,
+        };
+        add(&mut list, "; ", answer.as_str())?;
+    }
+    Ok(list)
+}
+
+fn with_attributes(
+    alloc: Global,
+    attributes: &mut Attributes,
+    operation: &str,
+) -> Result<String, Unanswered> {
+    let (first, rest) = word(operation)?;
+    match first {
+        "write" => write(alloc, attributes, rest),
+        "remove" => {
+            attributes.remove_under(only_path(rest)?);
+            fixed(alloc, "ok")
+        }
+        "list" => {
+            let (server, rest) = half(rest)?;
+            end(rest)?;
+            Ok(attributes_text(alloc, attributes.list(server)?.as_slice())?)
+        }
+        "assigned" => {
+            let (server, path, name) = attribute(rest)?;
+            number_text(alloc, attributes.assigned(server, path, name))
+        }
+        "effective" => {
+            let (server, path, name) = attribute(rest)?;
+            number_text(alloc, attributes.effective(server, path, name))
+        }
+        _ => Err(Unanswered::Unread("not an operation on attributes")),
+    }
+}
+
+/// `write SERVER PATH NAME=NUMBER ..`.
+fn write(alloc: Global, attributes: &mut Attributes, rest: &str) -> Result<String, Unanswered> {
+    let (server, rest) = half(rest)?;
+    let (path, rest) = path(rest)?;
+    let mut changes = Vec::new(alloc);
+    for word in rest.split(' ') {
+        changes.push(change_of(word)?)?;
+    }
+    match attributes.write(server, path, changes.as_slice()) {
+        Ok(()) => fixed(alloc, "ok"),
+        Err(WriteFault::Inconsistent) => fixed(alloc, "inconsistent"),
+        Err(WriteFault::Memory) => Err(Unanswered::Memory),
+    }
+}
+
+/// A server, a path and the name of an attribute.
+fn attribute(rest: &str) -> Result<(u16, Path, Name), Unanswered> {
+    let (server, rest) = half(rest)?;
+    let (path, rest) = path(rest)?;
+    let (name, rest) = name(rest)?;
+    end(rest)?;
+    Ok((server, path, name))
+}
+
+fn number_text(alloc: Global, number: Option<i64>) -> Result<String, Unanswered> {
+    match number {
+        Some(number) => Ok(number.to_string(alloc)?),
+        None => fixed(alloc, "none"),
+    }
+}
+
+fn attributes_text(alloc: Global, items: &[(Path, Name, i64)]) -> Result<String, AllocError> {
+    let mut list = String::new(alloc);
+    for (path, name, number) in items {
+        let path = path_word(alloc, *path)?;
+        let name = name_word(*name);
+        add(
+            &mut list,
+            ", ",
+            format!(in alloc; "{path} {name}={number}")?.as_str(),
+        )?;
+    }
+    listed(alloc, list)
+}
+
+/// `observations OPERATIONS`: what each answers, of a device that has no observation before. Server 1's interest is in
+/// the battery level /3/0/9.
+fn of_observations(alloc: Global, rest: &str) -> Result<String, Unanswered> {
+    let mut observations = Observations::new(alloc);
+    let mut kept = Observations::new(alloc);
+    let mut list = String::new(alloc);
+    for operation in rest.split(';') {
+        let answer = match operation.trim() {
+            "copy" => {
+                kept = observations.copy()?;
+                fixed(alloc, "ok")?
+            }
+            "restore" => {
+                observations = kept.copy()?;
+                fixed(alloc, "ok")?
+            }
+            operation => with_observations(alloc, &mut observations, operation)?,
+        };
+        add(&mut list, "; ", answer.as_str())?;
+    }
+    Ok(list)
+}
+
+fn with_observations(
+    alloc: Global,
+    observations: &mut Observations,
+    operation: &str,
+) -> Result<String, Unanswered> {
+    let (first, rest) = word(operation)?;
+    match first {
+        "register" => {
+            let (token, rest) = bytes(alloc, rest)?;
+            end(rest)?;
+            register(alloc, observations, token)
+        }
+        "fill" => fill(alloc, observations, rest),
+        "sent" => sent(alloc, observations, rest),
+        "remove" => remove(alloc, observations, rest),
+        "cancel" => {
+            let (server, rest) = half(rest)?;
+            let (token, rest) = bytes(alloc, rest)?;
+            end(rest)?;
+            fixed(alloc, yes_no(observations.cancel(server, token.as_slice())))
+        }
+        "reset" => {
+            let (server, rest) = half(rest)?;
+            let (mid, rest) = half(rest)?;
+            end(rest)?;
+            Ok(observations.reset(server, mid).to_string(alloc)?)
+        }
+        "second" => {
+            let (place, rest) = half(rest)?;
+            end(rest)?;
+            match observations.at(usize::from(place)) {
+                Some(observation) => Ok(observation.second.to_string(alloc)?),
+                None => fixed(alloc, "none"),
+            }
+        }
+        "len" => Ok(observations.len().to_string(alloc)?),
+        "is-empty" => fixed(alloc, yes_no(observations.is_empty())),
+        _ => Err(Unanswered::Unread("not an operation on observations")),
+    }
+}
+
+fn reported(alloc: Global, payload: &[u8], number: i64) -> Result<Report, AllocError> {
+    Ok(Report {
+        payload: Bytes::from_slice(alloc, payload)?,
+        number: Some(number),
+    })
+}
+
+/// Registers server 1's interest in the battery level 100, at second 0 by an acknowledgement with message ID 10. Answers
+/// the Observe number.
+fn register(
+    alloc: Global,
+    observations: &mut Observations,
+    token: Vec<u8>,
+) -> Result<String, Unanswered> {
+    if token.len() > 8 {
+        return Err(Unanswered::Unread("a token has 8 bytes at most"));
+    }
+    let token = Bytes::from_vec(token);
+    let path = Path::Resource(3, 0, 9);
+    let report = reported(alloc, b"100", 100)?;
+    match observations.register(1, token, path, None, report, 0, 10, false) {
+        Ok(number) => Ok(number.to_string(alloc)?),
+        Err(ObserveFault::Full) => fixed(alloc, "full"),
+        Err(ObserveFault::Memory) => Err(Unanswered::Memory),
+    }
+}
+
+/// `fill COUNT`: registers tokens of the one byte 0, 1 .., this many. Answers their Observe numbers.
+fn fill(alloc: Global, observations: &mut Observations, rest: &str) -> Result<String, Unanswered> {
+    let (count, rest) = half(rest)?;
+    end(rest)?;
+    let Ok(count) = u8::try_from(count) else {
+        return Err(Unanswered::Unread("not a number of one byte"));
+    };
+    let mut numbers = String::new(alloc);
+    for token in 0..count {
+        let number = register(alloc, observations, Vec::from_slice(alloc, &[token])?)?;
+        add(&mut numbers, ",", number.as_str())?;
+    }
+    Ok(listed(alloc, numbers)?)
+}
+
+/// `sent PLACE SECOND MID`: a notification by a NON that reports the battery level 80. Answers the Observe number.
+fn sent(alloc: Global, observations: &mut Observations, rest: &str) -> Result<String, Unanswered> {
+    let (place, rest) = half(rest)?;
+    let (second, rest) = natural(rest)?;
+    let (mid, rest) = half(rest)?;
+    end(rest)?;
+    let report = reported(alloc, b"80", 80)?;
+    let place = usize::from(place);
+    if place >= observations.len() {
+        return fixed(alloc, "none");
+    }
+    Ok(observations
+        .sent(place, second, mid, report)
+        .to_string(alloc)?)
+}
+
+/// `remove PLACE`.
+fn remove(
+    alloc: Global,
+    observations: &mut Observations,
+    rest: &str,
+) -> Result<String, Unanswered> {
+    let (place, rest) = half(rest)?;
+    end(rest)?;
+    let place = usize::from(place);
+    if place >= observations.len() {
+        return fixed(alloc, "none");
+    }
+    observations.remove(place);
+    fixed(alloc, "ok")
+}
