@@ -35,8 +35,7 @@ fn store_in(alloc: Global, state: &str) -> Result<Store, Unanswered> {
     }
     crate::stores::store_of(
         alloc,
-        format!(in alloc; "/5/0/1 text coap://old; /5/0/3 whole {state}; /5/0/5 whole 9")?
-            .as_str(),
+        format!(in alloc; "/5/0/1 text coap://old; /5/0/3 whole {state}; /5/0/5 whole 9")?.as_str(),
     )
 }
 
@@ -101,12 +100,18 @@ fn name_of(event: &FirmwareEvent) -> &'static str {
 fn package(alloc: Global, rest: &str) -> Result<String, Unanswered> {
     let (content, rest) = bytes(alloc, rest)?;
     end(rest)?;
-    fixed(alloc, name_of(&FirmwareEvent::of_package(content.as_slice())))
+    fixed(
+        alloc,
+        name_of(&FirmwareEvent::of_package(content.as_slice())),
+    )
 }
 
 /// `package-uri TEXT`: what writing this text as the Package URI is.
 fn package_uri(alloc: Global, rest: &str) -> Result<String, Unanswered> {
     let (uri, rest) = word(rest)?;
     end(rest)?;
-    fixed(alloc, name_of(&FirmwareEvent::of_uri(text_value(alloc, uri)?)))
+    fixed(
+        alloc,
+        name_of(&FirmwareEvent::of_uri(text_value(alloc, uri)?)),
+    )
 }

@@ -15,12 +15,12 @@ use byte_layout::{
 };
 use lwm2m_values::Value;
 use object_defs::{InstancePath, Ops, Path, ResourceDef};
+use scenario_layout::{
+    kind_at, path_at, place_at, put_kind, put_path, put_place, put_resources, put_value,
+    resources_at, value_at,
+};
 use scenario_words::path_word;
 use std::alloc::{AllocError, Global};
-use scenario_layout::{
-    kind_at, path_at, place_at, put_kind, put_path, put_place, put_resources, put_value, resources_at,
-    value_at,
-};
 
 /// The answer to a question of this subject, or `None` where the subject is none of this module's.
 pub fn answer(alloc: Global, subject: &str, rest: &str) -> Result<Option<String>, AllocError> {
@@ -128,11 +128,7 @@ fn found(alloc: Global, names: &str, bytes: &[u8]) -> Result<String, Unfound> {
 }
 
 /// What the field of this name holds, and the bytes after it. A number stands behind a colon in some names.
-fn field_at<'a>(
-    alloc: Global,
-    name: &str,
-    bytes: &'a [u8],
-) -> Result<(String, &'a [u8]), Unfound> {
+fn field_at<'a>(alloc: Global, name: &str, bytes: &'a [u8]) -> Result<(String, &'a [u8]), Unfound> {
     match name.split_once(':') {
         None => plain_field_at(alloc, name, bytes),
         Some(("value", wanted)) => {
@@ -360,12 +356,7 @@ fn spelled(alloc: Global, rest: &str) -> Result<String, Unanswered> {
 }
 
 /// Adds the bytes of a field that holds what the words say.
-fn put_field(
-    alloc: Global,
-    out: &mut Vec<u8>,
-    name: &str,
-    rest: &str,
-) -> Result<(), Unanswered> {
+fn put_field(alloc: Global, out: &mut Vec<u8>, name: &str, rest: &str) -> Result<(), Unanswered> {
     match name {
         "u8" | "u16" | "u32" => put_number(out, name, rest),
         "i64" => {
@@ -412,11 +403,7 @@ fn put_good(out: &mut Vec<u8>, value: &Value) -> Result<(), Unanswered> {
     }
 }
 
-fn put_place_or_path(
-    out: &mut Vec<u8>,
-    name: &str,
-    rest: &str,
-) -> Result<(), Unanswered> {
+fn put_place_or_path(out: &mut Vec<u8>, name: &str, rest: &str) -> Result<(), Unanswered> {
     let (path, rest) = path(rest)?;
     end(rest)?;
     match (name, path) {

@@ -233,9 +233,11 @@ fn sent(alloc: Global, observations: &mut Observations, rest: &str) -> Result<St
     if place >= observations.len() {
         return fixed(alloc, "none");
     }
-    Ok(observations
-        .sent(place, second, mid, report)
-        .to_string(alloc)?)
+    Ok(
+        observations
+            .sent(place, second, mid, report)
+            .to_string(alloc)?,
+    )
 }
 
 /// `remove PLACE`.

@@ -15,7 +15,8 @@ use resource_formats::{
 use std::alloc::{AllocError, Global};
 
 /// What instance 0 of Server, Access Control, Device and Firmware Update holds.
-const HELD: &str = "/1/0/0 whole 1; /1/0/1 whole 86400; /1/0/2 whole 5; /1/0/6 flag false; /1/0/7 text U; \
+const HELD: &str =
+    "/1/0/0 whole 1; /1/0/1 whole 86400; /1/0/2 whole 5; /1/0/6 flag false; /1/0/7 text U; \
     /2/0/0 whole 3; /2/0/1 whole 0; /2/0/2/1 whole 7; /2/0/3 whole 1; \
     /3/0/0 text Bench; /3/0/6/0 whole 1; /3/0/6/1 whole 5; /3/0/9 whole 100; /3/0/11/0 whole 0; \
     /3/0/16 text U; /5/0";
@@ -193,11 +194,7 @@ fn written_instance(
         return fixed(alloc, "too many parts");
     }
     done(write_instance(mode, resources, &mut store, place, given))?;
-    shown(
-        alloc,
-        &store,
-        Path::Instance(place.object, place.instance),
-    )
+    shown(alloc, &store, Path::Instance(place.object, place.instance))
 }
 
 /// The Write of a resource replaces it, that of a part leaves the others.

@@ -240,10 +240,7 @@ fn change(
 fn ask(alloc: Global, store: &Store, name: &str, rest: &str) -> Result<String, Unanswered> {
     match name {
         "get" => held_at(alloc, store, only_path(rest)?),
-        "has" => fixed(
-            alloc,
-            yes_no(store.has_instance(only_place(rest)?)),
-        ),
+        "has" => fixed(alloc, yes_no(store.has_instance(only_place(rest)?))),
         "count" => {
             let path = only_path(rest)?;
             Ok(store.values_in(path)?.len().to_string(alloc)?)
@@ -297,7 +294,11 @@ fn values_text(alloc: Global, values: &[(FullPath, &Value)]) -> Result<String, A
     for (path, value) in values {
         let path = full_path_word(alloc, *path)?;
         let value = value_words(alloc, value)?;
-        add(&mut list, ", ", format!(in alloc; "{path} {value}")?.as_str())?;
+        add(
+            &mut list,
+            ", ",
+            format!(in alloc; "{path} {value}")?.as_str(),
+        )?;
     }
     listed(alloc, list)
 }
