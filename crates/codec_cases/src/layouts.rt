@@ -18,8 +18,8 @@ use object_defs::{InstancePath, Ops, Path, ResourceDef};
 use scenario_words::path_word;
 use std::alloc::{AllocError, Global};
 use value_layout::{
-    kind_at, path_at, place_at, put_kind, put_path, put_place, put_resources, put_value, resources_at,
-    value_at,
+    kind_at, path_at, place_at, put_kind, put_path, put_place, put_resources, put_value,
+    resources_at, value_at,
 };
 
 /// The answer to a question of this subject, or `None` where the subject is none of this module's.
