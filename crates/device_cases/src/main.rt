@@ -2,10 +2,15 @@
 #![tactic(auto)]
 
 mod again;
+mod blocks;
 mod cases;
+mod copies;
 mod ends;
+mod entry_lines;
 mod files;
+mod found;
 mod items;
+mod more_bytes;
 mod named;
 mod outputs;
 mod pieces;
@@ -14,10 +19,12 @@ mod questions;
 mod report;
 mod scenarios;
 mod stated;
+mod sweeps;
+mod trial;
 
 use cases::{Case, cases_of};
 use report::Report;
-use scenario_words::{is_name, next_word};
+use scenario_words::next_word;
 use std::alloc::{AllocError, Global};
 use std::io;
 use std::process::ExitCode;
@@ -46,9 +53,7 @@ fn run(alloc: Global, case: &Case, report: &mut Report) -> Result<(), AllocError
     let body = case.body.as_slice();
     match first_word(body) {
         None => report.malformed(case.line, "a case without a body"),
-        Some(word) if is_name(word, "image") || is_name(word, "trace") => {
-            files::run(alloc, body, report)
-        }
+        Some(b"image" | b"trace" | b"text" | b"entries") => files::run(alloc, body, report),
         Some(_) => scenarios::run(alloc, case.line, body, report),
     }
 }

@@ -11,6 +11,3 @@ mod values;
 pub use fault::TemplateFault;
 pub use template::Template;
 pub use values::{fits, misses, put};
-
-#[cfg(test)]
-mod tests;

@@ -23,6 +23,4 @@ pub use scenario::Scenario;
 pub use step::Step;
 
 #[cfg(test)]
-mod image_tests;
-#[cfg(test)]
 mod tests;

@@ -16,6 +16,3 @@ pub use laws::{one_trace_file, what_has_a_trace_file};
 pub use outputs::OutputList;
 pub use reading::read_entries;
 pub use writing::write_entries;
-
-#[cfg(test)]
-mod tests;
