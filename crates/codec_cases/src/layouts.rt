@@ -1,4 +1,4 @@
-//! The fields of this profile's formats as bytes (docs/LAYOUT.md): numbers, paths, kinds, values and definitions of
+//! The fields of this profile's formats as bytes (docs/use/files.md): numbers, paths, kinds, values and definitions of
 //! resources, read and written, and the place of the first fault.
 
 ghost use Rattle.std.specs.Prelude.{◌≡◌, nat_lt};

@@ -1,5 +1,5 @@
 //! The tables of the formats, as questions that stand beside their answers: reads them from standard input, asks the
-//! crates, and prints each line whose answer differs. docs/CODEC_CASES.md says how a line is written.
+//! crates, and prints each line whose answer differs. docs/inside/codec-cases.md says how a line is written.
 #![tactic(auto)]
 
 mod case;

@@ -1,5 +1,5 @@
 //! Scenarios from their text, and their text: what each statement adds, the first line that is refused, and the
-//! canonical text of a scenario. docs/TEXT.md has it in words.
+//! canonical text of a scenario. docs/use/scenario-text.md has it in words.
 #![tactic(auto)]
 
 mod assembling;

@@ -1,5 +1,5 @@
 //! Paths, kinds, values, definitions and classes of devices as bytes, in this profile's formats: `specs/Value.antt`,
-//! `specs/Definition.antt` and `specs/Class.antt` have the layouts, docs/LAYOUT.md and docs/CLASSES.md their words.
+//! `specs/Definition.antt` and `specs/Class.antt` have the layouts, docs/use/files.md their words.
 #![tactic(auto)]
 
 mod class;
