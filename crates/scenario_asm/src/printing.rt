@@ -1,4 +1,4 @@
-//! The canonical text of a scenario: each statement once, in a line of its own; and that it is read as the scenario again.
+//! The canonical text of a scenario: each statement once, in a line of its own. It is read as the scenario again.
 
 ghost use Rattle.std.specs.Prelude.{◌≡◌, Ok, IfOk, OnOk};
 ghost use Rattle.std.specs.String.{string_bytes};
@@ -26,6 +26,13 @@ pub fn disassemble(alloc: Global, scenario: &Scenario) -> Result<String, AllocEr
     // So each line of the text is read as its statement (`canonical_lines`).
     ensures scenario { OnOk result (IsScenario scenario.now) }
     ensures again { IfOk result (λ t. assembled (string_bytes t) ≡ Ok scenario.now) }
+{
+    printed_text(alloc, scenario)
+}
+
+fn printed_text(alloc: Global, scenario: &Scenario) -> Result<String, AllocError>
+    ensures text { IfOk result (λ t. string_bytes t ≡ printed scenario.now) }
+    ensures scenario { OnOk result (IsScenario scenario.now) }
 {
     let mut out = String::new(alloc);
     put_statement(alloc, &mut out, &Statement::Scenario)?;
