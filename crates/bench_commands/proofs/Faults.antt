@@ -1,0 +1,137 @@
+-- From the faults of the parts to those of the whole.
+use Rattle.std.proofs.Common.{◌≡◌, ◌≢◌, ◌↔◌, ◌⊎◌, ℕ, List, Err, IsErr, rules, refl, inl, inr}
+use Rattle.std.proofs.Common.{subst, sym}
+use Rattle.std.specs.Str.{IsUtf8}
+use Rattle.hex.specs.Hex.{decode_of}
+use Rattle.scenario_words.specs.declared.cause.Cause.{Cause}
+use Rattle.scenario_words.specs.declared.cause.Cause.TheVariants as cause
+use Rattle.scenario_asm.specs.declared.fault.AsmFault.{AsmFault}
+use Rattle.scenario_asm.specs.Text.{assembled}
+use Rattle.byte_layout.specs.declared.fault.LayoutFault.{LayoutFault}
+use Rattle.byte_layout.specs.declared.fault.LayoutFault.TheVariants as layout
+use Rattle.scenario_image.specs.Script.{Script}
+use Rattle.trace_file.specs.declared.entry.Entry.{Entry}
+use Rattle.trace_file.specs.declared.fault.WriteFault.{WriteFault}
+use Rattle.trace_file.specs.declared.fault.WriteFault.TheVariants as trace
+use Rattle.trace_file.specs.Layout.{IsTraceFile}
+use Rattle.fleet_core.specs.Run.{IsSerial}
+use Rattle.bench_commands.specs.declared.fault.Fault.{Fault}
+use Rattle.bench_commands.specs.declared.fault.Fault.TheVariants as faults
+use Rattle.bench_commands.specs.Fault.{IsReadingFault, IsWritingFault, IsTemplateFault, layout_fault, refused_text, text_fault, trace_fault}
+use Rattle.bench_commands.specs.Serial.{IsRunFault, IsSavingFault}
+use Rattle.bench_commands.specs.Texts.{IsTextFault}
+use Rattle.bench_commands.specs.Jobs.{IsFileFault, IsOneFault}
+
+-- a file that was not read
+pub reading_file : (holds : List ℕ → List ℕ → Type 0) (fails : List ℕ → Type 0) (broken : List ℕ → LayoutFault → Type 0) (path : List ℕ) (f : Fault)
+    → IsReadingFault (fails path) f → IsFileFault holds fails broken path f
+reading_file holds fails broken path faults.Memory h = tt
+reading_file holds fails broken path faults.Read h = h
+reading_file holds fails broken path faults.Hex h = absurd h
+reading_file holds fails broken path faults.Write h = absurd h
+reading_file holds fails broken path (faults.Layout fault) h = absurd h
+reading_file holds fails broken path (faults.Text fault) h = absurd h
+reading_file holds fails broken path faults.TooLarge h = absurd h
+reading_file holds fails broken path (faults.Template fault) h = absurd h
+
+-- a file whose bytes break off
+pub broken_at : (holds : List ℕ → List ℕ → Type 0) (fails : List ℕ → Type 0) (broken : List ℕ → LayoutFault → Type 0) (path bytes : List ℕ) → holds path bytes
+    → (fault : LayoutFault) → (fault ≢ layout.Memory → broken bytes fault) → IsFileFault holds fails broken path (layout_fault fault)
+broken_at holds fails broken path bytes held layout.Magic h = record { bytes = bytes; held = held; faulty = h (search rules) }
+broken_at holds fails broken path bytes held layout.Version h = record { bytes = bytes; held = held; faulty = h (search rules) }
+broken_at holds fails broken path bytes held layout.Cut h = record { bytes = bytes; held = held; faulty = h (search rules) }
+broken_at holds fails broken path bytes held layout.Trailing h = record { bytes = bytes; held = held; faulty = h (search rules) }
+broken_at holds fails broken path bytes held (layout.BadField place) h = record { bytes = bytes; held = held; faulty = h (search rules) }
+broken_at holds fails broken path bytes held (layout.Limit place) h = record { bytes = bytes; held = held; faulty = h (search rules) }
+broken_at holds fails broken path bytes held layout.Memory h = tt
+
+-- a text that was not read
+pub reading_text : (holds : List ℕ → List ℕ → Type 0) (fails : List ℕ → Type 0) (path : List ℕ) (f : Fault) → IsReadingFault (fails path) f → IsTextFault holds fails path f
+reading_text holds fails path faults.Memory h = tt
+reading_text holds fails path faults.Read h = inl h
+reading_text holds fails path faults.Hex h = absurd h
+reading_text holds fails path faults.Write h = absurd h
+reading_text holds fails path (faults.Layout fault) h = absurd h
+reading_text holds fails path (faults.Text fault) h = absurd h
+reading_text holds fails path faults.TooLarge h = absurd h
+reading_text holds fails path (faults.Template fault) h = absurd h
+
+-- bytes that are no text
+pub no_text : (holds : List ℕ → List ℕ → Type 0) (fails : List ℕ → Type 0) (path bytes : List ℕ) → holds path bytes → ¬ (IsUtf8 bytes) → IsTextFault holds fails path faults.Read
+no_text holds fails path bytes held broken = inr (record { bytes = bytes; held = held; no_text = broken })
+
+-- a text that denotes no scenario
+refused_as : (holds : List ℕ → List ℕ → Type 0) (fails : List ℕ → Type 0) (path bytes : List ℕ) → holds path bytes → (c : Cause) (fault : AsmFault)
+    → (c ≢ cause.Memory → assembled bytes ≡ Err fault) → IsTextFault holds fails path (refused_text c fault)
+refused_as holds fails path bytes held cause.Missing fault h = record { bytes = bytes; held = held; wrong = h (search rules) }
+refused_as holds fails path bytes held cause.Token fault h = record { bytes = bytes; held = held; wrong = h (search rules) }
+refused_as holds fails path bytes held cause.UnknownWord fault h = record { bytes = bytes; held = held; wrong = h (search rules) }
+refused_as holds fails path bytes held cause.Range fault h = record { bytes = bytes; held = held; wrong = h (search rules) }
+refused_as holds fails path bytes held cause.Duplicate fault h = record { bytes = bytes; held = held; wrong = h (search rules) }
+refused_as holds fails path bytes held cause.Limit fault h = record { bytes = bytes; held = held; wrong = h (search rules) }
+refused_as holds fails path bytes held cause.Memory fault h = tt
+
+pub wrong_text : (holds : List ℕ → List ℕ → Type 0) (fails : List ℕ → Type 0) (path bytes : List ℕ) → holds path bytes → (fault : AsmFault)
+    → (fault.cause ≢ cause.Memory → assembled bytes ≡ Err fault) → IsTextFault holds fails path (text_fault fault)
+wrong_text holds fails path bytes held fault h = refused_as holds fails path bytes held fault.cause fault h
+
+-- entries that got no trace file
+pub unsaved : (es : List Entry) (e : WriteFault) → ((e ≡ trace.TooLarge) ↔ ((bytes : List ℕ) → IsTraceFile bytes es → ⊥)) → IsSavingFault es (trace_fault e)
+unsaved es trace.TooLarge h = h.0 refl
+unsaved es trace.Memory h = tt
+
+pub unwritten : (es : List Entry) (f : Fault) → IsWritingFault f → IsSavingFault es f
+unwritten es faults.Memory h = tt
+unwritten es faults.Write h = tt
+unwritten es faults.Hex h = absurd h
+unwritten es faults.Read h = absurd h
+unwritten es (faults.Layout fault) h = absurd h
+unwritten es (faults.Text fault) h = absurd h
+unwritten es faults.TooLarge h = absurd h
+unwritten es (faults.Template fault) h = absurd h
+
+-- a serial run that was not saved
+pub unsaved_run : (s : Script) (es : List Entry) → IsSerial s es → (f : Fault) → IsSavingFault es f → IsRunFault s f
+unsaved_run s es serial faults.Memory h = tt
+unsaved_run s es serial faults.Write h = tt
+unsaved_run s es serial faults.TooLarge h = (es, serial, h)
+unsaved_run s es serial faults.Hex h = absurd h
+unsaved_run s es serial faults.Read h = absurd h
+unsaved_run s es serial (faults.Layout fault) h = absurd h
+unsaved_run s es serial (faults.Text fault) h = absurd h
+unsaved_run s es serial (faults.Template fault) h = absurd h
+
+pub unwritten_run : (s : Script) (f : Fault) → IsWritingFault f → IsRunFault s f
+unwritten_run s faults.Memory h = tt
+unwritten_run s faults.Write h = tt
+unwritten_run s faults.Hex h = absurd h
+unwritten_run s faults.Read h = absurd h
+unwritten_run s (faults.Layout fault) h = absurd h
+unwritten_run s (faults.Text fault) h = absurd h
+unwritten_run s faults.TooLarge h = absurd h
+unwritten_run s (faults.Template fault) h = absurd h
+
+-- the demonstration device's faults
+pub no_hex : (hex : List ℕ) (f : Fault) → (f ≡ faults.Memory) ⊎ ((f ≡ faults.Hex) × IsErr (decode_of hex)) → IsOneFault hex f
+no_hex hex f (inl memory) = subst (λ g. IsOneFault hex g) (sym memory) tt
+no_hex hex f (inr bad) = subst (λ g. IsOneFault hex g) (sym bad.0) bad.1
+
+pub no_demo : (hex : List ℕ) (f : Fault) → IsTemplateFault f → IsOneFault hex f
+no_demo hex faults.Hex h = absurd h
+no_demo hex faults.Memory h = tt
+no_demo hex faults.Read h = absurd h
+no_demo hex faults.Write h = absurd h
+no_demo hex (faults.Layout fault) h = absurd h
+no_demo hex (faults.Text fault) h = absurd h
+no_demo hex faults.TooLarge h = absurd h
+no_demo hex (faults.Template fault) h = tt
+
+pub unwritten_one : (hex : List ℕ) (f : Fault) → IsWritingFault f → IsOneFault hex f
+unwritten_one hex faults.Hex h = absurd h
+unwritten_one hex faults.Memory h = tt
+unwritten_one hex faults.Read h = absurd h
+unwritten_one hex faults.Write h = tt
+unwritten_one hex (faults.Layout fault) h = absurd h
+unwritten_one hex (faults.Text fault) h = absurd h
+unwritten_one hex faults.TooLarge h = absurd h
+unwritten_one hex (faults.Template fault) h = absurd h

@@ -1,0 +1,10 @@
+use Rattle.std.proofs.Common.{[]}
+use Rattle.device_machine.specs.Class.{start_of}
+use Rattle.bench_commands.specs.Demo.{demo_class, demo_outputs}
+use Rattle.bench_commands.proofs.demo.answer.Goals as goal
+
+pub returns-in-Ok-clause-put_out : goal.returns-in-Ok-clause-put_out
+unfolding demo_outputs
+returns-in-Ok-clause-put_out c =
+    c.in-Ok.ensures.outputs (record { kept = start_of demo_class; recorded = [] })
+    (rw (← c.in_ok-template.ensures.made) c.in_ok-device.ensures)

@@ -1,0 +1,68 @@
+-- The DEMO device: its class, and what it puts out when it has just started (this profile).
+use Rattle.std.specs.Prelude.{ℕ, List, [], ◌∷◌, codes, pos, false}
+use Rattle.std.specs.List.{fold}
+use Rattle.object_defs.specs.Base.{base}
+use Rattle.object_defs.specs.Path.{full_path}
+use Rattle.object_defs.specs.declared.path.Path.{Path}
+use Rattle.object_defs.specs.declared.path.Path.TheVariants.{Resource, Part}
+use Rattle.lwm2m_values.specs.declared.value.Value.{Value}
+use Rattle.lwm2m_values.specs.declared.value.Value.TheVariants as value
+use Rattle.instance_store.specs.Stored.{empty, with_instance}
+use Rattle.device_machine.specs.Class.{start_of}
+use Rattle.device_template.specs.Class.{Class, with_account, with_store}
+use Rattle.device_template.specs.Values.{with_value_at}
+use Rattle.device_machine.specs.Reactions.{outputs_of}
+use Rattle.device_machine.specs.declared.event.Event.TheVariants.{Recv}
+use Rattle.device_machine.specs.declared.output.Output.{Output}
+use Rattle.bench_commands.specs.declared.demo.Held.{Held}
+use Rattle.bench_commands.specs.declared.demo.Held.TheVariants as held
+
+-- its instances, as object and instance: one each of Server, Device and Firmware Update
+abbrev pub demo_instances : List (ℕ × ℕ)
+demo_instances = (1, 0) ∷ (3, 0) ∷ (5, 0) ∷ []
+
+-- its values
+abbrev pub demo_values : List (Path × Value)
+demo_values =
+    (Resource 1 0 0, value.Whole (pos 1))
+    ∷ (Resource 1 0 1, value.Whole (pos 300))
+    ∷ (Resource 1 0 6, value.Flag false)
+    ∷ (Resource 1 0 7, value.Text (codes "U"))
+    ∷ (Resource 3 0 0, value.Text (codes "Bench"))
+    ∷ (Part 3 0 6 0, value.Whole (pos 1))
+    ∷ (Part 3 0 6 1, value.Whole (pos 5))
+    ∷ (Resource 3 0 9, value.Whole (pos 100))
+    ∷ (Part 3 0 11 0, value.Whole (pos 0))
+    ∷ (Resource 3 0 16, value.Text (codes "U"))
+    ∷ (Resource 5 0 9, value.Whole (pos 2))
+    ∷ []
+
+-- a class with one instance more
+abbrev pub with_place : Class → ℕ × ℕ → Class
+with_place class place =
+    with_store class (with_instance class.store (record { object = place.0; instance = place.1 }))
+
+-- a class with one value more
+abbrev pub with_row : Class → Path × Value → Class
+with_row class row = with_store class (with_value_at class.store (full_path row.0) row.1)
+
+-- the class: the base objects, one account, these instances and these values
+unfoldable pub demo_class : Class
+demo_class =
+    fold with_row
+    (fold with_place (with_account (record { accounts = []; catalogue = base; store = empty }) 1) demo_instances)
+    demo_values
+
+-- what the device, just started, puts out where server 1 sends these bytes
+unfoldable pub demo_outputs : List ℕ → List Output
+demo_outputs bytes = outputs_of (record { kept = start_of demo_class; recorded = [] }) (Recv 1 bytes)
+
+-- a value as the program's table has it
+abbrev pub value_of : Held → Value
+value_of (held.Whole n) = value.Whole n
+value_of (held.Flag b) = value.Flag b
+value_of (held.Text t) = value.Text t.now
+
+-- a row of the program's table
+abbrev pub row_of : Path × Held → Path × Value
+row_of row = (row.0, value_of row.1)

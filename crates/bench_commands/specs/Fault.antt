@@ -1,0 +1,61 @@
+-- The faults of the program, and what they come from.
+use Rattle.std.specs.Prelude.{⊤}
+use Rattle.hex.specs.declared.error.FromHexError.{FromHexError}
+use Rattle.hex.specs.declared.error.FromHexError.TheVariants.{InvalidHexCharacter, OddLength, InvalidStringLength, OutOfMemory}
+use Rattle.scenario_words.specs.declared.cause.Cause.{Cause}
+use Rattle.scenario_words.specs.declared.cause.Cause.TheVariants as cause
+use Rattle.scenario_asm.specs.declared.fault.AsmFault.{AsmFault}
+use Rattle.byte_layout.specs.declared.fault.LayoutFault.{LayoutFault}
+use Rattle.byte_layout.specs.declared.fault.LayoutFault.TheVariants as layout
+use Rattle.trace_file.specs.declared.fault.WriteFault.{WriteFault}
+use Rattle.trace_file.specs.declared.fault.WriteFault.TheVariants as trace
+use Rattle.bench_commands.specs.declared.fault.Fault.{Fault}
+use Rattle.bench_commands.specs.declared.fault.Fault.TheVariants.{Hex, Memory, Read, Write, Layout, Text, TooLarge, Template}
+
+-- the fault of a text that could not be read as hex: want of memory is not the text's fault
+abbrev pub hex_fault : FromHexError → Fault
+hex_fault OutOfMemory = Memory
+hex_fault OddLength = Hex
+hex_fault InvalidStringLength = Hex
+hex_fault (InvalidHexCharacter c i) = Hex
+
+-- the fault of bytes that are no file of their kind: want of memory is not the bytes' fault
+abbrev pub layout_fault : LayoutFault → Fault
+layout_fault layout.Magic = Layout layout.Magic
+layout_fault layout.Version = Layout layout.Version
+layout_fault layout.Cut = Layout layout.Cut
+layout_fault layout.Trailing = Layout layout.Trailing
+layout_fault (layout.BadField place) = Layout (layout.BadField place)
+layout_fault (layout.Limit place) = Layout (layout.Limit place)
+layout_fault layout.Memory = Memory
+
+abbrev pub refused_text : Cause → AsmFault → Fault
+refused_text cause.Memory fault = Memory
+refused_text _ fault = Text fault
+
+-- the fault of a text that denotes no scenario: want of memory is not the text's fault
+abbrev pub text_fault : AsmFault → Fault
+text_fault fault = refused_text fault.cause fault
+
+-- the fault of entries that got no trace file
+abbrev pub trace_fault : WriteFault → Fault
+trace_fault trace.TooLarge = TooLarge
+trace_fault trace.Memory = Memory
+
+-- what may befall a writer, and a file that is written
+abbrev pub IsWritingFault : Fault → Type 0
+IsWritingFault Memory = ⊤
+IsWritingFault Write = ⊤
+IsWritingFault _ = ⊥
+
+-- what may befall a file that is read: want of memory, or that it could not be read
+abbrev pub IsReadingFault : Type 0 → Fault → Type 0
+IsReadingFault fails Memory = ⊤
+IsReadingFault fails Read = fails
+IsReadingFault fails _ = ⊥
+
+-- what may befall a device that is made: want of memory, or that its template refused a part
+abbrev pub IsTemplateFault : Fault → Type 0
+IsTemplateFault Memory = ⊤
+IsTemplateFault (Template fault) = ⊤
+IsTemplateFault _ = ⊥

@@ -1,0 +1,9 @@
+pub mod Demo
+pub mod Fault
+pub mod FaultLine
+pub mod Jobs
+pub mod Printed
+pub mod Runs
+pub mod Serial
+pub mod Status
+pub mod Texts

@@ -1,0 +1,10 @@
+use Rattle.std.specs.Prelude.{ℕ}
+use Rattle.bench_commands.specs.declared.status.Status.{Status}
+use Rattle.bench_commands.specs.declared.status.Status.TheVariants.{Done, Fault, Usage, NotRun}
+
+-- the exit status by which the program tells how it ended (this profile)
+abbrev pub exit_code : Status → ℕ
+exit_code Done = 0
+exit_code Fault = 1
+exit_code Usage = 2
+exit_code NotRun = 3

@@ -1,0 +1,76 @@
+-- The words of the command line: which `clap` takes, and what they then ask for.
+use Rattle.std.specs.Prelude.{◌≡◌, true, List, Some, option_map, codes}
+use Rattle.clap.specs.Words.{App, Row, Rule, Text as Word, first_of, new_app, new_rule, subcommand_of, takes, with_rule, with_subcommand}
+use Rattle.bench_words.specs.declared.words.Job.{Job}
+use Rattle.bench_words.specs.declared.words.Job.TheVariants as jobs
+use Rattle.bench_words.specs.declared.words.Asked.{Asked}
+use Rattle.bench_words.specs.declared.words.Asked.TheVariants as asked
+
+-- ---- what is taken
+
+-- a word that has to be there
+abbrev pub needed : Word → Rule
+needed name = record (new_rule name) { required = true }
+
+-- `--NAME FILE`
+abbrev pub file : Word → Rule
+file name = record (new_rule name) { long = Some name; value_names = 1 }
+
+-- `one HEX`
+abbrev pub one_app : App
+one_app = with_rule (new_app (codes "one")) (needed (codes "HEX"))
+
+-- `asm IN OUT`
+abbrev pub asm_app : App
+asm_app = with_rule (with_rule (new_app (codes "asm")) (needed (codes "IN"))) (needed (codes "OUT"))
+
+-- `dis IN`
+abbrev pub dis_app : App
+dis_app = with_rule (new_app (codes "dis")) (needed (codes "IN"))
+
+-- `run IMAGE [--trace FILE]`
+abbrev pub run_app : App
+run_app = with_rule (with_rule (new_app (codes "run")) (needed (codes "IMAGE"))) (file (codes "trace"))
+
+-- `check IMAGE TRACE`
+abbrev pub check_app : App
+check_app = with_rule (with_rule (new_app (codes "check")) (needed (codes "IMAGE"))) (needed (codes "TRACE"))
+
+-- a subcommand has to be there
+abbrev pub with_need : App → App
+with_need a = record a { top = record a.top { subcommand_required = true } }
+
+-- the program
+abbrev pub bench_app : App
+bench_app =
+    with_subcommand
+    (with_subcommand (with_subcommand (with_subcommand (with_subcommand (with_need (new_app (codes "lwbench"))) one_app.top) asm_app.top) dis_app.top) run_app.top)
+    check_app.top
+
+-- ---- what is asked for
+
+-- a subcommand with its values asks for this
+abbrev pub AsksFor : Word × List Row → Job → Type 0
+AsksFor found (jobs.One hex) = (found.0 ≡ codes "one") × (first_of (codes "HEX") found.1 ≡ Some hex.now)
+AsksFor found (jobs.Asm input output) =
+    (found.0 ≡ codes "asm") × (first_of (codes "IN") found.1 ≡ Some input.now) × (first_of (codes "OUT") found.1 ≡ Some output.now)
+AsksFor found (jobs.Dis input) = (found.0 ≡ codes "dis") × (first_of (codes "IN") found.1 ≡ Some input.now)
+AsksFor found (jobs.Run image trace) =
+    (found.0 ≡ codes "run") × (first_of (codes "IMAGE") found.1 ≡ Some image.now) × (first_of (codes "trace") found.1 ≡ option_map (λ p. p.now) trace)
+AsksFor found (jobs.Check image trace) =
+    (found.0 ≡ codes "check") × (first_of (codes "IMAGE") found.1 ≡ Some image.now) × (first_of (codes "TRACE") found.1 ≡ Some trace.now)
+
+-- these words, of which the first is the program's name, ask for this
+pub record IsAsked (words : List Word) (job : Job) : Type 0 where
+  pub found : Word × List Row
+  pub entered : subcommand_of bench_app words ≡ Some found
+  pub asks : AsksFor found job
+
+-- the words are not taken, or ask for nothing
+abbrev pub AsksNothing : List Word → Type 0
+AsksNothing words = takes bench_app words ≡ true → (job : Job) → IsAsked words job → ⊥
+
+-- what the words ask for, or a text where they ask for nothing
+abbrev pub IsReadAs : List Word → Asked → Type 0
+IsReadAs words (asked.Job job) = IsAsked words job
+IsReadAs words (asked.Text text is_mistake) = AsksNothing words

@@ -1,0 +1,248 @@
+ghost use Rattle.std.specs.Prelude.{◌≡◌, ◌≢◌, ◌⊎◌, List, None, Some, codes, map, option_map, false, IfNone, IfOk, IfSome};
+ghost use Rattle.std.specs.String.{string_bytes};
+ghost use Rattle.clap.specs.Words.{Row, Text as Word, app_of, first_of, found_of, kind_of, rows_of, rule_of, subcommand_rows_of};
+ghost use Rattle.bench_words.specs.declared.words.Job.{Job as JobData};
+ghost use Rattle.bench_words.specs.Words.{AsksFor, IsReadAs, asm_app, bench_app, check_app, dis_app, file, needed, one_app, run_app};
+
+use clap::error::ErrorKind;
+use clap::{Arg, ArgMatches, Command, Error};
+use std::alloc::{AllocError, Global};
+
+/// What is said of an argument that is no text.
+pub const NO_TEXT: &str =
+    "error: invalid UTF-8 was detected in one or more arguments\n\nUsage: lwbench <COMMAND>\n\nFor more information, try '--help'.\n";
+
+/// What the words ask the program to do. It borrows them.
+#[derive(Clone, Copy, Debug, PartialEq, Eq)]
+pub enum Job<'a> {
+    /// The DEMO device takes one datagram.
+    One {
+        /// The bytes of the datagram, in hex.
+        hex: &'a str,
+    },
+    /// The image of a scenario, from its text.
+    Asm {
+        /// The path of the text.
+        input: &'a str,
+        /// Where the image goes.
+        output: &'a str,
+    },
+    /// The canonical text of a scenario.
+    Dis {
+        /// The path of the scenario's image.
+        input: &'a str,
+    },
+    /// The serial run of a scenario.
+    Run {
+        /// The path of the scenario's image.
+        image: &'a str,
+        /// Where the trace file goes, if anywhere.
+        trace: Option<&'a str>,
+    },
+    /// Whether a trace is a run of a scenario.
+    Check {
+        /// The path of the scenario's image.
+        image: &'a str,
+        /// The path of the trace file.
+        trace: &'a str,
+    },
+}
+
+/// What the words ask for.
+#[derive(Debug, Drop)]
+pub enum Asked<'a> {
+    /// Something to do.
+    Job(Job<'a>),
+    /// A text to print: help, or what is wrong with the words.
+    Text {
+        /// The text.
+        text: String,
+        /// Whether the words are wrong.
+        is_mistake: bool,
+    },
+}
+
+/// Reads the words, of which the first is the program's name.
+pub fn read<'a>(alloc: Global, words: &'a [String]) -> Result<Asked<'a>, AllocError>
+    ensures { IfOk result (IsReadAs (map string_bytes words.now)) }
+{
+    match bench(alloc)?.try_get_matches_from(words) {
+        Ok(found) => match job_of(&found) {
+            Some(job) => Ok(Asked::Job(job)),
+            None => Ok(Asked::Text {
+                text: usage(alloc)?,
+                is_mistake: true,
+            }),
+        },
+        Err(error) => Ok(Asked::Text {
+            text: told(alloc, &error)?,
+            is_mistake: error.use_stderr(),
+        }),
+    }
+}
+
+fn job_of<'a>(found: &ArgMatches<'a>) -> Option<Job<'a>>
+    ensures some { IfSome result (λ job. (p : Word × List Row) × (subcommand_rows_of found.now ≡ Some p) × AsksFor p job) }
+    ensures none { IfNone result ((p : Word × List Row) (job : JobData) → subcommand_rows_of found.now ≡ Some p → AsksFor p job → ⊥) }
+{
+    match found.subcommand() {
+        Some((name, inner)) => job_in(name, inner),
+        None => None,
+    }
+}
+
+#[tactic(auto, using(crate::proofs::Asking::no_one, crate::proofs::Asking::no_asm, crate::proofs::Asking::no_dis, crate::proofs::Asking::no_run, crate::proofs::Asking::no_check))]
+fn job_in<'a>(name: &str, found: &ArgMatches<'a>) -> Option<Job<'a>>
+    ensures some { IfSome result (AsksFor (name.now, rows_of (found_of found.now))) }
+    ensures none { IfNone result ((job : JobData) → AsksFor (name.now, rows_of (found_of found.now)) job → ⊥) }
+{
+    match name {
+        "one" => one_job(found),
+        "asm" => asm_job(found),
+        "dis" => dis_job(found),
+        "run" => run_job(found),
+        "check" => check_job(found),
+        _ => None,
+    }
+}
+
+fn one_job<'a>(found: &ArgMatches<'a>) -> Option<Job<'a>>
+    ensures some { IfSome result (AsksFor (codes "one", rows_of (found_of found.now))) }
+    ensures none { IfNone result (first_of (codes "HEX") (rows_of (found_of found.now)) ≡ None) }
+{
+    Some(Job::One {
+        hex: value_of(found, "HEX")?,
+    })
+}
+
+fn asm_job<'a>(found: &ArgMatches<'a>) -> Option<Job<'a>>
+    ensures some { IfSome result (AsksFor (codes "asm", rows_of (found_of found.now))) }
+    ensures none { IfNone result ((first_of (codes "IN") (rows_of (found_of found.now)) ≡ None)
+        ⊎ (first_of (codes "OUT") (rows_of (found_of found.now)) ≡ None)) }
+{
+    Some(Job::Asm {
+        input: value_of(found, "IN")?,
+        output: value_of(found, "OUT")?,
+    })
+}
+
+fn dis_job<'a>(found: &ArgMatches<'a>) -> Option<Job<'a>>
+    ensures some { IfSome result (AsksFor (codes "dis", rows_of (found_of found.now))) }
+    ensures none { IfNone result (first_of (codes "IN") (rows_of (found_of found.now)) ≡ None) }
+{
+    Some(Job::Dis {
+        input: value_of(found, "IN")?,
+    })
+}
+
+fn run_job<'a>(found: &ArgMatches<'a>) -> Option<Job<'a>>
+    ensures some { IfSome result (AsksFor (codes "run", rows_of (found_of found.now))) }
+    ensures none { IfNone result (first_of (codes "IMAGE") (rows_of (found_of found.now)) ≡ None) }
+{
+    Some(Job::Run {
+        image: value_of(found, "IMAGE")?,
+        trace: value_of(found, "trace"),
+    })
+}
+
+fn check_job<'a>(found: &ArgMatches<'a>) -> Option<Job<'a>>
+    ensures some { IfSome result (AsksFor (codes "check", rows_of (found_of found.now))) }
+    ensures none { IfNone result ((first_of (codes "IMAGE") (rows_of (found_of found.now)) ≡ None)
+        ⊎ (first_of (codes "TRACE") (rows_of (found_of found.now)) ≡ None)) }
+{
+    Some(Job::Check {
+        image: value_of(found, "IMAGE")?,
+        trace: value_of(found, "TRACE")?,
+    })
+}
+
+/// The value of an argument.
+fn value_of<'a>(found: &ArgMatches<'a>, id: &str) -> Option<&'a str>
+    ensures { option_map (λ s. s.now) result ≡ first_of id.now (rows_of (found_of found.now)) }
+{
+    found.get_str(id)
+}
+
+/// The text of what `clap` did not take.
+fn told(alloc: Global, error: &Error) -> Result<String, AllocError>
+    ensures { IfOk result (λ _. kind_of error.now ≢ ErrorKind.OutOfMemory) }
+{
+    if error.kind() == ErrorKind::OutOfMemory {
+        return Err(AllocError);
+    }
+    error.to_string(alloc)
+}
+
+fn usage(alloc: Global) -> Result<String, AllocError> {
+    bench(alloc)?.render_help()
+}
+
+fn bench<'a>(alloc: Global) -> Result<Command<'a>, AllocError>
+    ensures { IfOk result (λ c. app_of c ≡ bench_app) }
+{
+    Command::new(alloc, "lwbench")
+        .about("A bench of emulated OMA LwM2M devices over CoAP")
+        .subcommand_required(true)
+        .subcommand(one_command(alloc)?)?
+        .subcommand(asm_command(alloc)?)?
+        .subcommand(dis_command(alloc)?)?
+        .subcommand(run_command(alloc)?)?
+        .subcommand(check_command(alloc)?)
+}
+
+fn one_command<'a>(alloc: Global) -> Result<Command<'a>, AllocError>
+    ensures { IfOk result (λ c. app_of c ≡ one_app) }
+{
+    Command::new(alloc, "one")
+        .about("Gives the DEMO device one datagram from server 1")
+        .arg(needed(alloc, "HEX").help("The bytes of the datagram, in hex"))
+}
+
+fn asm_command<'a>(alloc: Global) -> Result<Command<'a>, AllocError>
+    ensures { IfOk result (λ c. app_of c ≡ asm_app) }
+{
+    Command::new(alloc, "asm")
+        .about("Makes a scenario's image from its text")
+        .arg(needed(alloc, "IN").help("The scenario, as text"))?
+        .arg(needed(alloc, "OUT").help("Where the image goes"))
+}
+
+fn dis_command<'a>(alloc: Global) -> Result<Command<'a>, AllocError>
+    ensures { IfOk result (λ c. app_of c ≡ dis_app) }
+{
+    Command::new(alloc, "dis")
+        .about("Prints a scenario's text")
+        .arg(needed(alloc, "IN").help("The scenario, as an image"))
+}
+
+fn run_command<'a>(alloc: Global) -> Result<Command<'a>, AllocError>
+    ensures { IfOk result (λ c. app_of c ≡ run_app) }
+{
+    Command::new(alloc, "run")
+        .about("Runs a scenario, always the lowest device that can go")
+        .arg(needed(alloc, "IMAGE").help("The scenario, as an image"))?
+        .arg(file(alloc, "trace").help("Where the trace of the run goes"))
+}
+
+fn check_command<'a>(alloc: Global) -> Result<Command<'a>, AllocError>
+    ensures { IfOk result (λ c. app_of c ≡ check_app) }
+{
+    Command::new(alloc, "check")
+        .about("Says whether a trace is a run of a scenario")
+        .arg(needed(alloc, "IMAGE").help("The scenario, as an image"))?
+        .arg(needed(alloc, "TRACE").help("The trace file"))
+}
+
+fn file<'a>(alloc: Global, name: &'a str) -> Arg<'a>
+    ensures rule { rule_of result ≡ file name.entry.now }
+    ensures local { result.global ≡ false }
+{
+    Arg::new(alloc, name).long(name).value_name("FILE")
+}
+
+fn needed<'a>(alloc: Global, name: &'a str) -> Arg<'a>
+    ensures rule { rule_of result ≡ needed name.entry.now }
+    ensures local { result.global ≡ false }
+{
+    Arg::new(alloc, name).required(true)
+}

@@ -1,4 +1,0 @@
-pub mod Asked
-pub mod Built
-pub mod Faults
-mod LimitedReading

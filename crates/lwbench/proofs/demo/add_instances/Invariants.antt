@@ -1,7 +1,0 @@
-use Rattle.std.proofs.Common.{◌≡◌, take}
-use Rattle.std.specs.List.{fold}
-use Rattle.lwbench.specs.Demo.{with_place}
-use Rattle.lwbench.proofs.demo.add_instances.Given as goal
-
-abbrev pub invariant-loop-object : goal.invariant-loop-object
-invariant-loop-object l = l.template ≡ fold with_place l.fn.template (take l.object-index l.places)

@@ -1,7 +1,0 @@
-use Rattle.std.proofs.Common.{◌≡◌, map, take}
-use Rattle.std.specs.List.{fold}
-use Rattle.lwbench.specs.Demo.{row_of, with_row}
-use Rattle.lwbench.proofs.demo.add_values.Given as goal
-
-abbrev pub invariant-loop-path : goal.invariant-loop-path
-invariant-loop-path l = l.template ≡ fold with_row l.fn.template (map row_of (take l.path-index l.rows))
