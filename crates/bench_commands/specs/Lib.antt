@@ -1,3 +1,4 @@
+pub mod Command
 pub mod Demo
 pub mod Fault
 pub mod FaultLine

@@ -1,4 +1,5 @@
-//! What the program does for each of its commands: what it reads, prints and writes, and the fault of each that is refused.
+//! What the program does for each of its commands, from its words to the status that it ends with: what it reads,
+//! prints and writes, and the fault of each that is refused.
 #![tactic(auto)]
 
 mod answer;
@@ -8,10 +9,14 @@ mod fault;
 pub mod files;
 pub mod hex_text;
 pub mod loading;
+mod program;
 pub mod runs;
+mod start;
 mod status;
 pub mod texts;
 
 pub use answer::{Answer, say};
 pub use fault::Fault;
+pub use program::{command, perform, print_fault, refuse, tell};
+pub use start::start;
 pub use status::Status;

@@ -1,8 +1,7 @@
 //! The program's commands, over files in memory and writers that fail. The functions that make the calls have no contract, so
 //! that what the calls promise is not carried into the loops, and each test asserts on plain values alone.
-use bench_program::commands::Status;
-use bench_program::commands::files::{FileFault, Files, LARGEST, SystemFiles, read_at_most};
-use bench_program::{command, refuse};
+use bench_commands::files::{FileFault, Files, LARGEST, SystemFiles, read_at_most};
+use bench_commands::{Status, command, refuse};
 use std::alloc::{AllocError, Global};
 use std::cell::RefCell;
 use std::io::{self, ErrorKind, Write};

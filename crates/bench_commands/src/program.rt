@@ -3,10 +3,10 @@ ghost use Rattle.std.specs.Prelude.{◌≡◌, ◌⊎◌, IfErr, IfOk, OnOk, map
 ghost use Rattle.std.specs.Io.KnownBytes.{Appends};
 ghost use Rattle.std.specs.String.{string_bytes};
 ghost use Rattle.bench_commands.specs.FaultLine.{fault_line};
-ghost use Rattle.bench_program.specs.Command.{Ends, IsCommandFault, IsDone, IsRefused};
+ghost use Rattle.bench_commands.specs.Command.{Ends, IsCommandFault, IsDone, IsRefused};
 
-use bench_commands::files::Files;
-use bench_commands::{Fault, Status, answers};
+use crate::files::Files;
+use crate::{Fault, Status, answers};
 use bench_words::{Asked, Job, NO_TEXT, read};
 use std::alloc::Global;
 use std::io::{self, BufRead, ErrorKind, Write};
