@@ -1,6 +1,7 @@
 //! `device_cases`: reads cases of emulated devices from standard input, plays each, and prints what differs from what it states.
 #![tactic(auto)]
 
+mod again;
 mod blocks;
 mod cases;
 mod copies;

@@ -1,11 +1,12 @@
 //! Cases whose body is the text of a scenario.
 
+use crate::again;
 use crate::ends;
 use crate::items::{Item, Part, Script};
 use crate::named::cause_name;
-use crate::outputs::{is_output, judge, lines_of};
+use crate::outputs::{is_output, judge};
 use crate::pieces::expanded;
-use crate::playing::{Made, Play, event_of};
+use crate::playing::{Play, event_of};
 use crate::questions::ask;
 use crate::report::Report;
 use crate::stated::Stated;
@@ -34,7 +35,8 @@ pub fn run(
                 is_over = play_item(alloc, item, is_over, &mut play, report)?;
                 judge_ends(alloc, item, &scenario, entries.as_slice(), report)?;
             }
-            compare(alloc, title, play.made(), entries.as_slice(), report)
+            let entries = entries.as_slice();
+            again::judge(alloc, title, &scenario, play.made(), entries, report)
         }
     }
 }
@@ -198,39 +200,4 @@ fn judge_ends(
         }
     }
     Ok(())
-}
-
-/// Compares what the entries of the serial run put out with what was put out where each device took its steps alone.
-fn compare(
-    alloc: Global,
-    title: u32,
-    made: &[Made],
-    entries: &[Entry],
-    report: &mut Report,
-) -> Result<(), AllocError> {
-    for entry in entries {
-        let came = lines_of(alloc, entry.outputs.as_slice())?;
-        if !is_made(made, entry, came.as_slice()) {
-            let device = entry.device;
-            let step = entry.step;
-            let place = format!(in alloc; "at step {step} of device {device} what its steps alone put out")?;
-            report.differs(title, place.as_str(), "something else in the serial run")?;
-        }
-    }
-    Ok(())
-}
-
-/// Whether the entry's device put out these lines at the entry's step.
-fn is_made(made: &[Made], entry: &Entry, came: &[String]) -> bool {
-    for made in made {
-        if made.device == entry.device && made.step == entry.step {
-            return made.lines.len() == came.len()
-                && made
-                    .lines
-                    .iter()
-                    .zip(came.iter())
-                    .all(|(one, other)| one.as_str() == other.as_str());
-        }
-    }
-    false
 }

@@ -6,13 +6,9 @@ mod event;
 mod fault;
 mod laws;
 mod machine;
-#[cfg(test)]
-mod management_tests;
 mod output;
 mod recorded;
 mod reply;
-#[cfg(test)]
-mod tests;
 
 pub use device::Device;
 pub use device_requests::{Act, Answer, Code, Operation};

@@ -18,6 +18,3 @@ pub use laws::{outputs_are_the_rows, runs_agree, runs_grow};
 pub use serial::run_serial;
 pub use verdict::Verdict;
 pub use waiting::unfinished;
-
-#[cfg(test)]
-mod tests;

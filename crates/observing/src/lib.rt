@@ -8,8 +8,6 @@ mod outbox;
 mod period;
 mod report;
 mod sweep;
-#[cfg(test)]
-mod tests;
 mod verdict;
 
 pub use datagram::Datagram;

@@ -21,6 +21,3 @@ pub use playing::{play, take_step, take_steps};
 pub use reading::{step_at, steps_at};
 pub use scenario::Scenario;
 pub use step::Step;
-
-#[cfg(test)]
-mod tests;
