@@ -5,7 +5,11 @@ use std::alloc::{AllocError, Global};
 
 /// The verdict on the proper fronts of a file: that on each of them, or the first that is another than on the one before
 /// it.
-pub fn verdict_of_fronts(alloc: Global, kind: FileKind, bytes: &[u8]) -> Result<String, AllocError> {
+pub fn verdict_of_fronts(
+    alloc: Global,
+    kind: FileKind,
+    bytes: &[u8],
+) -> Result<String, AllocError> {
     let mut verdict = found_in(alloc, kind, &[])?.verdict;
     for end in 0..bytes.len() {
         let found = found_in(alloc, kind, &bytes[..end])?.verdict;
@@ -19,7 +23,11 @@ pub fn verdict_of_fronts(alloc: Global, kind: FileKind, bytes: &[u8]) -> Result<
 
 /// The verdict on the file with one byte changed, at each place in turn, to its two neighbours, with its lowest or its
 /// highest bit turned, to 0 and to 255: each is refused, or it is read and is written again as the same bytes.
-pub fn verdict_of_changes(alloc: Global, kind: FileKind, bytes: &[u8]) -> Result<String, AllocError> {
+pub fn verdict_of_changes(
+    alloc: Global,
+    kind: FileKind,
+    bytes: &[u8],
+) -> Result<String, AllocError> {
     let mut changed = Vec::from_slice(alloc, bytes)?;
     for (place, old) in bytes.iter().enumerate() {
         let old = *old;

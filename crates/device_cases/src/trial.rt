@@ -34,7 +34,11 @@ pub struct Trial<'a> {
 
 impl<'a> Trial<'a> {
     /// Of a body that begins with this block.
-    pub fn new(alloc: Global, kind: FileKind, block: &'a Block<'_>) -> Result<Trial<'a>, AllocError> {
+    pub fn new(
+        alloc: Global,
+        kind: FileKind,
+        block: &'a Block<'_>,
+    ) -> Result<Trial<'a>, AllocError> {
         Ok(Trial {
             alloc,
             kind,
