@@ -20,7 +20,14 @@ pub fn judge(
     for entry in entries {
         let outputs = entry.outputs.as_slice();
         if !is_made(alloc, made, entry.device, entry.step, outputs)? {
-            differs(alloc, title, entry.device, entry.step, "the serial run", report)?;
+            differs(
+                alloc,
+                title,
+                entry.device,
+                entry.step,
+                "the serial run",
+                report,
+            )?;
         }
     }
     for number in 0..scenario.rows() {
@@ -41,7 +48,9 @@ fn differs(
     way: &str,
     report: &mut Report,
 ) -> Result<(), AllocError> {
-    let stated = format!(in alloc; "at step {step} of device {device} what is put out step by step")?;
+    let stated = format!(in alloc;
+        "at step {step} of device {device} what is put out step by step"
+    )?;
     let came = format!(in alloc; "something else in {way}")?;
     report.differs(title, stated.as_str(), came.as_str())
 }
@@ -124,12 +133,14 @@ fn is_made(
     for made in made {
         if made.device == device && made.step == step {
             let came = lines_of(alloc, outputs)?;
-            return Ok(made.lines.len() == came.len()
-                && made
-                    .lines
-                    .iter()
-                    .zip(came.iter())
-                    .all(|(one, other)| one.as_str() == other.as_str()));
+            return Ok(
+                made.lines.len() == came.len()
+                    && made
+                        .lines
+                        .iter()
+                        .zip(came.iter())
+                        .all(|(one, other)| one.as_str() == other.as_str()),
+            );
         }
     }
     Ok(false)

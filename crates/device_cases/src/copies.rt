@@ -31,8 +31,8 @@ fn add_steps(copy: &mut Scenario, steps: &[Step]) -> Result<(), AllocError> {
 }
 
 /// What was refused is absent from the copy, whose bytes are others then.
-fn added(answer: Result<(), ScenarioFault>) -> Result<(), AllocError> {
-    match answer {
+fn added(copied: Result<(), ScenarioFault>) -> Result<(), AllocError> {
+    match copied {
         Err(ScenarioFault::Memory) => Err(AllocError),
         _ => Ok(()),
     }

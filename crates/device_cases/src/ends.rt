@@ -14,10 +14,7 @@ use trace_file::{Entry, WriteFault, read_entries, write_entries};
 
 /// Whether an answer is one about the whole scenario.
 pub fn is_end(text: &str) -> bool {
-    text == "text"
-        || text.starts_with("image ")
-        || text.starts_with("trace ")
-        || is_count(text)
+    text == "text" || text.starts_with("image ") || text.starts_with("trace ") || is_count(text)
 }
 
 /// Whether an answer says how entries end.
@@ -147,9 +144,7 @@ pub fn judge_trace(
         return report.malformed(item.line, "nothing is stated of this trace");
     }
     match read_entries(alloc, bytes.as_slice()) {
-        Ok(entries) => {
-            judge_entries(alloc, item, scenario, entries.as_slice(), report)
-        }
+        Ok(entries) => { judge_entries(alloc, item, scenario, entries.as_slice(), report) }
         Err(fault) => judge_fault(alloc, item, fault, report),
     }
 }
@@ -164,7 +159,11 @@ fn judge_entries(
     let verdict = verdict_of(alloc, check(alloc, scenario, entries)?)?;
     let count = count_of(alloc, scenario, entries)?;
     for stated in item.stated.iter() {
-        let came = if is_count(stated.text) { &count } else { &verdict };
+        let came = if is_count(stated.text) {
+            &count
+        } else {
+            &verdict
+        };
         judge_verdict(stated, came.as_str(), report)?;
     }
     Ok(())

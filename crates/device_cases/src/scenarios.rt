@@ -1,7 +1,5 @@
 //! Cases whose body is the text of a scenario.
 
-use crate::again;
-use crate::ends;
 use crate::items::{Item, Part, Script};
 use crate::named::cause_name;
 use crate::outputs::{is_output, judge};
@@ -10,6 +8,7 @@ use crate::playing::{Play, event_of};
 use crate::questions::ask;
 use crate::report::Report;
 use crate::stated::Stated;
+use crate::{again, ends};
 use fleet_core::run_serial;
 use scenario_asm::{AsmFault, assemble};
 use scenario_image::Scenario;
@@ -105,7 +104,15 @@ fn play_item(
     match item.part {
         Part::Start | Part::Trace(_) => no_outputs(outputs.as_slice(), report)?,
         Part::Text { line, times } => {
-            play_text(alloc, item.line, line, times, outputs.as_slice(), play, report)?;
+            play_text(
+                alloc,
+                item.line,
+                line,
+                times,
+                outputs.as_slice(),
+                play,
+                report,
+            )?;
         }
         Part::Question(text) => {
             no_outputs(outputs.as_slice(), report)?;
