@@ -11,12 +11,12 @@ pub mod hex_text;
 pub mod loading;
 mod program;
 pub mod runs;
-mod start;
 mod status;
+mod system;
 pub mod texts;
 
 pub use answer::{Answer, say};
 pub use fault::Fault;
 pub use program::{command, perform, print_fault, refuse, tell};
-pub use start::start;
 pub use status::Status;
+pub use system::start;
