@@ -16,8 +16,8 @@ use byte_layout::{
     Break, Format, Items, LayoutFault, ReadError, items_at, load as load_all, put_u8, put_u16,
     put_u32, u8_at, u16_at_most, u32_at,
 };
-use scenario_layout::{class_at, put_class};
 use device_machine::Template;
+use scenario_layout::{class_at, put_class};
 use std::alloc::{AllocError, Global};
 
 /// Classes, one after another.

@@ -12,8 +12,8 @@ use byte_layout::{
 use device_machine::Event;
 use object_defs::{FullPath, Path};
 use octets::Bytes;
-use std::alloc::Global;
 use scenario_layout::{path_at, value_at};
+use std::alloc::Global;
 
 /// The path of three or four numbers.
 fn path_to(full: FullPath) -> Path

@@ -13,8 +13,8 @@ use device_machine::Event;
 use lwm2m_values::Value;
 use object_defs::{FullPath, Path};
 use octets::Bytes;
-use std::alloc::AllocError;
 use scenario_layout::{put_path, put_value};
+use std::alloc::AllocError;
 
 /// Writes a datagram of at most 1,500 bytes.
 #[tactic(auto, unfolding(crate::specs::Layout::datagram))]
