@@ -309,7 +309,7 @@ fn written_again(alloc: Global, bytes: &[u8]) -> Result<(Vec<ResourceDef>, Vec<u
         return Err(ReadError::Fault(Break::Trailing));
     }
     let mut out = Vec::new(alloc);
-    put_resources(&mut out, definitions.as_slice())?;
+    put_resources(&mut out, &definitions)?;
     Ok((definitions, out))
 }
 
