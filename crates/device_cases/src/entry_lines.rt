@@ -33,11 +33,14 @@ fn add_entry(alloc: Global, text: &mut String, entry: &Entry) -> Result<(), Allo
     if outputs.is_empty() {
         text.push_str(" nothing")?;
     }
-    let mut before = " ";
+    let mut is_first = true;
     for output in outputs {
-        text.push_str(before)?;
+        if !is_first {
+            text.push(',')?;
+        }
+        text.push(' ')?;
         text.push_str(output.as_str())?;
-        before = ", ";
+        is_first = false;
     }
     text.push('\n')
 }
