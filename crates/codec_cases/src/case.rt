@@ -3,7 +3,7 @@
 pub struct Case<'a> {
     /// The subject, and what is asked about it.
     pub question: &'a str,
-    /// What stands behind the arrow.
+    /// What stands after the arrow.
     pub answer: &'a str,
     /// Whether that is the answer, after ` => `, or must not be, after ` =/> `.
     pub is_same: bool,

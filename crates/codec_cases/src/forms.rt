@@ -225,7 +225,7 @@ fn put_escape(alloc: Global, out: &mut Vec<u8>, piece: &str) -> Result<(), Unans
     Ok(())
 }
 
-/// Adds bytes as text: what is no visible character, a space at either end, `%` and `|` as `%XX`, more than 32 equal
+/// Adds bytes as text: what is not a visible character, a space at either end, `%` and `|` as `%XX`, more than 32 equal
 /// bytes in a row as `%XX*N`, and no byte at all as `%-`.
 pub fn put_text(alloc: Global, out: &mut String, bytes: &[u8]) -> Result<(), AllocError> {
     let mut text = String::new(alloc);

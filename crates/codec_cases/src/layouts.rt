@@ -127,7 +127,7 @@ fn found(alloc: Global, names: &str, bytes: &[u8]) -> Result<String, Unfound> {
     }
 }
 
-/// What the field of this name holds, and the bytes after it. A number stands behind a colon in some names.
+/// What the field of this name holds, and the bytes after it. A number stands after a colon in some names.
 fn field_at<'a>(alloc: Global, name: &str, bytes: &'a [u8]) -> Result<(String, &'a [u8]), Unfound> {
     match name.split_once(':') {
         None => plain_field_at(alloc, name, bytes),

@@ -92,7 +92,7 @@ fn check(
     }
 }
 
-/// Prints a line that is no case, and why.
+/// Prints a line that is not a case, and why.
 fn refuse(
     rt: &impl Print,
     number: u64,
@@ -101,7 +101,7 @@ fn refuse(
     tally: &mut Tally,
 ) -> io::Result<()> {
     tally.count_refused();
-    println!(rt; "line {number} is no case, {why}: {text}")
+    println!(rt; "line {number} is not a case, {why}: {text}")
 }
 
 /// Goes through the lines of a table.

@@ -26,7 +26,7 @@ impl Tally {
         self.differ = self.differ.saturating_add(1);
     }
 
-    /// Counts a line that is no case.
+    /// Counts a line that is not a case.
     pub fn count_refused(&mut self) {
         self.refused = self.refused.saturating_add(1);
     }

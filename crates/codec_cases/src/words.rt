@@ -41,7 +41,7 @@ fn first_line(alloc: Global, rest: &str) -> Result<String, Unanswered> {
     Ok(out)
 }
 
-/// `word LINE`: the first word of a line and the line behind it, or `none`.
+/// `word LINE`: the first word of a line and the line after it, or `none`.
 fn first_word(alloc: Global, rest: &str) -> Result<String, Unanswered> {
     let line = forms::text(alloc, rest)?;
     let Some((word, behind)) = next_word(line.as_slice()) else {

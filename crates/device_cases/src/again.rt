@@ -1,4 +1,4 @@
-//! What the devices of a scenario put out, found once more in the other ways that there are.
+//! What the devices of a scenario output, found once more in the other ways that there are.
 
 use crate::outputs::lines_of;
 use crate::playing::Made;
@@ -8,7 +8,7 @@ use scenario_image::{Scenario, ScenarioFault, Step, play, save};
 use std::alloc::{AllocError, Global};
 use trace_file::Entry;
 
-/// Compares what was put out step by step with the serial run, with `play`, and the scenario with the one that `single` makes.
+/// Compares what was output step by step with the serial run, with `play`, and the scenario with the one that `single` makes.
 pub fn judge(
     alloc: Global,
     title: u32,
@@ -39,7 +39,7 @@ pub fn judge(
     judge_single(alloc, title, scenario, report)
 }
 
-/// Reports that a device put out something else at a step.
+/// Reports that a device output something else at a step.
 fn differs(
     alloc: Global,
     title: u32,
@@ -49,13 +49,13 @@ fn differs(
     report: &mut Report,
 ) -> Result<(), AllocError> {
     let stated = format!(in alloc;
-        "at step {step} of device {device} what is put out step by step"
+        "at step {step} of device {device} what is output step by step"
     )?;
     let came = format!(in alloc; "something else in {way}")?;
     report.differs(title, stated.as_str(), came.as_str())
 }
 
-/// Compares what was put out step by step with what the device puts out where it takes all steps of its row at once.
+/// Compares what was output step by step with what the device outputs where it takes all steps of its row at once.
 fn judge_play(
     alloc: Global,
     title: u32,
@@ -122,7 +122,7 @@ fn copies(alloc: Global, steps: &[Step]) -> Result<Vec<Step>, AllocError> {
     Ok(copies)
 }
 
-/// Whether this is what the device put out at the step.
+/// Whether this is what the device output at the step.
 fn is_made(
     alloc: Global,
     made: &[Made],

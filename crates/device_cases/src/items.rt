@@ -44,7 +44,7 @@ pub struct Item<'a> {
 pub struct Script<'a> {
     /// The text for the assembler, in which each other line is empty.
     pub text: String,
-    /// For each line of that text its number in the case, counted from 1 behind the title.
+    /// For each line of that text its number in the case, counted from 1 after the title.
     pub numbers: Vec<u32>,
     /// The lines that have words, with what is stated below them.
     pub items: Vec<Item<'a>>,

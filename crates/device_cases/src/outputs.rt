@@ -1,4 +1,4 @@
-//! What a device puts out, line by line, and what is stated of it.
+//! What a device outputs, line by line, and what is stated of it.
 
 use crate::named::act_name;
 use crate::pieces::{bytes_of, hex_of, times_of};
@@ -105,7 +105,7 @@ struct Difference {
     came: String,
 }
 
-/// Compares what a device put out, at the line of this number, with what is stated of it.
+/// Compares what a device output, at the line of this number, with what is stated of it.
 pub fn judge(
     alloc: Global,
     line: u32,

@@ -7,7 +7,7 @@ use std::alloc::{AllocError, Global};
 /// The most times that a piece is repeated.
 const MOST: u32 = 100_000;
 
-/// The bytes of a word in pieces; `-` is no bytes. None where it is no such word.
+/// The bytes of a word in pieces; `-` is no bytes. None where it is not such a word.
 pub fn bytes_of(alloc: Global, word: &str) -> Result<Option<Bytes>, AllocError> {
     let mut bytes = Vec::new(alloc);
     if word == "-" {

@@ -7,7 +7,7 @@ use scenario_mnemonics::encode;
 use scenario_statements::{Statement, read_statement};
 use std::alloc::{AllocError, Global};
 
-/// What a device put out at a step.
+/// What a device output at a step.
 #[derive(Drop)]
 pub struct Made {
     /// The device.
@@ -18,7 +18,7 @@ pub struct Made {
     pub lines: Vec<String>,
 }
 
-/// The device whose steps the text states at present, and what was put out so far.
+/// The device whose steps the text states at present, and what was output so far.
 #[derive(Drop)]
 pub struct Play<'a> {
     scenario: &'a Scenario,
@@ -27,7 +27,7 @@ pub struct Play<'a> {
     /// The number of the next step in the device's row.
     step: u32,
     device: Option<Device>,
-    /// A copy of the device, which took the events that are no steps.
+    /// A copy of the device, which took the events that are not steps.
     aside: Option<Device>,
     made: Vec<Made>,
 }
@@ -45,12 +45,12 @@ impl<'a> Play<'a> {
         }
     }
 
-    /// What was put out so far.
+    /// What was output so far.
     pub fn made(&self) -> &[Made] {
         self.made.as_slice()
     }
 
-    /// The device that is asked at this place: the one that took the events that are no steps, where there were some.
+    /// The device that is asked at this place: the one that took the events that are not steps, where there were some.
     pub fn asked(&self) -> Option<&Device> {
         match &self.aside {
             Some(device) => Some(device),
@@ -58,7 +58,7 @@ impl<'a> Play<'a> {
         }
     }
 
-    /// Does what a line of the text says, and gives what the device puts out where that is a step.
+    /// Does what a line of the text says, and gives what the device outputs where that is a step.
     pub fn take_line(
         &mut self,
         alloc: Global,
@@ -115,7 +115,7 @@ impl<'a> Play<'a> {
         }
     }
 
-    /// Keeps what the device put out.
+    /// Keeps what the device output.
     fn keep(&mut self, lines: Vec<String>) -> Result<(), AllocError> {
         self.made.push(Made {
             device: self.begun.saturating_sub(1),
@@ -126,7 +126,7 @@ impl<'a> Play<'a> {
         Ok(())
     }
 
-    /// Lets a copy of the device take an event, behind those that it took since the last step, and gives what it puts out. None
+    /// Lets a copy of the device take an event, after those that it took since the last step, and gives what it outputs. None
     /// where there is no device.
     pub fn take_aside(
         &mut self,
@@ -169,7 +169,7 @@ fn happened(alloc: Global, device: &mut Device, event: &Event) -> Result<Vec<Str
     }
 }
 
-/// The event that a line says; none where it says none.
+/// The event that a line says; none if it says none.
 pub fn event_of(alloc: Global, line: &str) -> Result<Option<Event>, AllocError> {
     let Ok(Some(statement)) = read_statement(alloc, line.as_bytes()) else {
         return Ok(None);

@@ -53,7 +53,7 @@ impl Report {
         writeln!(self.text, "line {line}: {why}")
     }
 
-    /// Behind the last case.
+    /// After the last case.
     pub fn end(&mut self) -> Result<(), AllocError> {
         let cases = self.cases;
         let differing = self.differing;

@@ -78,7 +78,7 @@ fn refused(
 }
 
 /// Does what an item says, and compares what comes of it with the outputs that are stated. The case is over where something
-/// was stated of the whole scenario; behind that only traces may stand.
+/// was stated of the whole scenario; after that only traces may stand.
 fn play_item(
     alloc: Global,
     item: &Item,
@@ -88,7 +88,7 @@ fn play_item(
 ) -> Result<bool, AllocError> {
     let is_trace = matches!(item.part, Part::Trace(_));
     if is_over && !is_trace {
-        report.malformed(item.line, "the scenario goes on behind its end")?;
+        report.malformed(item.line, "the scenario goes on after its end")?;
     }
     let mut outputs = Vec::new(alloc);
     let mut ends = is_over || is_trace;
@@ -96,7 +96,7 @@ fn play_item(
         if ends::is_end(stated.text) || is_fault(stated) {
             ends = true;
         } else if !is_trace && ends {
-            report.malformed(stated.line, "outputs behind the end of the scenario")?;
+            report.malformed(stated.line, "outputs after the end of the scenario")?;
         } else if !is_trace {
             outputs.push(*stated)?;
         }
@@ -125,7 +125,7 @@ fn play_item(
     Ok(ends)
 }
 
-/// Reports answers that stand where nothing is put out.
+/// Reports answers that stand where nothing is output.
 fn no_outputs(stated: &[Stated], report: &mut Report) -> Result<(), AllocError> {
     for stated in stated {
         report.malformed(stated.line, "this stands below no step")?;
@@ -167,7 +167,7 @@ fn play_line(
     }
 }
 
-/// Lets a copy of the device take an event that is no step.
+/// Lets a copy of the device take an event that is not a step.
 fn play_aside(
     alloc: Global,
     number: u32,

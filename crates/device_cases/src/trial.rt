@@ -86,7 +86,7 @@ impl<'a> Trial<'a> {
         }
     }
 
-    /// What the body gives first and more behind it: a line of a text without its end, or bytes.
+    /// What the body gives first and more after it: a line of a text without its end, or bytes.
     fn with_more(&self, words: &str, bytes: &[u8]) -> Result<Option<Tried>, AllocError> {
         let mut all = Vec::from_slice(self.alloc, self.first)?;
         match self.kind {
@@ -101,7 +101,7 @@ impl<'a> Trial<'a> {
         Ok(Some(Tried::Bytes(all)))
     }
 
-    /// Compares a stated answer, and the bytes behind it, with what is found in what is tried.
+    /// Compares a stated answer, and the bytes after it, with what is found in what is tried.
     pub fn judge(
         &mut self,
         stated: Stated,
