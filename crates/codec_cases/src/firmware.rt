@@ -27,8 +27,8 @@ fn resource(resource: u16) -> ResourcePath {
     }
 }
 
-/// The device has instance 0 of object 5 in this State, with Update Result 9 and the Package URI coap://old; or, for the
-/// word `none`, no such instance.
+/// The device has instance 0 of object 5 in this State, with Update Result 9 and the Package URI coap://old; or, for
+/// the word `none`, no such instance.
 fn store_in(alloc: Global, state: &str) -> Result<Store, Unanswered> {
     if state == "none" {
         return Ok(Store::new(alloc));

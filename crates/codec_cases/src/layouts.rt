@@ -67,7 +67,8 @@ fn fields(alloc: Global, rest: &str) -> Result<String, Unanswered> {
     read_fields(alloc, names, bytes.as_slice())
 }
 
-/// `fronts FIELD,FIELD.. HEX`: what each shorter front of the bytes answers, once where it is the same as the one before.
+/// `fronts FIELD,FIELD.. HEX`: what each shorter front of the bytes answers, once where it is the same as the one
+/// before.
 fn fronts(alloc: Global, rest: &str) -> Result<String, Unanswered> {
     let (names, rest) = word(rest)?;
     let (bytes, rest) = bytes(alloc, rest)?;

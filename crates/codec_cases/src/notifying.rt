@@ -133,8 +133,8 @@ fn conditions_of(rest: &str) -> Result<Conditions, Unanswered> {
     Ok(found)
 }
 
-/// `triggers same|other OLD NOW CONDITION ..`: whether a report of the number NOW, with the payload of the last report or
-/// another, is a trigger after one of the number OLD.
+/// `triggers same|other OLD NOW CONDITION ..`: whether a report of the number NOW, with the payload of the last report
+/// or another, is a trigger after one of the number OLD.
 fn is_triggered(alloc: Global, rest: &str) -> Result<String, Unanswered> {
     let (payload, rest) = match word(rest)? {
         ("same", rest) => (b"a", rest),
@@ -159,7 +159,8 @@ fn is_triggered(alloc: Global, rest: &str) -> Result<String, Unanswered> {
     fixed(alloc, yes_no(is_one))
 }
 
-/// `due AGE PMIN PMAX triggered|quiet`, with `-` for no pmax: whether an observation sends whose last message is this old.
+/// `due AGE PMIN PMAX triggered|quiet`, with `-` for no pmax: whether an observation sends whose last message is this
+/// old.
 fn is_sent(alloc: Global, rest: &str) -> Result<String, Unanswered> {
     let (age, rest) = natural(rest)?;
     let (pmin, rest) = natural(rest)?;

@@ -1,5 +1,5 @@
-//! The attributes that servers write (OMA LwM2M 1.1 Core), and the observations of a device (RFC 7641): what operations on
-//! them answer.
+//! The attributes that servers write (OMA LwM2M 1.1 Core), and the observations of a device (RFC 7641): what operations
+//! on them answer.
 
 use crate::forms::{Unanswered, answered, bytes, end, fixed, half, natural, word};
 use crate::notifying::{change_of, name, name_word};
@@ -187,8 +187,8 @@ fn reported(alloc: Global, payload: &[u8], number: i64) -> Result<Report, AllocE
     })
 }
 
-/// Registers server 1's interest in the battery level 100, at second 0 by an acknowledgement with message ID 10. Answers
-/// the Observe number.
+/// Registers server 1's interest in the battery level 100, at second 0 by an acknowledgement with message ID 10.
+/// Answers the Observe number.
 fn register(
     alloc: Global,
     observations: &mut Observations,

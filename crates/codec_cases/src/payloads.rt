@@ -1,4 +1,5 @@
-//! The payloads of Read, Write, Create and Execute (OMA LwM2M 1.1 Core, data formats), of a device that holds some values.
+//! The payloads of Read, Write, Create and Execute (OMA LwM2M 1.1 Core, data formats), of a device that holds some
+//! values.
 
 use crate::forms::{Unanswered, answered, bytes, end, fixed, half, hex_word, text, word};
 use crate::places::{add, listed, path, yes_no};
@@ -146,8 +147,8 @@ fn done(called: Result<(), StoreFault>) -> Result<(), Unanswered> {
     }
 }
 
-/// `write PATH MODE PAYLOAD` of an instance, `write PATH FORMAT PAYLOAD` of a resource or a part of one: what the instance
-/// or the resource shows after the Write, or `none` where the payload gives nothing.
+/// `write PATH MODE PAYLOAD` of an instance, `write PATH FORMAT PAYLOAD` of a resource or a part of one: what the
+/// instance or the resource shows after the Write, or `none` where the payload gives nothing.
 fn write(alloc: Global, rest: &str) -> Result<String, Unanswered> {
     let (path, rest) = path(rest)?;
     match path {
@@ -231,7 +232,8 @@ fn written_resource(
     )
 }
 
-/// `parts MODE PAYLOAD`: whether the ACL /2/0/2 has room for what a payload gives to it, where it has the 31 parts 0 to 30.
+/// `parts MODE PAYLOAD`: whether the ACL /2/0/2 has room for what a payload gives to it, where it has the 31 parts 0 to
+/// 30.
 fn parts(alloc: Global, rest: &str) -> Result<String, Unanswered> {
     let (mode, rest) = mode(rest)?;
     let (payload, rest) = bytes(alloc, rest)?;
@@ -266,8 +268,8 @@ fn room_for(
     }
 }
 
-/// `create OBJECT PAYLOAD`: the number that a Create names, `-` for none, and the resources that it gives a value to; or
-/// `none` where the payload gives nothing.
+/// `create OBJECT PAYLOAD`: the number that a Create names, `-` for none, and the resources that it gives a value to;
+/// or `none` where the payload gives nothing.
 fn create(alloc: Global, rest: &str) -> Result<String, Unanswered> {
     let (object, rest) = half(rest)?;
     let (payload, rest) = bytes(alloc, rest)?;

@@ -157,8 +157,8 @@ fn put(store: &mut Store, path: Path, value: Value) -> Result<Result<(), StoreFa
     }
 }
 
-/// `fill PATH COUNT`: adds the instances 0, 1 .. of an object, or sets the parts 0, 1 .. of a resource to the Integer 0,
-/// this many, up to the first that is refused.
+/// `fill PATH COUNT`: adds the instances 0, 1 .. of an object, or sets the parts 0, 1 .. of a resource to the Integer
+/// 0, this many, up to the first that is refused.
 fn fill(store: &mut Store, rest: &str) -> Result<Result<(), StoreFault>, Unanswered> {
     let (path, rest) = path(rest)?;
     let (count, rest) = half(rest)?;

@@ -8,7 +8,8 @@ use scenario_image::{Scenario, ScenarioFault, Step, play, save};
 use std::alloc::{AllocError, Global};
 use trace_file::Entry;
 
-/// Compares what was output step by step with the serial run, with `play`, and the scenario with the one that `single` makes.
+/// Compares what was output step by step with the serial run, with `play`, and the scenario with the one that `single`
+/// makes.
 pub fn judge(
     alloc: Global,
     title: u32,

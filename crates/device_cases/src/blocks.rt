@@ -24,8 +24,8 @@ const BEFORE_PIECES: [&str; 6] = [
     "=/> trace ",
 ];
 
-/// The blocks of a body. A line is continued by lines that begin with `+ ` (further bytes in pieces), `| ` or `=| ` (each
-/// a line of a text).
+/// The blocks of a body. A line is continued by lines that begin with `+ ` (further bytes in pieces), `| ` or `=| `
+/// (each a line of a text).
 pub fn blocks_of<'a>(
     alloc: Global,
     body: &[(u32, &'a str)],

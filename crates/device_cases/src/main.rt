@@ -1,4 +1,5 @@
-//! `device_cases`: reads cases of emulated devices from standard input, plays each, and prints what differs from what it states.
+//! `device_cases`: reads cases of emulated devices from standard input, plays each, and prints what differs from what
+//! it states.
 #![tactic(auto)]
 
 mod again;

@@ -126,8 +126,8 @@ impl<'a> Play<'a> {
         Ok(())
     }
 
-    /// Lets a copy of the device take an event, after those that it took since the last step, and gives what it outputs. None
-    /// where there is no device.
+    /// Lets a copy of the device take an event, after those that it took since the last step, and gives what it
+    /// outputs. None where there is no device.
     pub fn take_aside(
         &mut self,
         alloc: Global,

@@ -1,7 +1,7 @@
 use std::alloc::{AllocError, Global};
 
-/// What is to be said of the cases: a line for each difference and for each line that is malformed, and at last how many
-/// cases there are.
+/// What is to be said of the cases: a line for each difference and for each line that is malformed, and at last how
+/// many cases there are.
 #[derive(Drop)]
 pub struct Report {
     text: String,
@@ -65,7 +65,8 @@ impl Report {
         self.text.as_str()
     }
 
-    /// The status of the program: 0 where no case differs, 1 where one does, 2 where a line is malformed or there is no case.
+    /// The status of the program: 0 where no case differs, 1 where one does, 2 where a line is malformed or there is no
+    /// case.
     pub fn status(&self) -> u8 {
         if self.is_malformed || self.cases == 0 {
             2

@@ -77,8 +77,8 @@ fn refused(
     }
 }
 
-/// Does what an item says, and compares what comes of it with the outputs that are stated. The case is over where something
-/// was stated of the whole scenario; after that only traces may stand.
+/// Does what an item says, and compares what comes of it with the outputs that are stated. The case is over where
+/// something was stated of the whole scenario; after that only traces may stand.
 fn play_item(
     alloc: Global,
     item: &Item,
@@ -133,7 +133,8 @@ fn no_outputs(stated: &[Stated], report: &mut Report) -> Result<(), AllocError> 
     Ok(())
 }
 
-/// Lets the devices do what a line of the text says, as many times as it stands there. What is stated is of the last time.
+/// Lets the devices do what a line of the text says, as many times as it stands there. What is stated is of the last
+/// time.
 fn play_text(
     alloc: Global,
     number: u32,

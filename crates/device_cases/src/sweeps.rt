@@ -3,8 +3,8 @@
 use crate::found::{FileKind, found_in};
 use std::alloc::{AllocError, Global};
 
-/// The verdict on the proper fronts of a file: that on each of them, or the first that is another than on the one before
-/// it.
+/// The verdict on the proper fronts of a file: that on each of them, or the first that is another than on the one
+/// before it.
 pub fn verdict_of_fronts(
     alloc: Global,
     kind: FileKind,
