@@ -2,7 +2,7 @@
 
 use crate::forms::{Unanswered, answered, bytes, end, fixed, half, word};
 use crate::places::{text_value, text_word};
-use firmware_update::{FirmwareEvent, take, takes};
+use device_firmware::{FirmwareEvent, take, takes};
 use instance_store::Store;
 use lwm2m_values::{Text, Value};
 use object_defs::ResourcePath;

@@ -4,11 +4,11 @@
 use crate::forms::{Unanswered, bytes, end, fixed, half};
 use crate::places::{only_place, place, yes_no};
 use access_control::{Rights, may_create, rights};
-use instance_lifecycle::{create, delete, free_number, has_no_room, number_for};
+use device_instances::{create, delete, free_number, has_no_room, number_for};
 use instance_store::{Store, StoreFault};
 use lwm2m_values::ValueKind;
 use object_defs::{InstancePath, Ops, ResourceDef};
-use resource_formats::{Assignments, creation_given};
+use lwm2m_payloads::{Assignments, creation_given};
 use std::alloc::Global;
 
 /// The resources of the instances that are created: 0 a mandatory Integer, 1 an optional text that can only be written,

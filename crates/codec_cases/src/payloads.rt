@@ -8,7 +8,7 @@ use crate::values::value_at;
 use instance_store::{Store, StoreFault};
 use object_defs::{Catalog, InstancePath, Path, ResourceDef, ResourcePath};
 use octets::Bytes;
-use resource_formats::{
+use lwm2m_payloads::{
     Assignments, Format, Given, Mode, are_arguments, creation_given, format_for, has_too_many,
     instance_given, is_too_many, object_tlv, part_given, resource_given, set_given, values_tlv,
     write_instance, write_part, write_single,

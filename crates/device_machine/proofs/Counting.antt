@@ -18,8 +18,8 @@ use Rattle.device_requests.specs.Segments.{path_of}
 use Rattle.device_requests.specs.declared.answer.Answer.{Answer}
 use Rattle.device_requests.specs.declared.interest.Interest.{Interest}
 use Rattle.device_requests.specs.declared.interest.Interest.TheVariants.{Register}
-use Rattle.observing.specs.Message.{format_option, observe_option}
-use Rattle.observing.specs.Second.{is_content}
+use Rattle.device_notifications.specs.Message.{format_option, observe_option}
+use Rattle.device_notifications.specs.Second.{is_content}
 use Rattle.device_machine.specs.Observing.{Noted, begun, entered, lacks_place, noted, noted_by, unobserved}
 use Rattle.device_machine.specs.State.{Flat, Kept, with_client, with_observations}
 use Rattle.device_machine.specs.Reactions.{acted, location_options, on_noted, on_outcome, reply_to, response, sent_to}

@@ -15,8 +15,8 @@ use Rattle.device_machine.specs.declared.output.Output.{Output}
 use Rattle.device_machine.specs.declared.recorded.Recorded.{Recorded}
 use Rattle.device_template.specs.Values.{misses, with_value_at}
 use Rattle.device_requests.specs.declared.answer.Act.{Act as Deed}
-use Rattle.firmware_update.specs.Firmware.{firmware_after}
-use Rattle.firmware_update.specs.declared.event.FirmwareEvent.TheVariants.{Ended}
+use Rattle.device_firmware.specs.Firmware.{firmware_after}
+use Rattle.device_firmware.specs.declared.event.FirmwareEvent.TheVariants.{Ended}
 use Rattle.instance_store.specs.Stored.{Stored}
 use Rattle.lwm2m_values.specs.declared.value.Value.{Value}
 use Rattle.object_defs.specs.Path.{full_path}

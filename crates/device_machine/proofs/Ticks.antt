@@ -1,11 +1,11 @@
 -- What holds of seconds holds of ticks.
 use Rattle.std.proofs.Common.{◌≡◌, ◌+◌, ◌++◌, map, refl, sym, ap, subst, ◌∙◌, arith}
 use Rattle.std.proofs.lemmas.List.{map-append}
-use Rattle.observing.specs.Laws.{RisesByOne}
-use Rattle.observing.specs.Second.{seconds}
-use Rattle.observing.proofs.Numbers.{seconds_count}
-use Rattle.observing.proofs.Spans.{seconds_add, seconds_send_after_pmin}
-use Rattle.observing.proofs.Turns.{seconds_send_before_pmax}
+use Rattle.device_notifications.specs.Laws.{RisesByOne}
+use Rattle.device_notifications.specs.Second.{seconds}
+use Rattle.device_notifications.proofs.Numbers.{seconds_count}
+use Rattle.device_notifications.proofs.Spans.{seconds_add, seconds_send_after_pmin}
+use Rattle.device_notifications.proofs.Turns.{seconds_send_before_pmax}
 use Rattle.device_machine.specs.Laws.{TicksAdd, TicksCount, TicksSendAfterPmin, TicksSendBeforePmax}
 use Rattle.device_machine.specs.Reactions.{later, send_of, turn_in}
 

@@ -18,11 +18,11 @@ use Rattle.device_requests.specs.Requests.{outcome_of}
 use Rattle.notifier.specs.Observed.{cancelled, has_name, is_named, number_for, was_sent}
 use Rattle.notifier.specs.declared.observation.Observation.{Observation}
 use Rattle.object_defs.specs.declared.path.Path.{Path}
-use Rattle.observing.specs.declared.datagram.Datagram.{Datagram}
-use Rattle.observing.specs.Laws.{IsOf, RisesByOne}
-use Rattle.observing.specs.Laws.{IsFresh as IsYoung}
-use Rattle.observing.specs.Message.{observe_option}
-use Rattle.observing.specs.Second.{is_content}
+use Rattle.device_notifications.specs.declared.datagram.Datagram.{Datagram}
+use Rattle.device_notifications.specs.Laws.{IsOf, RisesByOne}
+use Rattle.device_notifications.specs.Laws.{IsFresh as IsYoung}
+use Rattle.device_notifications.specs.Message.{observe_option}
+use Rattle.device_notifications.specs.Second.{is_content}
 use Rattle.device_machine.specs.Observing.{lacks_place}
 use Rattle.device_requests.specs.Interests.{interest_of}
 use Rattle.device_requests.specs.declared.interest.Interest.TheVariants.{Cancel, Register}

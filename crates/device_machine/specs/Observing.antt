@@ -10,8 +10,8 @@ use Rattle.device_requests.specs.Interests.{interest_of}
 use Rattle.device_requests.specs.declared.answer.Answer.{Answer}
 use Rattle.device_requests.specs.declared.interest.Interest.{Interest}
 use Rattle.device_requests.specs.declared.interest.Interest.TheVariants.{Register, Cancel}
-use Rattle.observing.specs.Report.{report_of}
-use Rattle.observing.specs.Second.{is_content}
+use Rattle.device_notifications.specs.Report.{report_of}
+use Rattle.device_notifications.specs.Second.{is_content}
 use Rattle.device_machine.specs.State.{Kept, with_observations}
 
 -- the Observe number of a reply, where it has one, and the observations then

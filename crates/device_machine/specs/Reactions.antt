@@ -14,8 +14,8 @@ use Rattle.device_machine.specs.declared.output.Output.TheVariants.{Send, Act}
 use Rattle.device_requests.specs.declared.answer.Act.{Act as Deed}
 use Rattle.device_requests.specs.declared.answer.Act.TheVariants.{Missed}
 use Rattle.device_template.specs.Values.{misses, with_value_at}
-use Rattle.firmware_update.specs.Firmware.{firmware_after}
-use Rattle.firmware_update.specs.declared.event.FirmwareEvent.TheVariants.{Ended}
+use Rattle.device_firmware.specs.Firmware.{firmware_after}
+use Rattle.device_firmware.specs.declared.event.FirmwareEvent.TheVariants.{Ended}
 use Rattle.instance_store.specs.Stored.{Stored}
 use Rattle.lwm2m_values.specs.declared.value.Value.{Value}
 use Rattle.object_defs.specs.Path.{full_path}
@@ -28,9 +28,9 @@ use Rattle.device_requests.specs.Options.{has_unrecognized_critical}
 use Rattle.device_requests.specs.Requests.{outcome_of}
 use Rattle.device_machine.specs.declared.recorded.Recorded.{Recorded}
 use Rattle.notifier.specs.Observed.{without_reset}
-use Rattle.observing.specs.Message.{format_option, observe_option}
-use Rattle.observing.specs.Second.{Turn, seconds}
-use Rattle.observing.specs.declared.datagram.Datagram.{Datagram}
+use Rattle.device_notifications.specs.Message.{format_option, observe_option}
+use Rattle.device_notifications.specs.Second.{Turn, seconds}
+use Rattle.device_notifications.specs.declared.datagram.Datagram.{Datagram}
 use Rattle.device_machine.specs.Observing.{Noted, noted}
 use Rattle.device_machine.specs.State.{Kept, Flat, Shown, is_live, with_client, with_observations}
 

@@ -7,8 +7,8 @@ ghost use Rattle.device_requests.specs.Managed.{with_stored};
 ghost use Rattle.object_defs.specs.Path.{full_path};
 ghost use Rattle.device_machine.specs.Class.{start_of};
 ghost use Rattle.device_machine.specs.Reactions.{Gives, on_firmware, on_put, on_tick, passes_end, reaction_to};
-ghost use Rattle.firmware_update.specs.Firmware.{firmware_after};
-ghost use Rattle.firmware_update.specs.declared.event.FirmwareEvent.TheVariants.{Ended};
+ghost use Rattle.device_firmware.specs.Firmware.{firmware_after};
+ghost use Rattle.device_firmware.specs.declared.event.FirmwareEvent.TheVariants.{Ended};
 
 mod notes;
 mod repeats;
@@ -24,7 +24,7 @@ use instance_store::{Store, StoreFault};
 use lwm2m_values::Value;
 use notifier::{Attributes, Observations};
 use object_defs::{FullPath, Path};
-use observing::{Outbox, seconds};
+use device_notifications::{Outbox, seconds};
 use std::alloc::{AllocError, Global};
 use std::marker::Model;
 

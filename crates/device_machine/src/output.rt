@@ -2,7 +2,7 @@ ghost use Rattle.std.specs.Prelude.{◌≡◌, ◌∷◌, ◌++◌, [], map, IfO
 ghost use Rattle.device_machine.specs.Reactions.{acted, send_of};
 
 use device_requests::Act;
-use observing::Datagram;
+use device_notifications::Datagram;
 use octets::Bytes;
 use std::alloc::{AllocError, Global};
 use std::marker::Model;

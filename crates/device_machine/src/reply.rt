@@ -4,7 +4,7 @@ ghost use Rattle.std.specs.Prelude.{◌≡◌, ◌≤◌, ◌<◌, ◌∷◌, �
 ghost use Rattle.coap_codec.specs.Message.{IsOptionList, spelling};
 ghost use Rattle.device_machine.specs.declared.output.Output.TheVariants.{Send};
 ghost use Rattle.device_machine.specs.Reactions.{IsShort, answer_options, location_options, reset, response, sent_to};
-ghost use Rattle.observing.specs.Message.{number_option};
+ghost use Rattle.device_notifications.specs.Message.{number_option};
 ghost use Rattle.std.specs.Fmt.{decimal};
 
 use crate::output::{Output, Outputs};

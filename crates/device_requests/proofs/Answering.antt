@@ -6,9 +6,9 @@ use Rattle.coap_codec.specs.Message.{Parts}
 use Rattle.instance_store.specs.Stored.{Stored}
 use Rattle.object_defs.specs.Path.{object_in}
 use Rattle.object_defs.specs.declared.path.Path.{Path}
-use Rattle.resource_formats.specs.declared.format.Format.{Format}
-use Rattle.resource_formats.specs.declared.given.Mode.{Mode}
-use Rattle.resource_formats.specs.declared.given.Mode.TheVariants.{Replace, Update}
+use Rattle.lwm2m_payloads.specs.declared.format.Format.{Format}
+use Rattle.lwm2m_payloads.specs.declared.given.Mode.{Mode}
+use Rattle.lwm2m_payloads.specs.declared.given.Mode.TheVariants.{Replace, Update}
 use Rattle.device_requests.specs.declared.answer.Answer.{Answer}
 use Rattle.device_requests.specs.declared.answer.Code.{Code}
 use Rattle.device_requests.specs.declared.answer.Code.TheVariants.{Created, Deleted, BadRequest, UnsupportedContentFormat, Changed, Content, Unauthorized, BadOption, NotFound, MethodNotAllowed, NotAcceptable, InternalServerError}

@@ -9,7 +9,7 @@ use Rattle.object_defs.specs.Lines.{first_line}
 use Rattle.object_defs.specs.Path.{object_in}
 use Rattle.object_defs.specs.declared.path.Path.TheVariants.{Object}
 use Rattle.instance_store.specs.Stored.{instances_of}
-use Rattle.resource_formats.specs.Nodes.{instance_node, nodes_of, within_limit}
+use Rattle.lwm2m_payloads.specs.Nodes.{instance_node, nodes_of, within_limit}
 use Rattle.lwm2m_values.specs.Tree.{instance}
 use Rattle.device_requests.specs.declared.answer.Answer.{Answer}
 use Rattle.device_requests.specs.declared.answer.Code.{Code}

@@ -5,8 +5,8 @@ use Rattle.coap_codec.specs.Message.{Parts}
 use Rattle.instance_store.specs.Stored.{Stored}
 use Rattle.object_defs.specs.Lines.{first_line}
 use Rattle.object_defs.specs.declared.path.Path.{Path}
-use Rattle.resource_formats.specs.declared.given.Mode.{Mode}
-use Rattle.resource_formats.specs.declared.given.Mode.TheVariants.{Replace, Update}
+use Rattle.lwm2m_payloads.specs.declared.given.Mode.{Mode}
+use Rattle.lwm2m_payloads.specs.declared.given.Mode.TheVariants.{Replace, Update}
 use Rattle.device_requests.specs.declared.answer.Code.{Code}
 use Rattle.device_requests.specs.declared.answer.Code.TheVariants.{BadOption}
 use Rattle.device_requests.specs.declared.operation.Operation.{Operation}

@@ -11,9 +11,9 @@ use Rattle.object_defs.specs.declared.path.Path.TheVariants.{Object, Instance, R
 use Rattle.object_defs.specs.declared.path.ResourcePath.{ResourcePath}
 use Rattle.instance_store.specs.Existence.{exists_as}
 use Rattle.instance_store.specs.Stored.{Stored, value_at, has_instance, is_full, resource_path, without_values}
-use Rattle.instance_lifecycle.specs.Numbers.{instance_at, number_for}
-use Rattle.instance_lifecycle.proofs.Found.{found_free}
-use Rattle.resource_formats.proofs.Apart.{none_held}
+use Rattle.device_instances.specs.Numbers.{instance_at, number_for}
+use Rattle.device_instances.proofs.Found.{found_free}
+use Rattle.lwm2m_payloads.proofs.Apart.{none_held}
 use Rattle.device_requests.specs.declared.answer.Code.{Code}
 use Rattle.device_requests.specs.declared.answer.Code.TheVariants.{Unauthorized, NotFound, MethodNotAllowed}
 use Rattle.device_requests.specs.Access.{rights_on}

@@ -6,7 +6,7 @@ use Rattle.std.specs.Cmp.{eq_by_cmp_equiv}
 use Rattle.std.specs.Ordering.{eq_by_cmp}
 use Rattle.std.specs.FinMap as map
 use Rattle.std.proofs.lemmas.Bool.{ne_eqb}
-use Rattle.firmware_update.specs.declared.event.FirmwareEvent.{FirmwareEvent}
+use Rattle.device_firmware.specs.declared.event.FirmwareEvent.{FirmwareEvent}
 use Rattle.lwm2m_values.specs.Reading.{value_of_text, value_of_bytes, nodes_of_bytes}
 use Rattle.lwm2m_values.specs.Tree.{Tree, Trees, instance, multi, part, single, none, more}
 use Rattle.lwm2m_values.specs.declared.value.Value.{Value}
@@ -20,14 +20,14 @@ use Rattle.object_defs.specs.declared.path.ResourcePath.{ResourcePath}
 use Rattle.object_defs.proofs.PathOrder.{path_total}
 use Rattle.instance_store.specs.Existence.{has_resource}
 use Rattle.instance_store.specs.Stored.{Stored, value_at, has_instance, instance_of, with_value}
-use Rattle.resource_formats.specs.declared.format.Format.{Format}
-use Rattle.resource_formats.specs.declared.format.Format.TheVariants.{PlainText, OctetStream, Tlv}
-use Rattle.resource_formats.specs.declared.given.Given.{Given}
-use Rattle.resource_formats.specs.declared.given.Given.TheVariants.{Single}
-use Rattle.resource_formats.specs.declared.given.Mode.TheVariants.{Replace}
-use Rattle.resource_formats.specs.Formats.{one, many, extent_as, format_for}
-use Rattle.resource_formats.specs.Given.{given_by, given_if, lone_record, number_in, resource_given, some_parts, parts_given}
-use Rattle.resource_formats.specs.Nodes.{value_payload, within_limit}
+use Rattle.lwm2m_payloads.specs.declared.format.Format.{Format}
+use Rattle.lwm2m_payloads.specs.declared.format.Format.TheVariants.{PlainText, OctetStream, Tlv}
+use Rattle.lwm2m_payloads.specs.declared.given.Given.{Given}
+use Rattle.lwm2m_payloads.specs.declared.given.Given.TheVariants.{Single}
+use Rattle.lwm2m_payloads.specs.declared.given.Mode.TheVariants.{Replace}
+use Rattle.lwm2m_payloads.specs.Formats.{one, many, extent_as, format_for}
+use Rattle.lwm2m_payloads.specs.Given.{given_by, given_if, lone_record, number_in, resource_given, some_parts, parts_given}
+use Rattle.lwm2m_payloads.specs.Nodes.{value_payload, within_limit}
 use Rattle.device_requests.specs.declared.write.NewValues.{NewValues}
 use Rattle.device_requests.specs.declared.write.NewValues.TheVariants.{One, Several}
 use Rattle.device_requests.specs.declared.answer.Code.TheVariants.{Changed, Unauthorized, NotFound, MethodNotAllowed, NotAcceptable, UnsupportedContentFormat, BadRequest, InternalServerError}

@@ -11,8 +11,8 @@ use Rattle.device_requests.specs.declared.operation.Operation.TheVariants.{Read,
 use Rattle.notifier.specs.Attributes.{Numbers}
 use Rattle.device_requests.specs.AttributeWrites.{annotate_unless, attribute_lines, attributes_given}
 use Rattle.device_requests.specs.Answers.{Outcome, answered, bare}
-use Rattle.resource_formats.specs.declared.given.Mode.{Mode}
-use Rattle.resource_formats.specs.declared.given.Mode.TheVariants.{Replace, Update}
+use Rattle.lwm2m_payloads.specs.declared.given.Mode.{Mode}
+use Rattle.lwm2m_payloads.specs.declared.given.Mode.TheVariants.{Replace, Update}
 use Rattle.object_defs.specs.Lines.{first_line}
 use Rattle.object_defs.specs.Path.{object_in}
 use Rattle.device_requests.specs.Creates.{Newborn, create_lines, create_unless, newborn}

@@ -4,11 +4,11 @@ use Rattle.object_defs.specs.Lines.{first_line}
 use Rattle.object_defs.specs.Path.{object_in}
 use Rattle.object_defs.specs.declared.path.Path.{Path}
 use Rattle.instance_store.specs.Stored.{Stored}
-use Rattle.instance_lifecycle.specs.Creations.{has_no_room, with_created}
-use Rattle.instance_lifecycle.specs.Numbers.{number_for}
-use Rattle.resource_formats.specs.Given.{creation_given}
-use Rattle.resource_formats.specs.declared.given.Assignment.{Assignment}
-use Rattle.resource_formats.specs.declared.given.Creation.{Creation}
+use Rattle.device_instances.specs.Creations.{has_no_room, with_created}
+use Rattle.device_instances.specs.Numbers.{number_for}
+use Rattle.lwm2m_payloads.specs.Given.{creation_given}
+use Rattle.lwm2m_payloads.specs.declared.given.Assignment.{Assignment}
+use Rattle.lwm2m_payloads.specs.declared.given.Creation.{Creation}
 use Rattle.device_requests.specs.declared.answer.Code.{Code}
 use Rattle.device_requests.specs.declared.answer.Code.TheVariants.{BadRequest, Unauthorized, NotFound, MethodNotAllowed, UnsupportedContentFormat, InternalServerError}
 use Rattle.device_requests.specs.Access.{rights_on}

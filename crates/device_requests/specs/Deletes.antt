@@ -6,7 +6,7 @@ use Rattle.object_defs.specs.declared.path.Path.{Path}
 use Rattle.object_defs.specs.declared.path.Path.TheVariants.{Object, Instance, Resource, Part}
 use Rattle.instance_store.specs.Stored.{Stored, has_instance, instances_of}
 use Rattle.notifier.specs.Attributes.{Numbers, without_under}
-use Rattle.instance_lifecycle.specs.Deletions.{without_deleted}
+use Rattle.device_instances.specs.Deletions.{without_deleted}
 use Rattle.device_requests.specs.declared.answer.Code.{Code}
 use Rattle.device_requests.specs.declared.answer.Code.TheVariants.{Deleted, Unauthorized, NotFound, MethodNotAllowed}
 use Rattle.device_requests.specs.Access.{rights_on}

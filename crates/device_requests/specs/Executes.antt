@@ -9,10 +9,10 @@ use Rattle.object_defs.specs.declared.definition.ResourceDef.{ResourceDef}
 use Rattle.object_defs.specs.declared.path.Path.{Path}
 use Rattle.object_defs.specs.declared.path.Path.TheVariants.{Object, Instance, Resource, Part}
 use Rattle.instance_store.specs.Stored.{Stored, resource_path, with_value, without_values}
-use Rattle.firmware_update.specs.Firmware.{firmware_after}
-use Rattle.firmware_update.specs.declared.event.FirmwareEvent.TheVariants.{Update}
-use Rattle.resource_formats.specs.Arguments.{AreArguments}
-use Rattle.resource_formats.specs.Scanning.{are_arguments}
+use Rattle.device_firmware.specs.Firmware.{firmware_after}
+use Rattle.device_firmware.specs.declared.event.FirmwareEvent.TheVariants.{Update}
+use Rattle.lwm2m_payloads.specs.Arguments.{AreArguments}
+use Rattle.lwm2m_payloads.specs.Scanning.{are_arguments}
 use Rattle.device_requests.specs.declared.answer.Act.{Act}
 use Rattle.device_requests.specs.declared.answer.Act.TheVariants.{Reboot, FactoryReset, RegUpdate, Disable}
 use Rattle.device_requests.specs.declared.answer.Code.{Code}

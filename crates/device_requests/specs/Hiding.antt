@@ -3,7 +3,7 @@ use Rattle.std.specs.Prelude.{◌≡◌, ℕ, true, false, ◌⊎◌, length, Op
 use Rattle.object_defs.specs.declared.path.Path.{Path}
 use Rattle.object_defs.specs.declared.path.Path.TheVariants.{Object, Instance}
 use Rattle.instance_store.specs.Stored.{Stored, instances_of}
-use Rattle.resource_formats.specs.Nodes.{shown_in}
+use Rattle.lwm2m_payloads.specs.Nodes.{shown_in}
 use Rattle.device_requests.specs.declared.answer.Code.TheVariants.{Unauthorized, NotFound}
 use Rattle.device_requests.specs.Access.{may_read, reads}
 use Rattle.device_requests.specs.Answers.{bare}

@@ -9,12 +9,12 @@ use Rattle.object_defs.specs.declared.definition.ResourceDef.{ResourceDef}
 use Rattle.object_defs.specs.declared.path.Path.{Path}
 use Rattle.object_defs.specs.declared.path.Path.TheVariants.{Resource, Object, Instance, Part}
 use Rattle.instance_store.specs.Stored.{Stored}
-use Rattle.resource_formats.specs.declared.format.Format.{Format}
-use Rattle.resource_formats.specs.declared.given.Given.TheVariants.{Single}
-use Rattle.resource_formats.specs.declared.given.Mode.TheVariants.{Replace, Update}
-use Rattle.resource_formats.specs.Formats.{one, format_for}
-use Rattle.resource_formats.specs.Given.{resource_given}
-use Rattle.resource_formats.specs.Nodes.{value_payload, within_limit}
+use Rattle.lwm2m_payloads.specs.declared.format.Format.{Format}
+use Rattle.lwm2m_payloads.specs.declared.given.Given.TheVariants.{Single}
+use Rattle.lwm2m_payloads.specs.declared.given.Mode.TheVariants.{Replace, Update}
+use Rattle.lwm2m_payloads.specs.Formats.{one, format_for}
+use Rattle.lwm2m_payloads.specs.Given.{resource_given}
+use Rattle.lwm2m_payloads.specs.Nodes.{value_payload, within_limit}
 use Rattle.device_requests.specs.declared.answer.Code.{Code}
 use Rattle.device_requests.specs.declared.answer.Code.TheVariants.{Created, Deleted, Changed, Content, BadOption, NotFound, MethodNotAllowed}
 use Rattle.device_requests.specs.declared.operation.Operation.{Operation}

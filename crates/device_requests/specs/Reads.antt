@@ -9,9 +9,9 @@ use Rattle.object_defs.specs.declared.definition.ResourceDef.{ResourceDef}
 use Rattle.object_defs.specs.declared.path.Path.{Path}
 use Rattle.object_defs.specs.declared.path.Path.TheVariants.{Object, Instance, Resource, Part}
 use Rattle.instance_store.specs.Stored.{Stored, value_at}
-use Rattle.resource_formats.specs.declared.format.Format.{Format}
-use Rattle.resource_formats.specs.Formats.{number_of, extent_of, format_for}
-use Rattle.resource_formats.specs.Nodes.{shown_in, nodes_of, object_nodes, value_payload, within_limit}
+use Rattle.lwm2m_payloads.specs.declared.format.Format.{Format}
+use Rattle.lwm2m_payloads.specs.Formats.{number_of, extent_of, format_for}
+use Rattle.lwm2m_payloads.specs.Nodes.{shown_in, nodes_of, object_nodes, value_payload, within_limit}
 use Rattle.device_requests.specs.declared.answer.Answer.{Answer}
 use Rattle.device_requests.specs.declared.answer.Code.{Code}
 use Rattle.device_requests.specs.declared.answer.Code.TheVariants.{Unauthorized, NotFound, MethodNotAllowed, NotAcceptable, InternalServerError}

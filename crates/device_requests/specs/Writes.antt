@@ -9,17 +9,17 @@ use Rattle.object_defs.specs.declared.path.Path.{Path}
 use Rattle.object_defs.specs.declared.path.Path.TheVariants.{Object, Instance, Resource, Part}
 use Rattle.object_defs.specs.declared.path.ResourcePath.{ResourcePath}
 use Rattle.instance_store.specs.Stored.{Stored, has_instance}
-use Rattle.resource_formats.specs.declared.format.Format.{Format}
+use Rattle.lwm2m_payloads.specs.declared.format.Format.{Format}
 use Rattle.std.specs.Option.{unwrap_or}
 use Rattle.lwm2m_values.specs.declared.value.Value.TheVariants.{Text, Opaque}
-use Rattle.firmware_update.specs.Firmware.{event_of_package, event_of_uri, firmware_after}
-use Rattle.firmware_update.specs.declared.event.FirmwareEvent.{FirmwareEvent}
-use Rattle.resource_formats.specs.declared.given.Given.{Given}
-use Rattle.resource_formats.specs.declared.given.Given.TheVariants.{Single}
-use Rattle.resource_formats.specs.declared.given.Mode.{Mode}
-use Rattle.resource_formats.specs.declared.given.Mode.TheVariants.{Update}
-use Rattle.resource_formats.specs.Changes.{is_kept_as, with_given, instance_written, is_too_many, has_too_many}
-use Rattle.resource_formats.specs.Given.{instance_given, resource_given, part_given}
+use Rattle.device_firmware.specs.Firmware.{event_of_package, event_of_uri, firmware_after}
+use Rattle.device_firmware.specs.declared.event.FirmwareEvent.{FirmwareEvent}
+use Rattle.lwm2m_payloads.specs.declared.given.Given.{Given}
+use Rattle.lwm2m_payloads.specs.declared.given.Given.TheVariants.{Single}
+use Rattle.lwm2m_payloads.specs.declared.given.Mode.{Mode}
+use Rattle.lwm2m_payloads.specs.declared.given.Mode.TheVariants.{Update}
+use Rattle.lwm2m_payloads.specs.Changes.{is_kept_as, with_given, instance_written, is_too_many, has_too_many}
+use Rattle.lwm2m_payloads.specs.Given.{instance_given, resource_given, part_given}
 use Rattle.device_requests.specs.declared.write.NewValues.{NewValues}
 use Rattle.device_requests.specs.declared.write.NewValues.TheVariants.{Several, One}
 use Rattle.device_requests.specs.declared.answer.Code.{Code}

@@ -11,8 +11,8 @@ ghost use Rattle.device_requests.specs.Segments.{path_of};
 ghost use Rattle.std.specs.FinMap as map;
 ghost use Rattle.std.specs.Option.{is_some, unwrap_or};
 ghost use Rattle.device_template.specs.Values.{instance_at, is_one_too_many, with_value_at};
-ghost use Rattle.firmware_update.specs.Firmware.{firmware_after};
-ghost use Rattle.firmware_update.specs.declared.event.FirmwareEvent.TheVariants.{Ended};
+ghost use Rattle.device_firmware.specs.Firmware.{firmware_after};
+ghost use Rattle.device_firmware.specs.declared.event.FirmwareEvent.TheVariants.{Ended};
 
 mod instances;
 mod reads;
@@ -22,12 +22,12 @@ use crate::answer::{Answer, Code};
 use crate::operation::{Operation, select};
 use crate::options::{accept_of, has_query, has_unrecognized_critical, path_of};
 use coap_codec::Message;
-use firmware_update::{FirmwareEvent, take};
+use device_firmware::{FirmwareEvent, take};
 use instance_store::{Store, StoreFault};
 use lwm2m_values::Value;
 use notifier::Attributes;
 use object_defs::{Catalog, FullPath, Path};
-use resource_formats::Mode;
+use lwm2m_payloads::Mode;
 use std::alloc::{AllocError, Global};
 use std::marker::Model;
 

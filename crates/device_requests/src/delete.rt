@@ -25,7 +25,7 @@ fn take_away(store: &mut Store, path: Path)
 {
     match path {
         Path::Instance(object, instance) => {
-            match instance_lifecycle::delete(store, InstancePath { object, instance }) {
+            match device_instances::delete(store, InstancePath { object, instance }) {
                 Ok(()) => {}
                 Err(_) => unreachable!(),
             }

@@ -8,7 +8,7 @@ ghost use Rattle.device_requests.specs.Executes.{act_of, executed, is_executable
 ghost use Rattle.device_requests.specs.Targets.{has_place};
 
 use crate::answer::Act;
-use firmware_update::{FirmwareEvent, take, takes};
+use device_firmware::{FirmwareEvent, take, takes};
 use instance_store::{Store, StoreFault};
 use lwm2m_values::Value;
 use object_defs::{Path, ResourceDef, ResourcePath};

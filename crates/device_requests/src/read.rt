@@ -8,7 +8,7 @@ use crate::targets::{defined, definition_at, is_multiple, is_readable};
 use instance_store::Store;
 use object_defs::{Catalog, Path, ResourcePath};
 use octets::Bytes;
-use resource_formats::{Format, object_tlv, values_tlv, write_part, write_single};
+use lwm2m_payloads::{Format, object_tlv, values_tlv, write_part, write_single};
 use std::alloc::{AllocError, Global};
 
 /// Whether what the path names can be read.

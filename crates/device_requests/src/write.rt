@@ -2,16 +2,16 @@
 
 ghost use Rattle.std.specs.Prelude.{◌≡◌, ◌==◌, true, false, IfOk, OnOk, Some, None};
 ghost use Rattle.instance_store.specs.Stored.{has_instance, instance_of};
-ghost use Rattle.resource_formats.specs.Changes.{has_too_many, instance_written};
+ghost use Rattle.lwm2m_payloads.specs.Changes.{has_too_many, instance_written};
 ghost use Rattle.device_requests.specs.Targets.{has_place};
 ghost use Rattle.device_requests.specs.Writes.{can_be_written, values_exceed, values_written, values_given, given_to_part, given_to_resource, event_at, event_in, is_target, is_writable, mode_at, package_in, resource_exceeds, resource_written, uri_in};
 
 use crate::targets::{defined, definition_at, is_multiple, is_readable};
-use firmware_update::FirmwareEvent;
+use device_firmware::FirmwareEvent;
 use instance_store::{Store, StoreFault};
 use lwm2m_values::Value;
 use object_defs::{Catalog, InstancePath, Path, ResourceDef, ResourcePath};
-use resource_formats::{
+use lwm2m_payloads::{
     Assignments, Format, Given, Mode, has_too_many, instance_given, is_too_many, part_given,
     resource_given, set_given, write_instance,
 };

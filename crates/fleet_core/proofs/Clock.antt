@@ -8,8 +8,8 @@ use Rattle.coap_codec.specs.Reading.{reading_of}
 use Rattle.device_requests.specs.Managed.{has_account}
 use Rattle.device_requests.specs.Requests.{outcome_of}
 use Rattle.device_template.specs.Values.{misses}
-use Rattle.firmware_update.specs.Firmware.{firmware_after}
-use Rattle.firmware_update.specs.declared.event.FirmwareEvent.TheVariants.{Ended}
+use Rattle.device_firmware.specs.Firmware.{firmware_after}
+use Rattle.device_firmware.specs.declared.event.FirmwareEvent.TheVariants.{Ended}
 use Rattle.instance_store.specs.Stored.{Stored}
 use Rattle.lwm2m_values.specs.declared.value.Value.{Value}
 use Rattle.object_defs.specs.Path.{full_path}

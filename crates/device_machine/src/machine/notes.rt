@@ -2,14 +2,14 @@
 
 ghost use Rattle.std.specs.Prelude.{◌≡◌, ◌≤◌, length, IfOk, OnOk};
 ghost use Rattle.device_machine.specs.Observing.{Notes, begun, entered, noted, noted_read, replies_non, reply_mid};
-ghost use Rattle.observing.specs.Second.{is_content};
+ghost use Rattle.device_notifications.specs.Second.{is_content};
 
 use crate::machine::Machine;
 use coap_codec::{Kind, Message};
 use device_requests::{Answer, Interest, interest_of};
 use notifier::{Observations, ObserveFault, Report};
 use object_defs::Path;
-use observing::report_of;
+use device_notifications::report_of;
 use octets::Bytes;
 use std::alloc::AllocError;
 

@@ -7,7 +7,7 @@ ghost use Rattle.device_requests.specs.Deletes.{delete_lines, delete_outcome};
 ghost use Rattle.device_requests.specs.Managed.{with_stored};
 ghost use Rattle.device_requests.specs.Options.{content_format_of};
 ghost use Rattle.device_requests.specs.Targets.{defined, place_of};
-ghost use Rattle.instance_lifecycle.specs.Creations.{with_created};
+ghost use Rattle.device_instances.specs.Creations.{with_created};
 ghost use Rattle.instance_store.specs.Stored.{has_instance};
 ghost use Rattle.object_defs.specs.Lines.{first_line};
 
@@ -18,10 +18,10 @@ use crate::delete::{delete, is_fixed};
 use crate::options::content_format_of;
 use crate::targets::{defined, exists};
 use coap_codec::Message;
-use instance_lifecycle::{has_no_room, number_for};
+use device_instances::{has_no_room, number_for};
 use instance_store::StoreFault;
 use object_defs::{InstancePath, Path};
-use resource_formats::{Assignments, creation_given};
+use lwm2m_payloads::{Assignments, creation_given};
 use std::alloc::AllocError;
 
 /// Whether a Content-Format is TLV, or there is none.
@@ -58,7 +58,7 @@ impl Client {
     {
         let accounts = self.accounts.len();
         let resources = defined(&self.catalog, place.object);
-        match instance_lifecycle::create(
+        match device_instances::create(
             &mut self.store,
             accounts,
             server,

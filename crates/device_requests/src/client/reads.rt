@@ -14,7 +14,7 @@ use crate::read::{can_be_read, payload_in};
 use crate::targets::{definition_at, exists};
 use object_defs::Path;
 use octets::Bytes;
-use resource_formats::{Format, format_for};
+use lwm2m_payloads::{Format, format_for};
 use std::alloc::AllocError;
 
 /// The greatest payload of a reply, in bytes (this profile).

@@ -8,7 +8,7 @@ ghost use Rattle.device_requests.specs.Options.{content_format_of, queries_of};
 ghost use Rattle.device_requests.specs.Targets.{has_place};
 ghost use Rattle.device_requests.specs.Writes.{values_exceed, value_lines, values_written, give, values_given, payload_lines, new_values, write_outcome, write_unless};
 ghost use Rattle.std.specs.Option.{is_some, unwrap_or};
-ghost use Rattle.firmware_update.specs.Firmware.{firmware_after};
+ghost use Rattle.device_firmware.specs.Firmware.{firmware_after};
 ghost use Rattle.object_defs.specs.Lines.{first_line};
 
 use crate::access::rights_at;
@@ -22,10 +22,10 @@ use crate::write::{
     NewValues, can_be_written, event_in, exceeds, is_target, mode_at, values_given, write,
 };
 use coap_codec::Message;
-use firmware_update::{FirmwareEvent, take};
+use device_firmware::{FirmwareEvent, take};
 use notifier::{Change, WriteFault};
 use object_defs::Path;
-use resource_formats::{Format, Mode, are_arguments, format_for};
+use lwm2m_payloads::{Format, Mode, are_arguments, format_for};
 use std::alloc::AllocError;
 
 impl Client {

@@ -1,4 +1,4 @@
-use Rattle.resource_formats.proofs.Reading.{tested}
+use Rattle.lwm2m_payloads.proofs.Reading.{tested}
 use Rattle.device_requests.proofs.laws.arguments_are_tested.Goals as goal
 
 pub returns : goal.returns

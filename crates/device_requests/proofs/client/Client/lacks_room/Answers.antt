@@ -1,7 +1,7 @@
 -- There is no room in the store of the client, for its accounts and by its catalogue.
 use Rattle.std.proofs.Common.{length, ap, ◌∙◌}
 use Rattle.device_requests.specs.Targets.{defined}
-use Rattle.instance_lifecycle.specs.Creations.{has_no_room}
+use Rattle.device_instances.specs.Creations.{has_no_room}
 use Rattle.device_requests.proofs.client.Client.lacks_room.Goals as goal
 
 pub returns : goal.returns

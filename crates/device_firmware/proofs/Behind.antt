@@ -1,0 +1,127 @@
+-- What a store holds behind an event.
+use Rattle.std.proofs.Common.{◌≡◌, ◌≢◌, ℕ, Bool, true, false, cond, ◌&&◌, eqb, List, Option, None, Some, Result, Ok, Err, pos, refl, sym, ap, ◌∙◌, ◌⊎◌, inl, inr}
+use Rattle.std.specs.Ordering.{eq_by_cmp, is_eq}
+use Rattle.std.specs.Option.{option_map, is_some}
+use Rattle.std.proofs.lemmas.Bool.{eq-eqb, false≢true}
+use Rattle.std.specs.declared.cmp.Ordering.{Ordering}
+use Rattle.std.specs.declared.cmp.Ordering.TheVariants.{Less, Equal, Greater}
+use Rattle.std.specs.Result.{OnErr}
+use Rattle.std.specs.FinMap as map
+use Rattle.lwm2m_values.specs.declared.value.Value.{Value}
+use Rattle.lwm2m_values.specs.declared.value.Value.TheVariants.{Text, Whole}
+use Rattle.object_defs.specs.Path.{path_cmp, single_of}
+use Rattle.object_defs.specs.declared.path.FullPath.{FullPath}
+use Rattle.object_defs.proofs.PathOrder.{path_total, path_exact}
+use Rattle.instance_store.specs.Stored.{Stored, value_at, with_value}
+use Rattle.device_firmware.specs.declared.event.FirmwareEvent.{FirmwareEvent}
+use Rattle.device_firmware.specs.declared.state.State.{State}
+use Rattle.device_firmware.specs.declared.state.State.TheVariants.{Idle, Downloading, Downloaded, Updating}
+use Rattle.device_firmware.specs.declared.state.Outcome.{Outcome}
+use Rattle.device_firmware.specs.Firmware.{firmware_resource, firmware_after, outcome_in, number_of, state_as, state_in, uri_of, with_uri, with_outcome}
+use Rattle.device_firmware.specs.Firmware.{held, is_ready}
+use Rattle.device_firmware.specs.Laws.{uri_behind}
+
+-- behind an insertion
+behind : (s : Stored) (p q : FullPath) (v : Value) → value_at (with_value s p v) q ≡ cond (eq_by_cmp path_cmp q p) (Some v) (value_at s q)
+behind s p q v = map.get-insert path_total s.values p v q
+
+is_equal : (r : Ordering) → is_eq r ≡ true → r ≡ Equal
+is_equal Less h = cc
+is_equal Equal h = refl
+is_equal Greater h = cc
+
+-- elsewhere
+elsewhere : (s : Stored) (p q : FullPath) (v : Value) → q ≢ p → value_at (with_value s p v) q ≡ value_at s q
+elsewhere s p q v other =
+    elim (eq_by_cmp path_cmp q p) as (λ b. eq_by_cmp path_cmp q p ≡ b → value_at (with_value s p v) q ≡ value_at s q) [
+      | true ↦ λ h. absurd (other (path_exact q p (is_equal _ h)))
+      | false ↦ λ h. behind s p q v ∙ ap (λ b. cond b (Some v) (value_at s q)) h
+    ] refl
+
+abbrev at : ℕ → FullPath
+at n = single_of (firmware_resource n)
+
+abbrev number : ℕ → Value
+number n = Whole (pos n)
+
+read_again : (state : State) → state_as (Some (number (number_of state))) ≡ Some state
+read_again Idle = refl
+read_again Downloading = refl
+read_again Downloaded = refl
+read_again Updating = refl
+
+pub state-outcome : (s : Stored) (o : Outcome) → state_in (with_outcome s o) ≡ Some o.state
+state-outcome s o =
+    let state = number (number_of o.state) in
+    ap state_as (behind (with_value s (at 3) state) (at 5) (at 3) (number o.code) ∙ behind s (at 3) (at 3) state) ∙ read_again o.state
+
+pub code-outcome : (s : Stored) (o : Outcome) → held (with_outcome s o) 5 ≡ Some (number o.code)
+code-outcome s o = behind (with_value s (at 3) (number (number_of o.state))) (at 5) (at 5) (number o.code)
+
+pub uri-outcome : (s : Stored) (o : Outcome) → held (with_outcome s o) 1 ≡ held s 1
+uri-outcome s o =
+    behind (with_value s (at 3) (number (number_of o.state))) (at 5) (at 1) (number o.code) ∙ behind s (at 3) (at 1) (number (number_of o.state))
+
+pub uri-uri : (s : Stored) (uri : Option (List ℕ)) → held (with_uri s uri) 1 ≡ uri_behind (held s 1) uri
+uri-uri s None = refl
+uri-uri s (Some text) = behind s (at 1) (at 1) (Text text)
+
+pub other-outcome : (s : Stored) (o : Outcome) (q : FullPath) → q ≢ at 3 → q ≢ at 5 → value_at (with_outcome s o) q ≡ value_at s q
+other-outcome s o q not3 not5 =
+    elsewhere (with_value s (at 3) (number (number_of o.state))) (at 5) q (number o.code) not5 ∙ elsewhere s (at 3) q (number (number_of o.state)) not3
+
+pub other-uri : (s : Stored) (uri : Option (List ℕ)) (q : FullPath) → q ≢ at 1 → value_at (with_uri s uri) q ≡ value_at s q
+other-uri s None q not1 = refl
+other-uri s (Some text) q not1 = elsewhere s (at 1) q (Text text) not1
+
+pub same_instances : (s : Stored) (uri : Option (List ℕ)) → (with_uri s uri).instances ≡ s.instances
+same_instances s None = refl
+same_instances s (Some text) = refl
+
+mapped : {A B : Type 0} (f : A → B) (o : Option A) (b : B) → option_map f o ≡ Some b → (a : A) × (f a ≡ b)
+mapped f None b h = cc
+mapped f (Some a) b h = (a, cc)
+
+-- an event that is taken has an outcome, which the store then has
+pub taken : (s after : Stored) (event : FirmwareEvent) → firmware_after s event ≡ Some after → (o : Outcome) × (with_outcome (with_uri s (uri_of event)) o ≡ after)
+taken s after event h = mapped (with_outcome (with_uri s (uri_of event))) (outcome_in s event) after h
+
+pub taken_as : (s after : Stored) (event : FirmwareEvent) (o : Outcome) → outcome_in s event ≡ Some o → firmware_after s event ≡ Some after → with_outcome (with_uri s (uri_of event)) o ≡ after
+taken_as s after event o is h =
+    let same : firmware_after s event ≡ Some (with_outcome (with_uri s (uri_of event)) o) = ap (option_map (with_outcome (with_uri s (uri_of event)))) is in
+    let both : Some (with_outcome (with_uri s (uri_of event)) o) ≡ Some after = sym same ∙ h in cc
+
+-- ---- where memory can be wanting
+
+held-uri : (s : Stored) (uri : Option (List ℕ)) (n : ℕ) → eqb n 1 ≡ false → held (with_uri s uri) n ≡ held s n
+held-uri s uri n h = other-uri s uri (at n) (λ e. false≢true (sym h ∙ eq-eqb n 1 (ap (λ (q : FullPath). q.resource) e)))
+
+not_ready : (a b c : Bool) → (a ≡ false) ⊎ ((b ≡ false) ⊎ (c ≡ false)) → (a && (b && c)) ≡ false
+not_ready false b c h = refl
+not_ready true false c h = refl
+not_ready true true c (inl h) = cc
+not_ready true true c (inr (inl h)) = cc
+not_ready true true c (inr (inr h)) = h
+
+pub wanting-1 : (s : Stored) → held s 1 ≡ None → is_ready s ≡ false
+wanting-1 s h = not_ready (is_some (held s 1)) (is_some (held s 3)) (is_some (held s 5)) (inl (ap is_some h))
+
+pub wanting-3 : (s : Stored) (uri : Option (List ℕ)) → held (with_uri s uri) 3 ≡ None → is_ready s ≡ false
+wanting-3 s uri h =
+    not_ready (is_some (held s 1)) (is_some (held s 3)) (is_some (held s 5)) (inr (inl (ap is_some (sym (held-uri s uri 3 refl) ∙ h))))
+
+pub wanting-5 : (s : Stored) (uri : Option (List ℕ)) → held (with_uri s uri) 5 ≡ None → is_ready s ≡ false
+wanting-5 s uri h =
+    not_ready (is_some (held s 1)) (is_some (held s 3)) (is_some (held s 5)) (inr (inr (ap is_some (sym (held-uri s uri 5 refl) ∙ h))))
+
+pub still-5 : (s t : Stored) (v : Value) → t ≡ with_value s (at 3) v → held t 5 ≡ None → held s 5 ≡ None
+still-5 s t v e h = sym (behind s (at 3) (at 5) v) ∙ ap (λ u. held u 5) (sym e) ∙ h
+
+-- by what wants of setting the outcome
+pub wanting-outcome : (s : Stored) (uri : Option (List ℕ)) → (held (with_uri s uri) 3 ≡ None) ⊎ (held (with_uri s uri) 5 ≡ None) → is_ready s ≡ false
+wanting-outcome s uri (inl h) = wanting-3 s uri h
+wanting-outcome s uri (inr h) = wanting-5 s uri h
+
+pub on_err : {A E : Type 0} (r : Result A E) (P : Type 0) → P → OnErr r P
+on_err (Ok x) P p = tt
+on_err (Err e) P p = p

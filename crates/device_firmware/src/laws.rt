@@ -1,0 +1,19 @@
+//! What follows from the table of firmware updates, for its readers. The calls do nothing; their contracts are the laws.
+
+ghost use Rattle.device_firmware.specs.Laws.{ClearingIsTaken, OutcomeIsHeld, UriIsHeld, OthersStay};
+
+/// Clearing is taken in any state.
+pub fn clearing()
+    ensures { ClearingIsTaken }
+{}
+
+/// Behind an event the State, the Update Result and the Package URI are those of the table.
+pub fn behind()
+    ensures outcome { OutcomeIsHeld }
+    ensures uri { UriIsHeld }
+{}
+
+/// An event changes no other value, and no instance. The bytes of a Package are not kept.
+pub fn others()
+    ensures { OthersStay }
+{}

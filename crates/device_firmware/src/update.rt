@@ -1,0 +1,147 @@
+ghost use Rattle.std.specs.Prelude.{◌≡◌, ◌⊎◌, true, false, None, IfOk, OnOk, OnErr};
+ghost use Rattle.std.specs.Option.{is_some, unwrap_or};
+ghost use Rattle.object_defs.specs.Path.{single_of};
+ghost use Rattle.instance_store.specs.Stored.{has_instance, with_value};
+ghost use Rattle.device_firmware.specs.Firmware.{firmware, firmware_resource, held, is_ready, outcome_in, uri_of, with_uri, with_outcome, firmware_after};
+
+use crate::event::FirmwareEvent;
+use crate::state::{Outcome, next_from, number_of, state_as};
+use instance_store::{Store, StoreFault};
+use lwm2m_values::{Text, Value};
+use object_defs::{InstancePath, ResourcePath};
+use std::alloc::{AllocError, Global};
+
+/// Object 5 Firmware Update has one instance.
+const FIRMWARE: InstancePath = InstancePath {
+    object: 5,
+    instance: 0,
+};
+
+/// A resource of that instance.
+fn resource(resource: u16) -> ResourcePath
+    ensures { result ≡ firmware_resource resource }
+{
+    ResourcePath {
+        object: 5,
+        instance: 0,
+        resource,
+    }
+}
+
+/// What an event leads to, if it is taken.
+fn outcome_in(store: &Store, event: &FirmwareEvent) -> Option<Outcome>
+    ensures { result ≡ outcome_in store.now event.now }
+{
+    if !store.has_instance(FIRMWARE) {
+        return None;
+    }
+    let state = resource(3);
+    next_from(event, state_as(store.get(state.single())))
+}
+
+/// The Package URI behind an event, where it changes.
+fn uri_of(alloc: Global, event: FirmwareEvent) -> Option<Text>
+    ensures { result ≡ uri_of event }
+{
+    match event {
+        FirmwareEvent::Cleared => Some(Text::from_string(String::new(alloc))),
+        FirmwareEvent::Uri(text) => Some(text),
+        FirmwareEvent::Package => None,
+        FirmwareEvent::Update => None,
+        FirmwareEvent::Ended(_) => None,
+    }
+}
+
+/// Sets the value of a resource of the instance, which is there.
+fn put(store: &mut Store, number: u16, value: Value) -> Result<(), AllocError>
+    requires { has_instance store.old firmware ≡ true }
+    ensures ok { OnOk result (store.new ≡ with_value store.old (single_of (firmware_resource number)) value) }
+    ensures grows { OnErr result (held store.old number ≡ None) }
+{
+    match store.put(resource(number), value) {
+        Ok(()) => Ok(()),
+        Err(StoreFault::Memory) => Err(AllocError),
+        Err(_) => unreachable!(),
+    }
+}
+
+/// Sets the Package URI, if there is one to be set.
+fn set_uri(store: &mut Store, uri: Option<Text>) -> Result<(), AllocError>
+    requires { has_instance store.old firmware ≡ true }
+    ensures ok { OnOk result (store.new ≡ with_uri store.old uri) }
+    ensures grows { OnErr result (held store.old 1 ≡ None) }
+{
+    match uri {
+        Some(text) => put(store, 1, Value::Text(text)),
+        None => Ok(()),
+    }
+}
+
+/// Sets the State and the Update Result.
+fn set_outcome(store: &mut Store, outcome: Outcome) -> Result<(), AllocError>
+    requires { has_instance store.old firmware ≡ true }
+    ensures ok { OnOk result (store.new ≡ with_outcome store.old outcome) }
+    ensures grows { OnErr result ((held store.old 3 ≡ None) ⊎ (held store.old 5 ≡ None)) }
+{
+    put(store, 3, Value::Whole(number_of(outcome.state)))?;
+    put(store, 5, Value::Whole(i64::from(outcome.code)))?;
+    Ok(())
+}
+
+/// Sets what an event leads to. After want of memory, some of it may be set.
+fn change(
+    alloc: Global,
+    store: &mut Store,
+    event: FirmwareEvent,
+    outcome: Outcome,
+) -> Result<(), AllocError>
+    requires { has_instance store.old firmware ≡ true }
+    ensures ok { OnOk result (store.new ≡ with_outcome (with_uri store.old (uri_of event)) outcome) }
+    ensures grows { OnErr result (is_ready store.old ≡ false) }
+{
+    set_uri(store, uri_of(alloc, event))?;
+    set_outcome(store, outcome)?;
+    Ok(())
+}
+
+fn holds(store: &Store, number: u16) -> bool
+    ensures { result ≡ is_some (held store.now number) }
+{
+    store.get(resource(number).single()).is_some()
+}
+
+/// Whether the three resources that change are held.
+fn is_ready(store: &Store) -> bool
+    ensures { result ≡ is_ready store.now }
+{
+    holds(store, 1) && holds(store, 3) && holds(store, 5)
+}
+
+/// Whether an event is taken, as `take` does.
+pub fn takes(store: &Store, event: &FirmwareEvent) -> bool
+    ensures { result ≡ is_some (firmware_after store.now event.now) }
+{
+    outcome_in(store, event).is_some()
+}
+
+/// Takes an event. Answers whether it is in the table of what the device's State allows; one that isn't changes nothing.
+pub fn take(alloc: Global, store: &mut Store, event: FirmwareEvent) -> Result<bool, AllocError>
+    ensures answer { IfOk result (λ taken. taken ≡ is_some (firmware_after store.old event)) }
+    ensures change { OnOk result (store.new ≡ unwrap_or (firmware_after store.old event) store.old) }
+
+    // Memory can only be wanting where the three resources that change aren't all held.
+    ensures memory { OnErr result (is_ready store.old ≡ false) }
+    ensures unchanged { OnErr result (store.new ≡ store.old) }
+{
+    let Some(outcome) = outcome_in(store, &event) else {
+        return Ok(false);
+    };
+    if is_ready(store) {
+        change(alloc, store, event, outcome)?;
+        return Ok(true);
+    }
+    let mut next = store.copy()?;
+    change(alloc, &mut next, event, outcome)?;
+    *store = next;
+    Ok(true)
+}

@@ -1,0 +1,87 @@
+-- The first number below a limit that passes a test.
+use Rattle.std.proofs.Common.{◌≡◌, ℕ, zero, suc, ◌<◌, Bool, true, false, cond, not, ltb, ltb-true, ltb-false, List, [], ◌∷◌, Option, None, Some, refl, sym, ap, subst, ◌∙◌, arith}
+use Rattle.std.specs.List.{find}
+use Rattle.std.specs.Option.{option_or, IfSome, IfNone}
+use Rattle.std.proofs.lemmas.List.Folds.{find-append}
+use Rattle.instance_store.specs.Stored.{Stored, has_instance}
+use Rattle.device_instances.specs.Numbers.{below, is_free, instance_at, smallest_free, IsSmallestFree, AllAreTaken}
+
+none_below : (p : ℕ → Bool) (n : ℕ) → ((k : ℕ) → k < n → p k ≡ false) → find p (below n) ≡ None
+unfolding below
+none_below p zero h = refl
+none_below p (suc n) h =
+    find-append p (below n) (n ∷ [])
+    ∙ ap (λ o. option_or o (find p (n ∷ []))) (none_below p n (λ k l. h k (omega arith)))
+    ∙ ap (λ b. cond b (Some n) None) (h n (omega arith))
+
+first_below : (p : ℕ → Bool) (n m : ℕ) → m < n → p m ≡ true → ((k : ℕ) → k < m → p k ≡ false) → find p (below n) ≡ Some m
+unfolding below
+first_below p zero m l h low = absurd (omega arith)
+first_below p (suc n) m l h low =
+    find-append p (below n) (n ∷ [])
+    ∙ elim (ltb m n) as (λ b. ltb m n ≡ b → option_or (find p (below n)) (find p (n ∷ [])) ≡ Some m) [
+      | true ↦ λ t. ap (λ o. option_or o (find p (n ∷ []))) (first_below p n m (ltb-true m n t) h low)
+      | false ↦ λ t.
+          let e : m ≡ n = omega (arith, ltb-false m n t) in
+          ap (λ o. option_or o (find p (n ∷ []))) (none_below p n (λ k k<n. low k (omega arith)))
+          ∙ ap (λ b. cond b (Some n) None) (subst (λ k. p k ≡ true) e h) ∙ ap Some (sym e)
+    ] refl
+
+free_is : (b : Bool) → b ≡ false → not b ≡ true
+free_is b h = ap not h
+
+taken_is : (b : Bool) → b ≡ true → not b ≡ false
+taken_is b h = ap not h
+
+pub found : (stored : Stored) (object n : ℕ) → IsSmallestFree stored object n → smallest_free stored object ≡ Some n
+found stored object n h =
+    first_below (is_free stored object) 65535 n h.small (free_is _ h.free) (λ k l. taken_is _ (h.smallest k l))
+
+pub missing : (stored : Stored) (object : ℕ) → AllAreTaken stored object → smallest_free stored object ≡ None
+missing stored object h = none_below (is_free stored object) 65535 (λ k l. taken_is _ (h k l))
+
+pub decided : (stored : Stored) (object : ℕ) (r : Option ℕ) → IfSome r (IsSmallestFree stored object) → IfNone r (AllAreTaken stored object) → r ≡ smallest_free stored object
+decided stored object None h k = sym (missing stored object k)
+decided stored object (Some n) h k = sym (found stored object n h)
+
+-- what is found passes
+passes : (p : ℕ → Bool) (xs : List ℕ) (m : ℕ) → find p xs ≡ Some m → p m ≡ true
+passes p [] m h = cc
+passes p (x ∷ xs) m h =
+    elim (p x) as (λ b. p x ≡ b → cond b (Some x) (find p xs) ≡ Some m → p m ≡ true) [
+      | true ↦ λ e k. let same : x ≡ m = cc in subst (λ y. p y ≡ true) same e
+      | false ↦ λ e k. passes p xs m k
+    ] refl h
+
+not_free : (b : Bool) → not b ≡ true → b ≡ false
+not_free true h = cc
+not_free false h = refl
+
+pub found_free : (stored : Stored) (object n : ℕ) → smallest_free stored object ≡ Some n → has_instance stored (instance_at object n) ≡ false
+found_free stored object n h = not_free _ (passes (is_free stored object) (below 65535) n h)
+
+-- where nothing is found, all fail
+both_none : (a b : Option ℕ) → option_or a b ≡ None → (a ≡ None) × (b ≡ None)
+both_none None b h = (refl, h)
+both_none (Some x) b h = cc
+
+fails_alone : (b : Bool) (n : ℕ) → cond b (Some n) None ≡ None → b ≡ false
+fails_alone true n h = cc
+fails_alone false n h = refl
+
+all_fail : (p : ℕ → Bool) (n : ℕ) → find p (below n) ≡ None → (k : ℕ) → k < n → p k ≡ false
+unfolding below
+all_fail p zero h k l = absurd (omega arith)
+all_fail p (suc n) h k l =
+    let parts = both_none (find p (below n)) (find p (n ∷ [])) (sym (find-append p (below n) (n ∷ [])) ∙ h) in
+    elim (ltb k n) as (λ b. ltb k n ≡ b → p k ≡ false) [
+      | true ↦ λ t. all_fail p n parts.0 k (ltb-true k n t)
+      | false ↦ λ t. let e : k ≡ n = omega (arith, ltb-false k n t) in subst (λ m. p m ≡ false) (sym e) (fails_alone (p n) n parts.1)
+    ] refl
+
+not_taken : (b : Bool) → not b ≡ false → b ≡ true
+not_taken true h = refl
+not_taken false h = cc
+
+pub all_taken : (stored : Stored) (object : ℕ) → smallest_free stored object ≡ None → AllAreTaken stored object
+all_taken stored object h = λ k l. not_taken _ (all_fail (is_free stored object) 65535 h k l)

@@ -1,0 +1,6 @@
+-- So many seconds have passed.
+use Rattle.device_notifications.proofs.Places.{Elapsed}
+use Rattle.device_notifications.proofs.sweep.seconds.Given as goal
+
+abbrev pub invariant-loop-passed : goal.invariant-loop-passed
+invariant-loop-passed l = Elapsed l.fn.client l.fn.clock l.fn.count l.fn.observations l.fn.outbox l.passed l.observations l.outbox

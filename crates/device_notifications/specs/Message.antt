@@ -1,0 +1,38 @@
+-- The messages of an observation (RFC 7641 section 4).
+use Rattle.std.specs.Prelude.{ℕ, List, [], ◌∷◌, ◌++◌, Option, None, Some}
+use Rattle.coap_codec.specs.Message.{Parts, spelling}
+use Rattle.coap_codec.specs.Number.{shortest}
+use Rattle.coap_codec.specs.declared.kind.Kind.TheVariants.{Non}
+use Rattle.coap_codec.specs.declared.option.Opt.{Opt}
+use Rattle.notifier.specs.declared.observation.Observation.{Observation}
+use Rattle.device_requests.specs.Answers.{code_byte}
+use Rattle.device_requests.specs.declared.answer.Answer.{Answer}
+use Rattle.device_notifications.specs.declared.datagram.Datagram.{Datagram}
+
+-- an option of this number, in the fewest bytes, where there is one
+abbrev pub number_option : ℕ → Option ℕ → List Opt
+number_option option None = []
+number_option option (Some n) = record { number = option; value = shortest n } ∷ []
+
+-- Observe with this number, and Content-Format
+abbrev pub observe_option : Option ℕ → List Opt
+observe_option number = number_option 6 number
+
+abbrev pub format_option : Option ℕ → List Opt
+format_option format = number_option 12 format
+
+-- an answer as a message of the device's own: a NON of this message ID, with the observation's token
+abbrev pub notification : Observation → ℕ → Option ℕ → Answer → Parts
+notification o mid number answer =
+    record {
+      kind = Non;
+      code = code_byte answer.code;
+      mid = mid;
+      token = o.token;
+      options = observe_option number ++ format_option answer.format;
+      payload = answer.payload;
+    }
+
+-- that message, on its way to the observation's server
+abbrev pub datagram_of : Observation → ℕ → Option ℕ → Answer → Datagram
+datagram_of o mid number answer = record { server = o.server; bytes = spelling (notification o mid number answer) }

@@ -1,0 +1,43 @@
+//! What follows of notifications, for those who observe. The calls do nothing; their contracts are
+//! the laws.
+
+ghost use Rattle.device_notifications.specs.Laws.{CountsMessageIds, CountsObserveNumbers, KeepsOrder, SecondsAdd, SecondsCountObserveNumbers, SecondsSendAfterPmin, SecondsSendBeforePmax, SendsAfterPmin, SendsBeforePmax};
+
+/// A notification that keeps its observation is sent only where pmin seconds have passed since the
+/// observation's last message. Every other datagram of a second ends its observation. And so it is of
+/// each datagram of more seconds, in one of them.
+pub fn sends_after_pmin()
+    ensures one { SendsAfterPmin }
+    ensures more { SecondsSendAfterPmin }
+{}
+
+/// Behind a second no observation whose pmax has effect has a last message that is pmax seconds old
+/// or older; and so it is behind more of them.
+pub fn sends_before_pmax()
+    ensures one { SendsBeforePmax }
+    ensures more { SecondsSendBeforePmax }
+{}
+
+/// The observations that a second leaves are those before it in their order, each as it was or
+/// notified; one goes only where its present answer is no content. What differs from its last
+/// report inside pmin is not lost: the report stays.
+pub fn keeps_order()
+    ensures { KeepsOrder }
+{}
+
+/// The Observe numbers of an observation's messages rise by one, modulo 2^24: in its turn, and with
+/// each message through more seconds, whatever the others send between.
+pub fn counts_observe_numbers()
+    ensures turn { CountsObserveNumbers }
+    ensures more { SecondsCountObserveNumbers }
+{}
+
+/// Each datagram of a second takes one message ID, modulo 65,536.
+pub fn counts_message_ids()
+    ensures { CountsMessageIds }
+{}
+
+/// So many seconds, and so many more behind them, are all of them.
+pub fn seconds_add()
+    ensures { SecondsAdd }
+{}

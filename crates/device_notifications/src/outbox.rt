@@ -1,0 +1,57 @@
+ghost use Rattle.std.specs.Prelude.{◌≡◌, [], OnOk};
+ghost use Rattle.device_notifications.specs.Posted.{posted};
+
+use crate::datagram::Datagram;
+use std::alloc::{AllocError, Global};
+use std::marker::Model;
+
+/// What a device sends of its own in an event, in order, and the message ID of its next message.
+#[derive(Drop)]
+pub struct Outbox {
+    items: Vec<Datagram>,
+    next_id: u16,
+}
+
+impl Model for Outbox {
+    ghost use Rattle.device_notifications.specs.Posted.{Posted};
+
+    ghost Value = { Posted };
+
+    ghost view = { λ o. record { sent = o.items.items; next_id = o.next_id } };
+}
+
+impl Outbox {
+    /// Nothing to send yet, and the device's next message ID.
+    pub fn new(alloc: Global, next_id: u16) -> Outbox
+        ensures { result ≡ record { sent = []; next_id = next_id } }
+    {
+        Outbox {
+            items: Vec::new(alloc),
+            next_id,
+        }
+    }
+
+    /// The message ID of the next message.
+    pub fn next_id(&self) -> u16
+        ensures { result ≡ self.now.next_id }
+    {
+        self.next_id
+    }
+
+    /// Adds a datagram behind the others, and counts the message ID on, modulo 65,536.
+    pub(crate) fn post(&mut self, datagram: Datagram) -> Result<(), AllocError>
+        ensures { OnOk result (self.new ≡ posted self.old datagram) }
+    {
+        self.items.push(datagram)?;
+        self.next_id = self.next_id.wrapping_add(1);
+        Ok(())
+    }
+
+    /// The datagrams, in order.
+    pub fn into_vec(self) -> Vec<Datagram>
+        ensures { result.items ≡ self.sent }
+    {
+        let items = self.items;
+        items
+    }
+}

@@ -1,0 +1,88 @@
+//! A second, and seconds: the observations have their turns, in their order.
+
+ghost use Rattle.std.specs.Prelude.{◌≡◌, ◌+◌, ◌<◌, ◌^◌, length, slice_get, IfOk, OnOk, Some};
+ghost use Rattle.notifier.specs.declared.observation.Observation.{Observation};
+ghost use Rattle.device_notifications.specs.Progress.{Leaves, Passes};
+ghost use Rattle.device_notifications.specs.Second.{second, seconds, turn_of};
+
+use crate::notification::datagram_of;
+use crate::outbox::Outbox;
+use crate::report::report_of;
+use crate::verdict::{Verdict, judge};
+use device_requests::Client;
+use notifier::Observations;
+use std::alloc::{AllocError, Global};
+
+/// Gives the observation at a place its turn. Answers the place of the next one.
+fn take_turn(
+    alloc: Global,
+    client: &Client,
+    observations: &mut Observations,
+    clock: u64,
+    place: usize,
+    outbox: &mut Outbox,
+) -> Result<usize, AllocError>
+    requires within { place < length observations.old }
+    requires few { place < 32 }
+    ensures { IfOk result (λ next. (o : Observation) → slice_get observations.old place ≡ Some o
+        → Passes (turn_of client.now clock outbox.old.next_id o) observations.old observations.new place next outbox.old outbox.new) }
+{
+    let Some(observation) = observations.at(place) else {
+        return Ok(place);
+    };
+    let mid = outbox.next_id();
+    match judge(client, clock, observation)? {
+        Verdict::Quiet => Ok(place + 1),
+        Verdict::Sends(answer) => {
+            let number = Some(observation.next_number());
+            outbox.post(datagram_of(alloc, observation, mid, number, &answer)?)?;
+            let report = report_of(client, observation.path, answer.payload);
+            observations.sent(place, clock, mid, report);
+            Ok(place + 1)
+        }
+        Verdict::Gone(answer) => {
+            outbox.post(datagram_of(alloc, observation, mid, None, &answer)?)?;
+            observations.remove(place);
+            Ok(place)
+        }
+    }
+}
+
+/// What the observations do in the second that the clock shows: each has its turn, in their order.
+/// Nothing else changes. Want of memory leaves it half done.
+pub fn second(
+    alloc: Global,
+    client: &Client,
+    observations: &mut Observations,
+    clock: u64,
+    outbox: &mut Outbox,
+) -> Result<(), AllocError>
+    ensures { OnOk result (Leaves outbox.old (second client.now clock outbox.old.next_id observations.old) observations.new outbox.new) }
+{
+    let mut place = 0;
+    while place < observations.len() {
+        place = take_turn(alloc, client, observations, clock, place, outbox)?;
+    }
+    Ok(())
+}
+
+/// What the observations do in so many seconds, where the clock shows `clock` before the first of
+/// them: it goes up by one, then each has its turn. Nothing else changes. Want of memory leaves it
+/// half done.
+pub fn seconds(
+    alloc: Global,
+    client: &Client,
+    observations: &mut Observations,
+    clock: u64,
+    count: u32,
+    outbox: &mut Outbox,
+) -> Result<(), AllocError>
+    requires { clock + count < 2 ^ 64 }
+    ensures { OnOk result (Leaves outbox.old (seconds client.now clock count outbox.old.next_id observations.old) observations.new outbox.new) }
+{
+    for passed in 0..count {
+        let now = clock + 1 + u64::from(passed);
+        second(alloc, client, observations, now, outbox)?;
+    }
+    Ok(())
+}

@@ -1,9 +1,0 @@
-use Rattle.std.specs.FinMap as map
-use Rattle.instance_lifecycle.proofs.Deleted.{Progress}
-use Rattle.instance_lifecycle.proofs.deletion.delete.Given as goal
-
-abbrev pub invariant-loop-instance : goal.invariant-loop-instance
-invariant-loop-instance l = Progress l.place l.fn.store l.store
-
-abbrev pub decreases-loop-instance : goal.decreases-loop-instance
-decreases-loop-instance l = map.len l.store.instances

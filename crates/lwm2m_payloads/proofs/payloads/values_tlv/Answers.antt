@@ -1,0 +1,11 @@
+use Rattle.std.proofs.Common.{sym, ap, subst, ◌∙◌}
+use Rattle.lwm2m_values.specs.Tlv.{AreNested}
+use Rattle.lwm2m_values.specs.Tree.{trees_of}
+use Rattle.lwm2m_values.specs.declared.level.Level.TheVariants.{Top}
+use Rattle.lwm2m_payloads.specs.Nodes.{shown_in}
+use Rattle.lwm2m_payloads.proofs.Nesting.{nested}
+use Rattle.lwm2m_payloads.proofs.payloads.values_tlv.Goals as goal
+
+pub tlv_of-requires : goal.tlv_of-requires
+tlv_of-requires c =
+    subst (AreNested Top) (sym (ap trees_of c.as_slice.ensures.value ∙ c.in_ok-nodes.ensures)) (nested (shown_in c.args.store.now c.args.resources.now c.args.place))

@@ -1,0 +1,83 @@
+ghost use Rattle.std.specs.Prelude.{◌≡◌, ◌&&◌, ◌^◌, ◌-◌, length, min, IfOk};
+ghost use Rattle.std.specs.List.{filter};
+ghost use Rattle.instance_store.specs.Stored.{parts_of};
+ghost use Rattle.lwm2m_payloads.specs.Changes.{is_kept, is_other, parts_behind, is_too_many, has_too_many, resource_of};
+
+use crate::definitions::{is_kept, path_to};
+use crate::given::{Assignment, Assignments, Given, Mode, Parts};
+use instance_store::Store;
+use object_defs::{InstancePath, ResourceDef, ResourcePath};
+use std::alloc::AllocError;
+
+/// How many of the parts that a resource has are not among those given.
+fn count_others(store: &Store, path: ResourcePath, parts: &Parts) -> Result<usize, AllocError>
+    ensures { IfOk result (λ n. n ≡ length (filter (is_other parts.now) (parts_of store.now path))) }
+{
+    let held = store.parts(path)?;
+    Ok(held.as_slice().iter().filter(|n| !parts.has(**n)).count())
+}
+
+/// How many parts a resource has behind a change, or the greatest `usize`.
+fn count_behind(
+    mode: Mode,
+    store: &Store,
+    path: ResourcePath,
+    parts: &Parts,
+) -> Result<usize, AllocError>
+    ensures { IfOk result (λ n. n ≡ min (parts_behind mode store.now path parts.now) (2 ^ 64 - 1)) }
+{
+    let given = parts.as_slice().len();
+    match mode {
+        Mode::Replace => Ok(given),
+        Mode::Update => Ok(given.saturating_add(count_others(store, path, parts)?)),
+    }
+}
+
+/// Whether a resource would have more than 32 parts (this profile's limit) behind a change.
+pub fn is_too_many(
+    mode: Mode,
+    store: &Store,
+    path: ResourcePath,
+    given: &Given,
+) -> Result<bool, AllocError>
+    ensures { IfOk result (λ b. b ≡ is_too_many mode store.now path given.now) }
+{
+    match given {
+        Given::Single(_) => Ok(false),
+        Given::Parts(parts) => Ok(count_behind(mode, store, path, parts)? > 32),
+    }
+}
+
+fn exceeds(
+    mode: Mode,
+    resources: &[ResourceDef],
+    store: &Store,
+    place: InstancePath,
+    assignment: &Assignment,
+) -> Result<bool, AllocError>
+    ensures { IfOk result (λ b. b ≡ (is_kept resources.now assignment.now && is_too_many mode store.now (resource_of place assignment.now.resource) assignment.now.given)) }
+{
+    if !is_kept(resources, assignment.resource) {
+        return Ok(false);
+    }
+    let path = path_to(place, assignment.resource);
+    is_too_many(mode, store, path, &assignment.given)
+}
+
+/// Whether some resource of an instance would have more than 32 parts (this profile's limit) behind a Write.
+pub fn has_too_many(
+    mode: Mode,
+    resources: &[ResourceDef],
+    store: &Store,
+    place: InstancePath,
+    given: &Assignments,
+) -> Result<bool, AllocError>
+    ensures { IfOk result (λ b. b ≡ has_too_many mode resources.now store.now place given.now) }
+{
+    for assignment in given.as_slice() {
+        if exceeds(mode, resources, store, place, assignment)? {
+            return Ok(true);
+        }
+    }
+    Ok(false)
+}

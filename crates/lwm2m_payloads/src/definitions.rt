@@ -1,0 +1,34 @@
+ghost use Rattle.std.specs.Prelude.{◌≡◌};
+ghost use Rattle.std.specs.Option.{option_copied};
+ghost use Rattle.object_defs.specs.Catalogue.{resource_in};
+ghost use Rattle.lwm2m_payloads.specs.Changes.{is_kept_as, resource_of};
+
+use object_defs::{InstancePath, ResourceDef, ResourcePath};
+
+/// The definition of the resource of this number, lent.
+pub(crate) fn definition_in(resources: &[ResourceDef], id: u16) -> Option<&ResourceDef>
+    ensures { option_copied result ≡ resource_in resources.now id }
+{
+    resources.iter().find(|r| r.id == id)
+}
+
+/// Whether the value of the resource of this number is kept: that of a write-only one isn't.
+pub(crate) fn is_kept(resources: &[ResourceDef], id: u16) -> bool
+    ensures { result ≡ is_kept_as (resource_in resources.now id) }
+{
+    match definition_in(resources, id) {
+        None => false,
+        Some(definition) => definition.ops.can_read(),
+    }
+}
+
+/// The path to a resource of an instance.
+pub(crate) fn path_to(place: InstancePath, resource: u16) -> ResourcePath
+    ensures { result ≡ resource_of place resource }
+{
+    ResourcePath {
+        object: place.object,
+        instance: place.instance,
+        resource,
+    }
+}

@@ -1,0 +1,102 @@
+ghost use Rattle.std.specs.Prelude.{◌≡◌, IfOk};
+ghost use Rattle.lwm2m_values.specs.declared.level.Level.TheVariants.{Top};
+ghost use Rattle.lwm2m_values.specs.Tree.{trees_of, single, part};
+ghost use Rattle.lwm2m_values.specs.Tlv.{AreNested, shortest_tlv};
+ghost use Rattle.lwm2m_payloads.specs.Nodes.{shown_in, nodes_of, object_nodes, value_payload, within_limit};
+
+use crate::format::Format;
+use crate::records::{instance_records, part_node, records_at, single_node};
+use instance_store::Store;
+use lwm2m_values::{Node, Value, bytes_of, tlv_fits, write_text, write_tlv};
+use object_defs::{Path, ResourceDef};
+use octets::Bytes;
+use std::alloc::{AllocError, Global};
+
+/// The payload, where it has 1,024 bytes at most.
+fn limited(payload: Bytes) -> Option<Bytes>
+    ensures { result ≡ within_limit payload }
+{
+    if payload.len() > 1024 {
+        None
+    } else {
+        Some(payload)
+    }
+}
+
+/// The shortest TLV of records, where it has 1,024 bytes at most.
+fn tlv_of(alloc: Global, nodes: &[Node]) -> Result<Option<Bytes>, AllocError>
+    requires { AreNested Top (trees_of nodes.now) }
+    ensures { IfOk result (λ b. b ≡ within_limit (shortest_tlv (trees_of nodes.now))) }
+{
+    if !tlv_fits(nodes) {
+        return Ok(None);
+    }
+    Ok(limited(write_tlv(alloc, nodes)?))
+}
+
+/// The payload that shows a single resource's value in a format; none where it has more than 1,024 bytes (this profile).
+pub fn write_single(
+    alloc: Global,
+    format: Format,
+    resource: u16,
+    value: &Value,
+) -> Result<Option<Bytes>, AllocError>
+    ensures { IfOk result (λ b. b ≡ within_limit (value_payload format (single resource) value.now)) }
+{
+    match format {
+        Format::PlainText => Ok(limited(write_text(alloc, value)?)),
+        Format::OctetStream => Ok(limited(bytes_of(alloc, value)?)),
+        Format::Tlv => {
+            let node = single_node(resource, bytes_of(alloc, value)?);
+            tlv_of(alloc, &[node])
+        }
+    }
+}
+
+/// The payload that shows a part's value in a format; none where it has more than 1,024 bytes (this profile).
+pub fn write_part(
+    alloc: Global,
+    format: Format,
+    number: u16,
+    value: &Value,
+) -> Result<Option<Bytes>, AllocError>
+    ensures { IfOk result (λ b. b ≡ within_limit (value_payload format (part number) value.now)) }
+{
+    match format {
+        Format::PlainText => Ok(limited(write_text(alloc, value)?)),
+        Format::OctetStream => Ok(limited(bytes_of(alloc, value)?)),
+        Format::Tlv => {
+            let node = part_node(number, bytes_of(alloc, value)?);
+            tlv_of(alloc, &[node])
+        }
+    }
+}
+
+/// The TLV that shows what is at or below an instance or a multiple resource: the values of readable resources by number,
+/// the parts of one in a Multiple Resource. None where it has more than 1,024 bytes (this profile).
+pub fn values_tlv(
+    alloc: Global,
+    store: &Store,
+    resources: &[ResourceDef],
+    place: Path,
+) -> Result<Option<Bytes>, AllocError>
+    ensures { IfOk result (λ b. b ≡ within_limit (shortest_tlv (nodes_of (shown_in store.now resources.now place)))) }
+{
+    let nodes = records_at(alloc, store, resources, place)?;
+    tlv_of(alloc, nodes.as_slice())
+}
+
+/// The TLV that shows these instances of an object, an Object Instance for each; none where it has more than 1,024 bytes
+/// (this profile).
+pub fn object_tlv(
+    alloc: Global,
+    store: &Store,
+    resources: &[ResourceDef],
+    object: u16,
+    instances: &[u16],
+) -> Result<Option<Bytes>, AllocError>
+    ensures { IfOk result (λ b. b ≡ within_limit (shortest_tlv (object_nodes store.now resources.now object instances.now))) }
+{
+    let nodes = instance_records(alloc, store, resources, object, instances)?;
+    tlv_of(alloc, nodes.as_slice())
+}

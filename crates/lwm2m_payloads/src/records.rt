@@ -1,0 +1,168 @@
+ghost use Rattle.std.specs.Prelude.{◌≡◌, ℕ, ◌==◌, ◌∷◌, ◌++◌, [], IfOk, IfErr, OnOk, OnErr};
+ghost use Rattle.std.specs.List.{filter};
+ghost use Rattle.lwm2m_values.specs.Value.{bytes_of};
+ghost use Rattle.lwm2m_values.specs.Tree.{Tree, Trees, instance, multi, part, single, more, none, tree_of, trees_of};
+ghost use Rattle.instance_store.specs.Listing.{shown_pairs};
+ghost use Rattle.lwm2m_payloads.specs.Building.{with_last, part_after, part_behind};
+ghost use Rattle.lwm2m_payloads.specs.Nodes.{Pairs, is_shown, shown_in, nodes_of, object_nodes};
+
+use crate::definitions::definition_in;
+use instance_store::Store;
+use lwm2m_values::{Node, Value, bytes_of};
+use object_defs::{FullPath, Path, ResourceDef};
+use octets::Bytes;
+use std::alloc::{AllocError, Global};
+
+fn instance_node(id: u16, children: Vec<Node>) -> Node
+    ensures { tree_of result ≡ instance id (trees_of children.items) }
+{
+    Node::Instance { id, children }
+}
+
+fn multi_node(id: u16, parts: Vec<Node>) -> Node
+    ensures { tree_of result ≡ multi id (trees_of parts.items) }
+{
+    Node::Multi { id, parts }
+}
+
+/// The record of a part with these bytes.
+pub(crate) fn part_node(id: u16, bytes: Bytes) -> Node
+    ensures { tree_of result ≡ part id bytes }
+{
+    Node::Part { id, bytes }
+}
+
+/// The record of a single resource with these bytes.
+pub(crate) fn single_node(id: u16, bytes: Bytes) -> Node
+    ensures { tree_of result ≡ single id bytes }
+{
+    Node::Single { id, bytes }
+}
+
+/// The parts of a Multiple Resource of this number; another record is given back.
+fn into_parts(node: Node, resource: u16) -> Result<Vec<Node>, Node>
+    ensures parts { IfOk result (λ parts. tree_of node ≡ multi resource (trees_of parts.items)) }
+    ensures other { IfErr result (λ other. tree_of other ≡ tree_of node) }
+    ensures apart { OnErr result ((p : Tree) → part_after resource p (tree_of node) ≡ more (tree_of node) (more (multi resource (more p none)) none)) }
+{
+    match node {
+        Node::Multi { id, parts } => {
+            if id == resource {
+                Ok(parts)
+            } else {
+                Err(multi_node(id, parts))
+            }
+        }
+        Node::Instance { id, children } => Err(instance_node(id, children)),
+        Node::Part { id, bytes } => Err(part_node(id, bytes)),
+        Node::Single { id, bytes } => Err(single_node(id, bytes)),
+    }
+}
+
+/// Takes away the last record, where it is the Multiple Resource of this number, and gives its parts; else no parts.
+fn take_parts(alloc: Global, nodes: &mut Vec<Node>, resource: u16) -> Result<Vec<Node>, AllocError>
+    ensures { IfOk result (λ parts. (p : Tree) → with_last (trees_of nodes.new.items) (multi resource (with_last (trees_of parts.items) p)) ≡ part_behind resource p (trees_of nodes.old.items)) }
+{
+    let Some(last) = nodes.pop() else {
+        return Ok(Vec::new(alloc));
+    };
+    match into_parts(last, resource) {
+        Ok(parts) => Ok(parts),
+        Err(last) => {
+            nodes.push(last)?;
+            Ok(Vec::new(alloc))
+        }
+    }
+}
+
+fn push_part(
+    alloc: Global,
+    nodes: &mut Vec<Node>,
+    resource: u16,
+    node: Node,
+) -> Result<(), AllocError>
+    ensures { OnOk result (trees_of nodes.new.items ≡ part_behind resource (tree_of node) (trees_of nodes.old.items)) }
+{
+    let mut parts = take_parts(alloc, nodes, resource)?;
+    parts.push(node)?;
+    nodes.push(multi_node(resource, parts))?;
+    Ok(())
+}
+
+/// Adds a value's record behind those of the values before it.
+fn push_value(
+    alloc: Global,
+    nodes: &mut Vec<Node>,
+    path: FullPath,
+    value: &Value,
+) -> Result<(), AllocError>
+    ensures { (es : Pairs) → trees_of nodes.old.items ≡ nodes_of es → OnOk result (trees_of nodes.new.items ≡ nodes_of (es ++ (path, value.now) ∷ [])) }
+{
+    let bytes = bytes_of(alloc, value)?;
+    match path.part {
+        None => {
+            nodes.push(single_node(path.resource, bytes))?;
+            Ok(())
+        }
+        Some(part) => push_part(alloc, nodes, path.resource, part_node(part, bytes)),
+    }
+}
+
+/// Whether a Read shows the value at a full path.
+fn is_shown(resources: &[ResourceDef], path: FullPath) -> bool
+    ensures { result ≡ is_shown resources.now path }
+{
+    match definition_in(resources, path.resource) {
+        None => false,
+        Some(definition) => {
+            definition.ops.can_read() && path.part.is_some() == definition.multiple
+        }
+    }
+}
+
+fn records_of(
+    alloc: Global,
+    resources: &[ResourceDef],
+    pairs: &[(FullPath, &Value)],
+) -> Result<Vec<Node>, AllocError>
+    ensures { IfOk result (λ v. trees_of v.items ≡ nodes_of (filter (λ e. is_shown resources.now e.0) (shown_pairs pairs.now))) }
+{
+    let mut nodes = Vec::new(alloc);
+    for (path, value) in pairs {
+        if is_shown(resources, *path) {
+            push_value(alloc, &mut nodes, *path, value)?;
+        }
+    }
+    Ok(nodes)
+}
+
+/// The records of the values that a Read shows at or below a path.
+pub(crate) fn records_at(
+    alloc: Global,
+    store: &Store,
+    resources: &[ResourceDef],
+    place: Path,
+) -> Result<Vec<Node>, AllocError>
+    ensures { IfOk result (λ v. trees_of v.items ≡ nodes_of (shown_in store.now resources.now place)) }
+{
+    let pairs = store.values_in(place)?;
+    records_of(alloc, resources, pairs.as_slice())
+}
+
+/// The records of these instances of an object.
+pub(crate) fn instance_records(
+    alloc: Global,
+    store: &Store,
+    resources: &[ResourceDef],
+    object: u16,
+    instances: &[u16],
+) -> Result<Vec<Node>, AllocError>
+    ensures { IfOk result (λ v. trees_of v.items ≡ object_nodes store.now resources.now object instances.now) }
+{
+    let mut nodes = Vec::new(alloc);
+    for instance in instances {
+        let children = records_at(alloc, store, resources, Path::Instance(object, *instance))?;
+        nodes.push(instance_node(*instance, children))?;
+    }
+    Ok(nodes)
+}

@@ -1,8 +1,0 @@
-use Rattle.observing.proofs.Turns.{sends_before_pmax, seconds_send_before_pmax}
-use Rattle.observing.proofs.laws.sends_before_pmax.Goals as goal
-
-pub returns-clause-one : goal.returns-clause-one
-returns-clause-one c = sends_before_pmax
-
-pub returns-clause-more : goal.returns-clause-more
-returns-clause-more c = seconds_send_before_pmax

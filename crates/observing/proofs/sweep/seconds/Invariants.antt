@@ -1,6 +1,0 @@
--- So many seconds have passed.
-use Rattle.observing.proofs.Places.{Elapsed}
-use Rattle.observing.proofs.sweep.seconds.Given as goal
-
-abbrev pub invariant-loop-passed : goal.invariant-loop-passed
-invariant-loop-passed l = Elapsed l.fn.client l.fn.clock l.fn.count l.fn.observations l.fn.outbox l.passed l.observations l.outbox

@@ -1,8 +1,0 @@
-use Rattle.std.proofs.Common.{◌≡◌, false, true}
-use Rattle.lwm2m_values.specs.Tree.{trees_of}
-use Rattle.resource_formats.proofs.Nesting.{too_long}
-use Rattle.resource_formats.proofs.payloads.tlv_of.Goals as goal
-
-pub returns-then-not-tlv_fits : goal.returns-then-not-tlv_fits
-returns-then-not-tlv_fits c =
-    too_long (trees_of c.args.nodes.now) c.requires (λ w. let e : false ≡ true = c.if-not-tlv_fits.ensures.1 w in absurd cc)
