@@ -24,10 +24,10 @@ use crate::options::{accept_of, has_query, has_unrecognized_critical, path_of};
 use coap_codec::Message;
 use device_firmware::{FirmwareEvent, take};
 use instance_store::{Store, StoreFault};
+use lwm2m_payloads::Mode;
 use lwm2m_values::Value;
 use notifier::Attributes;
 use object_defs::{Catalog, FullPath, Path};
-use lwm2m_payloads::Mode;
 use std::alloc::{AllocError, Global};
 use std::marker::Model;
 

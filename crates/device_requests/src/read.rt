@@ -6,9 +6,9 @@ ghost use Rattle.device_requests.specs.Reads.{can_be_read, one_payload, payload_
 
 use crate::targets::{defined, definition_at, is_multiple, is_readable};
 use instance_store::Store;
+use lwm2m_payloads::{Format, object_tlv, values_tlv, write_part, write_single};
 use object_defs::{Catalog, Path, ResourcePath};
 use octets::Bytes;
-use lwm2m_payloads::{Format, object_tlv, values_tlv, write_part, write_single};
 use std::alloc::{AllocError, Global};
 
 /// Whether what the path names can be read.

@@ -9,12 +9,12 @@ ghost use Rattle.device_requests.specs.Writes.{can_be_written, values_exceed, va
 use crate::targets::{defined, definition_at, is_multiple, is_readable};
 use device_firmware::FirmwareEvent;
 use instance_store::{Store, StoreFault};
-use lwm2m_values::Value;
-use object_defs::{Catalog, InstancePath, Path, ResourceDef, ResourcePath};
 use lwm2m_payloads::{
     Assignments, Format, Given, Mode, has_too_many, instance_given, is_too_many, part_given,
     resource_given, set_given, write_instance,
 };
+use lwm2m_values::Value;
+use object_defs::{Catalog, InstancePath, Path, ResourceDef, ResourcePath};
 use std::alloc::{AllocError, Global};
 
 /// What the payload of a Write gives.

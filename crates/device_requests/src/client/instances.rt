@@ -20,8 +20,8 @@ use crate::targets::{defined, exists};
 use coap_codec::Message;
 use device_instances::{has_no_room, number_for};
 use instance_store::StoreFault;
-use object_defs::{InstancePath, Path};
 use lwm2m_payloads::{Assignments, creation_given};
+use object_defs::{InstancePath, Path};
 use std::alloc::AllocError;
 
 /// Whether a Content-Format is TLV, or there is none.
@@ -58,14 +58,7 @@ impl Client {
     {
         let accounts = self.accounts.len();
         let resources = defined(&self.catalog, place.object);
-        match device_instances::create(
-            &mut self.store,
-            accounts,
-            server,
-            resources,
-            place,
-            given,
-        ) {
+        match device_instances::create(&mut self.store, accounts, server, resources, place, given) {
             Ok(()) => Ok(()),
             Err(StoreFault::Memory) => Err(AllocError),
             Err(_) => unreachable!(),

@@ -12,9 +12,9 @@ use crate::client::Client;
 use crate::links::links;
 use crate::read::{can_be_read, payload_in};
 use crate::targets::{definition_at, exists};
+use lwm2m_payloads::{Format, format_for};
 use object_defs::Path;
 use octets::Bytes;
-use lwm2m_payloads::{Format, format_for};
 use std::alloc::AllocError;
 
 /// The greatest payload of a reply, in bytes (this profile).

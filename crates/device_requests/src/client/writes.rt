@@ -23,9 +23,9 @@ use crate::write::{
 };
 use coap_codec::Message;
 use device_firmware::{FirmwareEvent, take};
+use lwm2m_payloads::{Format, Mode, are_arguments, format_for};
 use notifier::{Change, WriteFault};
 use object_defs::Path;
-use lwm2m_payloads::{Format, Mode, are_arguments, format_for};
 use std::alloc::AllocError;
 
 impl Client {
