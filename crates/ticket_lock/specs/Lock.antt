@@ -1,4 +1,5 @@
--- The rule of a ticket lock: what its two words, its slot and the views of all passes have to do with each other between any two steps.
+-- The rule of a ticket lock: what its two words, its slot and the views of all passes have to do with each other between
+-- any two steps.
 use Rattle.std.specs.Prelude.{◌≡◌, ◌≢◌, ℕ, ◌+◌, ◌*◌, ◌/◌, ◌%◌, ◌<◌, ◌≤◌, Bool, true, false, List, [], ◌∷◌, ◌++◌, Option, Some, None}
 use Rattle.std.proofs.Common.{zero, suc}
 use Rattle.std.specs.List.{AllByRecursion}
@@ -10,7 +11,7 @@ use Rattle.ticket_lock.specs.declared.rule.TheConstants.{NUMBERS, LAST}
 use Rattle.ticket_lock.specs.declared.rule.View.{View}
 use Rattle.ticket_lock.specs.declared.rule.Stage.{Stage}
 use Rattle.ticket_lock.specs.declared.rule.Stage.TheVariants.{Spent, Resting, Waiting, Inside}
-use Rattle.ticket_lock.specs.Log.{Reading, shares}
+use Rattle.ticket_lock.specs.Log.{Reading, Begins, shares}
 
 -- the view v stands at place i
 abbrev pub IsAt : {V : Type 0} → List V → ℕ → V → Type 0
@@ -91,6 +92,8 @@ module _ {T E S O : Type 0} (R : Reading T E S O) where
     pub empty : is_live v.stage ≡ false → v.count ≡ 0
     pub within : is_live v.stage ≡ true → (0 < v.count) × (1 ≤ v.low) × (v.low + v.count ≤ NUMBERS + 1)
     pub seen_end : v.end ≡ true → next ≡ LAST
+    pub turn : (t : ℕ) → v.turn ≡ Some t → (v.count ≡ NUMBERS) × (serving / 2 ≡ t)
+    pub earlier : Begins v.earlier v.front
     pub aware : is_live v.stage ≡ true → IsAware value v
 
   -- The rule. The value is the one at home or, while it is out, the value as found

@@ -28,7 +28,7 @@ module _ {T : Type 0} where
 module _ {T E S O : Type 0} (R : Reading T E S O) where
   -- the lock as it is made: the first ticket is both words' start, the value is at home, and one pass has all numbers
   abbrev pub made : ℕ → T → State (Option T) (View T E S O)
-  made first x = record { words = first ∷ (2 * first) ∷ []; homes = some (Some x) ∷ []; views = whole R x ∷ [] }
+  made first x = record { words = first ∷ (2 * first) ∷ []; homes = some (Some x) ∷ []; views = whole R x first ∷ [] }
 
   -- what one step makes of the lock
   abbrev pub Steps : Move T → State (Option T) (View T E S O) → State (Option T) (View T E S O) → Type 0

@@ -27,7 +27,7 @@ pub struct Spent;
 pub struct PassesOut;
 
 impl<T: Logged + Drop> TicketLock<T> {
-    ghost use Rattle.std.specs.Prelude.{◌≡◌, ◌≢◌, ℕ, ◌+◌, ◌*◌, ◌<◌, ◌≤◌, true, [], ◌∷◌, IfOk, IfErr, IsErr, IfSome, IfNone, IsNone, Some, None};
+    ghost use Rattle.std.specs.Prelude.{◌≡◌, ◌≢◌, ℕ, ◌+◌, ◌*◌, ◌<◌, ◌≤◌, true, [], ◌∷◌, IfOk, IfErr, IsOk, IsErr, IfSome, IfNone, IsSome, IsNone, Some, None};
     ghost use Rattle.atomic_table.specs.Table.{rest};
     ghost use Rattle.ticket_lock.specs.declared.rule.TheConstants.{NUMBERS, LAST};
     ghost use Rattle.ticket_lock.specs.declared.rule.Stage.TheVariants.{Waiting};
@@ -38,20 +38,20 @@ impl<T: Logged + Drop> TicketLock<T> {
 
     /// A lock on the value, and the first pass, which holds the worker numbers from 1 to `NUMBERS`. The first ticket is 0.
     pub fn new(value: T, alloc: Global) -> Result<(TicketLock<T>, Pass<T>), AllocError>
-        ensures pass { IfOk result (λ r. IsPass (lock_id r.0) r.1 × (pass_view r.1 ≡ whole T.log value)) }
+        ensures pass { IfOk result (λ r. IsPass (lock_id r.0) r.1 × (pass_view r.1 ≡ whole T.log value 0)) }
         ensures lock { IfOk result (λ r. (opening_value r.0 ≡ value) × (opening_ticket r.0 ≡ 0)) }
     {
         TicketLock::with_first(value, alloc, 0)
     }
 
-    /// The same, and the first ticket is `ticket`, at most 2^63 - 1.
+    /// The same, and the first ticket is `ticket`, at most 2^63 - 1. If it is 2^63 - 1, no ticket is left from the start.
     pub fn with_first(
         value: T,
         alloc: Global,
         ticket: u64,
     ) -> Result<(TicketLock<T>, Pass<T>), AllocError>
         requires { ticket ≤ LAST }
-        ensures pass { IfOk result (λ r. IsPass (lock_id r.0) r.1 × (pass_view r.1 ≡ whole T.log value)) }
+        ensures pass { IfOk result (λ r. IsPass (lock_id r.0) r.1 × (pass_view r.1 ≡ whole T.log value ticket)) }
         ensures lock { IfOk result (λ r. (opening_value r.0 ≡ value) × (opening_ticket r.0 ≡ ticket)) }
     {
         let about = (Snapshot::of(&value), ticket);
@@ -75,6 +75,8 @@ impl<T: Logged + Drop> TicketLock<T> {
         ensures drawn { IfSome result (λ t. (t < LAST) × (seat.new.me ≡ (staged seat.old.me.0 (Waiting t), seat.old.me.1))) }
         ensures spent { IfNone result (seat.new.me ≡ (ended seat.old.me.0, seat.old.me.1)) }
         ensures end { seat.old.me.0.end ≡ true → IsNone result }
+        ensures some { (t : ℕ) → seat.old.me.0.turn ≡ Some t → t < LAST → IsSome result }
+        ensures none { seat.old.me.0.turn ≡ Some LAST → IsNone result }
     {
         let shared = &self.table.shared;
         let backoff = Backoff::new();
@@ -131,6 +133,8 @@ impl<T: Logged + Drop> TicketLock<T> {
         ensures work { IfOk result (λ h. (d : T.Work) → lowest_work (pass_view pass) d ≡ T.log.work (held_value h) (pass_view pass).low) }
         ensures spent { IfErr result (λ e. IsPass (lock_id self.now) e.0 × (pass_view e.0 ≡ ended (pass_view pass))) }
         ensures end { (pass_view pass).end ≡ true → IsErr result }
+        ensures left { (t : ℕ) → (pass_view pass).turn ≡ Some t → t < LAST → IsOk result }
+        ensures none_left { (pass_view pass).turn ≡ Some LAST → IsErr result }
     {
         let Pass {
             low,
