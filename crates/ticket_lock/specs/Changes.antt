@@ -95,9 +95,10 @@ module _ {T E S O : Type 0} (R : Reading T E S O) where
     shares = shares R x v.low v.count;
   }
 
-  -- The word `next` was found: the pass has seen the end if that is the last ticket, and otherwise is as it was. The other
+  -- The word `next` was found: the pass has seen the end if that is `LAST`, and otherwise is as it was. The other
   -- fields are what the rule says of the pass
-  pub record Looked (st : Step (Option T)) (m : Me (Option T) (View T E S O)) (found : ℕ) (n : Me (Option T) (View T E S O)) : Type 0 where
+  pub record Looked (st : Step (Option T)) (m : Me (Option T) (View T E S O)) (found : ℕ)
+      (n : Me (Option T) (View T E S O)) : Type 0 where
     pub most : found ≤ LAST
     pub last : found ≡ LAST → n ≡ (ended m.0, m.1)
     pub other : found ≢ LAST → n ≡ m
@@ -109,7 +110,8 @@ module _ {T E S O : Type 0} (R : Reading T E S O) where
   -- where the word `serving` was twice the ticket, the pass is inside with the value
   abbrev pub Entered : Step (Option T) → Me (Option T) (View T E S O) → ℕ → Me (Option T) (View T E S O) → Type 0
   Entered st m found n =
-      (found ≡ st.first → (value : T) × IsAware R value m.0 × (n ≡ (arrived m.0 (st.first / 2) value, (0, Some value) ∷ m.1)))
+      (found ≡ st.first
+      → (value : T) × IsAware R value m.0 × (n ≡ (arrived m.0 (st.first / 2) value, (0, Some value) ∷ m.1)))
       × (found ≢ st.first → n ≡ m)
 
   -- the value in the slot was given back

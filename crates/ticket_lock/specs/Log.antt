@@ -38,7 +38,8 @@ module _ {T E S O : Type 0} (R : Reading T E S O) where
   abbrev pub shares : T → ℕ → ℕ → List (Share E O)
   shares x low n = each_of (share x) low n
 
-  -- y is x with entries of the worker w after the others, the same subject, and the same open work of every other worker
+  -- y is x with entries of the worker w after the others, the same subject, and the same open work of every other
+  -- worker
   pub record Adds (w : ℕ) (x y : T) : Type 0 where
     pub added : List E
     pub entries : R.entries y ≡ R.entries x ++ added

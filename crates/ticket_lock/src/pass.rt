@@ -68,18 +68,22 @@ impl<T: Logged + Drop> Pass<T> {
         Ok((first, others))
     }
 
-    /// The numbers of both, with the longer front, of which both are prefixes. The other's lowest number comes right after
-    /// this pass's last. Whether a ticket is left is looked up again.
+    /// The numbers of both, with the longer front, of which both fronts are prefixes. The other's lowest number comes
+    /// right after this pass's last. Then it looks whether a ticket is left.
     pub fn join(self, lock: &TicketLock<T>, other: Pass<T>) -> Pass<T>
         requires this { IsPass (lock_id lock.now) self }
         requires other { IsPass (lock_id lock.now) other }
         requires neighbours { (pass_view self).low + (pass_view self).count ≡ (pass_view other).low }
         ensures own { IsPass (lock_id lock.now) result }
-        ensures joined { pass_view result ≡ record (joined (pass_view self) (pass_view other)) { end = (pass_view result).end } }
+        ensures joined { pass_view result
+            ≡ record (joined (pass_view self) (pass_view other)) { end = (pass_view result).end } }
         ensures end { (joined (pass_view self) (pass_view other)).end ≡ true → (pass_view result).end ≡ true }
-        ensures fronts { Begins (pass_view self).front (pass_view result).front × Begins (pass_view other).front (pass_view result).front }
-        ensures lower { (w : ℕ) → HasNumber (pass_view self) w → own T.log w (pass_view result).front ≡ own T.log w (pass_view self).front }
-        ensures upper { (w : ℕ) → HasNumber (pass_view other) w → own T.log w (pass_view result).front ≡ own T.log w (pass_view other).front }
+        ensures fronts { Begins (pass_view self).front (pass_view result).front
+            × Begins (pass_view other).front (pass_view result).front }
+        ensures lower { (w : ℕ) → HasNumber (pass_view self) w
+            → own T.log w (pass_view result).front ≡ own T.log w (pass_view self).front }
+        ensures upper { (w : ℕ) → HasNumber (pass_view other) w
+            → own T.log w (pass_view result).front ≡ own T.log w (pass_view other).front }
     {
         let Pass {
             low,

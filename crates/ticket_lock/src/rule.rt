@@ -17,7 +17,8 @@ pub const NEXT: usize = 0;
 
 pub const SERVING: usize = 1;
 
-/// Where a seat stands. A spent seat is not a pass any more. One that is inside keeps its ticket and the value as found.
+/// Where a seat stands. A spent seat is not a pass any more. One that is inside keeps its ticket and the value as
+/// found.
 pub enum Stage<T> {
     Spent,
     Resting,
