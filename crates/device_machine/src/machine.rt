@@ -18,13 +18,13 @@ use self::repeats::copy_of;
 use crate::event::Event;
 use crate::output::{Output, Outputs};
 use crate::recorded::Recorded;
+use device_notifications::{Outbox, seconds};
 use device_requests::{Act, Client};
 use device_template::{Template, misses};
 use instance_store::{Store, StoreFault};
 use lwm2m_values::Value;
 use notifier::{Attributes, Observations};
 use object_defs::{FullPath, Path};
-use device_notifications::{Outbox, seconds};
 use std::alloc::{AllocError, Global};
 use std::marker::Model;
 

@@ -1,8 +1,8 @@
 ghost use Rattle.std.specs.Prelude.{◌≡◌, ◌∷◌, ◌++◌, [], map, IfOk, OnOk};
 ghost use Rattle.device_machine.specs.Reactions.{acted, send_of};
 
-use device_requests::Act;
 use device_notifications::Datagram;
+use device_requests::Act;
 use octets::Bytes;
 use std::alloc::{AllocError, Global};
 use std::marker::Model;

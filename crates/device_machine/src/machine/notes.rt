@@ -6,10 +6,10 @@ ghost use Rattle.device_notifications.specs.Second.{is_content};
 
 use crate::machine::Machine;
 use coap_codec::{Kind, Message};
+use device_notifications::report_of;
 use device_requests::{Answer, Interest, interest_of};
 use notifier::{Observations, ObserveFault, Report};
 use object_defs::Path;
-use device_notifications::report_of;
 use octets::Bytes;
 use std::alloc::AllocError;
 
