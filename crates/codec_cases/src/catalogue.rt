@@ -129,7 +129,10 @@ fn objects(alloc: Global, catalog: &Catalog, rest: &str) -> Result<String, Unans
 
 /// The first and the last number of `N` or `N..M`.
 fn range(word: &str) -> Result<(u16, u16), Unanswered> {
-    let (first, last) = word.split_once("..").unwrap_or((word, word));
+    let (first, last) = match word.split_once("..") {
+        Some(ends) => ends,
+        None => (word, word),
+    };
     let (first, _) = forms::half(first)?;
     let (last, rest) = forms::half(last)?;
     forms::end(rest)?;

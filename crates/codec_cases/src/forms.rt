@@ -45,8 +45,10 @@ pub fn word(rest: &str) -> Result<(&str, &str), Unanswered> {
     if rest.is_empty() {
         return Err(Unanswered::Unread("a word is missing"));
     }
-    let (word, rest) = rest.split_once(' ').unwrap_or((rest, ""));
-    Ok((word, rest.trim_start()))
+    match rest.split_once(' ') {
+        Some((word, rest)) => Ok((word, rest.trim_start())),
+        None => Ok((rest, "")),
+    }
 }
 
 /// Refuses further words.

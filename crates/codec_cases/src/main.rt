@@ -73,7 +73,10 @@ fn check(
     tally: &mut Tally,
 ) -> io::Result<()> {
     let question = case.question;
-    let (subject, rest) = question.split_once(' ').unwrap_or((question, ""));
+    let (subject, rest) = match question.split_once(' ') {
+        Some(parts) => parts,
+        None => (question, ""),
+    };
     let Some(got) = answer(alloc, subject, rest.trim())? else {
         return refuse(rt, number, "unknown subject", question, tally);
     };

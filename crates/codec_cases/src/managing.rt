@@ -6,9 +6,9 @@ use crate::places::{only_place, place, yes_no};
 use access_control::{Rights, may_create, rights};
 use device_instances::{create, delete, free_number, has_no_room, number_for};
 use instance_store::{Store, StoreFault};
+use lwm2m_payloads::{Assignments, creation_given};
 use lwm2m_values::ValueKind;
 use object_defs::{InstancePath, Ops, ResourceDef};
-use lwm2m_payloads::{Assignments, creation_given};
 use std::alloc::Global;
 
 /// The resources of the instances that are created: 0 a mandatory Integer, 1 an optional text that can only be written,

@@ -44,7 +44,10 @@ pub fn name(rest: &str) -> Result<(Name, &str), Unanswered> {
 
 /// The change of a word `NAME=NUMBER`: seconds of pmin and pmax, thousandths of gt, lt and st.
 pub fn change_of(word: &str) -> Result<Change, Unanswered> {
-    let (first, number) = word.split_once('=').unwrap_or((word, ""));
+    let (first, number) = match word.split_once('=') {
+        Some(parts) => parts,
+        None => (word, ""),
+    };
     let (name, _) = name(first)?;
     let (number, _) = integer(number)?;
     Ok(Change {

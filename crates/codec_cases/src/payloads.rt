@@ -6,13 +6,13 @@ use crate::places::{add, listed, path, yes_no};
 use crate::stores::store_of;
 use crate::values::value_at;
 use instance_store::{Store, StoreFault};
-use object_defs::{Catalog, InstancePath, Path, ResourceDef, ResourcePath};
-use octets::Bytes;
 use lwm2m_payloads::{
     Assignments, Format, Given, Mode, are_arguments, creation_given, format_for, has_too_many,
     instance_given, is_too_many, object_tlv, part_given, resource_given, set_given, values_tlv,
     write_instance, write_part, write_single,
 };
+use object_defs::{Catalog, InstancePath, Path, ResourceDef, ResourcePath};
+use octets::Bytes;
 use std::alloc::{AllocError, Global};
 
 /// What instance 0 of Server, Access Control, Device and Firmware Update holds.
@@ -113,7 +113,10 @@ fn shown_instances(
 /// `shows PATH` of an instance or a resource, `shows PATH INSTANCE ..` of these instances of an object, or either after
 /// `STATEMENT : `: what a Read shows in TLV, where the device also holds what is stated; `none` where that is too long.
 fn shows(alloc: Global, rest: &str) -> Result<String, Unanswered> {
-    let (more, rest) = rest.split_once(" : ").unwrap_or(("", rest));
+    let (more, rest) = match rest.split_once(" : ") {
+        Some(parts) => parts,
+        None => ("", rest),
+    };
     let joint = if more.is_empty() { "" } else { "; " };
     let held = format!(in alloc; "{HELD}{joint}{more}")?;
     let store = store_of(alloc, held.as_str())?;

@@ -30,7 +30,10 @@ struct Stores {
 
 /// `store STATEMENT : OPERATIONS`, or without a statement where the store is empty: what each operation answers.
 fn answers(alloc: Global, rest: &str) -> Result<String, Unanswered> {
-    let (statement, operations) = rest.split_once(" : ").unwrap_or(("", rest));
+    let (statement, operations) = match rest.split_once(" : ") {
+        Some(parts) => parts,
+        None => ("", rest),
+    };
     let mut stores = Stores {
         store: store_of(alloc, statement)?,
         kept: Store::new(alloc),

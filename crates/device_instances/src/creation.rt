@@ -13,9 +13,9 @@ ghost use Rattle.device_instances.specs.Creations.{is_full, has_no_room, with_nu
 
 use crate::number::free_number;
 use instance_store::{Store, StoreFault};
+use lwm2m_payloads::{Assignments, Given, Mode, write_instance};
 use lwm2m_values::Value;
 use object_defs::{InstancePath, ResourceDef, ResourcePath};
-use lwm2m_payloads::{Assignments, Given, Mode, write_instance};
 use std::alloc::AllocError;
 
 /// Object 2 Access Control.

@@ -14,3 +14,4 @@ pub use assembling::assemble;
 pub use fault::AsmFault;
 pub use laws::{canonical_lines, canonical_text, statements_are_sayable, texts_denote};
 pub use printing::disassemble;
+pub use scenario_words::spell;

@@ -9,9 +9,9 @@ use Rattle.scenario_image.specs.Script.{Row, Script, IsGoodRow, IsValid}
 abbrev steps_in : Row → ℕ
 steps_in r = length r.steps
 
-most_steps : (classes : List Class) (rows : List Row) → AllByRecursion (IsGoodRow classes) rows → sum_by steps_in rows ≤ 4096 * length rows
-most_steps classes [] all = omega arith
-most_steps classes (r ∷ rows) all = omega (arith, sum_by-cons steps_in r rows, all.0.count, most_steps classes rows all.1)
+steps_few : (classes : List Class) (rows : List Row) → AllByRecursion (IsGoodRow classes) rows → sum_by steps_in rows ≤ 4096 * length rows
+steps_few classes [] all = omega arith
+steps_few classes (r ∷ rows) all = omega (arith, sum_by-cons steps_in r rows, all.0.count, steps_few classes rows all.1)
 
 -- the steps of the first rows, with those of the next
 pub one_row_more : (rows : List Row) (i : ℕ) (row : Row) → i < length rows → row ≡ get_or rows i row → sum_by (λ r. length r.steps) (take (i + 1) rows) ≡ sum_by (λ r. length r.steps) (take i rows) + length row.steps
@@ -23,4 +23,4 @@ pub few_steps : (s : Script) (rows : List Row) (i : ℕ) (row : Row) → rows �
 few_steps s rows i row lent valid lt item =
     let rows_few : length rows ≤ 4096 = rw lent valid.rows in
     let each : AllByRecursion (IsGoodRow s.classes) rows = subst (λ (rs : List Row). AllByRecursion (IsGoodRow s.classes) rs) (sym lent) valid.each in
-    omega (arith, one_row_more rows i row lt item, sum_by-take-le steps_in rows (i + 1), most_steps s.classes rows each, rows_few)
+    omega (arith, one_row_more rows i row lt item, sum_by-take-le steps_in rows (i + 1), steps_few s.classes rows each, rows_few)

@@ -18,7 +18,7 @@ use Rattle.scenario_image.specs.declared.kind.StepKind.{StepKind}
 use Rattle.scenario_image.specs.declared.kind.StepKind.TheVariants as kinds
 use Rattle.scenario_image.specs.declared.step.Step.{Step}
 use Rattle.scenario_image.specs.declared.step.Step.TheVariants.{Event, Post, Need}
-use Rattle.scenario_image.specs.Script.{accounts_of}
+use Rattle.scenario_image.specs.Script.{accounts_of, most_rows, most_steps}
 use Rattle.scenario_image.specs.Layout.{kind_of, number_of, kind_numbered, kind, server_in, datagram_in, seconds_in, path_in, value_in, code_in, group_in, count_in, path_with, path_to, datagram, recv, tick, put, firmware, post, need, of_kind, step, steps, row_of, row, rows}
 
 abbrev is_number : ℕ → Bool
@@ -128,7 +128,7 @@ step_exact accounts = split_exact kind_of kind (of_kind accounts) kind_exact (λ
 
 pub steps_exact : (accounts : List ℕ) → IsExact (steps accounts)
 unfolding steps
-steps_exact accounts = counted_exact (at_most 4096 (number w16)) (λ before. step accounts) (at_most_exact 4096 (number w16) short_exact) (λ before. step_exact accounts)
+steps_exact accounts = counted_exact (at_most most_steps (number w16)) (λ before. step accounts) (at_most_exact most_steps (number w16) short_exact) (λ before. step_exact accounts)
 
 pub row_exact : (classes : List Class) → IsExact (row classes)
 unfolding row
@@ -140,4 +140,4 @@ row_exact classes =
 
 pub rows_exact : (classes : List Class) → IsExact (rows classes)
 unfolding rows
-rows_exact classes = counted_exact (at_most 4096 (number w16)) (λ before. row classes) (at_most_exact 4096 (number w16) short_exact) (λ before. row_exact classes)
+rows_exact classes = counted_exact (at_most most_rows (number w16)) (λ before. row classes) (at_most_exact most_rows (number w16) short_exact) (λ before. row_exact classes)

@@ -27,7 +27,7 @@ use Rattle.scenario_image.specs.declared.kind.StepKind.{StepKind}
 use Rattle.scenario_image.specs.declared.kind.StepKind.TheVariants as kinds
 use Rattle.scenario_image.specs.declared.step.Step.{Step}
 use Rattle.scenario_image.specs.declared.step.Step.TheVariants.{Event, Post, Need}
-use Rattle.scenario_image.specs.Script.{Row, HasShortNumbers, IsGoodStep, IsGoodRow, accounts_in, accounts_of}
+use Rattle.scenario_image.specs.Script.{Row, HasShortNumbers, IsGoodStep, IsGoodRow, accounts_in, accounts_of, most_rows, most_steps}
 use Rattle.scenario_image.specs.Layout.{kind, kind_of, datagram, recv, tick, put, firmware, post, need, of_kind, step, steps, row, rows}
 use Rattle.scenario_image.proofs.Valid.{got}
 
@@ -178,12 +178,12 @@ pub good_step : (accounts : List ℕ) (s : Step) → (step accounts).Good s → 
 unfolding step
 good_step accounts s h fits = good_held accounts s h.1 (behind_front (kind.spell (kind_of s)) ((of_kind accounts (kind_of s)).spell s) fits)
 
-steps_good : (accounts : List ℕ) (xs : List Step) → length xs ≤ 4096 → AllByRecursion (IsGoodStep accounts) xs → (steps accounts).Good xs
+steps_good : (accounts : List ℕ) (xs : List Step) → length xs ≤ most_steps → AllByRecursion (IsGoodStep accounts) xs → (steps accounts).Good xs
 unfolding steps
 steps_good accounts xs few all =
     ((number_good w16 (length xs) (omega (arith, few)), lt-ltb (length xs) 4097 (omega (arith, few))), each_all (step accounts) (IsGoodStep accounts) (step_good accounts) [] xs all)
 
-good_steps : (accounts : List ℕ) (xs : List Step) → (steps accounts).Good xs → IsBytes ((steps accounts).spell xs) → (length xs ≤ 4096) × AllByRecursion (IsGoodStep accounts) xs
+good_steps : (accounts : List ℕ) (xs : List Step) → (steps accounts).Good xs → IsBytes ((steps accounts).spell xs) → (length xs ≤ most_steps) × AllByRecursion (IsGoodStep accounts) xs
 unfolding steps
 good_steps accounts xs h fits = (
   (let below : length xs < 4097 = ltb-true (length xs) 4097 h.0.1 in omega arith),
@@ -215,12 +215,12 @@ good_row classes r h fits =
       each = subst (λ a. AllByRecursion (IsGoodStep a) r.steps) same all.1;
     }
 
-pub rows_good : (classes : List Class) (rs : List Row) → length classes ≤ 256 → length rs ≤ 4096 → AllByRecursion (IsGoodRow classes) rs → (rows classes).Good rs
+pub rows_good : (classes : List Class) (rs : List Row) → length classes ≤ 256 → length rs ≤ most_rows → AllByRecursion (IsGoodRow classes) rs → (rows classes).Good rs
 unfolding rows
 rows_good classes rs few_classes few all =
     ((number_good w16 (length rs) (omega (arith, few)), lt-ltb (length rs) 4097 (omega (arith, few))), each_all (row classes) (IsGoodRow classes) (row_good classes few_classes) [] rs all)
 
-pub good_rows : (classes : List Class) (rs : List Row) → (rows classes).Good rs → IsBytes ((rows classes).spell rs) → (length rs ≤ 4096) × AllByRecursion (IsGoodRow classes) rs
+pub good_rows : (classes : List Class) (rs : List Row) → (rows classes).Good rs → IsBytes ((rows classes).spell rs) → (length rs ≤ most_rows) × AllByRecursion (IsGoodRow classes) rs
 unfolding rows
 good_rows classes rs h fits = (
   (let below : length rs < 4097 = ltb-true (length rs) 4097 h.0.1 in omega arith),

@@ -7,7 +7,7 @@ use Rattle.device_template.specs.Class.{Class}
 use Rattle.scenario_image.specs.declared.step.Step.{Step}
 use Rattle.scenario_image.specs.declared.fault.ScenarioFault.{ScenarioFault}
 use Rattle.scenario_image.specs.declared.fault.ScenarioFault.TheVariants as faults
-use Rattle.scenario_image.specs.Script.{Row, Script, HasFields, IsGoodStep, IsGoodRow, IsValid, is_in_range, is_within_limits, is_known, class_fault, row_fault, last_row, longer, with_last, accounts_in, accounts_of, fault_in, step_fault}
+use Rattle.scenario_image.specs.Script.{Row, Script, HasFields, IsGoodStep, IsGoodRow, IsValid, is_in_range, is_within_limits, is_known, class_fault, row_fault, last_row, longer, with_last, accounts_in, accounts_of, fault_in, step_fault, most_rows, most_steps}
 
 abbrev pub made : List Class → List Row → Script
 made classes rows = record { classes = classes; rows = rows }
@@ -74,8 +74,8 @@ by_class classes new rows s class valid same ok more =
 pub by_row : (classes : List Class) (rows new : List Row) (s : Script) (class : ℕ) → IsValid (made classes rows) → made classes rows ≡ s
     → row_fault s class ≡ None → new ≡ rows ++ record { class = class; steps = [] } ∷ [] → IsValid (made classes new)
 by_row classes rows new s class valid same ok more =
-    let first = free (nat_le (length classes) class) faults.Missing (if nat_le 4096 (length rows) then Some faults.Limit else None) (ap (λ x. row_fault x class) same ∙ ok) in
-    let room = leb-false 4096 (length rows) (free (nat_le 4096 (length rows)) faults.Limit None first.1).0 in
+    let first = free (nat_le (length classes) class) faults.Missing (if nat_le most_rows (length rows) then Some faults.Limit else None) (ap (λ x. row_fault x class) same ∙ ok) in
+    let room = leb-false most_rows (length rows) (free (nat_le most_rows (length rows)) faults.Limit None first.1).0 in
     let found = got classes class (leb-false (length classes) class first.0) in
     subst (λ x. IsValid (made classes x)) (sym more) (record {
       classes = valid.classes;
@@ -90,7 +90,7 @@ longer_row : (classes : List Class) (row : Row) (step : Step) → IsGoodRow clas
     → IsGoodRow classes (longer row step)
 longer_row classes row step good fields range ok =
     let known = is_known (accounts_of classes row.class) step in
-    let count = nat_le 4096 (length row.steps) in
+    let count = nat_le most_steps (length row.steps) in
     let within = is_within_limits step in
     let first = free (not known) faults.Missing (if count then Some faults.Limit else (if not within then Some faults.Limit else None)) ok in
     let second = free count faults.Limit (if not within then Some faults.Limit else None) first.1 in
@@ -98,7 +98,7 @@ longer_row classes row step good fields range ok =
     record {
       class = good.class;
       stated = good.stated;
-      count = omega (arith, leb-false 4096 (length row.steps) second.0, length-append row.steps (step ∷ []));
+      count = omega (arith, leb-false most_steps (length row.steps) second.0, length-append row.steps (step ∷ []));
       each = all_push (IsGoodStep good.class.accounts) row.steps step good.each
           (record {
             fields = fields;
@@ -114,7 +114,7 @@ stepped classes rows None step valid at fields range ok = valid
 stepped classes rows (Some row) step valid at fields range ok =
     record {
       classes = valid.classes;
-      rows = subst (λ n. n ≤ 4096) (sym (length-set rows (length rows - 1) (longer row step))) valid.rows;
+      rows = subst (λ n. n ≤ most_rows) (sym (length-set rows (length rows - 1) (longer row step))) valid.rows;
       each = all_set (IsGoodRow classes) rows (length rows - 1) (longer row step) valid.each
           (longer_row classes row step (all_at (IsGoodRow classes) rows (length rows - 1) row valid.each at) fields range ok);
     }

@@ -17,7 +17,7 @@ use Rattle.scenario_image.specs.declared.kind.StepKind.{StepKind}
 use Rattle.scenario_image.specs.declared.kind.StepKind.TheVariants as kinds
 use Rattle.scenario_image.specs.declared.step.Step.{Step}
 use Rattle.scenario_image.specs.declared.step.Step.TheVariants.{Event, Post, Need}
-use Rattle.scenario_image.specs.Script.{Row, accounts_of}
+use Rattle.scenario_image.specs.Script.{Row, accounts_of, most_rows, most_steps}
 
 -- ---- the kind of a step
 
@@ -129,9 +129,9 @@ of_kind accounts kinds.Need = need
 unfoldable pub step : List ℕ → Part Step
 step accounts = split kind_of kind (of_kind accounts)
 
--- at most 4,096 steps
+-- at most `most_steps` steps
 unfoldable pub steps : List ℕ → Part (List Step)
-steps accounts = counted (at_most 4096 (number w16)) (λ before. step accounts)
+steps accounts = counted (at_most most_steps (number w16)) (λ before. step accounts)
 
 -- ---- rows
 
@@ -142,6 +142,6 @@ row_of class steps = record { class = class; steps = steps }
 unfoldable pub row : List Class → Part Row
 row classes = split (λ r. r.class) (judged BadField (λ class. nat_lt class (length classes)) (number w16)) (λ class. last (λ r. r.steps) (row_of class) (steps (accounts_of classes class)))
 
--- at most 4,096 rows
+-- at most `most_rows` rows
 unfoldable pub rows : List Class → Part (List Row)
-rows classes = counted (at_most 4096 (number w16)) (λ before. row classes)
+rows classes = counted (at_most most_rows (number w16)) (λ before. row classes)

@@ -78,17 +78,25 @@ pub record IsGoodStep (accounts : List ℕ) (step : Step) : Type 0 where
   pub known : is_known accounts step ≡ true
   pub within : is_within_limits step ≡ true
 
--- a row is of a class that is there, and has at most 4,096 steps, which suit the class
+-- how many rows a scenario may have
+abbrev pub most_rows : ℕ
+most_rows = 4096
+
+-- how many steps a row may have
+abbrev pub most_steps : ℕ
+most_steps = 4096
+
+-- a row is of a class that is there, and has at most `most_steps` steps, which suit the class
 pub record IsGoodRow (classes : List Class) (row : Row) : Type 0 where
   pub class : Class
   pub stated : slice_get classes row.class ≡ Some class
-  pub count : length row.steps ≤ 4096
+  pub count : length row.steps ≤ most_steps
   pub each : AllByRecursion (IsGoodStep class.accounts) row.steps
 
--- at most 256 classes, and at most 4,096 rows
+-- at most 256 classes, and at most `most_rows` rows
 pub record IsValid (s : Script) : Type 0 where
   pub classes : length s.classes ≤ 256
-  pub rows : length s.rows ≤ 4096
+  pub rows : length s.rows ≤ most_rows
   pub each : AllByRecursion (IsGoodRow s.classes) s.rows
 
 -- ---- what is added, and what is refused
@@ -104,12 +112,12 @@ class_fault s = if nat_le 256 (length s.classes) then Some Limit else None
 abbrev pub with_row : Script → ℕ → Script
 with_row s class = record { classes = s.classes; rows = s.rows ++ record { class = class; steps = [] } ∷ [] }
 
--- a row is refused where there is no such class, and where there are 4,096
+-- a row is refused where there is no such class, and where there are `most_rows`
 abbrev pub row_fault : Script → ℕ → Option ScenarioFault
 row_fault s class =
     first_line (
     (nat_le (length s.classes) class, Missing)
-    ∷ (nat_le 4096 (length s.rows), Limit)
+    ∷ (nat_le most_rows (length s.rows), Limit)
     ∷ []
     )
 
@@ -137,13 +145,13 @@ accounts_in (Some class) = class.accounts
 abbrev pub accounts_of : List Class → ℕ → List ℕ
 accounts_of classes class = accounts_in (slice_get classes class)
 
--- the datagram's server is an account of the row's class; a row has at most 4,096 steps; the step is within its limits
+-- the datagram's server is an account of the row's class; a row has at most `most_steps`; the step is within its limits
 abbrev pub fault_in : List Class → Option Row → Step → Option ScenarioFault
 fault_in classes None step = Some Missing
 fault_in classes (Some row) step =
     first_line (
     (not (is_known (accounts_of classes row.class) step), Missing)
-    ∷ (nat_le 4096 (length row.steps), Limit)
+    ∷ (nat_le most_steps (length row.steps), Limit)
     ∷ (not (is_within_limits step), Limit)
     ∷ []
     )

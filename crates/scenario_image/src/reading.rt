@@ -5,6 +5,7 @@ ghost use Rattle.byte_layout.specs.Outcome.{Gives};
 ghost use Rattle.scenario_image.specs.Layout.{datagram, recv, tick, put, firmware, post, need, of_kind, step, steps, path_to};
 
 use crate::kind::{StepKind, kind_at};
+use crate::scenario::MOST_STEPS;
 use crate::step::{Step, is_account};
 use byte_layout::{
     Break, Items, ReadError, bytes_at, items_at, u8_at, u16_at, u16_at_most, u32_at,
@@ -166,6 +167,6 @@ pub fn steps_at<'a>(
 ) -> Result<(Vec<Step>, &'a [u8]), ReadError>
     ensures { Gives (λ x. (x.0.items, x.1.now)) result ((steps accounts.now).read bytes.now) }
 {
-    let (count, rest) = u16_at_most(4096, bytes)?;
+    let (count, rest) = u16_at_most(MOST_STEPS, bytes)?;
     items_at(&Steps { accounts }, alloc, usize::from(count), rest)
 }

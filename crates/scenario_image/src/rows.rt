@@ -10,6 +10,7 @@ ghost use Rattle.scenario_image.specs.Script.{accounts_of};
 
 use crate::reading::steps_at;
 use crate::row::Row;
+use crate::scenario::MOST_ROWS;
 use crate::writing::put_steps;
 use byte_layout::{
     Break, Items, PutItems, ReadError, items_at, put_items, put_u16, u16_at, u16_at_most,
@@ -101,7 +102,7 @@ pub(crate) fn rows_at<'a>(
 ) -> Result<(Vec<Row>, &'a [u8]), ReadError>
     ensures { Gives (λ x. (x.0.items, x.1.now)) result ((rows classes.now).read bytes.now) }
 {
-    let (count, rest) = u16_at_most(4096, bytes)?;
+    let (count, rest) = u16_at_most(MOST_ROWS, bytes)?;
     items_at(&Rows { classes }, alloc, usize::from(count), rest)
 }
 

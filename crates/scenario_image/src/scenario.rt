@@ -14,10 +14,10 @@ use std::marker::Model;
 const MOST_CLASSES: usize = 256;
 
 /// How many rows a scenario may have.
-const MOST_ROWS: usize = 4096;
+pub(crate) const MOST_ROWS: u16 = 4096;
 
 /// How many steps a row may have.
-const MOST_STEPS: usize = 4096;
+pub(crate) const MOST_STEPS: u16 = 4096;
 
 /// A scenario: classes of devices, and a row of steps for each device. Contracts see the two lists.
 ///
@@ -109,7 +109,7 @@ impl Scenario {
         if usize::from(class) >= self.classes.len() {
             return Some(ScenarioFault::Missing);
         }
-        if self.rows.len() >= MOST_ROWS {
+        if self.rows.len() >= usize::from(MOST_ROWS) {
             return Some(ScenarioFault::Limit);
         }
         None
@@ -144,7 +144,7 @@ impl Scenario {
         if !is_known(&self.classes, row.class(), step) {
             return Some(ScenarioFault::Missing);
         }
-        if row.steps().len() >= MOST_STEPS {
+        if row.steps().len() >= usize::from(MOST_STEPS) {
             return Some(ScenarioFault::Limit);
         }
         if !is_within_limits(step) {
