@@ -1,13 +1,12 @@
 -- A request gets one reply, whose code is that of the first line that applies.
 use Rattle.std.proofs.Common.{◌≡◌, ℕ, Bool, true, false, ◌∷◌, ◌++◌, Option, None, Some, option_map, refl, ap, ◌∙◌}
 use Rattle.std.specs.Bool.{if◌then◌else◌}
-use Rattle.device_requests.specs.Options.{has_unrecognized_critical, segments_of}
+use Rattle.device_requests.specs.Options.{has_unrecognized_critical, segments_of, path_of}
 use Rattle.coap_codec.specs.Message.{Parts, spelling}
 use Rattle.coap_codec.specs.declared.kind.Kind.TheVariants.{Con, Non, Ack}
-use Rattle.device_requests.specs.Answers.{Outcome, answered, bare}
+use Rattle.device_requests.specs.Answer.{Outcome, answered, bare}
 use Rattle.device_requests.specs.declared.answer.Code.TheVariants.{BadOption}
-use Rattle.device_requests.specs.Segments.{path_of}
-use Rattle.device_requests.specs.Requests.{outcome_of, outcome_on}
+use Rattle.device_requests.specs.Request.{outcome_of, outcome_on}
 use Rattle.device_machine.specs.Observing.{noted}
 use Rattle.device_machine.specs.State.{Flat, with_client}
 use Rattle.device_machine.specs.Reactions.{acted, on_outcome, reply_to, response, sent_to}

@@ -10,14 +10,13 @@ use Rattle.coap_codec.specs.declared.kind.Kind.TheVariants.{Con, Non, Ack}
 use Rattle.notifier.specs.Observed.{cancelled, is_named, next_number, number_for, registered}
 use Rattle.notifier.specs.declared.observation.Observation.{Observation}
 use Rattle.object_defs.specs.declared.path.Path.{Path}
-use Rattle.device_requests.specs.Answers.{Outcome}
-use Rattle.device_requests.specs.Interests.{interest_of, interest_on}
-use Rattle.device_requests.specs.Options.{has_unrecognized_critical, segments_of}
-use Rattle.device_requests.specs.Requests.{outcome_of}
-use Rattle.device_requests.specs.Segments.{path_of}
+use Rattle.device_requests.specs.Answer.{Outcome}
+use Rattle.device_requests.specs.Observe.{interest_of, interest_on}
+use Rattle.device_requests.specs.Options.{has_unrecognized_critical, segments_of, path_of}
+use Rattle.device_requests.specs.Request.{outcome_of}
 use Rattle.device_requests.specs.declared.answer.Answer.{Answer}
-use Rattle.device_requests.specs.declared.interest.Interest.{Interest}
-use Rattle.device_requests.specs.declared.interest.Interest.TheVariants.{Register}
+use Rattle.device_requests.specs.declared.observe.Interest.{Interest}
+use Rattle.device_requests.specs.declared.observe.Interest.TheVariants.{Register}
 use Rattle.device_notifications.specs.Message.{format_option, observe_option}
 use Rattle.device_notifications.specs.Second.{is_content}
 use Rattle.device_machine.specs.Observing.{Noted, begun, entered, lacks_place, noted, noted_by, unobserved}

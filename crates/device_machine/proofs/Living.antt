@@ -26,8 +26,8 @@ use Rattle.notifier.specs.declared.observation.Observation.{Observation}
 use Rattle.device_machine.specs.Observing.{Noted, noted}
 use Rattle.device_machine.specs.State.{Kept, Flat, lifetime, is_live, living, with_client, with_observations}
 use Rattle.device_requests.specs.Managed.{Managed, has_account, with_stored}
-use Rattle.device_requests.specs.Answers.{Outcome}
-use Rattle.device_requests.specs.Requests.{outcome_of}
+use Rattle.device_requests.specs.Answer.{Outcome}
+use Rattle.device_requests.specs.Request.{outcome_of}
 use Rattle.device_machine.specs.Reactions.{Reaction, reply_to, kept_after, later, on_firmware, on_fresh, on_noted, on_outcome, on_reset, repeat_of, is_same, on_request, on_message, on_datagram, claims_confirmable, is_request, reaction_to}
 
 -- a filter behind a weaker one

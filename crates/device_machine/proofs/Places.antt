@@ -1,9 +1,9 @@
 -- What a request leaves that is answered and recorded with what is noted.
 use Rattle.std.proofs.Common.{◌≡◌, ℕ, Option, ◌∙◌}
 use Rattle.coap_codec.specs.Message.{Parts}
-use Rattle.device_requests.specs.Answers.{Leaves}
+use Rattle.device_requests.specs.Answer.{Leaves}
 use Rattle.device_requests.specs.Managed.{Managed}
-use Rattle.device_requests.specs.Requests.{outcome_of}
+use Rattle.device_requests.specs.Request.{outcome_of}
 use Rattle.device_requests.specs.declared.answer.Act.{Act as Deed}
 use Rattle.device_requests.specs.declared.answer.Answer.{Answer}
 use Rattle.device_machine.specs.Observing.{Noted, Notes, noted}

@@ -7,15 +7,15 @@ use Rattle.coap_codec.specs.declared.kind.Kind.{Kind}
 use Rattle.coap_codec.specs.declared.kind.Kind.TheVariants.{Con, Non, Ack, Rst}
 use Rattle.device_machine.specs.declared.event.Event.TheVariants.{Recv}
 use Rattle.notifier.specs.Observed.{cancelled, has_name, is_named, was_sent}
-use Rattle.device_requests.specs.Answers.{Outcome, code_byte}
-use Rattle.device_requests.specs.Interests.{interest_of}
+use Rattle.device_requests.specs.Answer.{Outcome, code_byte}
+use Rattle.device_requests.specs.Observe.{interest_of}
 use Rattle.device_requests.specs.declared.answer.Answer.{Answer}
 use Rattle.device_requests.specs.declared.answer.Code.{Code}
 use Rattle.device_requests.specs.declared.answer.Code.TheVariants.{Created, Deleted, Changed, Content, BadRequest, Unauthorized, BadOption, NotFound, MethodNotAllowed, NotAcceptable, UnsupportedContentFormat, InternalServerError}
-use Rattle.device_requests.specs.declared.interest.Interest.{Interest}
-use Rattle.device_requests.specs.declared.interest.Interest.TheVariants.{Register, Cancel}
+use Rattle.device_requests.specs.declared.observe.Interest.{Interest}
+use Rattle.device_requests.specs.declared.observe.Interest.TheVariants.{Register, Cancel}
 use Rattle.device_machine.specs.Observing.{noted, noted_by}
-use Rattle.device_requests.specs.Requests.{outcome_of}
+use Rattle.device_requests.specs.Request.{outcome_of}
 use Rattle.device_machine.specs.State.{Flat, Kept, with_client, with_observations}
 use Rattle.device_requests.proofs.Refusing.{refused_keeps}
 use Rattle.device_machine.specs.Reactions.{kept_after, on_message, on_outcome, on_reset, reaction_to, record_of, reply_to}

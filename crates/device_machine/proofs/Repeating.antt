@@ -12,10 +12,10 @@ use Rattle.device_requests.specs.declared.answer.Act.{Act as Deed}
 use Rattle.device_machine.specs.State.{Kept, Flat, lifetime, is_live, with_client, with_observations}
 use Rattle.notifier.specs.declared.observation.Observation.{Observation}
 use Rattle.device_machine.specs.Observing.{Noted, noted}
-use Rattle.device_requests.specs.Answers.{Outcome}
+use Rattle.device_requests.specs.Answer.{Outcome}
 use Rattle.device_requests.specs.Managed.{Managed, has_account}
 use Rattle.device_requests.proofs.Keeping.{keeps}
-use Rattle.device_requests.specs.Requests.{outcome_of}
+use Rattle.device_requests.specs.Request.{outcome_of}
 use Rattle.device_machine.specs.Reactions.{acted, sent_to, again, is_request, is_same, kept_after, later, on_fresh, on_message, on_outcome, on_request, reaction_to, record_of, repeat_of, reply_to}
 use Rattle.device_machine.specs.Laws.{IsFresh, IsAgain, is_sent}
 use Rattle.device_machine.proofs.Living.{clock_after, live_later}

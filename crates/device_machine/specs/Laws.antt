@@ -12,9 +12,9 @@ use Rattle.device_machine.specs.declared.output.Output.{Output}
 use Rattle.device_machine.specs.declared.output.Output.TheVariants.{Send, Act}
 use Rattle.device_requests.specs.declared.answer.Act.{Act as Deed}
 use Rattle.device_machine.specs.declared.recorded.Recorded.{Recorded}
-use Rattle.device_requests.specs.Answers.{code_byte}
+use Rattle.device_requests.specs.Answer.{code_byte}
 use Rattle.object_defs.specs.Lines.{first_line}
-use Rattle.device_requests.specs.Requests.{outcome_of}
+use Rattle.device_requests.specs.Request.{outcome_of}
 use Rattle.notifier.specs.Observed.{cancelled, has_name, is_named, number_for, was_sent}
 use Rattle.notifier.specs.declared.observation.Observation.{Observation}
 use Rattle.object_defs.specs.declared.path.Path.{Path}
@@ -24,8 +24,8 @@ use Rattle.device_notifications.specs.Laws.{IsFresh as IsYoung}
 use Rattle.device_notifications.specs.Message.{observe_option}
 use Rattle.device_notifications.specs.Second.{is_content}
 use Rattle.device_machine.specs.Observing.{lacks_place}
-use Rattle.device_requests.specs.Interests.{interest_of}
-use Rattle.device_requests.specs.declared.interest.Interest.TheVariants.{Cancel, Register}
+use Rattle.device_requests.specs.Observe.{interest_of}
+use Rattle.device_requests.specs.declared.observe.Interest.TheVariants.{Cancel, Register}
 use Rattle.device_machine.specs.State.{Flat, lifetime}
 use Rattle.device_requests.specs.Managed.{has_account}
 use Rattle.device_requests.specs.Options.{has_unrecognized_critical}

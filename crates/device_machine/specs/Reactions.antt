@@ -22,10 +22,10 @@ use Rattle.object_defs.specs.Path.{full_path}
 use Rattle.std.specs.Fmt.{decimal}
 use Rattle.object_defs.specs.declared.path.FullPath.{FullPath}
 use Rattle.object_defs.specs.declared.path.InstancePath.{InstancePath}
-use Rattle.device_requests.specs.Answers.{Outcome, code_byte}
+use Rattle.device_requests.specs.Answer.{Outcome, code_byte}
 use Rattle.device_requests.specs.Managed.{has_account, with_stored}
 use Rattle.device_requests.specs.Options.{has_unrecognized_critical}
-use Rattle.device_requests.specs.Requests.{outcome_of}
+use Rattle.device_requests.specs.Request.{outcome_of}
 use Rattle.device_machine.specs.declared.recorded.Recorded.{Recorded}
 use Rattle.notifier.specs.Observed.{without_reset}
 use Rattle.device_notifications.specs.Message.{format_option, observe_option}

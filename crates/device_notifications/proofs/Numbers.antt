@@ -8,7 +8,7 @@ use Rattle.notifier.specs.Observed.{next_number, notified}
 use Rattle.notifier.specs.declared.observation.Observation.{Observation}
 use Rattle.coap_codec.specs.Message.{spelling}
 use Rattle.coap_codec.specs.declared.kind.Kind.TheVariants.{Non}
-use Rattle.device_requests.specs.Answers.{code_byte}
+use Rattle.device_requests.specs.Answer.{code_byte}
 use Rattle.device_requests.specs.Managed.{Managed}
 use Rattle.device_requests.specs.declared.answer.Answer.{Answer}
 use Rattle.device_notifications.specs.declared.datagram.Datagram.{Datagram}

@@ -5,7 +5,7 @@ use Rattle.coap_codec.specs.Number.{shortest}
 use Rattle.coap_codec.specs.declared.kind.Kind.TheVariants.{Non}
 use Rattle.coap_codec.specs.declared.option.Opt.{Opt}
 use Rattle.notifier.specs.declared.observation.Observation.{Observation}
-use Rattle.device_requests.specs.Answers.{code_byte}
+use Rattle.device_requests.specs.Answer.{code_byte}
 use Rattle.device_requests.specs.declared.answer.Answer.{Answer}
 use Rattle.device_notifications.specs.declared.datagram.Datagram.{Datagram}
 

@@ -5,9 +5,9 @@ use Rattle.notifier.specs.Observed.{next_number, notified}
 use Rattle.notifier.specs.Trigger.{is_due, is_triggered}
 use Rattle.notifier.specs.declared.attribute.Name.TheVariants as name
 use Rattle.notifier.specs.declared.observation.Observation.{Observation}
-use Rattle.device_requests.specs.Answers.{code_byte}
+use Rattle.device_requests.specs.Answer.{code_byte}
 use Rattle.device_requests.specs.Managed.{Managed}
-use Rattle.device_requests.specs.Reads.{read_answer}
+use Rattle.device_requests.specs.Read.{read_answer}
 use Rattle.device_requests.specs.declared.answer.Answer.{Answer}
 use Rattle.device_notifications.specs.declared.datagram.Datagram.{Datagram}
 use Rattle.device_notifications.specs.declared.verdict.Verdict.{Verdict}

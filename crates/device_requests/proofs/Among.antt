@@ -22,12 +22,14 @@ among-map f w [] h = absurd h
 among-map f w (v ∷ ws) (inl e) = inl (ap f e)
 among-map f w (v ∷ ws) (inr h) = inr (among-map f w ws h)
 
-pub mapped : {W X : Type 0} (f : W → X) (x : X) (ws : List W) → IsAmong x (map f ws) → (w : W) × IsAmong w ws × (f w ≡ x)
+pub mapped : {W X : Type 0} (f : W → X) (x : X) (ws : List W) → IsAmong x (map f ws) → (w : W) × IsAmong w ws
+    × (f w ≡ x)
 mapped f x [] h = absurd h
 mapped f x (v ∷ ws) (inl e) = (v, inl refl, e)
 mapped f x (v ∷ ws) (inr h) = let k = mapped f x ws h in (k.0, inr k.1, k.2)
 
-pub among-filter : {X : Type 0} (p : X → Bool) (x : X) (xs : List X) → p x ≡ true → IsAmong x xs → IsAmong x (filter p xs)
+pub among-filter : {X : Type 0} (p : X → Bool) (x : X) (xs : List X) → p x ≡ true → IsAmong x xs
+    → IsAmong x (filter p xs)
 among-filter p x [] k h = absurd h
 among-filter p x (z ∷ xs) k (inl e) =
     let q : p z ≡ true = rw e k in
@@ -41,7 +43,8 @@ among-filter p x (z ∷ xs) k (inr h) =
 pub filtered : {X : Type 0} (p : X → Bool) (x : X) (xs : List X) → IsAmong x (filter p xs) → IsAmong x xs × (p x ≡ true)
 filtered p x [] h = absurd h
 filtered p x (z ∷ xs) h =
-    elim (p z) as (λ b. p z ≡ b → IsAmong x (cond b (z ∷ filter p xs) (filter p xs)) → IsAmong x (z ∷ xs) × (p x ≡ true)) [
+    elim (p z) as (λ b. p z ≡ b → IsAmong x (cond b (z ∷ filter p xs) (filter p xs)) → IsAmong x (z ∷ xs)
+    × (p x ≡ true)) [
       | true ↦ λ e k. elim k [
         | inl i ↦ (inl i, rw (← i) e)
         | inr j ↦ let r = filtered p x xs j in (inr r.0, r.1)
@@ -49,14 +52,16 @@ filtered p x (z ∷ xs) h =
       | false ↦ λ e k. let r = filtered p x xs k in (inr r.0, r.1)
     ] refl h
 
-pub among-flat : {W X : Type 0} (f : W → List X) (w : W) (x : X) (ws : List W) → IsAmong w ws → IsAmong x (f w) → IsAmong x (flat_map f ws)
+pub among-flat : {W X : Type 0} (f : W → List X) (w : W) (x : X) (ws : List W) → IsAmong w ws → IsAmong x (f w)
+    → IsAmong x (flat_map f ws)
 among-flat f w x [] h k = absurd h
 among-flat f w x (v ∷ ws) (inl e) k =
     let l : IsAmong x (f v) = rw e k in
     among-left x (f v) (flat_map f ws) l
 among-flat f w x (v ∷ ws) (inr h) k = among-right x (f v) (flat_map f ws) (among-flat f w x ws h k)
 
-pub flattened : {W X : Type 0} (f : W → List X) (x : X) (ws : List W) → IsAmong x (flat_map f ws) → (w : W) × IsAmong w ws × IsAmong x (f w)
+pub flattened : {W X : Type 0} (f : W → List X) (x : X) (ws : List W) → IsAmong x (flat_map f ws) → (w : W)
+    × IsAmong w ws × IsAmong x (f w)
 flattened f x [] h = absurd h
 flattened f x (v ∷ ws) h =
     elim (among-either x (f v) (flat_map f ws) h) [
@@ -83,4 +88,5 @@ any_found {X} p (z ∷ xs) h =
 pub among-any : {X : Type 0} (p : X → Bool) (x : X) (xs : List X) → IsAmong x xs → p x ≡ true → list_any p xs ≡ true
 among-any p x [] h k = absurd h
 among-any p x (z ∷ xs) (inl e) k = let q : p z ≡ true = rw e k in rw q refl
-among-any p x (z ∷ xs) (inr h) k = elim (p z) as (λ b. (b || list_any p xs) ≡ true) [ true ↦ refl | false ↦ among-any p x xs h k ]
+among-any p x (z ∷ xs) (inr h) k =
+    elim (p z) as (λ b. (b || list_any p xs) ≡ true) [ true ↦ refl | false ↦ among-any p x xs h k ]

@@ -15,21 +15,20 @@ use Rattle.device_requests.specs.declared.answer.Code.TheVariants.{Created, Dele
 use Rattle.device_requests.specs.declared.operation.Operation.{Operation}
 use Rattle.device_requests.specs.declared.operation.Operation.TheVariants.{Read, Discover, WriteAttributes, WriteReplace, WritePartial, Create, Execute, Delete}
 use Rattle.notifier.specs.Attributes.{Numbers}
-use Rattle.device_requests.specs.AttributeWrites.{annotate_unless, attributes_given, may_annotate}
-use Rattle.device_requests.specs.Answers.{Outcome, answered, bare, content, refused_or}
+use Rattle.device_requests.specs.WriteAttributes.{annotate_unless, attributes_given, may_annotate}
+use Rattle.device_requests.specs.Answer.{Outcome, answered, bare, content, refused_or}
 use Rattle.object_defs.specs.Lines.{first_line}
-use Rattle.device_requests.specs.Creates.{Newborn, create_unless, is_tlv, lacks_room, newborn}
-use Rattle.device_requests.specs.Deletes.{is_fixed, delete_lines, delete_unless}
-use Rattle.device_requests.specs.Executes.{execute_lines, execute_unless}
-use Rattle.device_requests.specs.Discovers.{discover_answer, discover_lines, discover_payload}
-use Rattle.device_requests.specs.Operations.{operation_of}
-use Rattle.device_requests.specs.Options.{accept_of, content_format_of, has_query, has_unrecognized_critical, queries_of, segments_of}
-use Rattle.device_requests.specs.Reads.{can_be_read, content_in, format_at, read_payload}
-use Rattle.device_requests.specs.Requests.{outcome_at, outcome_by, outcome_on, outcome_of}
-use Rattle.device_requests.specs.Segments.{path_of}
+use Rattle.device_requests.specs.Create.{Newborn, create_unless, is_tlv, lacks_room, newborn}
+use Rattle.device_requests.specs.Targets.{is_fixed, exists}
+use Rattle.device_requests.specs.Delete.{delete_lines, delete_unless}
+use Rattle.device_requests.specs.Execute.{execute_lines, execute_unless}
+use Rattle.device_requests.specs.Discover.{discover_answer, discover_lines, discover_payload}
+use Rattle.device_requests.specs.Operation.{operation_of}
+use Rattle.device_requests.specs.Options.{accept_of, content_format_of, has_query, has_unrecognized_critical, queries_of, segments_of, path_of}
+use Rattle.device_requests.specs.Read.{can_be_read, content_in, format_at, read_payload}
+use Rattle.device_requests.specs.Request.{outcome_at, outcome_by, outcome_on, outcome_of}
 use Rattle.device_requests.specs.Access.{may_read, rights_on}
-use Rattle.device_requests.specs.Targets.{exists}
-use Rattle.device_requests.specs.Writes.{event_of, left, mode_at, new_values, write_lines, write_outcome, write_unless}
+use Rattle.device_requests.specs.Write.{event_of, left, mode_at, new_values, write_lines, write_outcome, write_unless}
 use Rattle.device_requests.specs.Managed.{Managed}
 use Rattle.device_requests.specs.Laws.{operation_lines, lines_by, lines_on, request_lines}
 
@@ -38,16 +37,20 @@ abbrev Says : Answer → List (Bool × Code) → Type 0
 Says answer lines = first_line lines ≡ Some answer.code
 
 -- lines with one behind them that always applies
-ended : (lines : List (Bool × Code)) (code : Code) → first_line (lines ++ (true, code) ∷ []) ≡ Some (unwrap_or (first_line lines) code)
+ended : (lines : List (Bool × Code)) (code : Code) → first_line (lines ++ (true, code) ∷ [])
+    ≡ Some (unwrap_or (first_line lines) code)
 ended [] code = refl
 ended (line ∷ lines) code =
-    elim line.0 as (λ b. cond b (Some line.1) (first_line (lines ++ (true, code) ∷ [])) ≡ Some (unwrap_or (cond b (Some line.1) (first_line lines)) code)) [
+    elim line.0 as (λ b. cond b (Some line.1) (first_line (lines ++ (true, code) ∷ []))
+    ≡ Some (unwrap_or (cond b (Some line.1) (first_line lines)) code)) [
       | true ↦ refl
       | false ↦ ended lines code
     ]
 
 read_says : (a b s c : Bool) (format : Option Format) (payload : Option (List ℕ))
-    → let lines : List (Bool × Code) = (a, Unauthorized) ∷ (b, NotFound) ∷ (s, Unauthorized) ∷ (c, MethodNotAllowed) ∷ (not (is_some format), NotAcceptable) ∷ (not (is_some payload), InternalServerError) ∷ [] in
+    → let lines : List (Bool × Code) =
+    (a, Unauthorized) ∷ (b, NotFound) ∷ (s, Unauthorized) ∷ (c, MethodNotAllowed)
+    ∷ (not (is_some format), NotAcceptable) ∷ (not (is_some payload), InternalServerError) ∷ [] in
     Says (refused_or (first_line lines) (content_in format payload)) (lines ++ (true, Content) ∷ [])
 read_says true b s c format payload = refl
 read_says false true s c format payload = refl
@@ -57,24 +60,29 @@ read_says false false false false None payload = refl
 read_says false false false false (Some format) None = refl
 read_says false false false false (Some format) (Some payload) = refl
 
-refused_code : (code : Option Code) (format : ℕ) (payload : List ℕ) → unwrap_or code Content ≡ (refused_or code (content format payload)).code
+refused_code : (code : Option Code) (format : ℕ) (payload : List ℕ) → unwrap_or code Content
+    ≡ (refused_or code (content format payload)).code
 refused_code None format payload = refl
 refused_code (Some code) format payload = refl
 
-write_code : (code : Option Code) (client : Managed) (stored : Stored) → unwrap_or code Changed ≡ (write_unless code client stored).answer.code
+write_code : (code : Option Code) (client : Managed) (stored : Stored) → unwrap_or code Changed
+    ≡ (write_unless code client stored).answer.code
 write_code None client stored = refl
 write_code (Some code) client stored = refl
 
-execute_code : (code : Option Code) (client : Managed) (path : Path) → unwrap_or code Changed ≡ (execute_unless code client path).answer.code
+execute_code : (code : Option Code) (client : Managed) (path : Path) → unwrap_or code Changed
+    ≡ (execute_unless code client path).answer.code
 execute_code None client path = refl
 execute_code (Some code) client path = refl
 
-delete_code : (code : Option Code) (client : Managed) (path : Path) → unwrap_or code Deleted ≡ (delete_unless code client path).answer.code
+delete_code : (code : Option Code) (client : Managed) (path : Path) → unwrap_or code Deleted
+    ≡ (delete_unless code client path).answer.code
 delete_code None client path = refl
 delete_code (Some code) client path = refl
 
 create_says : (a b c d e room : Bool) (client : Managed) (server o : ℕ) (new : Option Newborn)
-    → let lines : List (Bool × Code) = (a, Unauthorized) ∷ (b, NotFound) ∷ (c, Unauthorized) ∷ (d, MethodNotAllowed) ∷ (e, UnsupportedContentFormat)
+    → let lines : List (Bool × Code) =
+    (a, Unauthorized) ∷ (b, NotFound) ∷ (c, Unauthorized) ∷ (d, MethodNotAllowed) ∷ (e, UnsupportedContentFormat)
     ∷ (not (is_some new), BadRequest) ∷ (room, InternalServerError) ∷ [] in
     Says (create_unless (first_line lines) client server o new).answer (lines ++ (true, Created) ∷ [])
 create_says true b c d e room client server o new = refl
@@ -87,7 +95,8 @@ create_says false false false false false true client server o (Some n) = refl
 create_says false false false false false false client server o (Some n) = refl
 
 attributes_says : (a b c : Bool) (client : Managed) (given : Option Numbers)
-    → let lines : List (Bool × Code) = (a, Unauthorized) ∷ (b, NotFound) ∷ (c, Unauthorized) ∷ (not (is_some given), BadRequest) ∷ [] in
+    → let lines : List (Bool × Code) =
+    (a, Unauthorized) ∷ (b, NotFound) ∷ (c, Unauthorized) ∷ (not (is_some given), BadRequest) ∷ [] in
     Says (annotate_unless (first_line lines) client given).answer (lines ++ (true, Changed) ∷ [])
 attributes_says true b c client given = refl
 attributes_says false true c client given = refl
@@ -95,46 +104,59 @@ attributes_says false false true client given = refl
 attributes_says false false false client None = refl
 attributes_says false false false client (Some m) = refl
 
-discover_says : (client : Managed) (server : ℕ) (path : Path) → Says (discover_answer client server path) (discover_lines client server path ++ (true, Content) ∷ [])
+discover_says : (client : Managed) (server : ℕ) (path : Path)
+    → Says (discover_answer client server path) (discover_lines client server path ++ (true, Content) ∷ [])
 discover_says client server path =
     ended (discover_lines client server path) Content
     ∙ ap Some (refused_code (first_line (discover_lines client server path)) 40 (discover_payload client server path))
 
 write_says : (client : Managed) (server : ℕ) (mode : Mode) (path : Path) (number : Option ℕ) (payload : List ℕ)
-    → Says (write_outcome client server mode path number payload).answer (write_lines client server mode path number payload ++ (true, Changed) ∷ [])
+    → Says (write_outcome client server mode path number payload).answer
+    (write_lines client server mode path number payload ++ (true, Changed) ∷ [])
 write_says client server mode path number payload =
     ended (write_lines client server mode path number payload) Changed
     ∙ ap Some (write_code (first_line (write_lines client server mode path number payload)) client
-    (left (mode_at mode path) client path (new_values client path number payload) (event_of path (new_values client path number payload))))
+    (left (mode_at mode path) client path (new_values client path number payload)
+    (event_of path (new_values client path number payload))))
 
-says_at : (client : Managed) (server : ℕ) (m : Parts) (path : Path) (operation : Operation) → Says (outcome_at client server m path operation).answer (operation_lines client server m path operation)
+says_at : (client : Managed) (server : ℕ) (m : Parts) (path : Path) (operation : Operation)
+    → Says (outcome_at client server m path operation).answer (operation_lines client server m path operation)
 says_at client server m path Read =
-    read_says (object_in path == 0) (not (exists client.catalogue client.store path)) (not (may_read client server path)) (not (can_be_read client.catalogue path))
+    read_says (object_in path == 0) (not (exists client.catalogue client.store path))
+    (not (may_read client server path)) (not (can_be_read client.catalogue path))
     (format_at client.catalogue path (accept_of m.options)) (read_payload client server path (accept_of m.options))
 says_at client server m path Discover = discover_says client server path
 says_at client server m path WriteAttributes =
-    attributes_says (object_in path == 0) (not (exists client.catalogue client.store path)) (not (may_annotate client server path)) client
+    attributes_says (object_in path == 0) (not (exists client.catalogue client.store path))
+    (not (may_annotate client server path)) client
     (attributes_given client server path (queries_of m.options))
-says_at client server m path WriteReplace = write_says client server Replace path (content_format_of m.options) m.payload
+says_at client server m path WriteReplace =
+    write_says client server Replace path (content_format_of m.options) m.payload
 says_at client server m path WritePartial = write_says client server Update path (content_format_of m.options) m.payload
 says_at client server m path Create =
     let o = object_in path in
     let new = newborn client o m.payload in
-    create_says (o == 0) (not (exists client.catalogue client.store path)) (not (rights_on client server path).create) (is_fixed o)
+    create_says (o == 0) (not (exists client.catalogue client.store path)) (not (rights_on client server path).create)
+    (is_fixed o)
     (not (is_tlv (content_format_of m.options))) (lacks_room client o new) client server o new
 says_at client server m path Execute =
     ended (execute_lines client server path (content_format_of m.options) m.payload) Changed
-    ∙ ap Some (execute_code (first_line (execute_lines client server path (content_format_of m.options) m.payload)) client path)
+    ∙ ap Some (execute_code (first_line (execute_lines client server path (content_format_of m.options) m.payload))
+    client path)
 says_at client server m path Delete =
-    ended (delete_lines client server path) Deleted ∙ ap Some (delete_code (first_line (delete_lines client server path)) client path)
+    ended (delete_lines client server path) Deleted
+    ∙ ap Some (delete_code (first_line (delete_lines client server path)) client path)
 
-says_by : (client : Managed) (server : ℕ) (m : Parts) (path : Path) (operation : Option Operation) → Says (outcome_by client server m path operation).answer (lines_by client server m path operation)
+says_by : (client : Managed) (server : ℕ) (m : Parts) (path : Path) (operation : Option Operation)
+    → Says (outcome_by client server m path operation).answer (lines_by client server m path operation)
 says_by client server m path None = refl
 says_by client server m path (Some operation) = says_at client server m path operation
 
-says_on : (client : Managed) (server : ℕ) (m : Parts) (path : Option Path) → Says (outcome_on client server m path).answer (lines_on client server m path)
+says_on : (client : Managed) (server : ℕ) (m : Parts) (path : Option Path)
+    → Says (outcome_on client server m path).answer (lines_on client server m path)
 says_on client server m None = refl
-says_on client server m (Some path) = says_by client server m path (operation_of m.code (accept_of m.options) (has_query m.options) path)
+says_on client server m (Some path) =
+    says_by client server m path (operation_of m.code (accept_of m.options) (has_query m.options) path)
 
 says_if : (b : Bool) (client : Managed) (outcome : Outcome) (lines : List (Bool × Code)) → Says outcome.answer lines
     → Says (if b then answered client (bare BadOption) else outcome).answer ((b, BadOption) ∷ lines)
@@ -142,7 +164,9 @@ says_if true client outcome lines h = refl
 says_if false client outcome lines h = h
 
 -- the answer's code is that of the first line that the request meets
-pub says : (client : Managed) (server : ℕ) (m : Parts) → first_line (request_lines client server m) ≡ Some (outcome_of client server m).answer.code
+pub says : (client : Managed) (server : ℕ) (m : Parts) → first_line (request_lines client server m)
+    ≡ Some (outcome_of client server m).answer.code
 says client server m =
     let path = path_of (segments_of m.options) in
-    says_if (has_unrecognized_critical m.options) client (outcome_on client server m path) (lines_on client server m path) (says_on client server m path)
+    says_if (has_unrecognized_critical m.options) client (outcome_on client server m path)
+    (lines_on client server m path) (says_on client server m path)

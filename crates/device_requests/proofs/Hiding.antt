@@ -15,10 +15,10 @@ use Rattle.device_requests.specs.declared.answer.Answer.{Answer}
 use Rattle.device_requests.specs.declared.answer.Code.{Code}
 use Rattle.device_requests.specs.declared.answer.Code.TheVariants.{Unauthorized, NotFound, MethodNotAllowed, NotAcceptable, InternalServerError}
 use Rattle.device_requests.specs.Access.{may_read, reads}
-use Rattle.device_requests.specs.Answers.{bare, refused_or}
+use Rattle.device_requests.specs.Answer.{bare, refused_or}
 use Rattle.device_requests.specs.Hiding.{UnreadableIsHidden, UnreadableIsRefused}
 use Rattle.device_requests.specs.Managed.{Managed, with_stored}
-use Rattle.device_requests.specs.Reads.{can_be_read, content_in, format_at, read_payload}
+use Rattle.device_requests.specs.Read.{can_be_read, content_in, format_at, read_payload}
 use Rattle.device_requests.specs.Targets.{defined, exists}
 
 stopped : (a b s : Bool) (lines : List (Bool × Code)) (answer : Answer) → s ≡ false
@@ -32,15 +32,18 @@ stopped false false false lines answer h = inl refl
 pub refused : UnreadableIsRefused
 refused client server path accept h =
     stopped (object_in path == 0) (not (exists client.catalogue client.store path)) (may_read client server path)
-    ((not (can_be_read client.catalogue path), MethodNotAllowed) ∷ (not (is_some (format_at client.catalogue path accept)), NotAcceptable)
+    ((not (can_be_read client.catalogue path), MethodNotAllowed)
+    ∷ (not (is_some (format_at client.catalogue path accept)), NotAcceptable)
     ∷ (not (is_some (read_payload client server path accept)), InternalServerError) ∷ [])
     (content_in (format_at client.catalogue path accept) (read_payload client server path accept)) h
 
 -- maps that agree on what passes
-same_map : (p : ℕ → Bool) (f g : ℕ → Tree) → ((i : ℕ) → p i ≡ true → f i ≡ g i) → (ns : List ℕ) → map f (filter p ns) ≡ map g (filter p ns)
+same_map : (p : ℕ → Bool) (f g : ℕ → Tree) → ((i : ℕ) → p i ≡ true → f i ≡ g i) → (ns : List ℕ) → map f (filter p ns)
+    ≡ map g (filter p ns)
 same_map p f g h [] = refl
 same_map p f g h (n ∷ ns) =
-    elim (p n) as (λ b. (b ≡ true → f n ≡ g n) → map f (cond b (n ∷ filter p ns) (filter p ns)) ≡ map g (cond b (n ∷ filter p ns) (filter p ns))) [
+    elim (p n) as (λ b. (b ≡ true → f n ≡ g n) → map f (cond b (n ∷ filter p ns) (filter p ns))
+    ≡ map g (cond b (n ∷ filter p ns) (filter p ns))) [
       | true ↦ λ k. λ j. k refl j ∷ same_map p f g h ns j
       | false ↦ λ k. same_map p f g h ns
     ] (h n)
@@ -51,8 +54,10 @@ answer_with client o accept may payload =
     let format = format_at client.catalogue (Object o) accept in
     let shown = option_and_then (λ f. payload) format in
     refused_or (first_line (
-    (o == 0, Unauthorized) ∷ (not (is_some (object_of client.catalogue o)), NotFound) ∷ (not may, Unauthorized) ∷ (false, MethodNotAllowed)
-    ∷ (not (is_some format), NotAcceptable) ∷ (not (is_some shown), InternalServerError) ∷ [])) (content_in format shown)
+    (o == 0, Unauthorized) ∷ (not (is_some (object_of client.catalogue o)), NotFound) ∷ (not may, Unauthorized)
+    ∷ (false, MethodNotAllowed)
+    ∷ (not (is_some format), NotAcceptable) ∷ (not (is_some shown), InternalServerError) ∷ []))
+    (content_in format shown)
 
 abbrev payload_with : ℕ → List ℕ → (ℕ → Bool) → (ℕ → Tree) → Option (List ℕ)
 payload_with o instances p node = within_limit (shortest_tlv (listed (map node (filter p instances))))
@@ -65,9 +70,12 @@ hidden client stored server o accept h =
     let tests : reads stored (length client.accounts) server o ≡ p = λ j i. h.rights i j in
     let may : may_read (with_stored client stored) server (Object o) ≡ may_read client server (Object o) =
     ap (λ (t : (ℕ → Bool) × List ℕ). length t.1 == 0 || list_any t.0 t.1) (λ j. (tests j, h.instances j)) in
-    let lists : payload_with o (instances_of stored o) (reads stored (length client.accounts) server o) new ≡ payload_with o (instances_of client.store o) p new =
+    let lists : payload_with o (instances_of stored o) (reads stored (length client.accounts) server o) new
+    ≡ payload_with o (instances_of client.store o) p new =
     ap (λ (t : (ℕ → Bool) × List ℕ). payload_with o t.1 t.0 new) (λ j. (tests j, h.instances j)) in
-    let nodes : payload_with o (instances_of client.store o) p new ≡ payload_with o (instances_of client.store o) p old =
+    let nodes : payload_with o (instances_of client.store o) p new
+    ≡ payload_with o (instances_of client.store o) p old =
     ap (λ ts. within_limit (shortest_tlv (listed ts)))
-    (same_map p new old (λ i r. ap (λ pairs. instance i (nodes_of pairs)) (h.values i r)) (instances_of client.store o)) in
+    (same_map p new old (λ i r. ap (λ pairs. instance i (nodes_of pairs)) (h.values i r))
+    (instances_of client.store o)) in
     ap (λ (t : Bool × Option (List ℕ)). answer_with client o accept t.0 t.1) (λ j. (may j, (lists ∙ nodes) j))

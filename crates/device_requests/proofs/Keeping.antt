@@ -12,76 +12,93 @@ use Rattle.device_requests.specs.declared.answer.Code.TheVariants.{BadOption}
 use Rattle.device_requests.specs.declared.operation.Operation.{Operation}
 use Rattle.device_requests.specs.declared.operation.Operation.TheVariants.{Read, Discover, WriteAttributes, WriteReplace, WritePartial, Create, Execute, Delete}
 use Rattle.notifier.specs.Attributes.{Numbers}
-use Rattle.device_requests.specs.AttributeWrites.{annotate_unless, attribute_lines, attributes_given}
-use Rattle.device_requests.specs.Answers.{Outcome, answered, bare}
+use Rattle.device_requests.specs.WriteAttributes.{annotate_unless, attribute_lines, attributes_given}
+use Rattle.device_requests.specs.Answer.{Outcome, answered, bare}
 use Rattle.device_requests.specs.Managed.{Managed}
 use Rattle.object_defs.specs.Path.{object_in}
-use Rattle.device_requests.specs.Creates.{Newborn, create_lines, create_unless, newborn}
-use Rattle.device_requests.specs.Deletes.{delete_lines, delete_unless}
-use Rattle.device_requests.specs.Executes.{execute_lines, execute_unless}
-use Rattle.device_requests.specs.Operations.{operation_of}
-use Rattle.device_requests.specs.Options.{accept_of, content_format_of, has_query, has_unrecognized_critical, queries_of, segments_of}
-use Rattle.device_requests.specs.Requests.{outcome_at, outcome_by, outcome_on, outcome_of}
-use Rattle.device_requests.specs.Segments.{path_of}
-use Rattle.device_requests.specs.Writes.{event_of, left, mode_at, new_values, write_lines, write_outcome, write_unless}
+use Rattle.device_requests.specs.Create.{Newborn, create_lines, create_unless, newborn}
+use Rattle.device_requests.specs.Delete.{delete_lines, delete_unless}
+use Rattle.device_requests.specs.Execute.{execute_lines, execute_unless}
+use Rattle.device_requests.specs.Operation.{operation_of}
+use Rattle.device_requests.specs.Options.{accept_of, content_format_of, has_query, has_unrecognized_critical, queries_of, segments_of, path_of}
+use Rattle.device_requests.specs.Request.{outcome_at, outcome_by, outcome_on, outcome_of}
+use Rattle.device_requests.specs.Write.{event_of, left, mode_at, new_values, write_lines, write_outcome, write_unless}
 use Rattle.device_requests.specs.Laws.{KeepsFrame}
 
-unless_keeps : (code : Option Code) (client : Managed) (stored : Stored) → KeepsFrame client (write_unless code client stored).client
+unless_keeps : (code : Option Code) (client : Managed) (stored : Stored)
+    → KeepsFrame client (write_unless code client stored).client
 unless_keeps None client stored = record { accounts = refl; catalogue = refl }
 unless_keeps (Some code) client stored = record { accounts = refl; catalogue = refl }
 
 same : (client : Managed) → KeepsFrame client client
 same client = record { accounts = refl; catalogue = refl }
 
-write_keeps : (client : Managed) (server : ℕ) (mode : Mode) (path : Path) (number : Option ℕ) (payload : List ℕ) → KeepsFrame client (write_outcome client server mode path number payload).client
+write_keeps : (client : Managed) (server : ℕ) (mode : Mode) (path : Path) (number : Option ℕ) (payload : List ℕ)
+    → KeepsFrame client (write_outcome client server mode path number payload).client
 write_keeps client server mode path number payload =
     unless_keeps (first_line (write_lines client server mode path number payload)) client
-    (left (mode_at mode path) client path (new_values client path number payload) (event_of path (new_values client path number payload)))
+    (left (mode_at mode path) client path (new_values client path number payload)
+    (event_of path (new_values client path number payload)))
 
-create_keeps : (code : Option Code) (client : Managed) (server o : ℕ) (new : Option Newborn) → KeepsFrame client (create_unless code client server o new).client
+create_keeps : (code : Option Code) (client : Managed) (server o : ℕ) (new : Option Newborn)
+    → KeepsFrame client (create_unless code client server o new).client
 create_keeps None client server o None = record { accounts = refl; catalogue = refl }
 create_keeps None client server o (Some n) = record { accounts = refl; catalogue = refl }
 create_keeps (Some code) client server o new = record { accounts = refl; catalogue = refl }
 
-execute_keeps : (code : Option Code) (client : Managed) (path : Path) → KeepsFrame client (execute_unless code client path).client
+execute_keeps : (code : Option Code) (client : Managed) (path : Path)
+    → KeepsFrame client (execute_unless code client path).client
 execute_keeps None client path = record { accounts = refl; catalogue = refl }
 execute_keeps (Some code) client path = record { accounts = refl; catalogue = refl }
 
-delete_keeps : (code : Option Code) (client : Managed) (path : Path) → KeepsFrame client (delete_unless code client path).client
+delete_keeps : (code : Option Code) (client : Managed) (path : Path)
+    → KeepsFrame client (delete_unless code client path).client
 delete_keeps None client path = record { accounts = refl; catalogue = refl }
 delete_keeps (Some code) client path = record { accounts = refl; catalogue = refl }
 
-attributes_keep : (code : Option Code) (client : Managed) (given : Option Numbers) → KeepsFrame client (annotate_unless code client given).client
+attributes_keep : (code : Option Code) (client : Managed) (given : Option Numbers)
+    → KeepsFrame client (annotate_unless code client given).client
 attributes_keep None client None = record { accounts = refl; catalogue = refl }
 attributes_keep None client (Some m) = record { accounts = refl; catalogue = refl }
 attributes_keep (Some code) client given = record { accounts = refl; catalogue = refl }
 
-keeps_at : (client : Managed) (server : ℕ) (m : Parts) (path : Path) (operation : Operation) → KeepsFrame client (outcome_at client server m path operation).client
+keeps_at : (client : Managed) (server : ℕ) (m : Parts) (path : Path) (operation : Operation)
+    → KeepsFrame client (outcome_at client server m path operation).client
 keeps_at client server m path Read = same client
 keeps_at client server m path Discover = same client
 keeps_at client server m path WriteAttributes =
-    attributes_keep (first_line (attribute_lines client server path (attributes_given client server path (queries_of m.options)))) client
+    attributes_keep (first_line (attribute_lines client server path
+    (attributes_given client server path (queries_of m.options)))) client
     (attributes_given client server path (queries_of m.options))
-keeps_at client server m path WriteReplace = write_keeps client server Replace path (content_format_of m.options) m.payload
-keeps_at client server m path WritePartial = write_keeps client server Update path (content_format_of m.options) m.payload
+keeps_at client server m path WriteReplace =
+    write_keeps client server Replace path (content_format_of m.options) m.payload
+keeps_at client server m path WritePartial =
+    write_keeps client server Update path (content_format_of m.options) m.payload
 keeps_at client server m path Create =
-    create_keeps (first_line (create_lines client server path (content_format_of m.options) m.payload)) client server (object_in path)
+    create_keeps (first_line (create_lines client server path (content_format_of m.options) m.payload)) client server
+    (object_in path)
     (newborn client (object_in path) m.payload)
-keeps_at client server m path Execute = execute_keeps (first_line (execute_lines client server path (content_format_of m.options) m.payload)) client path
+keeps_at client server m path Execute =
+    execute_keeps (first_line (execute_lines client server path (content_format_of m.options) m.payload)) client path
 keeps_at client server m path Delete = delete_keeps (first_line (delete_lines client server path)) client path
 
-keeps_by : (client : Managed) (server : ℕ) (m : Parts) (path : Path) (operation : Option Operation) → KeepsFrame client (outcome_by client server m path operation).client
+keeps_by : (client : Managed) (server : ℕ) (m : Parts) (path : Path) (operation : Option Operation)
+    → KeepsFrame client (outcome_by client server m path operation).client
 keeps_by client server m path None = same client
 keeps_by client server m path (Some operation) = keeps_at client server m path operation
 
-keeps_on : (client : Managed) (server : ℕ) (m : Parts) (path : Option Path) → KeepsFrame client (outcome_on client server m path).client
+keeps_on : (client : Managed) (server : ℕ) (m : Parts) (path : Option Path)
+    → KeepsFrame client (outcome_on client server m path).client
 keeps_on client server m None = same client
-keeps_on client server m (Some path) = keeps_by client server m path (operation_of m.code (accept_of m.options) (has_query m.options) path)
+keeps_on client server m (Some path) =
+    keeps_by client server m path (operation_of m.code (accept_of m.options) (has_query m.options) path)
 
-keeps_if : (b : Bool) (client : Managed) (outcome : Outcome) → KeepsFrame client outcome.client → KeepsFrame client (if b then answered client (bare BadOption) else outcome).client
+keeps_if : (b : Bool) (client : Managed) (outcome : Outcome) → KeepsFrame client outcome.client
+    → KeepsFrame client (if b then answered client (bare BadOption) else outcome).client
 keeps_if true client outcome k = same client
 keeps_if false client outcome k = k
 
 -- a request leaves the accounts and the catalogue
 pub keeps : (client : Managed) (server : ℕ) (m : Parts) → KeepsFrame client (outcome_of client server m).client
-keeps client server m = keeps_if (has_unrecognized_critical m.options) client _ (keeps_on client server m (path_of (segments_of m.options)))
+keeps client server m =
+    keeps_if (has_unrecognized_critical m.options) client _ (keeps_on client server m (path_of (segments_of m.options)))

@@ -13,8 +13,10 @@ filtered_next text f p x xs =
     (sym (flat_map-append f (filter p (x ∷ [])) (filter p xs)) ∙ ap (flat_map f) (sym (filter-append p (x ∷ []) xs)))
 
 -- what the one at an index and those behind it add
-pub filtered_at : {W X A : Type 0} (text : List A) (f : X → List A) (p : X → Bool) (h : W → X) (ws : List W) (i : ℕ) (w : W) → i < length ws
+pub filtered_at : {W X A : Type 0} (text : List A) (f : X → List A) (p : X → Bool) (h : W → X) (ws : List W) (i : ℕ)
+    (w : W) → i < length ws
     → (text ++ flat_map f (filter p (h (get_or ws i w) ∷ []))) ++ flat_map f (filter p (map h (drop (i + 1) ws)))
     ≡ text ++ flat_map f (filter p (map h (drop i ws)))
 filtered_at text f p h ws i w l =
-    filtered_next text f p (h (get_or ws i w)) (map h (drop (i + 1) ws)) ∙ ap (λ t. text ++ flat_map f (filter p (map h t))) (sym (drop_more ws i w l))
+    filtered_next text f p (h (get_or ws i w)) (map h (drop (i + 1) ws))
+    ∙ ap (λ t. text ++ flat_map f (filter p (map h t))) (sym (drop_more ws i w l))

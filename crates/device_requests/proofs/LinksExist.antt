@@ -19,7 +19,7 @@ use Rattle.object_defs.proofs.PathOrder.{instance_total, instance_exact}
 use Rattle.instance_store.specs.Existence.{exists_as}
 use Rattle.instance_store.specs.Stored.{Stored, has_instance, instances_of}
 use Rattle.device_requests.specs.Laws.{IsAmong, LinksWhatExists, is_part, lies_at}
-use Rattle.device_requests.specs.Links.{instance_paths, linked, paths_below, resources_below}
+use Rattle.device_requests.specs.Discover.{instance_paths, linked, paths_below, resources_below}
 use Rattle.device_requests.specs.Targets.{defined, exists, place_of, resource_place, resources_as}
 use Rattle.device_requests.proofs.Among.{among-any, among-filter, among-flat, among-map, any_found, filtered, flattened, found, mapped}
 
@@ -48,10 +48,12 @@ place_found k o n h = instance_exact (place_of o n) k (place_equal (instance_cmp
 
 has_listed : (stored : Stored) (o n : ℕ) → has_instance stored (place_of o n) ≡ true → IsAmong n (instances_of stored o)
 has_listed stored o n h =
-    let k = any_found (eq_by_cmp instance_cmp (place_of o n)) (map.keys stored.instances) (sym (map.contains_key-keys stored.instances (place_of o n)) ∙ h) in
+    let k = any_found (eq_by_cmp instance_cmp (place_of o n)) (map.keys stored.instances)
+    (sym (map.contains_key-keys stored.instances (place_of o n)) ∙ h) in
     let e : place_of o n ≡ k.0 = place_found k.0 o n k.2 in
     let here : IsAmong (place_of o n) (map.keys stored.instances) = rw e k.1 in
-    among-map (λ p. p.instance) (place_of o n) _ (among-filter (λ p. p.object == o) (place_of o n) (map.keys stored.instances) (number_same o) here)
+    among-map (λ p. p.instance) (place_of o n) _ (among-filter (λ p. p.object == o) (place_of o n)
+    (map.keys stored.instances) (number_same o) here)
 
 place_is : (k : InstancePath) (o n : ℕ) → k.object ≡ o → k.instance ≡ n → k ≡ place_of o n
 place_is k o n h i = λ j. record { object = h j; instance = i j }
@@ -67,27 +69,34 @@ listed_has stored o n h =
 
 -- ---- resources
 
-definition_in : (object : Option ObjectDef) (r : ℕ) → option_and_then (λ o. resource_in o.resources r) object ≡ resource_in (resources_as object) r
+definition_in : (object : Option ObjectDef) (r : ℕ) → option_and_then (λ o. resource_in o.resources r) object
+    ≡ resource_in (resources_as object) r
 definition_in None r = refl
 definition_in (Some object) r = refl
 
 -- a resource that exists has its instance and a definition
-resource_exists : (stored : Stored) (p : ResourcePath) (definition : Option ResourceDef) (instance : Bool) → (instance && exists_as stored p definition) ≡ true
+resource_exists : (stored : Stored) (p : ResourcePath) (definition : Option ResourceDef) (instance : Bool)
+    → (instance && exists_as stored p definition) ≡ true
     → (instance ≡ true) × ((d : ResourceDef) × (definition ≡ Some d))
 resource_exists stored p None instance h = let k = both instance false h in let f : false ≡ true = k.1 in cc
 resource_exists stored p (Some d) instance h = ((both instance (exists_as stored p (Some d)) h).0, (d, refl))
 
-resource_listed : (catalogue : List ObjectDef) (stored : Stored) (o i r : ℕ) → exists catalogue stored (Resource o i r) ≡ true
+resource_listed : (catalogue : List ObjectDef) (stored : Stored) (o i r : ℕ)
+    → exists catalogue stored (Resource o i r) ≡ true
     → IsAmong (Resource o i r) (resources_below catalogue stored o i)
 resource_listed catalogue stored o i r h =
-    let known = resource_exists stored (resource_place o i r) (definition_of catalogue o r) (has_instance stored (place_of o i)) h in
+    let known = resource_exists stored (resource_place o i r) (definition_of catalogue o r)
+    (has_instance stored (place_of o i)) h in
     let d = known.1.0 in
-    let f = found (λ d. d.id == r) d (defined catalogue o) (sym (definition_in (object_of catalogue o) r) ∙ known.1.1) in
+    let f = found (λ d. d.id == r) d (defined catalogue o)
+    (sym (definition_in (object_of catalogue o) r) ∙ known.1.1) in
     let e : d.id ≡ r = same_number d.id r f.1 in
     among-filter (exists catalogue stored) (Resource o i r) (map (λ d. Resource o i d.id) (defined catalogue o)) h
-    (subst (λ n. IsAmong (Resource o i n) (map (λ d. Resource o i d.id) (defined catalogue o))) e (among-map (λ d. Resource o i d.id) d (defined catalogue o) f.0))
+    (subst (λ n. IsAmong (Resource o i n) (map (λ d. Resource o i d.id) (defined catalogue o))) e
+    (among-map (λ d. Resource o i d.id) d (defined catalogue o) f.0))
 
-listed_resource : (catalogue : List ObjectDef) (stored : Stored) (o i : ℕ) (q : Path) → IsAmong q (resources_below catalogue stored o i)
+listed_resource : (catalogue : List ObjectDef) (stored : Stored) (o i : ℕ) (q : Path)
+    → IsAmong q (resources_below catalogue stored o i)
     → (r : ℕ) × (Resource o i r ≡ q) × (exists catalogue stored q ≡ true)
 listed_resource catalogue stored o i q h =
     let f = filtered (exists catalogue stored) q (map (λ d. Resource o i d.id) (defined catalogue o)) h in
@@ -105,12 +114,16 @@ lies_itself (Instance o i) h = and_true _ _ (number_same o) (number_same i)
 lies_itself (Resource o i r) h = and_true _ _ (number_same o) (and_true _ _ (number_same i) (number_same r))
 lies_itself (Part o i r n) h = cc
 
-below_shown : (catalogue : List ObjectDef) (stored : Stored) (path q : Path) → exists catalogue stored path ≡ true → IsAmong q (paths_below catalogue stored path) → Shown catalogue stored path q
+below_shown : (catalogue : List ObjectDef) (stored : Stored) (path q : Path) → exists catalogue stored path ≡ true
+    → IsAmong q (paths_below catalogue stored path) → Shown catalogue stored path q
 below_shown catalogue stored (Object o) q e h =
     let n = flattened (instance_paths catalogue stored o) q (instances_of stored o) h in
     elim n.2 [
-      | inl i ↦ subst (Shown catalogue stored (Object o)) i (number_same o, and_true _ _ e (listed_has stored o n.0 n.1))
-      | inr j ↦ let r = listed_resource catalogue stored o n.0 q j in (subst (λ p. lies_at (Object o) p ≡ true) r.1 (number_same o), r.2)
+      | inl i ↦ subst (Shown catalogue stored (Object o)) i
+          (number_same o, and_true _ _ e (listed_has stored o n.0 n.1))
+      | inr j ↦ let r =
+          listed_resource catalogue stored o n.0 q
+          j in (subst (λ p. lies_at (Object o) p ≡ true) r.1 (number_same o), r.2)
     ]
 below_shown catalogue stored (Instance o i) q e h =
     let r = listed_resource catalogue stored o i q h in
@@ -118,20 +131,24 @@ below_shown catalogue stored (Instance o i) q e h =
 below_shown catalogue stored (Resource o i r) q e h = absurd h
 below_shown catalogue stored (Part o i r n) q e h = absurd h
 
-linked_shown : (catalogue : List ObjectDef) (stored : Stored) (path q : Path) → exists catalogue stored path ≡ true → is_part path ≡ false → IsAmong q (linked catalogue stored path) → Shown catalogue stored path q
+linked_shown : (catalogue : List ObjectDef) (stored : Stored) (path q : Path) → exists catalogue stored path ≡ true
+    → is_part path ≡ false → IsAmong q (linked catalogue stored path) → Shown catalogue stored path q
 linked_shown catalogue stored path q e k (inl h) = subst (Shown catalogue stored path) h (lies_itself path k, e)
 linked_shown catalogue stored path q e k (inr h) = below_shown catalogue stored path q e h
 
-shown_linked : (catalogue : List ObjectDef) (stored : Stored) (path q : Path) → lies_at path q ≡ true → exists catalogue stored q ≡ true → IsAmong q (linked catalogue stored path)
+shown_linked : (catalogue : List ObjectDef) (stored : Stored) (path q : Path) → lies_at path q ≡ true
+    → exists catalogue stored q ≡ true → IsAmong q (linked catalogue stored path)
 shown_linked catalogue stored (Object o) (Object p) h e = inl (ap Object (sym (same_number p o h)))
 shown_linked catalogue stored (Object o) (Instance p j) h e =
     subst (λ n. IsAmong (Instance p j) (linked catalogue stored (Object n))) (same_number p o h)
     (inr (among-flat (instance_paths catalogue stored p) j (Instance p j) (instances_of stored p)
-    (has_listed stored p j (both (is_some (object_of catalogue p)) (has_instance stored (place_of p j)) e).1) (inl refl)))
+    (has_listed stored p j (both (is_some (object_of catalogue p)) (has_instance stored (place_of p j)) e).1)
+    (inl refl)))
 shown_linked catalogue stored (Object o) (Resource p j r) h e =
     subst (λ n. IsAmong (Resource p j r) (linked catalogue stored (Object n))) (same_number p o h)
     (inr (among-flat (instance_paths catalogue stored p) j (Resource p j r) (instances_of stored p)
-    (has_listed stored p j (resource_exists stored (resource_place p j r) (definition_of catalogue p r) (has_instance stored (place_of p j)) e).0)
+    (has_listed stored p j (resource_exists stored (resource_place p j r) (definition_of catalogue p r)
+    (has_instance stored (place_of p j)) e).0)
     (inr (resource_listed catalogue stored p j r e))))
 shown_linked catalogue stored (Object o) (Part p j r n) h e = cc
 shown_linked catalogue stored (Instance o i) (Object p) h e = cc
@@ -140,7 +157,8 @@ shown_linked catalogue stored (Instance o i) (Instance p j) h e =
 shown_linked catalogue stored (Instance o i) (Resource p j r) h e =
     let k = both (p == o) (j == i) h in
     subst (λ n. IsAmong (Resource p j r) (linked catalogue stored (Instance n i))) (same_number p o k.0)
-    (subst (λ n. IsAmong (Resource p j r) (linked catalogue stored (Instance p n))) (same_number j i k.1) (inr (resource_listed catalogue stored p j r e)))
+    (subst (λ n. IsAmong (Resource p j r) (linked catalogue stored (Instance p n))) (same_number j i k.1)
+    (inr (resource_listed catalogue stored p j r e)))
 shown_linked catalogue stored (Instance o i) (Part p j r n) h e = cc
 shown_linked catalogue stored (Resource o i r) (Object p) h e = cc
 shown_linked catalogue stored (Resource o i r) (Instance p j) h e = cc
@@ -155,4 +173,5 @@ shown_linked catalogue stored (Part o i r n) (Resource p j s) h e = cc
 shown_linked catalogue stored (Part o i r n) (Part p j s m) h e = cc
 
 pub links_exist : LinksWhatExists
-links_exist catalogue stored path q e k = (linked_shown catalogue stored path q e k, λ s. shown_linked catalogue stored path q s.0 s.1)
+links_exist catalogue stored path q e k =
+    (linked_shown catalogue stored path q e k, λ s. shown_linked catalogue stored path q s.0 s.1)

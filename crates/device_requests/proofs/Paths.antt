@@ -3,7 +3,8 @@ use Rattle.std.proofs.Common.{◌≡◌, ℕ, List, [], ◌∷◌, ◌++◌, Opt
 use Rattle.std.specs.Option.{option_and_then}
 use Rattle.object_defs.specs.declared.path.Path.{Path}
 use Rattle.object_defs.specs.declared.path.Path.TheVariants.{Object, Instance, Resource, Part}
-use Rattle.device_requests.specs.Segments.{path_from, numbers_in}
+use Rattle.device_requests.specs.Options.{path_from}
+use Rattle.device_requests.specs.Inside.{numbers_in}
 
 -- the path of the numbers so far and of those that are still to come, if each is one
 abbrev pub finished : Option Path → Option (List ℕ) → Option Path
@@ -34,7 +35,8 @@ pub finished-more : (p : Option Path) (m : Option ℕ) (n : ℕ) (q : Path) (res
 finished-more p m n q None e h = rw e refl
 finished-more p m n q (Some ns) e h = rw e (joins p n q ns h)
 
-too_long : (p : Option Path) (n : ℕ) (ns : List ℕ) → path_from (numbers_in p ++ n ∷ []) ≡ None → path_from (numbers_in p ++ n ∷ ns) ≡ None
+too_long : (p : Option Path) (n : ℕ) (ns : List ℕ) → path_from (numbers_in p ++ n ∷ []) ≡ None
+    → path_from (numbers_in p ++ n ∷ ns) ≡ None
 too_long None n ns h = cc
 too_long (Some (Object o)) n ns h = cc
 too_long (Some (Instance o i)) n ns h = cc
@@ -48,5 +50,6 @@ finished-long p m n None e h = rw e refl
 finished-long p m n (Some ns) e h = rw e (too_long p n ns h)
 
 -- a segment that is no number
-pub finished-no_number : (p : Option Path) (m : Option ℕ) (rest : Option (List ℕ)) → m ≡ None → finished p (one_more m rest) ≡ None
+pub finished-no_number : (p : Option Path) (m : Option ℕ) (rest : Option (List ℕ)) → m ≡ None
+    → finished p (one_more m rest) ≡ None
 finished-no_number p m rest e = rw e refl

@@ -17,38 +17,56 @@ use Rattle.lwm2m_payloads.proofs.Apart.{none_held}
 use Rattle.device_requests.specs.declared.answer.Code.{Code}
 use Rattle.device_requests.specs.declared.answer.Code.TheVariants.{Unauthorized, NotFound, MethodNotAllowed}
 use Rattle.device_requests.specs.Access.{rights_on}
-use Rattle.device_requests.specs.Deletes.{delete_lines, is_fixed}
-use Rattle.device_requests.specs.Executes.{execute_lines, argument_lines, is_executable}
+use Rattle.device_requests.specs.Delete.{delete_lines}
+use Rattle.device_requests.specs.Targets.{is_fixed, definition_at, exists, place_of, resource_place, is_multiple}
+use Rattle.device_requests.specs.Execute.{execute_lines, argument_lines, is_executable}
 use Rattle.device_requests.specs.Managed.{Managed}
-use Rattle.device_requests.specs.Targets.{definition_at, exists, has_place, place_of, resource_place, is_multiple}
-use Rattle.device_requests.specs.Writes.{is_target}
+use Rattle.device_requests.specs.Inside.{has_place}
+use Rattle.device_requests.specs.Write.{is_target}
 
-exists_has : (catalogue : List ObjectDef) (stored : Stored) (path : Path) → exists catalogue stored path ≡ true → has_place stored path ≡ true
+exists_has : (catalogue : List ObjectDef) (stored : Stored) (path : Path) → exists catalogue stored path ≡ true
+    → has_place stored path ≡ true
 exists_has catalogue stored (Object o) h = refl
-exists_has catalogue stored (Instance o i) h = (and_parts (is_some (object_of catalogue o)) (has_instance stored (place_of o i)) h).1
-exists_has catalogue stored (Resource o i r) h = (and_parts (has_instance stored (place_of o i)) (exists_as stored (resource_place o i r) (definition_of catalogue o r)) h).0
-exists_has catalogue stored (Part o i r n) h = (and_parts (has_instance stored (place_of o i)) (is_multiple (definition_of catalogue o r) && is_some (value_at stored (part_of (resource_place o i r) n))) h).0
+exists_has catalogue stored (Instance o i) h =
+    (and_parts (is_some (object_of catalogue o)) (has_instance stored (place_of o i)) h).1
+exists_has catalogue stored (Resource o i r) h =
+    (and_parts (has_instance stored (place_of o i))
+    (exists_as stored (resource_place o i r) (definition_of catalogue o r)) h).0
+exists_has catalogue stored (Part o i r n) h =
+    (and_parts (has_instance stored (place_of o i))
+    (is_multiple (definition_of catalogue o r) && is_some (value_at stored (part_of (resource_place o i r) n))) h).0
 
-pub target_has : (catalogue : List ObjectDef) (stored : Stored) (path : Path) → is_target catalogue stored path ≡ true → has_place stored path ≡ true
+pub target_has : (catalogue : List ObjectDef) (stored : Stored) (path : Path) → is_target catalogue stored path ≡ true
+    → has_place stored path ≡ true
 target_has catalogue stored (Object o) h = absurd cc
-target_has catalogue stored (Instance o i) h = (and_parts (is_some (object_of catalogue o)) (has_instance stored (place_of o i)) h).1
-target_has catalogue stored (Resource o i r) h = (and_parts (is_some (definition_of catalogue o r)) (has_instance stored (place_of o i)) h).1
-target_has catalogue stored (Part o i r n) h = (and_parts (is_multiple (definition_of catalogue o r)) (has_instance stored (place_of o i)) h).1
+target_has catalogue stored (Instance o i) h =
+    (and_parts (is_some (object_of catalogue o)) (has_instance stored (place_of o i)) h).1
+target_has catalogue stored (Resource o i r) h =
+    (and_parts (is_some (definition_of catalogue o r)) (has_instance stored (place_of o i)) h).1
+target_has catalogue stored (Part o i r n) h =
+    (and_parts (is_multiple (definition_of catalogue o r)) (has_instance stored (place_of o i)) h).1
 
 -- where no line refuses, the second does not
-second_passes : (a b : Bool) (x y : Code) (lines : List (Bool × Code)) → first_line ((a, x) ∷ (not b, y) ∷ lines) ≡ None → b ≡ true
+second_passes : (a b : Bool) (x y : Code) (lines : List (Bool × Code)) → first_line ((a, x) ∷ (not b, y) ∷ lines)
+    ≡ None → b ≡ true
 second_passes true b x y lines h = absurd cc
 second_passes false true x y lines h = refl
 second_passes false false x y lines h = absurd cc
 
-pub execute_has : (client : Managed) (server : ℕ) (path : Path) (number : Option ℕ) (payload : List ℕ) → first_line (execute_lines client server path number payload) ≡ None → has_place client.store path ≡ true
+pub execute_has : (client : Managed) (server : ℕ) (path : Path) (number : Option ℕ) (payload : List ℕ)
+    → first_line (execute_lines client server path number payload) ≡ None → has_place client.store path ≡ true
 execute_has client server path number payload h =
-    exists_has client.catalogue client.store path (second_passes (object_in path == 0) (exists client.catalogue client.store path) Unauthorized NotFound
-    ((not (rights_on client server path).execute, Unauthorized) ∷ (not (is_executable (definition_at client.catalogue path)), MethodNotAllowed) ∷ argument_lines client path number payload) h)
+    exists_has client.catalogue client.store path (second_passes (object_in path == 0)
+    (exists client.catalogue client.store path) Unauthorized NotFound
+    ((not (rights_on client server path).execute, Unauthorized)
+    ∷ (not (is_executable (definition_at client.catalogue path)), MethodNotAllowed)
+    ∷ argument_lines client path number payload) h)
 
-pub delete_has : (client : Managed) (server : ℕ) (path : Path) → first_line (delete_lines client server path) ≡ None → has_place client.store path ≡ true
+pub delete_has : (client : Managed) (server : ℕ) (path : Path) → first_line (delete_lines client server path) ≡ None
+    → has_place client.store path ≡ true
 delete_has client server path h =
-    exists_has client.catalogue client.store path (second_passes (object_in path == 0) (exists client.catalogue client.store path) Unauthorized NotFound
+    exists_has client.catalogue client.store path (second_passes (object_in path == 0)
+    (exists client.catalogue client.store path) Unauthorized NotFound
     ((not (rights_on client server path).delete, Unauthorized) ∷ (is_fixed (object_in path), MethodNotAllowed) ∷ []) h)
 
 and_false : (a : Bool) → (a && false) ≡ false
@@ -56,12 +74,14 @@ and_false true = refl
 and_false false = refl
 
 -- the first part of a resource that was cleared
-pub cleared_fits : (stored : Stored) (p : ResourcePath) (n : ℕ) → is_full (without_values stored (resource_path p)) p n ≡ false
+pub cleared_fits : (stored : Stored) (p : ResourcePath) (n : ℕ)
+    → is_full (without_values stored (resource_path p)) p n ≡ false
 cleared_fits stored p n =
     let new = not (is_some (value_at (without_values stored (resource_path p)) (part_of p n))) in
     ap (λ ns. new && nat_le 32 (length ns)) (none_held stored p) ∙ and_false new
 
-free_at : (stored : Stored) (o m n : ℕ) (b : Bool) → has_instance stored (instance_at o m) ≡ b → (if (m == 65535) || b then None else Some m) ≡ Some n → has_instance stored (instance_at o n) ≡ false
+free_at : (stored : Stored) (o m n : ℕ) (b : Bool) → has_instance stored (instance_at o m) ≡ b
+    → (if (m == 65535) || b then None else Some m) ≡ Some n → has_instance stored (instance_at o n) ≡ false
 free_at stored o m n true e h = absurd (none_is (m == 65535) m n h)
   where
     none_is : (a : Bool) (m n : ℕ) → (if a || true then None else Some m) ≡ Some n → ⊥
@@ -74,6 +94,7 @@ free_at stored o m n false e h = named (m == 65535) h
     named false h = ap (λ k. has_instance stored (instance_at o (unwrap_or k m))) (sym h) ∙ e
 
 -- the number of a new instance is free
-pub number_free : (stored : Stored) (o n : ℕ) (named : Option ℕ) → number_for stored o named ≡ Some n → has_instance stored (instance_at o n) ≡ false
+pub number_free : (stored : Stored) (o n : ℕ) (named : Option ℕ) → number_for stored o named ≡ Some n
+    → has_instance stored (instance_at o n) ≡ false
 number_free stored o n None h = found_free stored o n h
 number_free stored o n (Some m) h = free_at stored o m n (has_instance stored (instance_at o m)) refl h

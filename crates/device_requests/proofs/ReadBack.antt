@@ -32,12 +32,12 @@ use Rattle.device_requests.specs.declared.write.NewValues.{NewValues}
 use Rattle.device_requests.specs.declared.write.NewValues.TheVariants.{One, Several}
 use Rattle.device_requests.specs.declared.answer.Code.TheVariants.{Changed, Unauthorized, NotFound, MethodNotAllowed, NotAcceptable, UnsupportedContentFormat, BadRequest, InternalServerError}
 use Rattle.device_requests.specs.Access.{may_read, rights_on, shown_instances}
-use Rattle.device_requests.specs.Answers.{Outcome, refused_or}
+use Rattle.device_requests.specs.Answer.{Outcome, refused_or}
 use Rattle.object_defs.specs.Lines.{first_line}
-use Rattle.device_requests.specs.Reads.{content_in, format_at, payload_in, read_answer, read_payload}
+use Rattle.device_requests.specs.Read.{content_in, format_at, payload_in, read_answer, read_payload}
 use Rattle.device_requests.specs.Managed.{Managed, with_stored}
 use Rattle.device_requests.specs.Targets.{is_readable, place_of, resource_place}
-use Rattle.device_requests.specs.Writes.{can_be_written, event_of, exceeds, left, turn_lines, values_given, given_to_resource, is_target, resource_written, new_values, write_unless, written}
+use Rattle.device_requests.specs.Write.{can_be_written, event_of, exceeds, left, turn_lines, values_given, given_to_resource, is_target, resource_written, new_values, write_unless, written}
 use Rattle.device_requests.specs.Laws.{IsReadBack, WrittenIsRead}
 
 -- one value is given
@@ -63,17 +63,21 @@ where_given : (b : Bool) (given : Option Given) (g : Given) → given_if b given
 where_given true given g h = h
 where_given false given g h = cc
 
-records_give_one : (d : ResourceDef) (nodes : Trees) (g : Given) → d.multiple ≡ false → lone_record d nodes ≡ Some g → IsOne g
+records_give_one : (d : ResourceDef) (nodes : Trees) (g : Given) → d.multiple ≡ false → lone_record d nodes ≡ Some g
+    → IsOne g
 records_give_one d none g k h = cc
-records_give_one d (more node none) g k h = record_gives_one d node g k (where_given (number_in node == d.id) (given_by d node) g h)
+records_give_one d (more node none) g k h =
+    record_gives_one d node g k (where_given (number_in node == d.id) (given_by d node) g h)
 records_give_one d (more node (more next nodes)) g k h = cc
 
-nodes_give_one : (d : ResourceDef) (nodes : Option Trees) (g : Given) → d.multiple ≡ false → option_and_then (lone_record d) nodes ≡ Some g → IsOne g
+nodes_give_one : (d : ResourceDef) (nodes : Option Trees) (g : Given) → d.multiple ≡ false
+    → option_and_then (lone_record d) nodes ≡ Some g → IsOne g
 nodes_give_one d None g k h = cc
 nodes_give_one d (Some nodes) g k h = records_give_one d nodes g k h
 
 -- what a payload gives to a single resource is one value
-gives_one : (d : ResourceDef) (format : Format) (payload : List ℕ) (g : Given) → d.multiple ≡ false → resource_given d format payload ≡ Some g → IsOne g
+gives_one : (d : ResourceDef) (format : Format) (payload : List ℕ) (g : Given) → d.multiple ≡ false
+    → resource_given d format payload ≡ Some g → IsOne g
 gives_one d PlainText payload g k h = one_value (value_of_text d.kind payload) g h
 gives_one d OctetStream payload g k h = one_value (value_of_bytes d.kind payload) g h
 gives_one d Tlv payload g k h = nodes_give_one d (nodes_of_bytes payload) g k h
@@ -82,7 +86,8 @@ there : {X : Type 0} (o : Option X) → not (is_some o) ≡ false → (x : X) ×
 there None h = cc
 there (Some x) h = (x, refl)
 
-of_one : (given : Option Given) (values : NewValues) → option_map One given ≡ Some values → (g : Given) × (given ≡ Some g) × (values ≡ One g)
+of_one : (given : Option Given) (values : NewValues) → option_map One given ≡ Some values → (g : Given)
+    × (given ≡ Some g) × (values ≡ One g)
 of_one None values h = cc
 of_one (Some g) values h = (g, refl, cc)
 
@@ -109,8 +114,10 @@ passes false false false false false false false client stored h =
     record { object = refl; target = refl; served = refl; good = refl; store = refl }
 
 -- no line of a Read applies but that of its payload's length
-shown : (a b s c : Bool) (format : Option Format) (wanted : Format) (payload : Option (List ℕ)) → a ≡ false → b ≡ false → s ≡ false → c ≡ false → format ≡ Some wanted
-    → refused_or (first_line ((a, Unauthorized) ∷ (b, NotFound) ∷ (s, Unauthorized) ∷ (c, MethodNotAllowed) ∷ (not (is_some format), NotAcceptable) ∷ (not (is_some payload), InternalServerError) ∷ []))
+shown : (a b s c : Bool) (format : Option Format) (wanted : Format) (payload : Option (List ℕ)) → a ≡ false → b
+    ≡ false → s ≡ false → c ≡ false → format ≡ Some wanted
+    → refused_or (first_line ((a, Unauthorized) ∷ (b, NotFound) ∷ (s, Unauthorized) ∷ (c, MethodNotAllowed)
+    ∷ (not (is_some format), NotAcceptable) ∷ (not (is_some payload), InternalServerError) ∷ []))
     (content_in format payload) ≡ content_in (Some wanted) payload
 shown true b s c format wanted payload h j m k l = cc
 shown false true s c format wanted payload h j m k l = cc
@@ -129,20 +136,25 @@ record Holds (client : Managed) (o i r : ℕ) (d : ResourceDef) (value : Value) 
   readable : can_read d.ops ≡ true
   value_is : value_at client.store (single_of (resource_place o i r)) ≡ Some value
 
-format_same : (client : Managed) (o i r : ℕ) (d : ResourceDef) (number : Option ℕ) → definition_of client.catalogue o r ≡ Some d → d.multiple ≡ false
+format_same : (client : Managed) (o i r : ℕ) (d : ResourceDef) (number : Option ℕ)
+    → definition_of client.catalogue o r ≡ Some d → d.multiple ≡ false
     → format_at client.catalogue (Resource o i r) number ≡ format_for (one d.kind) number
-format_same client o i r d number h k = ap (λ e. format_for (extent_as e) number) h ∙ ap (λ b. format_for (if b then many else one d.kind) number) k
+format_same client o i r d number h k =
+    ap (λ e. format_for (extent_as e) number) h ∙ ap (λ b. format_for (if b then many else one d.kind) number) k
 
 or_true : (b : Bool) → not (b || true) ≡ false
 or_true true = refl
 or_true false = refl
 
-resource_there : (stored : Stored) (p : ResourcePath) (d : ResourceDef) (value : Value) → has_instance stored (instance_of p) ≡ true
+resource_there : (stored : Stored) (p : ResourcePath) (d : ResourceDef) (value : Value)
+    → has_instance stored (instance_of p) ≡ true
     → d.multiple ≡ false → value_at stored (single_of p) ≡ Some value → not (has_resource stored p (Some d)) ≡ false
 resource_there stored p d value h k v = rw (h, k, v) (or_true (not (can_read d.ops)))
 
-payload_shown : (client : Managed) (instances : List ℕ) (o i r : ℕ) (d : ResourceDef) (value : Value) (wanted : Format) → Holds client o i r d value
-    → payload_in client.catalogue client.store instances (Resource o i r) wanted ≡ within_limit (value_payload wanted (single r) value)
+payload_shown : (client : Managed) (instances : List ℕ) (o i r : ℕ) (d : ResourceDef) (value : Value)
+    (wanted : Format) → Holds client o i r d value
+    → payload_in client.catalogue client.store instances (Resource o i r) wanted
+    ≡ within_limit (value_payload wanted (single r) value)
 payload_shown client instances o i r d value wanted h = rw (h.defined, h.alone, h.value_is) refl
 
 instance_there : (a b : Bool) → not (a && b) ≡ false → b ≡ true
@@ -154,23 +166,30 @@ same_path : (p : FullPath) → eq_by_cmp path_cmp p p ≡ true
 same_path p = (eq_by_cmp_equiv path_total).refl p
 
 value_there : (stored : Stored) (p : FullPath) (v : Value) → value_at (with_value stored p v) p ≡ Some v
-value_there stored p v = map.get-insert path_total stored.values p v p ∙ ap (λ b. if b then Some v else value_at stored p) (same_path p)
+value_there stored p v =
+    map.get-insert path_total stored.values p v p ∙ ap (λ b. if b then Some v else value_at stored p) (same_path p)
 
 -- what it has is read
-read_shown : (client : Managed) (server o i r : ℕ) (d : ResourceDef) (value : Value) (accept : Option ℕ) (wanted : Format) → Holds client o i r d value
+read_shown : (client : Managed) (server o i r : ℕ) (d : ResourceDef) (value : Value) (accept : Option ℕ)
+    (wanted : Format) → Holds client o i r d value
     → may_read client server (Resource o i r) ≡ true → format_for (one d.kind) accept ≡ Some wanted
-    → read_answer client server (Resource o i r) accept ≡ content_in (Some wanted) (within_limit (value_payload wanted (single r) value))
+    → read_answer client server (Resource o i r) accept
+    ≡ content_in (Some wanted) (within_limit (value_payload wanted (single r) value))
 read_shown client server o i r d value accept wanted h m k =
     let p = resource_place o i r in
-    let format : format_at client.catalogue (Resource o i r) accept ≡ Some wanted = format_same client o i r d accept h.defined h.alone ∙ k in
+    let format : format_at client.catalogue (Resource o i r) accept ≡ Some wanted =
+    format_same client o i r d accept h.defined h.alone ∙ k in
     let there : not (has_resource client.store p (definition_of client.catalogue o r)) ≡ false =
     rw h.defined (resource_there client.store p d value h.place h.alone h.value_is) in
     let readable : not (is_readable (definition_of client.catalogue o r)) ≡ false = rw (h.defined, h.readable) refl in
-    let payload : read_payload client server (Resource o i r) accept ≡ within_limit (value_payload wanted (single r) value) =
-    ap (λ f. option_and_then (payload_in client.catalogue client.store (shown_instances client.store (length client.accounts) server o) (Resource o i r)) f) format
+    let payload : read_payload client server (Resource o i r) accept
+    ≡ within_limit (value_payload wanted (single r) value) =
+    ap (λ f. option_and_then (payload_in client.catalogue client.store
+    (shown_instances client.store (length client.accounts) server o) (Resource o i r)) f) format
     ∙ payload_shown client (shown_instances client.store (length client.accounts) server o) o i r d value wanted h in
     let allowed : not (may_read client server (Resource o i r)) ≡ false = ap not m in
-    shown (o == 0) _ _ _ (format_at client.catalogue (Resource o i r) accept) wanted (read_payload client server (Resource o i r) accept) h.object there allowed readable format
+    shown (o == 0) _ _ _ (format_at client.catalogue (Resource o i r) accept) wanted
+    (read_payload client server (Resource o i r) accept) h.object there allowed readable format
     ∙ ap (content_in (Some wanted)) payload
 
 -- what a Write that is answered by Changed leaves
@@ -179,7 +198,8 @@ behind : (client : Managed) (o i r : ℕ) (d : ResourceDef) (number : Option ℕ
     → not (is_target client.catalogue client.store (Resource o i r)) ≡ false
     → not (is_some (format_at client.catalogue (Resource o i r) number)) ≡ false
     → not (is_some (new_values client (Resource o i r) number payload)) ≡ false
-    → stored ≡ written Replace client.catalogue client.store (Resource o i r) (new_values client (Resource o i r) number payload)
+    → stored ≡ written Replace client.catalogue client.store (Resource o i r)
+    (new_values client (Resource o i r) number payload)
     → IsReadBack client o i r d number payload stored
 behind client o i r d number payload stored defined alone readable object target served good is =
     let path = Resource o i r in
@@ -187,7 +207,8 @@ behind client o i r d number payload stored defined alone readable object target
     let format = there (format_at client.catalogue path number) served in
     let values = there (new_values client path number payload) good in
     let given : option_map One (resource_given d format.0 payload) ≡ Some values.0 =
-    sym (ap (λ f. option_and_then (values_given client.catalogue path payload) f) format.1 ∙ ap (λ e. option_map One (given_to_resource e format.0 payload)) defined) ∙ values.1 in
+    sym (ap (λ f. option_and_then (values_given client.catalogue path payload) f) format.1
+    ∙ ap (λ e. option_map One (given_to_resource e format.0 payload)) defined) ∙ values.1 in
     let g = of_one (resource_given d format.0 payload) values.0 given in
     let v = gives_one d format.0 payload g.0 alone g.1 in
     let stored_is : stored ≡ with_value client.store (single_of p) v.0 =
@@ -238,6 +259,7 @@ read_back client server o i r d number payload defined alone readable other h =
     → IsReadBack client o i r d number payload (turned client server o i r number payload e).client.store)
     (sym (no_event o i r values (ne_eqb o 5 other)))
     (λ done.
-    let p = passes (o == 0) _ _ _ (not (is_some (format_at client.catalogue path number))) (not (is_some values)) (exceeds Replace client.catalogue client.store path values)
+    let p = passes (o == 0) _ _ _ (not (is_some (format_at client.catalogue path number))) (not (is_some values))
+    (exceeds Replace client.catalogue client.store path values)
     client (written Replace client.catalogue client.store path values) done in
     behind client o i r d number payload _ defined alone readable p.object p.target p.served p.good p.store) h

@@ -9,20 +9,19 @@ use Rattle.device_requests.specs.declared.answer.Code.TheVariants.{BadOption}
 use Rattle.device_requests.specs.declared.operation.Operation.{Operation}
 use Rattle.device_requests.specs.declared.operation.Operation.TheVariants.{Read, Discover, WriteAttributes, WriteReplace, WritePartial, Create, Execute, Delete}
 use Rattle.notifier.specs.Attributes.{Numbers}
-use Rattle.device_requests.specs.AttributeWrites.{annotate_unless, attribute_lines, attributes_given}
-use Rattle.device_requests.specs.Answers.{Outcome, answered, bare}
+use Rattle.device_requests.specs.WriteAttributes.{annotate_unless, attribute_lines, attributes_given}
+use Rattle.device_requests.specs.Answer.{Outcome, answered, bare}
 use Rattle.lwm2m_payloads.specs.declared.given.Mode.{Mode}
 use Rattle.lwm2m_payloads.specs.declared.given.Mode.TheVariants.{Replace, Update}
 use Rattle.object_defs.specs.Lines.{first_line}
 use Rattle.object_defs.specs.Path.{object_in}
-use Rattle.device_requests.specs.Creates.{Newborn, create_lines, create_unless, newborn}
-use Rattle.device_requests.specs.Deletes.{delete_lines, delete_unless}
-use Rattle.device_requests.specs.Executes.{execute_lines, execute_unless}
-use Rattle.device_requests.specs.Operations.{operation_of}
-use Rattle.device_requests.specs.Options.{accept_of, content_format_of, has_query, has_unrecognized_critical, queries_of, segments_of}
-use Rattle.device_requests.specs.Requests.{outcome_at, outcome_by, outcome_on, outcome_of}
-use Rattle.device_requests.specs.Segments.{path_of}
-use Rattle.device_requests.specs.Writes.{event_of, left, mode_at, new_values, write_lines, write_outcome, write_unless}
+use Rattle.device_requests.specs.Create.{Newborn, create_lines, create_unless, newborn}
+use Rattle.device_requests.specs.Delete.{delete_lines, delete_unless}
+use Rattle.device_requests.specs.Execute.{execute_lines, execute_unless}
+use Rattle.device_requests.specs.Operation.{operation_of}
+use Rattle.device_requests.specs.Options.{accept_of, content_format_of, has_query, has_unrecognized_critical, queries_of, segments_of, path_of}
+use Rattle.device_requests.specs.Request.{outcome_at, outcome_by, outcome_on, outcome_of}
+use Rattle.device_requests.specs.Write.{event_of, left, mode_at, new_values, write_lines, write_outcome, write_unless}
 use Rattle.device_requests.specs.Managed.{Managed}
 use Rattle.device_requests.specs.Laws.{is_refusal}
 
@@ -30,16 +29,20 @@ use Rattle.device_requests.specs.Laws.{is_refusal}
 abbrev Keeps : Managed → Outcome → Type 0
 Keeps client outcome = is_refusal outcome.answer.code ≡ true → outcome.client ≡ client
 
-unless_refused : (code : Option Code) (client : Managed) (stored : Stored) → Keeps client (write_unless code client stored)
+unless_refused : (code : Option Code) (client : Managed) (stored : Stored)
+    → Keeps client (write_unless code client stored)
 unless_refused None client stored h = cc
 unless_refused (Some code) client stored h = refl
 
-refused_write : (client : Managed) (server : ℕ) (mode : Mode) (path : Path) (number : Option ℕ) (payload : List ℕ) → Keeps client (write_outcome client server mode path number payload)
+refused_write : (client : Managed) (server : ℕ) (mode : Mode) (path : Path) (number : Option ℕ) (payload : List ℕ)
+    → Keeps client (write_outcome client server mode path number payload)
 refused_write client server mode path number payload =
     unless_refused (first_line (write_lines client server mode path number payload)) client
-    (left (mode_at mode path) client path (new_values client path number payload) (event_of path (new_values client path number payload)))
+    (left (mode_at mode path) client path (new_values client path number payload)
+    (event_of path (new_values client path number payload)))
 
-refused_create : (code : Option Code) (client : Managed) (server o : ℕ) (new : Option Newborn) → Keeps client (create_unless code client server o new)
+refused_create : (code : Option Code) (client : Managed) (server o : ℕ) (new : Option Newborn)
+    → Keeps client (create_unless code client server o new)
 refused_create None client server o None h = refl
 refused_create None client server o (Some n) h = cc
 refused_create (Some code) client server o new h = refl
@@ -52,37 +55,51 @@ refused_delete : (code : Option Code) (client : Managed) (path : Path) → Keeps
 refused_delete None client path h = cc
 refused_delete (Some code) client path h = refl
 
-refused_attributes : (code : Option Code) (client : Managed) (given : Option Numbers) → Keeps client (annotate_unless code client given)
+refused_attributes : (code : Option Code) (client : Managed) (given : Option Numbers)
+    → Keeps client (annotate_unless code client given)
 refused_attributes None client None h = refl
 refused_attributes None client (Some m) h = cc
 refused_attributes (Some code) client given h = refl
 
-refused_at : (client : Managed) (server : ℕ) (m : Parts) (path : Path) (operation : Operation) → Keeps client (outcome_at client server m path operation)
+refused_at : (client : Managed) (server : ℕ) (m : Parts) (path : Path) (operation : Operation)
+    → Keeps client (outcome_at client server m path operation)
 refused_at client server m path Read h = refl
 refused_at client server m path Discover h = refl
 refused_at client server m path WriteAttributes h =
-    refused_attributes (first_line (attribute_lines client server path (attributes_given client server path (queries_of m.options)))) client
+    refused_attributes (first_line (attribute_lines client server path
+    (attributes_given client server path (queries_of m.options)))) client
     (attributes_given client server path (queries_of m.options)) h
-refused_at client server m path WriteReplace h = refused_write client server Replace path (content_format_of m.options) m.payload h
-refused_at client server m path WritePartial h = refused_write client server Update path (content_format_of m.options) m.payload h
+refused_at client server m path WriteReplace h =
+    refused_write client server Replace path (content_format_of m.options) m.payload h
+refused_at client server m path WritePartial h =
+    refused_write client server Update path (content_format_of m.options) m.payload h
 refused_at client server m path Create h =
-    refused_create (first_line (create_lines client server path (content_format_of m.options) m.payload)) client server (object_in path)
+    refused_create (first_line (create_lines client server path (content_format_of m.options) m.payload)) client
+    server (object_in path)
     (newborn client (object_in path) m.payload) h
-refused_at client server m path Execute h = refused_execute (first_line (execute_lines client server path (content_format_of m.options) m.payload)) client path h
+refused_at client server m path Execute h =
+    refused_execute (first_line (execute_lines client server path (content_format_of m.options) m.payload)) client
+    path h
 refused_at client server m path Delete h = refused_delete (first_line (delete_lines client server path)) client path h
 
-refused_by : (client : Managed) (server : ℕ) (m : Parts) (path : Path) (operation : Option Operation) → Keeps client (outcome_by client server m path operation)
+refused_by : (client : Managed) (server : ℕ) (m : Parts) (path : Path) (operation : Option Operation)
+    → Keeps client (outcome_by client server m path operation)
 refused_by client server m path None h = refl
 refused_by client server m path (Some operation) h = refused_at client server m path operation h
 
-refused_on : (client : Managed) (server : ℕ) (m : Parts) (path : Option Path) → Keeps client (outcome_on client server m path)
+refused_on : (client : Managed) (server : ℕ) (m : Parts) (path : Option Path)
+    → Keeps client (outcome_on client server m path)
 refused_on client server m None h = refl
-refused_on client server m (Some path) h = refused_by client server m path (operation_of m.code (accept_of m.options) (has_query m.options) path) h
+refused_on client server m (Some path) h =
+    refused_by client server m path (operation_of m.code (accept_of m.options) (has_query m.options) path) h
 
-refused_if : (b : Bool) (client : Managed) (outcome : Outcome) → Keeps client outcome → Keeps client (if b then answered client (bare BadOption) else outcome)
+refused_if : (b : Bool) (client : Managed) (outcome : Outcome) → Keeps client outcome
+    → Keeps client (if b then answered client (bare BadOption) else outcome)
 refused_if true client outcome k h = refl
 refused_if false client outcome k h = k h
 
 -- a request that is refused changes nothing
 pub refused_keeps : (client : Managed) (server : ℕ) (m : Parts) → Keeps client (outcome_of client server m)
-refused_keeps client server m = refused_if (has_unrecognized_critical m.options) client _ (refused_on client server m (path_of (segments_of m.options)))
+refused_keeps client server m =
+    refused_if (has_unrecognized_critical m.options) client _
+    (refused_on client server m (path_of (segments_of m.options)))

@@ -8,7 +8,8 @@ use Rattle.object_defs.specs.declared.path.Path.TheVariants.{Object, Instance, R
 use Rattle.instance_store.specs.Stored.{Stored, instances_of}
 use Rattle.device_requests.specs.Managed.{Managed}
 
--- the rights at a path, in a device with this many accounts: those on its instance; at an object those by which instances are created
+-- the rights at a path, in a device with this many accounts: those on its instance; at an object those by which
+-- instances are created
 abbrev pub rights_at : Stored → ℕ → ℕ → Path → Rights
 rights_at stored accounts server (Object o) = right_of stored accounts server o creation
 rights_at stored accounts server (Instance o i) = right_of stored accounts server o i

@@ -6,23 +6,27 @@ use Rattle.instance_store.specs.Stored.{Stored, instances_of}
 use Rattle.lwm2m_payloads.specs.Nodes.{shown_in}
 use Rattle.device_requests.specs.declared.answer.Code.TheVariants.{Unauthorized, NotFound}
 use Rattle.device_requests.specs.Access.{may_read, reads}
-use Rattle.device_requests.specs.Answers.{bare}
+use Rattle.device_requests.specs.Answer.{bare}
 use Rattle.device_requests.specs.Managed.{Managed, with_stored}
-use Rattle.device_requests.specs.Reads.{read_answer}
+use Rattle.device_requests.specs.Read.{read_answer}
 use Rattle.device_requests.specs.Targets.{defined}
 
 -- where a server may not read, the answer to its Read is a code alone
 abbrev pub UnreadableIsRefused : Type 0
 UnreadableIsRefused =
     (client : Managed) (server : ℕ) (path : Path) (accept : Option ℕ) → may_read client server path ≡ false
-    → (read_answer client server path accept ≡ bare Unauthorized) ⊎ (read_answer client server path accept ≡ bare NotFound)
+    → (read_answer client server path accept ≡ bare Unauthorized)
+    ⊎ (read_answer client server path accept ≡ bare NotFound)
 
--- a store with the same instances of an object, the same R on each, and the same values in those on which the server has R
+-- a store with the same instances of an object, the same R on each, and the same values in those on which the server
+-- has R
 pub record IsAlike (client : Managed) (stored : Stored) (server o : ℕ) : Type 0 where
   pub instances : instances_of stored o ≡ instances_of client.store o
-  pub rights : (i : ℕ) → reads stored (length client.accounts) server o i ≡ reads client.store (length client.accounts) server o i
+  pub rights : (i : ℕ)
+      → reads stored (length client.accounts) server o i ≡ reads client.store (length client.accounts) server o i
   pub values : (i : ℕ) → reads client.store (length client.accounts) server o i ≡ true
-      → shown_in stored (defined client.catalogue o) (Instance o i) ≡ shown_in client.store (defined client.catalogue o) (Instance o i)
+      → shown_in stored (defined client.catalogue o) (Instance o i)
+      ≡ shown_in client.store (defined client.catalogue o) (Instance o i)
 
 -- a Read of the object has the same answer then, whatever the other instances hold
 abbrev pub UnreadableIsHidden : Type 0

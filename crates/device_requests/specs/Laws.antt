@@ -20,22 +20,20 @@ use Rattle.device_requests.specs.declared.answer.Code.TheVariants.{Created, Dele
 use Rattle.device_requests.specs.declared.operation.Operation.{Operation}
 use Rattle.device_requests.specs.declared.operation.Operation.TheVariants.{Read, Discover, WriteAttributes, WriteReplace, WritePartial, Create, Execute, Delete}
 use Rattle.device_requests.specs.Access.{may_read}
-use Rattle.device_requests.specs.AttributeWrites.{attribute_lines, attributes_given}
-use Rattle.device_requests.specs.Answers.{code_byte}
-use Rattle.device_requests.specs.Creates.{create_lines}
-use Rattle.device_requests.specs.Deletes.{delete_lines}
-use Rattle.device_requests.specs.Discovers.{discover_lines}
-use Rattle.device_requests.specs.Executes.{execute_lines}
+use Rattle.device_requests.specs.WriteAttributes.{attribute_lines, attributes_given}
+use Rattle.device_requests.specs.Answer.{code_byte}
+use Rattle.device_requests.specs.Create.{create_lines}
+use Rattle.device_requests.specs.Delete.{delete_lines}
+use Rattle.device_requests.specs.Discover.{discover_lines, linked}
+use Rattle.device_requests.specs.Execute.{execute_lines}
 use Rattle.object_defs.specs.Lines.{first_line}
-use Rattle.device_requests.specs.Operations.{operation_of}
-use Rattle.device_requests.specs.Options.{accept_of, content_format_of, has_query, has_unrecognized_critical, queries_of, segments_of}
-use Rattle.device_requests.specs.Reads.{content_in, read_answer, read_lines}
-use Rattle.device_requests.specs.Requests.{outcome_of}
-use Rattle.device_requests.specs.Segments.{path_of}
+use Rattle.device_requests.specs.Operation.{operation_of}
+use Rattle.device_requests.specs.Options.{accept_of, content_format_of, has_query, has_unrecognized_critical, queries_of, segments_of, path_of}
+use Rattle.device_requests.specs.Read.{content_in, read_answer, read_lines}
+use Rattle.device_requests.specs.Request.{outcome_of}
 use Rattle.device_requests.specs.Managed.{Managed, with_stored}
-use Rattle.device_requests.specs.Writes.{write_lines, write_outcome}
+use Rattle.device_requests.specs.Write.{write_lines, write_outcome}
 use Rattle.object_defs.specs.declared.definition.ObjectDef.{ObjectDef}
-use Rattle.device_requests.specs.Links.{linked}
 use Rattle.device_requests.specs.Targets.{exists}
 
 -- the lines that an operation at a path meets, of which the last is its success
@@ -47,7 +45,8 @@ operation_lines client server m path WriteReplace =
 operation_lines client server m path WritePartial =
     write_lines client server Update path (content_format_of m.options) m.payload ++ (true, Changed) ∷ []
 operation_lines client server m path WriteAttributes =
-    attribute_lines client server path (attributes_given client server path (queries_of m.options)) ++ (true, Changed) ∷ []
+    attribute_lines client server path (attributes_given client server path (queries_of m.options))
+    ++ (true, Changed) ∷ []
 operation_lines client server m path Create =
     create_lines client server path (content_format_of m.options) m.payload ++ (true, Created) ∷ []
 operation_lines client server m path Execute =
@@ -84,20 +83,25 @@ RequestsKeepFrame = (client : Managed) (server : ℕ) (m : Parts) → KeepsFrame
 -- the answer's code is that of the first line that the request meets
 abbrev pub FirstLineAnswers : Type 0
 FirstLineAnswers =
-    (client : Managed) (server : ℕ) (m : Parts) → first_line (request_lines client server m) ≡ Some (outcome_of client server m).answer.code
+    (client : Managed) (server : ℕ) (m : Parts)
+    → first_line (request_lines client server m) ≡ Some (outcome_of client server m).answer.code
 
 -- a refusal changes nothing
 abbrev pub RefusalKeeps : Type 0
 RefusalKeeps =
-    (client : Managed) (server : ℕ) (m : Parts) → is_refusal (outcome_of client server m).answer.code ≡ true → (outcome_of client server m).client ≡ client
+    (client : Managed) (server : ℕ) (m : Parts) → is_refusal (outcome_of client server m).answer.code ≡ true
+    → (outcome_of client server m).client ≡ client
 
--- the payload gives this value, and a Read of the resource then answers it in each format that is served, to each server that may read it
-pub record IsReadBack (client : Managed) (o i r : ℕ) (d : ResourceDef) (number : Option ℕ) (payload : List ℕ) (stored : Stored) : Type 0 where
+-- the payload gives this value, and a Read of the resource then answers it in each format that is served, to each
+-- server that may read it
+pub record IsReadBack (client : Managed) (o i r : ℕ) (d : ResourceDef) (number : Option ℕ) (payload : List ℕ)
+    (stored : Stored) : Type 0 where
   pub format : Format
   pub served : format_for (one d.kind) number ≡ Some format
   pub value : Value
   pub given : resource_given d format payload ≡ Some (Single value)
-  pub read : (server : ℕ) (accept : Option ℕ) (wanted : Format) → may_read (with_stored client stored) server (Resource o i r) ≡ true
+  pub read : (server : ℕ) (accept : Option ℕ) (wanted : Format)
+      → may_read (with_stored client stored) server (Resource o i r) ≡ true
       → format_for (one d.kind) accept ≡ Some wanted
       → read_answer (with_stored client stored) server (Resource o i r) accept
       ≡ content_in (Some wanted) (within_limit (value_payload wanted (single r) value))
@@ -108,7 +112,8 @@ WrittenIsRead =
     (client : Managed) (server o i r : ℕ) (d : ResourceDef) (number : Option ℕ) (payload : List ℕ)
     → definition_of client.catalogue o r ≡ Some d → d.multiple ≡ false → can_read d.ops ≡ true → o ≢ 5
     → (write_outcome client server Replace (Resource o i r) number payload).answer.code ≡ Changed
-    → IsReadBack client o i r d number payload (write_outcome client server Replace (Resource o i r) number payload).client.store
+    → IsReadBack client o i r d number payload
+    (write_outcome client server Replace (Resource o i r) number payload).client.store
 
 -- a path is among these
 abbrev pub IsAmong : {X : Type 0} → X → List X → Type 0
@@ -134,5 +139,6 @@ is_part (Part _ _ _ _) = true
 -- the links of a path that exists are those of the paths at and below it that exist, parts left out
 abbrev pub LinksWhatExists : Type 0
 LinksWhatExists =
-    (catalogue : List ObjectDef) (stored : Stored) (path q : Path) → exists catalogue stored path ≡ true → is_part path ≡ false
+    (catalogue : List ObjectDef) (stored : Stored) (path q : Path) → exists catalogue stored path ≡ true
+    → is_part path ≡ false
     → IsAmong q (linked catalogue stored path) ↔ ((lies_at path q ≡ true) × (exists catalogue stored q ≡ true))

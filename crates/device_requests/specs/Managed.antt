@@ -7,7 +7,8 @@ use Rattle.instance_store.specs.Stored.{Stored}
 use Rattle.notifier.specs.Attributes.{Numbers, key_code}
 use Rattle.object_defs.specs.declared.definition.ObjectDef.{ObjectDef}
 
--- the servers that have an account, the definitions of the objects, what is there of them, and the attributes that servers set
+-- the servers that have an account, the definitions of the objects, what is there of them, and the attributes that
+-- servers set
 pub record Managed : Type 0 where
   pub accounts : List ℕ
   pub catalogue : List ObjectDef

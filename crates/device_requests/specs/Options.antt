@@ -1,8 +1,11 @@
 -- What the options of a request say (RFC 7252 sections 5.4 and 5.10).
-use Rattle.std.specs.Prelude.{ℕ, ◌%◌, ◌==◌, nat_lt, nat_le, Bool, ◌&&◌, ◌||◌, not, List, [], ◌∷◌, length, map, filter, find, count_by, Option, None, Some, option_and_then, if◌then◌else◌}
+use Rattle.std.specs.Prelude.{ℕ, ◌%◌, ◌==◌, nat_lt, nat_le, Bool, ◌&&◌, ◌||◌, not, List, [], ◌∷◌, length, map, filter, find, count_by, Option, None, Some, option_and_then, if◌then◌else◌, option_map}
 use Rattle.std.specs.List.{list_any}
 use Rattle.coap_codec.specs.Number.{big_endian}
 use Rattle.coap_codec.specs.declared.option.Opt.{Opt}
+use Rattle.object_defs.specs.Decimal.{number_of}
+use Rattle.object_defs.specs.declared.path.Path.{Path}
+use Rattle.object_defs.specs.declared.path.Path.TheVariants.{Object, Instance, Resource, Part}
 
 -- a recognized option, with the least and the greatest length of its value
 pub record Known : Type 0 where
@@ -27,7 +30,9 @@ known_options =
 
 -- the option is a recognized one, and its value has a length that this one may have
 abbrev pub has_known_form : Opt → Bool
-has_known_form o = list_any (λ k. k.number == o.number && (nat_le k.least (length o.value) && nat_le (length o.value) k.most)) known_options
+has_known_form o =
+    list_any (λ k. k.number == o.number && (nat_le k.least (length o.value) && nat_le (length o.value) k.most))
+    known_options
 
 -- an odd number: the option must be understood (RFC 7252 section 5.4.1)
 abbrev pub is_critical : Opt → Bool
@@ -41,9 +46,11 @@ repeats number options = nat_lt 1 (count_by (λ o. o.number == number) options)
 abbrev pub has_unknown_critical : List Opt → Bool
 has_unknown_critical options = list_any (λ o. is_critical o && not (has_known_form o)) options
 
--- a critical option that is not recognized; a second Uri-Host, Uri-Port or Accept counts as one (RFC 7252 section 5.4.5)
+-- a critical option that is not recognized; a second Uri-Host, Uri-Port or Accept counts as one (RFC 7252 section
+-- 5.4.5)
 abbrev pub has_unrecognized_critical : List Opt → Bool
-has_unrecognized_critical options = ((has_unknown_critical options || repeats 3 options) || repeats 7 options) || repeats 17 options
+has_unrecognized_critical options =
+    ((has_unknown_critical options || repeats 3 options) || repeats 7 options) || repeats 17 options
 
 -- the number in an option of at most two bytes, leading zeros included
 abbrev pub short_number : Opt → Option ℕ
@@ -76,3 +83,21 @@ observe_number o = (if nat_le (length o.value) 3 then Some (big_endian o.value) 
 -- the number of the first Observe (RFC 7641 section 2); where that one has a wrong length, it is as if there were none
 abbrev pub observe_of : List Opt → Option ℕ
 observe_of options = option_and_then observe_number (find (λ o. o.number == 6) options)
+
+-- the numbers that all the segments are, if each is one
+abbrev pub numbers_of : List (List ℕ) → Option (List ℕ)
+numbers_of [] = Some []
+numbers_of (s ∷ ss) = option_and_then (λ n. option_map (λ ns. n ∷ ns) (numbers_of ss)) (number_of s)
+
+-- the path of one to four numbers
+abbrev pub path_from : List ℕ → Option Path
+path_from [] = None
+path_from (o ∷ []) = Some (Object o)
+path_from (o ∷ i ∷ []) = Some (Instance o i)
+path_from (o ∷ i ∷ r ∷ []) = Some (Resource o i r)
+path_from (o ∷ i ∷ r ∷ p ∷ []) = Some (Part o i r p)
+path_from (o ∷ i ∷ r ∷ p ∷ n ∷ ns) = None
+
+-- the path that segments name: one to four, each a number from 0 to 65535 in decimal with no leading zero
+abbrev pub path_of : List (List ℕ) → Option Path
+path_of segments = option_and_then path_from (numbers_of segments)

@@ -1,5 +1,5 @@
 -- The targets of operations: what the catalogue says of a path, and which paths exist.
-use Rattle.std.specs.Prelude.{ℕ, Bool, true, false, ◌&&◌, List, [], Option, None, Some, is_some}
+use Rattle.std.specs.Prelude.{ℕ, ◌==◌, Bool, false, ◌&&◌, ◌||◌, List, [], Option, None, Some, is_some}
 use Rattle.object_defs.specs.Catalogue.{object_of, definition_of}
 use Rattle.object_defs.specs.Operations.{can_read}
 use Rattle.object_defs.specs.Path.{part_of}
@@ -51,9 +51,6 @@ exists catalogue stored (Part o i r n) =
     has_instance stored (place_of o i)
     && (is_multiple (definition_of catalogue o r) && is_some (value_at stored (part_of (resource_place o i r) n)))
 
--- the instance that a path names, or in which it lies, is there
-abbrev pub has_place : Stored → Path → Bool
-has_place stored (Object o) = true
-has_place stored (Instance o i) = has_instance stored (place_of o i)
-has_place stored (Resource o i r) = has_instance stored (place_of o i)
-has_place stored (Part o i r n) = has_instance stored (place_of o i)
+-- servers create and delete no instances of Server, Access Control, Device and Firmware Update
+abbrev pub is_fixed : ℕ → Bool
+is_fixed object = object == 1 || (object == 2 || (object == 3 || object == 5))

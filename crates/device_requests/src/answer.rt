@@ -1,5 +1,5 @@
 ghost use Rattle.std.specs.Prelude.{◌≡◌, [], None, Some};
-ghost use Rattle.device_requests.specs.Answers.{bare, code_byte, content, created, done};
+ghost use Rattle.device_requests.specs.Answer.{bare, code_byte, content, created, done};
 
 use object_defs::InstancePath;
 use octets::Bytes;

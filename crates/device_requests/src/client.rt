@@ -1,30 +1,16 @@
-//! What of a device the requests of device management look at and change, and what a request answers
-//! and changes, by its operation.
+//! What of a device the requests of device management look at and change.
 
 ghost use Rattle.std.specs.Prelude.{◌≡◌, ◌≢◌, ◌↔◌, length, Err, IfOk, IsErrOf, IsFalse, IsTrue, OnOk, OnErr, Some};
 ghost use Rattle.instance_store.specs.Stored.{has_instance};
-ghost use Rattle.device_requests.specs.Answers.{Leaves};
 ghost use Rattle.device_requests.specs.Managed.{has_account, with_stored};
-ghost use Rattle.device_requests.specs.Options.{segments_of};
-ghost use Rattle.device_requests.specs.Requests.{outcome_at, outcome_of, outcome_on};
-ghost use Rattle.device_requests.specs.Segments.{path_of};
 ghost use Rattle.std.specs.FinMap as map;
 ghost use Rattle.std.specs.Option.{is_some, unwrap_or};
 ghost use Rattle.device_template.specs.Values.{instance_at, is_one_too_many, with_value_at};
 ghost use Rattle.device_firmware.specs.Firmware.{firmware_after};
 ghost use Rattle.device_firmware.specs.declared.event.FirmwareEvent.TheVariants.{Ended};
 
-mod instances;
-mod reads;
-mod writes;
-
-use crate::answer::{Answer, Code};
-use crate::operation::{Operation, select};
-use crate::options::{accept_of, has_query, has_unrecognized_critical, path_of};
-use coap_codec::Message;
 use device_firmware::{FirmwareEvent, take};
 use instance_store::{Store, StoreFault};
-use lwm2m_payloads::Mode;
 use lwm2m_values::Value;
 use notifier::Attributes;
 use object_defs::{Catalog, FullPath, Path};
@@ -35,11 +21,11 @@ use std::marker::Model;
 /// objects' definitions, instances and values, and the attributes that servers set.
 #[derive(Drop)]
 pub struct Client {
-    accounts: Vec<u16>,
-    catalog: Catalog,
-    store: Store,
-    attributes: Attributes,
-    alloc: Global,
+    pub(crate) accounts: Vec<u16>,
+    pub(crate) catalog: Catalog,
+    pub(crate) store: Store,
+    pub(crate) attributes: Attributes,
+    pub(crate) alloc: Global,
 }
 
 impl Model for Client {
@@ -51,13 +37,23 @@ impl Model for Client {
 
     ghost coded = { Prim.hlevel (codes, stored_code, attributes_code) };
 
-    ghost view = { λ c. record { accounts = c.accounts.items; catalogue = c.catalog; store = c.store; attributes = c.attributes } };
+    ghost view = { λ c. record {
+      accounts = c.accounts.items;
+      catalogue = c.catalog;
+      store = c.store;
+      attributes = c.attributes;
+    } };
 }
 
 impl Client {
     /// A client of these accounts, definitions and values, with no attribute set.
     pub fn new(alloc: Global, accounts: Vec<u16>, catalog: Catalog, store: Store) -> Client
-        ensures { result ≡ record { accounts = accounts.items; catalogue = catalog; store = store; attributes = map.empty } }
+        ensures { result ≡ record {
+          accounts = accounts.items;
+          catalogue = catalog;
+          store = store;
+          attributes = map.empty;
+        } }
     {
         Client {
             accounts,
@@ -81,21 +77,21 @@ impl Client {
         })
     }
 
-    /// The definitions of the objects, lent.
+    /// The definitions of the objects.
     pub fn catalog(&self) -> &Catalog
         ensures { result.now ≡ self.now.catalogue }
     {
         &self.catalog
     }
 
-    /// The values and instances, lent.
+    /// The values and instances.
     pub fn store(&self) -> &Store
         ensures { result.now ≡ self.now.store }
     {
         &self.store
     }
 
-    /// The attributes that servers set, lent.
+    /// The attributes that servers set.
     pub fn attributes(&self) -> &Attributes
         ensures { result.now ≡ self.now.attributes }
     {
@@ -109,11 +105,19 @@ impl Client {
         self.accounts.iter().any(|account| *account == server)
     }
 
+    /// How many servers have an account.
+    pub(crate) fn account_count(&self) -> usize
+        ensures { result ≡ length self.now.accounts }
+    {
+        self.accounts.len()
+    }
+
     /// Puts a value at a full path, past the rights of servers.
     pub fn put(&mut self, path: FullPath, value: Value) -> Result<(), StoreFault>
         ensures ok { OnOk result (self.new ≡ with_stored self.old (with_value_at self.old.store (Some path) value)) }
         ensures absent { IsErrOf result StoreFault.Absent ↔ IsFalse (has_instance self.old.store (instance_at path)) }
-        ensures full { IsErrOf result StoreFault.Full ↔ (IsTrue (has_instance self.old.store (instance_at path)) × IsTrue (is_one_too_many self.old.store path)) }
+        ensures full { IsErrOf result StoreFault.Full
+            ↔ (IsTrue (has_instance self.old.store (instance_at path)) × IsTrue (is_one_too_many self.old.store path)) }
         ensures never_exists { result ≢ Err StoreFault.Exists }
         ensures err { OnErr result (self.new ≡ self.old) }
     {
@@ -124,62 +128,9 @@ impl Client {
     /// there is one that it ends.
     pub fn end_firmware(&mut self, code: u8) -> Result<bool, AllocError>
         ensures ended { IfOk result (λ b. b ≡ is_some (firmware_after self.old.store (Ended code))) }
-        ensures change { OnOk result (self.new ≡ with_stored self.old (unwrap_or (firmware_after self.old.store (Ended code)) self.old.store)) }
+        ensures change { OnOk result (self.new ≡ with_stored self.old
+            (unwrap_or (firmware_after self.old.store (Ended code)) self.old.store)) }
     {
         take(self.alloc, &mut self.store, FirmwareEvent::Ended(code))
-    }
-
-    /// How many servers have an account.
-    fn account_count(&self) -> usize
-        ensures { result ≡ length self.now.accounts }
-    {
-        self.accounts.len()
-    }
-
-    /// Does what an operation asks for.
-    fn perform(
-        &mut self,
-        server: u16,
-        message: &Message,
-        path: Path,
-        operation: Operation,
-    ) -> Result<Answer, AllocError>
-        ensures { IfOk result (λ a. Leaves a self.new (outcome_at self.old server message.now path operation)) }
-    {
-        match operation {
-            Operation::Read => self.read(server, path, accept_of(message.options().as_slice())),
-            Operation::Discover => self.discover(server, path),
-            Operation::WriteReplace => self.write(server, Mode::Replace, path, message),
-            Operation::WritePartial => self.write(server, Mode::Update, path, message),
-            Operation::Execute => self.execute(server, path, message),
-            Operation::Delete => self.delete(server, path),
-            Operation::Create => self.create(server, path, message),
-            Operation::WriteAttributes => self.write_attributes(server, path, message),
-        }
-    }
-
-    /// Does what a request asks for whose options are all understood.
-    fn serve(&mut self, server: u16, message: &Message) -> Result<Answer, AllocError>
-        ensures { IfOk result (λ a. Leaves a self.new (outcome_on self.old server message.now (path_of (segments_of message.now.options)))) }
-    {
-        let options = message.options().as_slice();
-        let Some(path) = path_of(options) else {
-            return Ok(Answer::bare(self.alloc, Code::NotFound));
-        };
-        let accept = accept_of(options);
-        let Some(operation) = select(message.code(), accept, has_query(options), path) else {
-            return Ok(Answer::bare(self.alloc, Code::MethodNotAllowed));
-        };
-        self.perform(server, message, path, operation)
-    }
-
-    /// Does what a request asks for, and answers it.
-    pub fn answer(&mut self, server: u16, message: &Message) -> Result<Answer, AllocError>
-        ensures { IfOk result (λ a. Leaves a self.new (outcome_of self.old server message.now)) }
-    {
-        if has_unrecognized_critical(message.options().as_slice()) {
-            return Ok(Answer::bare(self.alloc, Code::BadOption));
-        }
-        self.serve(server, message)
     }
 }

@@ -1,22 +1,22 @@
-//! A Delete: of which objects, and what it takes away.
+//! A Delete: its rules, and what it takes away.
 
-ghost use Rattle.std.specs.Prelude.{◌≡◌, true, filter, not, OnOk};
+ghost use Rattle.std.specs.Prelude.{◌≡◌, true, filter, not, IfOk, OnOk};
 ghost use Rattle.instance_store.specs.Stored.{has_instance};
-ghost use Rattle.device_requests.specs.Deletes.{deleted, is_fixed, taken_away, without_controls};
-ghost use Rattle.device_requests.specs.Targets.{has_place, place_of};
 ghost use Rattle.notifier.specs.Attributes.{without_under};
+ghost use Rattle.object_defs.specs.Lines.{first_line};
+ghost use Rattle.device_requests.specs.Answer.{Leaves};
+ghost use Rattle.device_requests.specs.Delete.{delete_lines, delete_outcome, deleted, taken_away, without_controls};
+ghost use Rattle.device_requests.specs.Inside.{has_place};
+ghost use Rattle.device_requests.specs.Targets.{place_of};
 
+use crate::answer::{Answer, Code};
+use crate::client::Client;
+use crate::objects::{ACCESS_CONTROL, SECURITY};
+use crate::targets::{exists, is_fixed};
 use instance_store::Store;
 use notifier::Attributes;
 use object_defs::{InstancePath, Path};
 use std::alloc::{AllocError, Global};
-
-/// Whether servers make and delete no instances of the object.
-pub(crate) fn is_fixed(object: u16) -> bool
-    ensures { result ≡ is_fixed object }
-{
-    object == 1 || object == 2 || object == 3 || object == 5
-}
 
 /// Takes an instance that is there away, and each instance of Access Control for it.
 fn take_away(store: &mut Store, path: Path)
@@ -36,22 +36,23 @@ fn take_away(store: &mut Store, path: Path)
 
 /// Removes the attributes at or below those of these instances of Access Control that are not there.
 fn forget(attributes: &mut Attributes, store: &Store, instances: &[u16])
-    ensures { attributes.new ≡ without_controls attributes.old (filter (λ j. not (has_instance store.now (place_of 2 j))) instances.now) }
+    ensures { attributes.new ≡ without_controls attributes.old
+        (filter (λ j. not (has_instance store.now (place_of 2 j))) instances.now) }
 {
     for instance in instances {
         let place = InstancePath {
-            object: 2,
+            object: ACCESS_CONTROL,
             instance: *instance,
         };
         if !store.has_instance(place) {
-            attributes.remove_under(Path::Instance(2, *instance));
+            attributes.remove_under(Path::Instance(ACCESS_CONTROL, *instance));
         }
     }
 }
 
 /// Takes an instance that is there away, each instance of Access Control for it, and the attributes
 /// at or below these.
-pub(crate) fn delete(
+fn delete_at(
     alloc: Global,
     store: &mut Store,
     attributes: &mut Attributes,
@@ -62,9 +63,44 @@ pub(crate) fn delete(
     ensures attributes { OnOk result (attributes.new
         ≡ without_controls (without_under attributes.old path) (taken_away store.old (deleted store.old path))) }
 {
-    let controls = Vec::from_slice(alloc, store.instances(2))?;
+    let controls = Vec::from_slice(alloc, store.instances(ACCESS_CONTROL))?;
     take_away(store, path);
     attributes.remove_under(path);
     forget(attributes, store, controls.as_slice());
     Ok(())
+}
+
+impl Client {
+    /// What refuses a Delete.
+    fn delete_refusal(&self, server: u16, path: Path) -> Option<Code>
+        ensures { result ≡ first_line (delete_lines self.now server path) }
+    {
+        if path.object() == SECURITY {
+            return Some(Code::Unauthorized);
+        }
+        if !exists(&self.catalog, &self.store, path) {
+            return Some(Code::NotFound);
+        }
+        if !self.rights(server, path).delete {
+            return Some(Code::Unauthorized);
+        }
+        if is_fixed(path.object()) {
+            return Some(Code::MethodNotAllowed);
+        }
+        None
+    }
+
+    /// Deletes an instance, where no line refuses it.
+    #[tactic(auto, using(crate::proofs::Present::delete_has))]
+    pub(crate) fn delete(&mut self, server: u16, path: Path) -> Result<Answer, AllocError>
+        ensures { IfOk result (λ a. Leaves a self.new (delete_outcome self.old server path)) }
+    {
+        match self.delete_refusal(server, path) {
+            Some(code) => Ok(Answer::bare(self.alloc, code)),
+            None => {
+                delete_at(self.alloc, &mut self.store, &mut self.attributes, path)?;
+                Ok(Answer::bare(self.alloc, Code::Deleted))
+            }
+        }
+    }
 }

@@ -1,21 +1,33 @@
-//! An Execute: its arguments, what it changes, and what the device does behind it.
+//! An Execute: its rules, its arguments, what it changes, and what the device does after it.
 
 ghost use Rattle.std.specs.Prelude.{◌≡◌, true, false, pos, IfOk, OnOk};
 ghost use Rattle.lwm2m_values.specs.declared.value.Value.TheVariants.{Whole};
+ghost use Rattle.object_defs.specs.Lines.{first_line};
 ghost use Rattle.object_defs.specs.Path.{part_of};
 ghost use Rattle.instance_store.specs.Stored.{has_instance, instance_of, is_full, resource_path, with_value, without_values};
-ghost use Rattle.device_requests.specs.Executes.{act_of, executed, is_executable, is_plain, is_resource, is_untimely, with_no_error};
-ghost use Rattle.device_requests.specs.Targets.{has_place};
+ghost use Rattle.device_requests.specs.Answer.{Leaves};
+ghost use Rattle.device_requests.specs.Execute.{act_of, argument_lines, execute_lines, execute_outcome, executed, is_executable, is_plain, is_resource, is_untimely, with_no_error};
+ghost use Rattle.device_requests.specs.Options.{content_format_of};
+ghost use Rattle.device_requests.specs.Inside.{has_place};
 
-use crate::answer::Act;
+use crate::answer::{Act, Answer, Code};
+use crate::client::Client;
+use crate::objects::{
+    DEVICE, DISABLE, ERROR_CODE, FACTORY_RESET, FIRMWARE_UPDATE, REBOOT, REGISTRATION_UPDATE,
+    RESET_ERROR_CODE, SECURITY, SERVER, UPDATE,
+};
+use crate::options::content_format_of;
+use crate::targets::{definition_at, exists, resource_place};
+use coap_codec::Message;
 use device_firmware::{FirmwareEvent, take, takes};
 use instance_store::{Store, StoreFault};
+use lwm2m_payloads::are_arguments;
 use lwm2m_values::Value;
 use object_defs::{Path, ResourceDef, ResourcePath};
 use std::alloc::{AllocError, Global};
 
 /// Whether a resource is defined, and can be executed.
-pub(crate) fn is_executable(definition: Option<ResourceDef>) -> bool
+fn is_executable(definition: Option<ResourceDef>) -> bool
     ensures { result ≡ is_executable definition }
 {
     match definition {
@@ -25,7 +37,7 @@ pub(crate) fn is_executable(definition: Option<ResourceDef>) -> bool
 }
 
 /// Whether a Content-Format is that of arguments, or there is none.
-pub(crate) fn is_plain(number: Option<u16>) -> bool
+fn is_plain(number: Option<u16>) -> bool
     ensures { result ≡ is_plain number }
 {
     match number {
@@ -45,26 +57,26 @@ fn is_resource(object: u16, resource: u16, path: Path) -> bool
 }
 
 /// Whether the path is that of Update, and the firmware is in no state for it.
-pub(crate) fn is_untimely(store: &Store, path: Path) -> bool
+fn is_untimely(store: &Store, path: Path) -> bool
     ensures { result ≡ is_untimely store.now path }
 {
-    is_resource(5, 2, path) && !takes(store, &FirmwareEvent::Update)
+    is_resource(FIRMWARE_UPDATE, UPDATE, path) && !takes(store, &FirmwareEvent::Update)
 }
 
 /// What the device does behind the reply.
-pub(crate) fn act_of(path: Path) -> Option<Act>
+fn act_of(path: Path) -> Option<Act>
     ensures { result ≡ act_of path }
 {
-    if is_resource(3, 4, path) {
+    if is_resource(DEVICE, REBOOT, path) {
         return Some(Act::Reboot);
     }
-    if is_resource(3, 5, path) {
+    if is_resource(DEVICE, FACTORY_RESET, path) {
         return Some(Act::FactoryReset);
     }
-    if is_resource(1, 4, path) {
+    if is_resource(SERVER, DISABLE, path) {
         return Some(Act::Disable);
     }
-    if is_resource(1, 8, path) {
+    if is_resource(SERVER, REGISTRATION_UPDATE, path) {
         return Some(Act::RegUpdate);
     }
     None
@@ -101,11 +113,7 @@ fn reset_errors(store: &mut Store, path: Path) -> Result<(), AllocError>
 {
     match path {
         Path::Resource(object, instance, _) => {
-            let codes = ResourcePath {
-                object,
-                instance,
-                resource: 11,
-            };
+            let codes = resource_place(object, instance, ERROR_CODE);
             clear(store, codes);
             put_zero(store, codes)
         }
@@ -114,16 +122,76 @@ fn reset_errors(store: &mut Store, path: Path) -> Result<(), AllocError>
 }
 
 /// Does what an Execute asks for in an instance that is there. At `Err` the error codes may be gone.
-pub(crate) fn execute(alloc: Global, store: &mut Store, path: Path) -> Result<(), AllocError>
+fn execute_at(alloc: Global, store: &mut Store, path: Path) -> Result<(), AllocError>
     requires { has_place store.old path ≡ true }
     ensures { OnOk result (store.new ≡ executed store.old path) }
 {
-    if is_resource(5, 2, path) {
+    if is_resource(FIRMWARE_UPDATE, UPDATE, path) {
         take(alloc, store, FirmwareEvent::Update)?;
         return Ok(());
     }
-    if is_resource(3, 12, path) {
+    if is_resource(DEVICE, RESET_ERROR_CODE, path) {
         return reset_errors(store, path);
     }
     Ok(())
+}
+
+impl Client {
+    /// What refuses the arguments of an Execute, or the Execute as untimely.
+    fn argument_refusal(&self, path: Path, message: &Message) -> Option<Code>
+        ensures { result
+            ≡ first_line (argument_lines self.now path (content_format_of message.now.options) message.now.payload) }
+    {
+        if !is_plain(content_format_of(message.options().as_slice())) {
+            return Some(Code::UnsupportedContentFormat);
+        }
+        if !are_arguments(message.payload().as_slice()) {
+            return Some(Code::BadRequest);
+        }
+        if is_untimely(&self.store, path) {
+            return Some(Code::MethodNotAllowed);
+        }
+        None
+    }
+
+    /// What refuses an Execute.
+    fn execute_refusal(&self, server: u16, path: Path, message: &Message) -> Option<Code>
+        ensures { result ≡ first_line
+            (execute_lines self.now server path (content_format_of message.now.options) message.now.payload) }
+    {
+        if path.object() == SECURITY {
+            return Some(Code::Unauthorized);
+        }
+        if !exists(&self.catalog, &self.store, path) {
+            return Some(Code::NotFound);
+        }
+        if !self.rights(server, path).execute {
+            return Some(Code::Unauthorized);
+        }
+        if !is_executable(definition_at(&self.catalog, path)) {
+            return Some(Code::MethodNotAllowed);
+        }
+        self.argument_refusal(path, message)
+    }
+
+    /// Executes a resource, where no line refuses it.
+    #[tactic(auto, using(crate::proofs::Present::execute_has))]
+    pub(crate) fn execute(
+        &mut self,
+        server: u16,
+        path: Path,
+        message: &Message,
+    ) -> Result<Answer, AllocError>
+        ensures { IfOk result
+            (λ a. Leaves a self.new
+            (execute_outcome self.old server path (content_format_of message.now.options) message.now.payload)) }
+    {
+        match self.execute_refusal(server, path, message) {
+            Some(code) => Ok(Answer::bare(self.alloc, code)),
+            None => {
+                execute_at(self.alloc, &mut self.store, path)?;
+                Ok(Answer::done(self.alloc, act_of(path)))
+            }
+        }
+    }
 }

@@ -1,6 +1,6 @@
 //! What follows from the tables of requests, for their readers. The calls do nothing; their contracts are the laws.
 
-ghost use Rattle.device_requests.specs.Executes.{ArgumentsAreTested};
+ghost use Rattle.device_requests.specs.Execute.{ArgumentsAreTested};
 ghost use Rattle.device_requests.specs.Hiding.{UnreadableIsHidden, UnreadableIsRefused};
 ghost use Rattle.device_requests.specs.Laws.{FirstLineAnswers, LinksWhatExists, RefusalKeeps, RequestsKeepFrame, WrittenIsRead};
 

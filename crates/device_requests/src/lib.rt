@@ -3,25 +3,28 @@
 
 mod access;
 mod answer;
-mod attribute_writes;
 mod client;
+mod create;
 mod delete;
+mod discover;
 mod execute;
-mod interest;
 mod laws;
-mod links;
+mod objects;
+mod observe;
 mod operation;
 mod options;
 mod read;
+mod request;
 mod targets;
 mod write;
+mod write_attributes;
 
 pub use answer::{Act, Answer, Code};
 pub use client::Client;
-pub use interest::{Interest, interest_of};
 pub use laws::{
     arguments_are_tested, first_line_answers, links_what_exists, reads_what_was_written,
     refusals_change_nothing, unreadable_is_hidden,
 };
+pub use observe::{Interest, interest_of};
 pub use operation::Operation;
 pub use options::{CONTENT_FORMAT, OBSERVE, has_unrecognized_critical};

@@ -1,7 +1,20 @@
+//! The operation that a request asks for, by its method and the kind of its path.
+
 ghost use Rattle.std.specs.Prelude.{◌≡◌};
-ghost use Rattle.device_requests.specs.Operations.{asks_for_links, operation_of};
+ghost use Rattle.device_requests.specs.Operation.{asks_for_links, operation_of};
 
 use object_defs::Path;
+
+const GET: u8 = 1;
+
+const POST: u8 = 2;
+
+const PUT: u8 = 3;
+
+const DELETE: u8 = 4;
+
+/// application/link-format (RFC 6690).
+pub(crate) const LINK_FORMAT: u16 = 40;
 
 /// The operations of the Device Management interface (OMA LwM2M 1.1 Core).
 #[derive(Clone, Copy, Debug, PartialEq, Eq)]
@@ -22,7 +35,7 @@ fn asks_for_links(accept: Option<u16>) -> bool
 {
     match accept {
         None => false,
-        Some(format) => format == 40,
+        Some(format) => format == LINK_FORMAT,
     }
 }
 
@@ -36,7 +49,7 @@ pub(crate) fn select(
     ensures { result ≡ operation_of method accept has_query path }
 {
     match method {
-        1 => match path {
+        GET => match path {
             Path::Part(_, _, _, _) => {
                 if asks_for_links(accept) {
                     None
@@ -52,14 +65,14 @@ pub(crate) fn select(
                 }
             }
         },
-        2 => match path {
+        POST => match path {
             Path::Object(_) => Some(Operation::Create),
             Path::Instance(_, _) => Some(Operation::WritePartial),
             Path::Resource(_, _, _) => Some(Operation::Execute),
             Path::Part(_, _, _, _) => None,
         },
-        3 => select_write(has_query, path),
-        4 => match path {
+        PUT => select_write(has_query, path),
+        DELETE => match path {
             Path::Instance(_, _) => Some(Operation::Delete),
             Path::Object(_) | Path::Resource(_, _, _) | Path::Part(_, _, _, _) => None,
         },

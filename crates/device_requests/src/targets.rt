@@ -1,10 +1,29 @@
 //! The targets of operations: what the catalogue says of a path, and which paths exist.
 
 ghost use Rattle.std.specs.Prelude.{◌≡◌};
-ghost use Rattle.device_requests.specs.Targets.{defined, definition_at, exists, is_multiple, is_readable};
+ghost use Rattle.device_requests.specs.Targets.{defined, definition_at, exists, is_fixed, is_multiple, is_readable, resource_place};
 
+use crate::objects::{ACCESS_CONTROL, DEVICE, FIRMWARE_UPDATE, SERVER};
 use instance_store::Store;
 use object_defs::{Catalog, InstancePath, Path, ResourceDef, ResourcePath};
+
+/// The path of a resource.
+pub(crate) fn resource_place(object: u16, instance: u16, resource: u16) -> ResourcePath
+    ensures { result ≡ resource_place object instance resource }
+{
+    ResourcePath {
+        object,
+        instance,
+        resource,
+    }
+}
+
+/// Whether servers create and delete no instances of the object.
+pub(crate) fn is_fixed(object: u16) -> bool
+    ensures { result ≡ is_fixed object }
+{
+    object == SERVER || object == ACCESS_CONTROL || object == DEVICE || object == FIRMWARE_UPDATE
+}
 
 /// The definitions of an object's resources; none where the object is not known.
 pub(crate) fn defined(catalog: &Catalog, object: u16) -> &[ResourceDef]
@@ -60,19 +79,11 @@ pub(crate) fn exists(catalog: &Catalog, store: &Store, path: Path) -> bool
                 && store.has_instance(InstancePath { object, instance })
         }
         Path::Resource(object, instance, resource) => {
-            let place = ResourcePath {
-                object,
-                instance,
-                resource,
-            };
+            let place = resource_place(object, instance, resource);
             store.has_resource(place, definition)
         }
         Path::Part(object, instance, resource, part) => {
-            let place = ResourcePath {
-                object,
-                instance,
-                resource,
-            };
+            let place = resource_place(object, instance, resource);
             store.has_instance(InstancePath { object, instance })
                 && is_multiple(definition)
                 && store.get(place.part(part)).is_some()

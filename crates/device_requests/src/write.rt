@@ -1,17 +1,27 @@
-//! A Write: which targets it has, what its payload gives, and how that is set.
+//! A Write: its rules, which targets it has, what its payload gives, and how that is set.
 
-ghost use Rattle.std.specs.Prelude.{◌≡◌, ◌==◌, true, false, IfOk, OnOk, Some, None};
+ghost use Rattle.std.specs.Prelude.{◌≡◌, ◌==◌, ◌∷◌, [], true, false, not, IfOk, OnOk, Some, None};
+ghost use Rattle.std.specs.Option.{is_some, unwrap_or};
+ghost use Rattle.device_firmware.specs.Firmware.{firmware_after};
 ghost use Rattle.instance_store.specs.Stored.{has_instance, instance_of};
 ghost use Rattle.lwm2m_payloads.specs.Changes.{has_too_many, instance_written};
-ghost use Rattle.device_requests.specs.Targets.{has_place};
-ghost use Rattle.device_requests.specs.Writes.{can_be_written, values_exceed, values_written, values_given, given_to_part, given_to_resource, event_at, event_in, is_target, is_writable, mode_at, package_in, resource_exceeds, resource_written, uri_in};
+ghost use Rattle.object_defs.specs.Lines.{first_line};
+ghost use Rattle.device_requests.specs.Answer.{Leaves};
+ghost use Rattle.device_requests.specs.Options.{content_format_of};
+ghost use Rattle.device_requests.specs.Inside.{has_place};
+ghost use Rattle.device_requests.specs.Write.{can_be_written, event_at, event_in, give, given_to_part, given_to_resource, is_target, is_writable, mode_at, new_values, package_in, payload_lines, resource_exceeds, resource_written, uri_in, value_lines, values_exceed, values_given, values_written, write_outcome, write_unless};
 
-use crate::targets::{defined, definition_at, is_multiple, is_readable};
-use device_firmware::FirmwareEvent;
+use crate::answer::{Answer, Code};
+use crate::client::Client;
+use crate::objects::{FIRMWARE_UPDATE, PACKAGE, PACKAGE_URI, SECURITY};
+use crate::options::content_format_of;
+use crate::targets::{defined, definition_at, is_multiple, is_readable, resource_place};
+use coap_codec::Message;
+use device_firmware::{FirmwareEvent, take};
 use instance_store::{Store, StoreFault};
 use lwm2m_payloads::{
-    Assignments, Format, Given, Mode, has_too_many, instance_given, is_too_many, part_given,
-    resource_given, set_given, write_instance,
+    Assignments, Format, Given, Mode, format_for, has_too_many, instance_given, is_too_many,
+    part_given, resource_given, set_given, write_instance,
 };
 use lwm2m_values::Value;
 use object_defs::{Catalog, InstancePath, Path, ResourceDef, ResourcePath};
@@ -19,7 +29,7 @@ use std::alloc::{AllocError, Global};
 
 /// What the payload of a Write gives.
 #[derive(Debug, Drop)]
-pub(crate) enum NewValues {
+enum NewValues {
     /// To resources of an instance.
     Several(Assignments),
     /// To one resource, or to a part of it.
@@ -28,7 +38,7 @@ pub(crate) enum NewValues {
 
 /// Whether a path exists for a Write: a resource where it is defined, a part where its resource is
 /// multiple, both in an instance that exists.
-pub(crate) fn is_target(catalog: &Catalog, store: &Store, path: Path) -> bool
+fn is_target(catalog: &Catalog, store: &Store, path: Path) -> bool
     ensures { result ≡ is_target catalog.now store.now path }
 {
     let definition = definition_at(catalog, path);
@@ -58,12 +68,12 @@ fn is_writable(definition: Option<ResourceDef>) -> bool
 }
 
 /// Whether what the path names can be written.
-pub(crate) fn can_be_written(catalog: &Catalog, path: Path) -> bool
+fn can_be_written(catalog: &Catalog, path: Path) -> bool
     ensures { result ≡ can_be_written catalog.now path }
 {
     match path {
         Path::Object(_) => false,
-        Path::Instance(object, _) => object != 5,
+        Path::Instance(object, _) => object != FIRMWARE_UPDATE,
         Path::Resource(_, _, _) | Path::Part(_, _, _, _) => {
             is_writable(definition_at(catalog, path))
         }
@@ -103,17 +113,17 @@ fn uri_in(given: &Given) -> Result<Option<FirmwareEvent>, AllocError>
 fn event_at(object: u16, resource: u16, given: &Given) -> Result<Option<FirmwareEvent>, AllocError>
     ensures { IfOk result (λ e. e ≡ event_at object resource given.now) }
 {
-    if object == 5 && resource == 0 {
+    if object == FIRMWARE_UPDATE && resource == PACKAGE {
         return Ok(package_in(given));
     }
-    if object == 5 && resource == 1 {
+    if object == FIRMWARE_UPDATE && resource == PACKAGE_URI {
         return uri_in(given);
     }
     Ok(None)
 }
 
 /// What a Write is to the firmware.
-pub(crate) fn event_in(path: Path, values: &NewValues) -> Result<Option<FirmwareEvent>, AllocError>
+fn event_in(path: Path, values: &NewValues) -> Result<Option<FirmwareEvent>, AllocError>
     ensures { IfOk result (λ e. e ≡ event_in path values.now) }
 {
     match path {
@@ -157,7 +167,7 @@ fn given_to_part(
 }
 
 /// What a payload gives at a path, or none where it is not good.
-pub(crate) fn values_given(
+fn values_given(
     alloc: Global,
     catalog: &Catalog,
     path: Path,
@@ -185,7 +195,7 @@ pub(crate) fn values_given(
 }
 
 /// How a Write at the path treats the parts that it does not name.
-pub(crate) fn mode_at(mode: Mode, path: Path) -> Mode
+fn mode_at(mode: Mode, path: Path) -> Mode
     ensures { result ≡ mode_at mode path }
 {
     match path {
@@ -211,7 +221,7 @@ fn resource_exceeds(
 }
 
 /// Whether a resource would have more parts than it may.
-pub(crate) fn exceeds(
+fn exceeds(
     mode: Mode,
     catalog: &Catalog,
     store: &Store,
@@ -232,11 +242,7 @@ pub(crate) fn exceeds(
         NewValues::One(given) => match path {
             Path::Resource(object, instance, resource)
             | Path::Part(object, instance, resource, _) => {
-                let place = ResourcePath {
-                    object,
-                    instance,
-                    resource,
-                };
+                let place = resource_place(object, instance, resource);
                 resource_exceeds(mode, definition, store, place, given)
             }
             Path::Object(_) | Path::Instance(_, _) => Ok(false),
@@ -289,7 +295,7 @@ fn write_resources(
 
 /// Sets what is given in an instance that is there, where it does not exceed what a resource may
 /// have. At `Err` a part of it may be set.
-pub(crate) fn write(
+fn write_at(
     mode: Mode,
     catalog: &Catalog,
     store: &mut Store,
@@ -312,14 +318,110 @@ pub(crate) fn write(
         NewValues::One(given) => match path {
             Path::Resource(object, instance, resource)
             | Path::Part(object, instance, resource, _) => {
-                let place = ResourcePath {
-                    object,
-                    instance,
-                    resource,
-                };
+                let place = resource_place(object, instance, resource);
                 write_resource(mode, definition, store, place, given)
             }
             Path::Object(_) | Path::Instance(_, _) => Ok(()),
         },
+    }
+}
+
+impl Client {
+    /// Sets what a payload gives in an instance that is there, where no resource would have more parts
+    /// than it may.
+    fn set(&mut self, mode: Mode, path: Path, values: NewValues) -> Result<Answer, AllocError>
+        requires { has_place self.old.store path ≡ true }
+        ensures { IfOk result (λ a. Leaves a self.new
+            (write_unless (first_line
+            ((values_exceed mode self.old.catalogue self.old.store path values, Code.InternalServerError) ∷ []))
+            self.old (values_written mode self.old.catalogue self.old.store path values))) }
+    {
+        if exceeds(mode, &self.catalog, &self.store, path, &values)? {
+            return Ok(Answer::bare(self.alloc, Code::InternalServerError));
+        }
+        write_at(mode, &self.catalog, &mut self.store, path, values)?;
+        Ok(Answer::bare(self.alloc, Code::Changed))
+    }
+
+    /// Gives the firmware what was written, where it is in a state for it.
+    fn turn(&mut self, event: FirmwareEvent) -> Result<Answer, AllocError>
+        ensures { IfOk result (λ a. Leaves a self.new
+            (write_unless (first_line
+            ((not (is_some (firmware_after self.old.store event)), Code.MethodNotAllowed) ∷ []))
+            self.old (unwrap_or (firmware_after self.old.store event) self.old.store))) }
+    {
+        if take(self.alloc, &mut self.store, event)? {
+            return Ok(Answer::bare(self.alloc, Code::Changed));
+        }
+        Ok(Answer::bare(self.alloc, Code::MethodNotAllowed))
+    }
+
+    /// Writes what a payload of a format gives in an instance that is there, where its values are good.
+    fn write_in(
+        &mut self,
+        mode: Mode,
+        path: Path,
+        format: Format,
+        payload: &[u8],
+    ) -> Result<Answer, AllocError>
+        requires { has_place self.old.store path ≡ true }
+        ensures { IfOk result (λ a. let values = values_given self.old.catalogue path payload.now format in
+            Leaves a self.new (give (value_lines self.old mode path values) self.old mode path values)) }
+    {
+        let Some(values) = values_given(self.alloc, &self.catalog, path, payload, format)? else {
+            return Ok(Answer::bare(self.alloc, Code::BadRequest));
+        };
+        match event_in(path, &values)? {
+            Some(event) => self.turn(event),
+            None => self.set(mode_at(mode, path), path, values),
+        }
+    }
+
+    /// Writes what a payload gives in an instance that is there, where its format is served and its
+    /// values are good.
+    fn write_payload(
+        &mut self,
+        mode: Mode,
+        path: Path,
+        message: &Message,
+    ) -> Result<Answer, AllocError>
+        requires { has_place self.old.store path ≡ true }
+        ensures { IfOk result (λ a. let number = content_format_of message.now.options in
+            Leaves a self.new (give (payload_lines self.old mode path number message.now.payload) self.old mode path
+            (new_values self.old path number message.now.payload))) }
+    {
+        let number = content_format_of(message.options().as_slice());
+        let Some(format) = format_for(path, definition_at(&self.catalog, path), number) else {
+            return Ok(Answer::bare(self.alloc, Code::UnsupportedContentFormat));
+        };
+        self.write_in(mode, path, format, message.payload().as_slice())
+    }
+
+    /// Writes what a payload gives, where no line refuses it.
+    #[tactic(auto, using(crate::proofs::Present::target_has))]
+    pub(crate) fn write(
+        &mut self,
+        server: u16,
+        mode: Mode,
+        path: Path,
+        message: &Message,
+    ) -> Result<Answer, AllocError>
+        ensures { IfOk result
+            (λ a. Leaves a self.new
+            (write_outcome self.old server mode path (content_format_of message.now.options) message.now.payload)) }
+    {
+        if path.object() == SECURITY {
+            return Ok(Answer::bare(self.alloc, Code::Unauthorized));
+        }
+        if !is_target(&self.catalog, &self.store, path) {
+            return Ok(Answer::bare(self.alloc, Code::NotFound));
+        }
+        if !self.rights(server, path).write {
+            return Ok(Answer::bare(self.alloc, Code::Unauthorized));
+        }
+        if !can_be_written(&self.catalog, path) {
+            return Ok(Answer::bare(self.alloc, Code::MethodNotAllowed));
+        }
+        self.write_payload(mode, path, message)
     }
 }

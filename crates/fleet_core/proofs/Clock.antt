@@ -6,7 +6,7 @@ use Rattle.coap_codec.specs.declared.fault.CoapFault.{CoapFault}
 use Rattle.coap_codec.specs.Message.{Parts}
 use Rattle.coap_codec.specs.Reading.{reading_of}
 use Rattle.device_requests.specs.Managed.{has_account}
-use Rattle.device_requests.specs.Requests.{outcome_of}
+use Rattle.device_requests.specs.Request.{outcome_of}
 use Rattle.device_template.specs.Values.{misses}
 use Rattle.device_firmware.specs.Firmware.{firmware_after}
 use Rattle.device_firmware.specs.declared.event.FirmwareEvent.TheVariants.{Ended}

@@ -3,7 +3,7 @@
 ghost use Rattle.std.specs.Prelude.{◌≡◌, IfOk};
 ghost use Rattle.device_machine.specs.declared.event.Event.TheVariants.{Recv};
 ghost use Rattle.device_machine.specs.Reactions.{Gives, is_request, on_fresh, on_message, on_noise, on_outcome, on_request, reaction_to, repeat_of, reply_to};
-ghost use Rattle.device_requests.specs.Requests.{outcome_of};
+ghost use Rattle.device_requests.specs.Request.{outcome_of};
 
 use super::repeats::again;
 use crate::machine::Machine;

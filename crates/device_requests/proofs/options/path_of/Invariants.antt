@@ -1,7 +1,6 @@
 -- What the options behind the index add to the path so far is the path of all.
 use Rattle.std.proofs.Common.{◌≡◌, drop}
-use Rattle.device_requests.specs.Options.{segments_of}
-use Rattle.device_requests.specs.Segments.{path_of, numbers_of}
+use Rattle.device_requests.specs.Options.{segments_of, path_of, numbers_of}
 use Rattle.device_requests.proofs.Paths.{finished}
 use Rattle.device_requests.proofs.options.path_of.Given as goal
 

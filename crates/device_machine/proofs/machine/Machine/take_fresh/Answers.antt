@@ -1,6 +1,6 @@
 -- The device is as the answer and what is noted leave it, and replies with both.
 use Rattle.std.proofs.Common.{IfOk, refl, subst}
-use Rattle.device_requests.specs.Requests.{outcome_of}
+use Rattle.device_requests.specs.Request.{outcome_of}
 use Rattle.device_machine.specs.Reactions.{Gives, on_outcome}
 use Rattle.device_machine.proofs.Places.{taken}
 use Rattle.device_machine.proofs.machine.Machine.take_fresh.Goals as goal

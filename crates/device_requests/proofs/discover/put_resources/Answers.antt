@@ -1,0 +1,21 @@
+-- One resource more: its link is the first of those that were left.
+use Rattle.std.proofs.Common.{false, ◌+◌, ◌∷◌, ◌++◌, ap, ◌∙◌, drop}
+use Rattle.object_defs.specs.declared.path.Path.TheVariants.{Resource}
+use Rattle.device_requests.specs.Discover.{existing, link, more_links}
+use Rattle.device_requests.specs.Targets.{exists}
+use Rattle.device_requests.proofs.Linking.{filtered_at}
+use Rattle.device_requests.proofs.discover.put_resources.Goals as goal
+
+pub loop-definition-preserved : goal.loop-definition-preserved
+loop-definition-preserved c =
+    let client = c.args.client.now in
+    let place = c.args.place in
+    ap (λ t. t ++ more_links client c.args.server
+    (existing client.catalogue client.store place.object place.instance
+    (drop (c.loop-definition.definition-index + 1) c.args.resources.now)))
+    c.in_ok-put_existing.ensures
+    ∙ filtered_at c.loop-definition.text.items (λ p. 44 ∷ link client c.args.server false p)
+    (exists client.catalogue client.store)
+    (λ d. Resource place.object place.instance d.id) c.args.resources.now c.loop-definition.definition-index _
+    c.loop-definition-test.true
+    ∙ c.loop-definition.invariant

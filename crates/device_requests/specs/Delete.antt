@@ -1,0 +1,58 @@
+-- What a Delete answers and changes (OMA LwM2M 1.1 Core, Delete).
+use Rattle.std.specs.Prelude.{ℕ, ◌==◌, Bool, not, filter, List, [], ◌∷◌, Option, None, Some}
+use Rattle.object_defs.specs.Lines.{first_line}
+use Rattle.object_defs.specs.Path.{object_in}
+use Rattle.object_defs.specs.declared.path.Path.{Path}
+use Rattle.object_defs.specs.declared.path.Path.TheVariants.{Object, Instance, Resource, Part}
+use Rattle.instance_store.specs.Stored.{Stored, has_instance, instances_of}
+use Rattle.notifier.specs.Attributes.{Numbers, without_under}
+use Rattle.device_instances.specs.Deletions.{without_deleted}
+use Rattle.device_requests.specs.declared.answer.Code.{Code}
+use Rattle.device_requests.specs.declared.answer.Code.TheVariants.{Deleted, Unauthorized, NotFound, MethodNotAllowed}
+use Rattle.device_requests.specs.Access.{rights_on}
+use Rattle.device_requests.specs.Answer.{Outcome, answered, bare}
+use Rattle.device_requests.specs.Managed.{Managed, with_attributes, with_stored}
+use Rattle.device_requests.specs.Targets.{exists, is_fixed, place_of}
+
+-- what refuses a Delete, in this order
+abbrev pub delete_lines : Managed → ℕ → Path → List (Bool × Code)
+delete_lines client server path =
+    (object_in path == 0, Unauthorized)
+    ∷ (not (exists client.catalogue client.store path), NotFound)
+    ∷ (not (rights_on client server path).delete, Unauthorized)
+    ∷ (is_fixed (object_in path), MethodNotAllowed)
+    ∷ []
+
+-- the instance goes, and each instance of Access Control for it
+abbrev pub deleted : Stored → Path → Stored
+deleted stored (Object o) = stored
+deleted stored (Instance o i) = without_deleted stored (place_of o i)
+deleted stored (Resource o i r) = stored
+deleted stored (Part o i r n) = stored
+
+-- the instances of Access Control that were there and are not any more
+abbrev pub taken_away : Stored → Stored → List ℕ
+taken_away old new = filter (λ j. not (has_instance new (place_of 2 j))) (instances_of old 2)
+
+-- without the attributes of all servers at or below these instances of Access Control
+abbrev pub without_controls : Numbers → List ℕ → Numbers
+without_controls m [] = m
+without_controls m (j ∷ js) = without_controls (without_under m (Instance 2 j)) js
+
+-- attributes go with what they are set for
+abbrev pub forgotten : Managed → Path → Numbers
+forgotten client path =
+    without_controls (without_under client.attributes path) (taken_away client.store (deleted client.store path))
+
+-- a refusal changes nothing
+abbrev pub delete_unless : Option Code → Managed → Path → Outcome
+delete_unless (Some code) client path = answered client (bare code)
+delete_unless None client path =
+    record {
+      answer = bare Deleted;
+      client = with_attributes (with_stored client (deleted client.store path))
+          (forgotten client path);
+    }
+
+abbrev pub delete_outcome : Managed → ℕ → Path → Outcome
+delete_outcome client server path = delete_unless (first_line (delete_lines client server path)) client path

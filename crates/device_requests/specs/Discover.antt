@@ -1,0 +1,163 @@
+-- What a Discover answers: its rules and its links (OMA LwM2M 1.1 Core; RFC 6690). Which links it shows is this
+-- profile's.
+use Rattle.std.specs.Prelude.{ℕ, ◌==◌, ◌/◌, ◌%◌, ℤ, unsigned_abs, Bool, true, false, ◌&&◌, List, [], ◌∷◌, ◌++◌, map, length, Option, None, Some, codes, if◌then◌else◌, nat_lt, not}
+use Rattle.std.specs.List.{filter, flat_map}
+use Rattle.std.specs.Fmt.{decimal, signed_decimal}
+use Rattle.std.specs.Int.{is_negative}
+use Rattle.notifier.specs.declared.attribute.Name.{Name}
+use Rattle.notifier.specs.declared.attribute.Name.TheVariants.{Pmin, Pmax, Gt, Lt, St}
+use Rattle.notifier.specs.declared.attribute.Name.TheVariants as name
+use Rattle.notifier.specs.Attributes.{Numbers, assigned, effective}
+use Rattle.object_defs.specs.Catalogue.{definition_of}
+use Rattle.object_defs.specs.declared.definition.ObjectDef.{ObjectDef}
+use Rattle.object_defs.specs.declared.definition.ResourceDef.{ResourceDef}
+use Rattle.object_defs.specs.declared.path.Path.{Path}
+use Rattle.object_defs.specs.declared.path.Path.TheVariants.{Object, Instance, Resource, Part}
+use Rattle.instance_store.specs.Stored.{Stored, instances_of, parts_of}
+use Rattle.device_requests.specs.Managed.{Managed}
+use Rattle.device_requests.specs.Targets.{defined, exists, is_multiple, resource_place}
+use Rattle.object_defs.specs.Path.{object_in}
+use Rattle.device_requests.specs.declared.answer.Answer.{Answer}
+use Rattle.device_requests.specs.declared.answer.Code.{Code}
+use Rattle.device_requests.specs.declared.answer.Code.TheVariants.{Unauthorized, NotFound, InternalServerError}
+use Rattle.device_requests.specs.Answer.{content, refused_or}
+use Rattle.object_defs.specs.Lines.{first_line}
+
+-- those of these resources of an instance that exist
+abbrev pub existing : List ObjectDef → Stored → ℕ → ℕ → List ResourceDef → List Path
+existing catalogue stored o i definitions = filter (exists catalogue stored) (map (λ d. Resource o i d.id) definitions)
+
+-- the resources of an instance that exist, in the catalogue's order
+abbrev pub resources_below : List ObjectDef → Stored → ℕ → ℕ → List Path
+resources_below catalogue stored o i = existing catalogue stored o i (defined catalogue o)
+
+-- an instance, followed by its resources
+abbrev pub instance_paths : List ObjectDef → Stored → ℕ → ℕ → List Path
+instance_paths catalogue stored o i = Instance o i ∷ resources_below catalogue stored o i
+
+-- what lies below a path, by number; parts have no links
+abbrev pub paths_below : List ObjectDef → Stored → Path → List Path
+paths_below catalogue stored (Object o) = flat_map (instance_paths catalogue stored o) (instances_of stored o)
+paths_below catalogue stored (Instance o i) = resources_below catalogue stored o i
+paths_below catalogue stored (Resource o i r) = []
+paths_below catalogue stored (Part o i r n) = []
+
+-- the paths that a Discover shows
+abbrev pub linked : List ObjectDef → Stored → Path → List Path
+linked catalogue stored path = path ∷ paths_below catalogue stored path
+
+-- a path as `/3/0/9`
+abbrev pub path_text : Path → List ℕ
+path_text (Object o) = 47 ∷ decimal o
+path_text (Instance o i) = 47 ∷ decimal o ++ 47 ∷ decimal i
+path_text (Resource o i r) = 47 ∷ decimal o ++ (47 ∷ decimal i ++ 47 ∷ decimal r)
+path_text (Part o i r n) = 47 ∷ decimal o ++ (47 ∷ decimal i ++ (47 ∷ decimal r ++ 47 ∷ decimal n))
+
+-- how many parts a multiple resource holds
+abbrev pub dimension : List ObjectDef → Stored → Path → ℕ
+dimension catalogue stored (Object o) = 0
+dimension catalogue stored (Instance o i) = 0
+dimension catalogue stored (Resource o i r) =
+    if is_multiple (definition_of catalogue o r) then length (parts_of stored (resource_place o i r)) else 0
+dimension catalogue stored (Part o i r n) = 0
+
+abbrev pub dimension_text : ℕ → List ℕ
+dimension_text n = if n == 0 then [] else codes ";dim=" ++ decimal n
+
+-- the name of an attribute as it is written
+abbrev pub name_text : Name → List ℕ
+name_text Pmin = codes "pmin"
+name_text Pmax = codes "pmax"
+name_text Gt = codes "gt"
+name_text Lt = codes "lt"
+name_text St = codes "st"
+
+-- the digits of thousandths below 1,000 behind a point, with no needless zero
+abbrev pub fraction_text : ℕ → List ℕ
+fraction_text f =
+    if f == 0 then []
+    else if f % 100 == 0 then 46 ∷ decimal (f / 100)
+    else if f % 10 == 0 then 46 ∷ decimal (f / 100) ++ decimal (f / 10 % 10)
+    else 46 ∷ decimal (f / 100) ++ (decimal (f / 10 % 10) ++ decimal (f % 10))
+
+abbrev pub unsigned_text : ℕ → List ℕ
+unsigned_text n = decimal (n / 1000) ++ fraction_text (n % 1000)
+
+-- a number of thousandths, as `-0.5` or `50`
+abbrev pub thousandths_text : ℤ → List ℕ
+thousandths_text z = if is_negative z then 45 ∷ unsigned_text (unsigned_abs z) else unsigned_text (unsigned_abs z)
+
+-- the periods are seconds, the others thousandths
+abbrev pub is_period : Name → Bool
+is_period Pmin = true
+is_period Pmax = true
+is_period Gt = false
+is_period Lt = false
+is_period St = false
+
+abbrev pub number_text : Name → ℤ → List ℕ
+number_text n z = if is_period n then signed_decimal z else thousandths_text z
+
+-- an attribute as `;name=number`
+abbrev pub attribute_text : Name → Option ℤ → List ℕ
+attribute_text n None = []
+attribute_text n (Some z) = 59 ∷ name_text n ++ 61 ∷ number_text n z
+
+-- on a Discover of a resource the periods that it inherits are shown too
+abbrev pub inherits_at : Path → Bool
+inherits_at (Object _) = false
+inherits_at (Instance _ _) = false
+inherits_at (Resource _ _ _) = true
+inherits_at (Part _ _ _ _) = false
+
+-- the number of an attribute of a server that a link shows: that of its path itself, or the one that has effect there
+abbrev pub shown_number : Numbers → ℕ → Bool → Path → Name → Option ℤ
+shown_number m server inherits path n =
+    if inherits && is_period n then effective m server path n else assigned m server path n
+
+abbrev pub shown_attribute : Numbers → ℕ → Bool → Path → Name → List ℕ
+shown_attribute m server inherits path n = attribute_text n (shown_number m server inherits path n)
+
+-- the attributes of a server that a link shows, in the order of the names
+abbrev pub attributes_text : Numbers → ℕ → Bool → Path → List ℕ
+attributes_text m server inherits path =
+    shown_attribute m server inherits path name.Pmin
+    ++ (shown_attribute m server inherits path name.Pmax
+    ++ (shown_attribute m server inherits path name.Gt
+    ++ (shown_attribute m server inherits path name.Lt
+    ++ shown_attribute m server inherits path name.St)))
+
+-- what stands behind a link's target: `;dim=N` for a multiple resource that is held, and the server's attributes
+abbrev pub behind : Managed → ℕ → Bool → Path → List ℕ
+behind client server inherits path =
+    dimension_text (dimension client.catalogue client.store path)
+    ++ attributes_text client.attributes server inherits path
+
+-- a link: its target in angle brackets, and what stands behind it
+abbrev pub link : Managed → ℕ → Bool → Path → List ℕ
+link client server inherits path = 60 ∷ path_text path ++ 62 ∷ behind client server inherits path
+
+abbrev pub more_links : Managed → ℕ → List Path → List ℕ
+more_links client server paths = flat_map (λ p. 44 ∷ link client server false p) paths
+
+-- links joined by commas, the first of them that of the target
+abbrev pub links_text : Managed → ℕ → List Path → List ℕ
+links_text client server [] = []
+links_text client server (p ∷ ps) = link client server (inherits_at p) p ++ more_links client server ps
+
+-- the links of a path and of what lies below it
+abbrev pub discover_payload : Managed → ℕ → Path → List ℕ
+discover_payload client server path = links_text client server (linked client.catalogue client.store path)
+
+-- what refuses a Discover, in this order; it asks for no right
+abbrev pub discover_lines : Managed → ℕ → Path → List (Bool × Code)
+discover_lines client server path =
+    (object_in path == 0, Unauthorized)
+    ∷ (not (exists client.catalogue client.store path), NotFound)
+    ∷ (nat_lt 1024 (length (discover_payload client server path)), InternalServerError)
+    ∷ []
+
+-- application/link-format is 40
+abbrev pub discover_answer : Managed → ℕ → Path → Answer
+discover_answer client server path =
+    refused_or (first_line (discover_lines client server path)) (content 40 (discover_payload client server path))

@@ -1,0 +1,100 @@
+-- What an Execute answers and changes, and what the device does behind it (OMA LwM2M 1.1 Core, Execute).
+use Rattle.std.specs.Prelude.{◌≡◌, ◌↔◌, ℕ, ◌==◌, Bool, true, false, not, ◌&&◌, List, [], ◌∷◌, pos, Option, None, Some, is_some, if◌then◌else◌}
+use Rattle.std.specs.Option.{unwrap_or}
+use Rattle.lwm2m_values.specs.declared.value.Value.TheVariants.{Whole}
+use Rattle.object_defs.specs.Lines.{first_line}
+use Rattle.object_defs.specs.Operations.{can_execute}
+use Rattle.object_defs.specs.Path.{object_in, part_of}
+use Rattle.object_defs.specs.declared.definition.ResourceDef.{ResourceDef}
+use Rattle.object_defs.specs.declared.path.Path.{Path}
+use Rattle.object_defs.specs.declared.path.Path.TheVariants.{Object, Instance, Resource, Part}
+use Rattle.instance_store.specs.Stored.{Stored, resource_path, with_value, without_values}
+use Rattle.device_firmware.specs.Firmware.{firmware_after}
+use Rattle.device_firmware.specs.declared.event.FirmwareEvent.TheVariants.{Update}
+use Rattle.lwm2m_payloads.specs.Arguments.{AreArguments}
+use Rattle.lwm2m_payloads.specs.Scanning.{are_arguments}
+use Rattle.device_requests.specs.declared.answer.Act.{Act}
+use Rattle.device_requests.specs.declared.answer.Act.TheVariants.{Reboot, FactoryReset, RegUpdate, Disable}
+use Rattle.device_requests.specs.declared.answer.Code.{Code}
+use Rattle.device_requests.specs.declared.answer.Code.TheVariants.{BadRequest, Unauthorized, NotFound, MethodNotAllowed, UnsupportedContentFormat}
+use Rattle.device_requests.specs.Access.{rights_on}
+use Rattle.device_requests.specs.Answer.{Outcome, answered, bare, done}
+use Rattle.device_requests.specs.Managed.{Managed, with_stored}
+use Rattle.device_requests.specs.Targets.{definition_at, exists, resource_place}
+
+abbrev pub is_executable : Option ResourceDef → Bool
+is_executable None = false
+is_executable (Some d) = can_execute d.ops
+
+-- arguments are plain text, of which the number is 0; no Content-Format says the same
+abbrev pub is_plain : Option ℕ → Bool
+is_plain None = true
+is_plain (Some number) = number == 0
+
+-- a payload passes the test of arguments exactly where it is arguments
+abbrev pub ArgumentsAreTested : Type 0
+ArgumentsAreTested = (payload : List ℕ) → (are_arguments payload ≡ true) ↔ AreArguments payload
+
+-- a resource of an object
+abbrev pub is_resource : ℕ → ℕ → Path → Bool
+is_resource object resource (Object o) = false
+is_resource object resource (Instance o i) = false
+is_resource object resource (Resource o i r) = o == object && r == resource
+is_resource object resource (Part o i r n) = false
+
+-- Update of Firmware Update is taken in some states only
+abbrev pub is_untimely : Stored → Path → Bool
+is_untimely stored path = is_resource 5 2 path && not (is_some (firmware_after stored Update))
+
+-- what refuses the arguments of an Execute, and the Execute where it is untimely, in this order
+abbrev pub argument_lines : Managed → Path → Option ℕ → List ℕ → List (Bool × Code)
+argument_lines client path number payload =
+    (not (is_plain number), UnsupportedContentFormat)
+    ∷ (not (are_arguments payload), BadRequest)
+    ∷ (is_untimely client.store path, MethodNotAllowed)
+    ∷ []
+
+-- what refuses an Execute, in this order
+abbrev pub execute_lines : Managed → ℕ → Path → Option ℕ → List ℕ → List (Bool × Code)
+execute_lines client server path number payload =
+    (object_in path == 0, Unauthorized)
+    ∷ (not (exists client.catalogue client.store path), NotFound)
+    ∷ (not (rights_on client server path).execute, Unauthorized)
+    ∷ (not (is_executable (definition_at client.catalogue path)), MethodNotAllowed)
+    ∷ argument_lines client path number payload
+
+-- what the device does then: /3/0/4 Reboot, /3/0/5 Factory Reset, /1/x/4 Disable, /1/x/8 Registration Update Trigger
+abbrev pub act_of : Path → Option Act
+act_of path =
+    if is_resource 3 4 path then Some Reboot
+    else if is_resource 3 5 path then Some FactoryReset
+    else if is_resource 1 4 path then Some Disable
+    else if is_resource 1 8 path then Some RegUpdate
+    else None
+
+-- Error Code /3/x/11 says 0, no error, alone
+abbrev pub with_no_error : Stored → Path → Stored
+with_no_error stored (Object o) = stored
+with_no_error stored (Instance o i) = stored
+with_no_error stored (Resource o i r) =
+    with_value (without_values stored (resource_path (resource_place o i 11))) (part_of (resource_place o i 11) 0)
+    (Whole (pos 0))
+with_no_error stored (Part o i r n) = stored
+
+-- Update begins the update, Reset Error Code /3/0/12 resets the error codes, the others change nothing
+abbrev pub executed : Stored → Path → Stored
+executed stored path =
+    if is_resource 5 2 path then unwrap_or (firmware_after stored Update) stored
+    else if is_resource 3 12 path then with_no_error stored path
+    else stored
+
+-- a refusal changes nothing; else it is done, and the device acts
+abbrev pub execute_unless : Option Code → Managed → Path → Outcome
+execute_unless (Some code) client path = answered client (bare code)
+execute_unless None client path =
+    record { answer = done (act_of path); client = with_stored client (executed client.store path) }
+
+-- an Execute at a path, with the format that Content-Format names
+abbrev pub execute_outcome : Managed → ℕ → Path → Option ℕ → List ℕ → Outcome
+execute_outcome client server path number payload =
+    execute_unless (first_line (execute_lines client server path number payload)) client path

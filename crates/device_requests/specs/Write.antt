@@ -1,0 +1,187 @@
+-- What a Write answers and changes (OMA LwM2M 1.1 Core, Write: Replace and Partial Update).
+use Rattle.std.specs.Prelude.{ℕ, ◌==◌, Bool, false, not, ◌&&◌, List, [], ◌∷◌, Option, None, Some, option_map, option_and_then, is_some, if◌then◌else◌}
+use Rattle.object_defs.specs.Catalogue.{object_of, definition_of}
+use Rattle.object_defs.specs.Operations.{can_write}
+use Rattle.object_defs.specs.Path.{object_in}
+use Rattle.object_defs.specs.declared.definition.ObjectDef.{ObjectDef}
+use Rattle.object_defs.specs.declared.definition.ResourceDef.{ResourceDef}
+use Rattle.object_defs.specs.declared.path.Path.{Path}
+use Rattle.object_defs.specs.declared.path.Path.TheVariants.{Object, Instance, Resource, Part}
+use Rattle.object_defs.specs.declared.path.ResourcePath.{ResourcePath}
+use Rattle.instance_store.specs.Stored.{Stored, has_instance}
+use Rattle.lwm2m_payloads.specs.declared.format.Format.{Format}
+use Rattle.std.specs.Option.{unwrap_or}
+use Rattle.lwm2m_values.specs.declared.value.Value.TheVariants.{Text, Opaque}
+use Rattle.device_firmware.specs.Firmware.{event_of_package, event_of_uri, firmware_after}
+use Rattle.device_firmware.specs.declared.event.FirmwareEvent.{FirmwareEvent}
+use Rattle.lwm2m_payloads.specs.declared.given.Given.{Given}
+use Rattle.lwm2m_payloads.specs.declared.given.Given.TheVariants.{Single}
+use Rattle.lwm2m_payloads.specs.declared.given.Mode.{Mode}
+use Rattle.lwm2m_payloads.specs.declared.given.Mode.TheVariants.{Update}
+use Rattle.lwm2m_payloads.specs.Changes.{is_kept_as, with_given, instance_written, is_too_many, has_too_many}
+use Rattle.lwm2m_payloads.specs.Given.{instance_given, resource_given, part_given}
+use Rattle.device_requests.specs.declared.write.NewValues.{NewValues}
+use Rattle.device_requests.specs.declared.write.NewValues.TheVariants.{Several, One}
+use Rattle.device_requests.specs.declared.answer.Code.{Code}
+use Rattle.device_requests.specs.declared.answer.Code.TheVariants.{Changed, BadRequest, Unauthorized, NotFound, MethodNotAllowed, UnsupportedContentFormat, InternalServerError}
+use Rattle.device_requests.specs.Access.{rights_on}
+use Rattle.device_requests.specs.Answer.{Outcome, answered, bare}
+use Rattle.object_defs.specs.Lines.{first_line}
+use Rattle.device_requests.specs.Read.{format_at}
+use Rattle.device_requests.specs.Managed.{Managed, with_stored}
+use Rattle.device_requests.specs.Targets.{defined, is_multiple, place_of, resource_place}
+
+-- for a Write a resource exists where it is defined, and any part where its resource is multiple; the instance must
+-- exist
+abbrev pub is_target : List ObjectDef → Stored → Path → Bool
+is_target catalogue stored (Object o) = false
+is_target catalogue stored (Instance o i) = is_some (object_of catalogue o) && has_instance stored (place_of o i)
+is_target catalogue stored (Resource o i r) =
+    is_some (definition_of catalogue o r) && has_instance stored (place_of o i)
+is_target catalogue stored (Part o i r n) =
+    is_multiple (definition_of catalogue o r) && has_instance stored (place_of o i)
+
+abbrev pub is_writable : Option ResourceDef → Bool
+is_writable None = false
+is_writable (Some d) = can_write d.ops
+
+-- an instance can be written but one of Firmware Update, a resource and its parts where the resource has that operation
+abbrev pub can_be_written : List ObjectDef → Path → Bool
+can_be_written catalogue (Object o) = false
+can_be_written catalogue (Instance o i) = not (o == 5)
+can_be_written catalogue (Resource o i r) = is_writable (definition_of catalogue o r)
+can_be_written catalogue (Part o i r n) = is_writable (definition_of catalogue o r)
+
+abbrev pub given_to_resource : Option ResourceDef → Format → List ℕ → Option Given
+given_to_resource None format payload = None
+given_to_resource (Some d) format payload = resource_given d format payload
+
+abbrev pub given_to_part : Option ResourceDef → ℕ → Format → List ℕ → Option Given
+given_to_part None n format payload = None
+given_to_part (Some d) n format payload = part_given d n format payload
+
+-- what a payload of this format gives at the path, where it is good
+abbrev pub values_given : List ObjectDef → Path → List ℕ → Format → Option NewValues
+values_given catalogue (Object o) payload format = None
+values_given catalogue (Instance o i) payload format =
+    option_map Several (instance_given (defined catalogue o) i payload)
+values_given catalogue (Resource o i r) payload format =
+    option_map One (given_to_resource (definition_of catalogue o r) format payload)
+values_given catalogue (Part o i r n) payload format =
+    option_map One (given_to_part (definition_of catalogue o r) n format payload)
+
+abbrev pub new_values : Managed → Path → Option ℕ → List ℕ → Option NewValues
+new_values client path number payload =
+    option_and_then (values_given client.catalogue path payload) (format_at client.catalogue path number)
+
+-- a Write to a part leaves the other parts, a Write to a resource none of them
+abbrev pub mode_at : Mode → Path → Mode
+mode_at mode (Object o) = mode
+mode_at mode (Instance o i) = mode
+mode_at mode (Resource o i r) = mode
+mode_at mode (Part o i r n) = Update
+
+-- a resource would have more parts than it may; what is not kept is not counted
+abbrev pub resource_exceeds : Mode → Option ResourceDef → Stored → ResourcePath → Given → Bool
+resource_exceeds mode definition stored p given = is_kept_as definition && is_too_many mode stored p given
+
+abbrev pub values_exceed : Mode → List ObjectDef → Stored → Path → NewValues → Bool
+values_exceed mode catalogue stored (Instance o i) (Several given) =
+    has_too_many mode (defined catalogue o) stored (place_of o i) given
+values_exceed mode catalogue stored (Resource o i r) (One given) =
+    resource_exceeds mode (definition_of catalogue o r) stored (resource_place o i r) given
+values_exceed mode catalogue stored (Part o i r n) (One given) =
+    resource_exceeds mode (definition_of catalogue o r) stored (resource_place o i r) given
+values_exceed mode catalogue stored path values = false
+
+abbrev pub exceeds : Mode → List ObjectDef → Stored → Path → Option NewValues → Bool
+exceeds mode catalogue stored path None = false
+exceeds mode catalogue stored path (Some values) = values_exceed mode catalogue stored path values
+
+-- a write-only value is not kept
+abbrev pub resource_written : Mode → Option ResourceDef → Stored → ResourcePath → Given → Stored
+resource_written mode definition stored p given =
+    if is_kept_as definition then with_given mode stored p given else stored
+
+abbrev pub values_written : Mode → List ObjectDef → Stored → Path → NewValues → Stored
+values_written mode catalogue stored (Instance o i) (Several given) =
+    instance_written mode (defined catalogue o) stored (place_of o i) given
+values_written mode catalogue stored (Resource o i r) (One given) =
+    resource_written mode (definition_of catalogue o r) stored (resource_place o i r) given
+values_written mode catalogue stored (Part o i r n) (One given) =
+    resource_written mode (definition_of catalogue o r) stored (resource_place o i r) given
+values_written mode catalogue stored path values = stored
+
+-- the store behind a Write that is not refused
+abbrev pub written : Mode → List ObjectDef → Stored → Path → Option NewValues → Stored
+written mode catalogue stored path None = stored
+written mode catalogue stored path (Some values) = values_written mode catalogue stored path values
+
+-- what writing a Package or a Package URI is to the firmware
+abbrev pub package_in : Given → Option FirmwareEvent
+package_in (Single (Opaque bytes)) = Some (event_of_package bytes)
+package_in given = None
+
+abbrev pub uri_in : Given → Option FirmwareEvent
+uri_in (Single (Text text)) = Some (event_of_uri text)
+uri_in given = None
+
+-- /5/x/0 is the Package, /5/x/1 the Package URI
+abbrev pub event_at : ℕ → ℕ → Given → Option FirmwareEvent
+event_at o r given = if o == 5 && r == 0 then package_in given else if o == 5 && r == 1 then uri_in given else None
+
+abbrev pub event_in : Path → NewValues → Option FirmwareEvent
+event_in (Resource o i r) (One given) = event_at o r given
+event_in path values = None
+
+abbrev pub event_of : Path → Option NewValues → Option FirmwareEvent
+event_of path None = None
+event_of path (Some values) = event_in path values
+
+-- the firmware takes a Package and a Package URI in some states only; all else has to keep to the counts
+abbrev pub turn_lines : Managed → Mode → Path → Option NewValues → Option FirmwareEvent → List (Bool × Code)
+turn_lines client mode path values (Some event) =
+    (not (is_some (firmware_after client.store event)), MethodNotAllowed) ∷ []
+turn_lines client mode path values None =
+    (exceeds mode client.catalogue client.store path values, InternalServerError) ∷ []
+
+-- what refuses that which a payload gives, in this order
+abbrev pub value_lines : Managed → Mode → Path → Option NewValues → List (Bool × Code)
+value_lines client mode path values =
+    (not (is_some values), BadRequest) ∷ turn_lines client (mode_at mode path) path values (event_of path values)
+
+-- what refuses the payload of a Write, in this order
+abbrev pub payload_lines : Managed → Mode → Path → Option ℕ → List ℕ → List (Bool × Code)
+payload_lines client mode path number payload =
+    (not (is_some (format_at client.catalogue path number)), UnsupportedContentFormat)
+    ∷ value_lines client mode path (new_values client path number payload)
+
+-- what refuses a Write, in this order
+abbrev pub write_lines : Managed → ℕ → Mode → Path → Option ℕ → List ℕ → List (Bool × Code)
+write_lines client server mode path number payload =
+    (object_in path == 0, Unauthorized)
+    ∷ (not (is_target client.catalogue client.store path), NotFound)
+    ∷ (not (rights_on client server path).write, Unauthorized)
+    ∷ (not (can_be_written client.catalogue path), MethodNotAllowed)
+    ∷ payload_lines client mode path number payload
+
+-- a refusal changes nothing; else what is given is written
+abbrev pub write_unless : Option Code → Managed → Stored → Outcome
+write_unless (Some code) client stored = answered client (bare code)
+write_unless None client stored = record { answer = bare Changed; client = with_stored client stored }
+
+-- the store behind a Write that is not refused: a Package is not kept, it goes to the firmware, and so does a Package
+-- URI
+abbrev pub left : Mode → Managed → Path → Option NewValues → Option FirmwareEvent → Stored
+left mode client path values (Some event) = unwrap_or (firmware_after client.store event) client.store
+left mode client path values None = written mode client.catalogue client.store path values
+
+-- what is given is written, where these lines don't refuse it
+abbrev pub give : List (Bool × Code) → Managed → Mode → Path → Option NewValues → Outcome
+give lines client mode path values =
+    write_unless (first_line lines) client (left (mode_at mode path) client path values (event_of path values))
+
+-- a Write at a path, with the format that Content-Format names
+abbrev pub write_outcome : Managed → ℕ → Mode → Path → Option ℕ → List ℕ → Outcome
+write_outcome client server mode path number payload =
+    give (write_lines client server mode path number payload) client mode path (new_values client path number payload)

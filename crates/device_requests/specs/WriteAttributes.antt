@@ -1,0 +1,99 @@
+-- What a Write-Attributes answers and changes (OMA LwM2M 1.1 Core, Write-Attributes).
+use Rattle.std.specs.Prelude.{ℕ, ◌==◌, Bool, true, false, not, ◌&&◌, List, [], ◌∷◌, Option, None, Some, option_and_then, is_some, Result, Ok, Err, if◌then◌else◌}
+use Rattle.lwm2m_values.specs.declared.kind.ValueKind.{ValueKind}
+use Rattle.lwm2m_values.specs.declared.kind.ValueKind.TheVariants.{Text, Whole, Flag, Opaque, Moment, Link}
+use Rattle.access_control.specs.declared.letters.Rights.{Rights}
+use Rattle.notifier.specs.declared.attribute.Change.{Change}
+use Rattle.notifier.specs.declared.attribute.Level.{Level}
+use Rattle.notifier.specs.declared.attribute.Level.TheVariants as level
+use Rattle.notifier.specs.declared.fault.QueryFault.{QueryFault}
+use Rattle.notifier.specs.Attributes.{Numbers, is_consistent, written}
+use Rattle.notifier.specs.Query.{changes_of}
+use Rattle.object_defs.specs.Catalogue.{definition_of}
+use Rattle.object_defs.specs.Lines.{first_line}
+use Rattle.object_defs.specs.Path.{object_in}
+use Rattle.object_defs.specs.declared.definition.ObjectDef.{ObjectDef}
+use Rattle.object_defs.specs.declared.definition.ResourceDef.{ResourceDef}
+use Rattle.object_defs.specs.declared.path.Path.{Path}
+use Rattle.object_defs.specs.declared.path.Path.TheVariants.{Object, Instance, Resource, Part}
+use Rattle.device_requests.specs.declared.answer.Code.{Code}
+use Rattle.device_requests.specs.declared.answer.Code.TheVariants.{Changed, BadRequest, Unauthorized, NotFound}
+use Rattle.device_requests.specs.Access.{rights_on}
+use Rattle.device_requests.specs.Answer.{Outcome, answered, bare}
+use Rattle.device_requests.specs.Managed.{Managed, with_attributes}
+use Rattle.device_requests.specs.Targets.{exists}
+
+-- Integers and Times are numbers
+abbrev pub is_number_kind : ValueKind → Bool
+is_number_kind Text = false
+is_number_kind Whole = true
+is_number_kind Flag = false
+is_number_kind Opaque = false
+is_number_kind Moment = true
+is_number_kind Link = false
+
+-- a single resource of a number
+abbrev pub is_number : Option ResourceDef → Bool
+is_number None = false
+is_number (Some d) = not d.multiple && is_number_kind d.kind
+
+-- what a path is to attributes
+abbrev pub level_at : List ObjectDef → Path → Level
+level_at catalogue (Object o) = level.Object
+level_at catalogue (Instance o i) = level.Instance
+level_at catalogue (Resource o i r) = if is_number (definition_of catalogue o r) then level.Number else level.Resource
+level_at catalogue (Part o i r n) = level.Resource
+
+-- the right that attributes ask for: to read; on instances of Access Control to write
+abbrev pub annotates : Rights → ℕ → Bool
+annotates rights object = if object == 2 then rights.write else rights.read
+
+-- on an object they ask for none
+abbrev pub annotates_at : Rights → Path → Bool
+annotates_at rights (Object o) = true
+annotates_at rights (Instance o i) = annotates rights o
+annotates_at rights (Resource o i r) = annotates rights o
+annotates_at rights (Part o i r n) = annotates rights o
+
+abbrev pub may_annotate : Managed → ℕ → Path → Bool
+may_annotate client server path = annotates_at (rights_on client server path) path
+
+-- the changes, where the queries spell some
+abbrev pub spelled : Result (List Change) QueryFault → Option (List Change)
+spelled (Ok changes) = Some changes
+spelled (Err fault) = None
+
+abbrev pub changes_given : List ObjectDef → Path → List (List ℕ) → Option (List Change)
+changes_given catalogue path queries = spelled (changes_of [] (level_at catalogue path) queries)
+
+-- the attributes with changes of a server on a path, where its numbers there agree then
+abbrev pub agreed : Numbers → ℕ → Path → List Change → Option Numbers
+agreed m server path changes =
+    if is_consistent (written m server path changes) server path then Some (written m server path changes) else None
+
+-- the attributes with the changes that queries spell, where they may stand so
+abbrev pub attributes_given : Managed → ℕ → Path → List (List ℕ) → Option Numbers
+attributes_given client server path queries =
+    option_and_then (agreed client.attributes server path) (changes_given client.catalogue path queries)
+
+-- what refuses a Write-Attributes, in this order
+abbrev pub attribute_lines : Managed → ℕ → Path → Option Numbers → List (Bool × Code)
+attribute_lines client server path given =
+    (object_in path == 0, Unauthorized)
+    ∷ (not (exists client.catalogue client.store path), NotFound)
+    ∷ (not (may_annotate client server path), Unauthorized)
+    ∷ (not (is_some given), BadRequest)
+    ∷ []
+
+-- a refusal changes nothing; else the attributes are these
+abbrev pub annotate_unless : Option Code → Managed → Option Numbers → Outcome
+annotate_unless (Some code) client given = answered client (bare code)
+annotate_unless None client None = answered client (bare BadRequest)
+annotate_unless None client (Some m) = record { answer = bare Changed; client = with_attributes client m }
+
+-- a Write-Attributes at a path
+abbrev pub attributes_outcome : Managed → ℕ → Path → List (List ℕ) → Outcome
+attributes_outcome client server path queries =
+    annotate_unless (first_line (attribute_lines client server path (attributes_given client server path queries)))
+    client
+    (attributes_given client server path queries)

@@ -1,0 +1,136 @@
+//! A Create: its rules, and the instance that it makes.
+
+ghost use Rattle.std.specs.Prelude.{◌≡◌, ◌≢◌, ◌∷◌, [], false, length, IfOk, OnOk, Some};
+ghost use Rattle.device_requests.specs.Answer.{Leaves};
+ghost use Rattle.device_requests.specs.Create.{create_outcome, create_unless, is_tlv, lacks_room, newborn, newborn_lines};
+ghost use Rattle.device_requests.specs.Managed.{with_stored};
+ghost use Rattle.device_requests.specs.Options.{content_format_of};
+ghost use Rattle.device_requests.specs.Targets.{defined, place_of};
+ghost use Rattle.device_instances.specs.Creations.{with_created};
+ghost use Rattle.instance_store.specs.Stored.{has_instance};
+ghost use Rattle.object_defs.specs.Lines.{first_line};
+
+use crate::answer::{Answer, Code};
+use crate::client::Client;
+use crate::objects::SECURITY;
+use crate::options::content_format_of;
+use crate::targets::{defined, exists, is_fixed};
+use coap_codec::Message;
+use device_instances::{has_no_room, number_for};
+use instance_store::StoreFault;
+use lwm2m_payloads::{Assignments, creation_given};
+use object_defs::{InstancePath, Path};
+use std::alloc::AllocError;
+
+/// Whether a Content-Format is TLV, or there is none.
+fn is_tlv(number: Option<u16>) -> bool
+    ensures { result ≡ is_tlv number }
+{
+    match number {
+        None => true,
+        Some(number) => number == 11542,
+    }
+}
+
+impl Client {
+    /// Whether there is no room for an instance with what it is given.
+    fn lacks_room(&self, place: InstancePath, given: &Assignments) -> bool
+        ensures { result ≡ lacks_room self.now place.object
+            (Some (record { number = place.instance; given = given.now })) }
+    {
+        let resources = defined(&self.catalog, place.object);
+        has_no_room(&self.store, self.account_count(), resources, place, given)
+    }
+
+    /// Makes an instance that is not there, and for which there is room, with what it is given.
+    fn make(
+        &mut self,
+        server: u16,
+        place: InstancePath,
+        given: Assignments,
+    ) -> Result<(), AllocError>
+        requires other { place.object ≢ 2 }
+        requires free { has_instance self.old.store place ≡ false }
+        requires room { lacks_room self.old place.object (Some (record { number = place.instance; given = given }))
+            ≡ false }
+        ensures { OnOk result (self.new ≡ with_stored self.old
+            (with_created self.old.store (length self.old.accounts) server
+            (defined self.old.catalogue place.object) (place_of place.object place.instance) given)) }
+    {
+        let accounts = self.accounts.len();
+        let resources = defined(&self.catalog, place.object);
+        match device_instances::create(&mut self.store, accounts, server, resources, place, given) {
+            Ok(()) => Ok(()),
+            Err(StoreFault::Memory) => Err(AllocError),
+            Err(_) => unreachable!(),
+        }
+    }
+
+    /// Makes an instance that is not there with what it is given, where there is room.
+    fn place(
+        &mut self,
+        server: u16,
+        place: InstancePath,
+        given: Assignments,
+    ) -> Result<Answer, AllocError>
+        requires other { place.object ≢ 2 }
+        requires free { has_instance self.old.store place ≡ false }
+        ensures { IfOk result (λ a. let new = Some (record { number = place.instance; given = given }) in
+            Leaves a self.new (create_unless (first_line
+            ((lacks_room self.old place.object new, Code.InternalServerError) ∷ []))
+            self.old server place.object new)) }
+    {
+        if self.lacks_room(place, &given) {
+            return Ok(Answer::bare(self.alloc, Code::InternalServerError));
+        }
+        self.make(server, place, given)?;
+        Ok(Answer::created(self.alloc, place))
+    }
+
+    /// Makes an instance of what a payload gives, where that is good.
+    #[tactic(auto, using(crate::proofs::Present::number_free))]
+    fn create_in(&mut self, server: u16, object: u16, payload: &[u8]) -> Result<Answer, AllocError>
+        requires { object ≢ 2 }
+        ensures { IfOk result (λ a. let new = newborn self.old object payload.now in
+            Leaves a self.new
+            (create_unless (first_line (newborn_lines self.old object new)) self.old server object new)) }
+    {
+        let Some(creation) = creation_given(self.alloc, defined(&self.catalog, object), payload)?
+        else {
+            return Ok(Answer::bare(self.alloc, Code::BadRequest));
+        };
+        let Some(instance) = number_for(&self.store, object, creation.number) else {
+            return Ok(Answer::bare(self.alloc, Code::BadRequest));
+        };
+        self.place(server, InstancePath { object, instance }, creation.assigned)
+    }
+
+    /// Makes an instance of an object, where no line refuses it.
+    pub(crate) fn create(
+        &mut self,
+        server: u16,
+        path: Path,
+        message: &Message,
+    ) -> Result<Answer, AllocError>
+        ensures { IfOk result
+            (λ a. Leaves a self.new
+            (create_outcome self.old server path (content_format_of message.now.options) message.now.payload)) }
+    {
+        if path.object() == SECURITY {
+            return Ok(Answer::bare(self.alloc, Code::Unauthorized));
+        }
+        if !exists(&self.catalog, &self.store, path) {
+            return Ok(Answer::bare(self.alloc, Code::NotFound));
+        }
+        if !self.rights(server, path).create {
+            return Ok(Answer::bare(self.alloc, Code::Unauthorized));
+        }
+        if is_fixed(path.object()) {
+            return Ok(Answer::bare(self.alloc, Code::MethodNotAllowed));
+        }
+        if !is_tlv(content_format_of(message.options().as_slice())) {
+            return Ok(Answer::bare(self.alloc, Code::UnsupportedContentFormat));
+        }
+        self.create_in(server, path.object(), message.payload().as_slice())
+    }
+}

@@ -1,0 +1,399 @@
+//! A Discover: its rules, and the links that it answers (RFC 6690).
+
+ghost use Rattle.std.specs.Prelude.{◌≡◌, ◌++◌, ◌∷◌, [], false, IfOk, OnOk, string_bytes};
+ghost use Rattle.std.specs.List.{filter, flat_map};
+ghost use Rattle.device_requests.specs.Discover.{attribute_text, attributes_text, behind, dimension, dimension_text, discover_answer, existing, fraction_text, inherits_at, instance_paths, is_period, link, linked, links_text, more_links, name_text, number_text, path_text, paths_below, shown_attribute, shown_number, thousandths_text, unsigned_text};
+ghost use Rattle.device_requests.specs.Targets.{exists};
+
+use crate::answer::{Answer, Code};
+use crate::client::Client;
+use crate::objects::SECURITY;
+use crate::operation::LINK_FORMAT;
+use crate::targets::{defined, definition_at, exists, is_multiple, resource_place};
+use instance_store::Store;
+use notifier::{Attributes, Name};
+use object_defs::{Catalog, InstancePath, Path, ResourceDef};
+use octets::Bytes;
+use std::alloc::{AllocError, Global};
+
+/// The greatest payload of a reply, in bytes (this profile).
+const LARGEST_PAYLOAD: usize = 1024;
+
+/// A path as `/3/0/9`.
+fn path_text(alloc: Global, path: Path) -> Result<String, AllocError>
+    ensures { IfOk result (λ t. string_bytes t ≡ path_text path) }
+{
+    match path {
+        Path::Object(object) => format!(in alloc; "/{object}"),
+        Path::Instance(object, instance) => format!(in alloc; "/{object}/{instance}"),
+        Path::Resource(object, instance, resource) => {
+            format!(in alloc; "/{object}/{instance}/{resource}")
+        }
+        Path::Part(object, instance, resource, part) => {
+            format!(in alloc; "/{object}/{instance}/{resource}/{part}")
+        }
+    }
+}
+
+/// How many parts a multiple resource holds.
+fn dimension(catalog: &Catalog, store: &Store, path: Path) -> usize
+    ensures { result ≡ dimension catalog.now store.now path }
+{
+    match path {
+        Path::Object(_) | Path::Instance(_, _) | Path::Part(_, _, _, _) => 0,
+        Path::Resource(object, instance, resource) => {
+            let place = resource_place(object, instance, resource);
+            if is_multiple(definition_at(catalog, path)) {
+                store.part_count(place)
+            } else {
+                0
+            }
+        }
+    }
+}
+
+/// `;dim=N` for a number of parts above 0.
+fn put_dimension(alloc: Global, text: &mut Vec<u8>, count: usize) -> Result<(), AllocError>
+    ensures { OnOk result (text.new.items ≡ text.old.items ++ dimension_text count) }
+{
+    if count > 0 {
+        let more = format!(in alloc; ";dim={count}")?;
+        text.extend_from_slice(more.as_bytes())?;
+    }
+    Ok(())
+}
+
+/// The name of an attribute as it is written.
+fn name_text(name: Name) -> &'static str
+    ensures { result.now ≡ name_text name }
+{
+    match name {
+        Name::Pmin => "pmin",
+        Name::Pmax => "pmax",
+        Name::Gt => "gt",
+        Name::Lt => "lt",
+        Name::St => "st",
+    }
+}
+
+/// The digits of thousandths below 1,000 behind a point, with no needless zero.
+fn fraction_text(alloc: Global, fraction: u64) -> Result<String, AllocError>
+    ensures { IfOk result (λ t. string_bytes t ≡ fraction_text fraction) }
+{
+    let tenths = fraction / 100;
+    let hundredths = fraction / 10 % 10;
+    let last = fraction % 10;
+    if fraction == 0 {
+        return Ok(String::new(alloc));
+    }
+    if fraction % 100 == 0 {
+        return format!(in alloc; ".{tenths}");
+    }
+    if fraction % 10 == 0 {
+        return format!(in alloc; ".{tenths}{hundredths}");
+    }
+    format!(in alloc; ".{tenths}{hundredths}{last}")
+}
+
+/// A number of thousandths without its sign.
+fn unsigned_text(alloc: Global, number: u64) -> Result<String, AllocError>
+    ensures { IfOk result (λ t. string_bytes t ≡ unsigned_text number) }
+{
+    let whole = number / 1000;
+    let fraction = fraction_text(alloc, number % 1000)?;
+    format!(in alloc; "{whole}{fraction}")
+}
+
+/// A number of thousandths, as `-0.5` or `50`.
+fn thousandths_text(alloc: Global, number: i64) -> Result<String, AllocError>
+    ensures { IfOk result (λ t. string_bytes t ≡ thousandths_text number) }
+{
+    let text = unsigned_text(alloc, number.unsigned_abs())?;
+    if number < 0 {
+        return format!(in alloc; "-{text}");
+    }
+    Ok(text)
+}
+
+/// Whether an attribute is a period, in seconds.
+fn is_period(name: Name) -> bool
+    ensures { result ≡ is_period name }
+{
+    match name {
+        Name::Pmin | Name::Pmax => true,
+        Name::Gt | Name::Lt | Name::St => false,
+    }
+}
+
+/// The number of an attribute as it is written.
+fn number_text(alloc: Global, name: Name, number: i64) -> Result<String, AllocError>
+    ensures { IfOk result (λ t. string_bytes t ≡ number_text name number) }
+{
+    if is_period(name) {
+        return format!(in alloc; "{number}");
+    }
+    thousandths_text(alloc, number)
+}
+
+/// The number of an attribute of a server that a link shows.
+fn shown_number(
+    attributes: &Attributes,
+    server: u16,
+    inherits: bool,
+    path: Path,
+    name: Name,
+) -> Option<i64>
+    ensures { result ≡ shown_number attributes.now server inherits path name }
+{
+    if inherits && is_period(name) {
+        return attributes.effective(server, path, name);
+    }
+    attributes.assigned(server, path, name)
+}
+
+/// `;name=number` for an attribute that has a number.
+fn put_attribute(
+    alloc: Global,
+    text: &mut Vec<u8>,
+    name: Name,
+    number: Option<i64>,
+) -> Result<(), AllocError>
+    ensures { OnOk result (text.new.items ≡ text.old.items ++ attribute_text name number) }
+{
+    let Some(number) = number else {
+        return Ok(());
+    };
+    let written = number_text(alloc, name, number)?;
+    let name = name_text(name);
+    let more = format!(in alloc; ";{name}={written}")?;
+    text.extend_from_slice(more.as_bytes())?;
+    Ok(())
+}
+
+/// An attribute of a server that a link shows.
+fn put_shown(
+    alloc: Global,
+    text: &mut Vec<u8>,
+    attributes: &Attributes,
+    server: u16,
+    inherits: bool,
+    path: Path,
+    name: Name,
+) -> Result<(), AllocError>
+    ensures { OnOk result (text.new.items ≡ text.old.items
+        ++ shown_attribute attributes.now server inherits path name) }
+{
+    let number = shown_number(attributes, server, inherits, path, name);
+    put_attribute(alloc, text, name, number)
+}
+
+/// The attributes of a server that a link shows, in the order of the names.
+fn put_attributes(
+    alloc: Global,
+    text: &mut Vec<u8>,
+    attributes: &Attributes,
+    server: u16,
+    inherits: bool,
+    path: Path,
+) -> Result<(), AllocError>
+    ensures { OnOk result (text.new.items ≡ text.old.items ++ attributes_text attributes.now server inherits path) }
+{
+    put_shown(alloc, text, attributes, server, inherits, path, Name::Pmin)?;
+    put_shown(alloc, text, attributes, server, inherits, path, Name::Pmax)?;
+    put_shown(alloc, text, attributes, server, inherits, path, Name::Gt)?;
+    put_shown(alloc, text, attributes, server, inherits, path, Name::Lt)?;
+    put_shown(alloc, text, attributes, server, inherits, path, Name::St)
+}
+
+/// What stands behind the target of a link.
+fn put_behind(
+    alloc: Global,
+    text: &mut Vec<u8>,
+    client: &Client,
+    server: u16,
+    inherits: bool,
+    path: Path,
+) -> Result<(), AllocError>
+    ensures { OnOk result (text.new.items ≡ text.old.items ++ behind client.now server inherits path) }
+{
+    let count = dimension(client.catalog(), client.store(), path);
+    put_dimension(alloc, text, count)?;
+    put_attributes(alloc, text, client.attributes(), server, inherits, path)
+}
+
+/// A link, behind what is there.
+fn put_link(
+    alloc: Global,
+    text: &mut Vec<u8>,
+    client: &Client,
+    server: u16,
+    inherits: bool,
+    path: Path,
+) -> Result<(), AllocError>
+    ensures { OnOk result (text.new.items ≡ text.old.items ++ link client.now server inherits path) }
+{
+    let target = path_text(alloc, path)?;
+    text.push(b'<')?;
+    text.extend_from_slice(target.as_bytes())?;
+    text.push(b'>')?;
+    put_behind(alloc, text, client, server, inherits, path)
+}
+
+/// A comma and a link, behind what is there.
+fn put_next(
+    alloc: Global,
+    text: &mut Vec<u8>,
+    client: &Client,
+    server: u16,
+    path: Path,
+) -> Result<(), AllocError>
+    ensures { OnOk result (text.new.items ≡ text.old.items ++ 44 ∷ link client.now server false path) }
+{
+    text.push(b',')?;
+    put_link(alloc, text, client, server, false, path)
+}
+
+/// A comma and a link where the path exists.
+fn put_existing(
+    alloc: Global,
+    text: &mut Vec<u8>,
+    client: &Client,
+    server: u16,
+    path: Path,
+) -> Result<(), AllocError>
+    ensures { OnOk result (text.new.items ≡ text.old.items
+        ++ more_links client.now server (filter (exists client.now.catalogue client.now.store) (path ∷ []))) }
+{
+    if exists(client.catalog(), client.store(), path) {
+        return put_next(alloc, text, client, server, path);
+    }
+    Ok(())
+}
+
+/// A comma and a link for each of these resources of an instance that exists.
+fn put_resources(
+    alloc: Global,
+    text: &mut Vec<u8>,
+    client: &Client,
+    server: u16,
+    place: InstancePath,
+    resources: &[ResourceDef],
+) -> Result<(), AllocError>
+    ensures { OnOk result (text.new.items ≡ text.old.items
+        ++ more_links client.now server
+        (existing client.now.catalogue client.now.store place.object place.instance resources.now)) }
+{
+    for definition in resources {
+        let path = Path::Resource(place.object, place.instance, definition.id);
+        put_existing(alloc, text, client, server, path)?;
+    }
+    Ok(())
+}
+
+/// A comma and a link for an instance, and for each of its resources that exists.
+fn put_instance(
+    alloc: Global,
+    text: &mut Vec<u8>,
+    client: &Client,
+    server: u16,
+    place: InstancePath,
+) -> Result<(), AllocError>
+    ensures { OnOk result (text.new.items ≡ text.old.items
+        ++ more_links client.now server
+        (instance_paths client.now.catalogue client.now.store place.object place.instance)) }
+{
+    let path = Path::Instance(place.object, place.instance);
+    put_next(alloc, text, client, server, path)?;
+    let resources = defined(client.catalog(), place.object);
+    put_resources(alloc, text, client, server, place, resources)
+}
+
+/// A comma and a link for each of these instances of an object, and for each of its resources.
+fn put_instances(
+    alloc: Global,
+    text: &mut Vec<u8>,
+    client: &Client,
+    server: u16,
+    object: u16,
+    instances: &[u16],
+) -> Result<(), AllocError>
+    ensures { OnOk result (text.new.items ≡ text.old.items
+        ++ more_links client.now server
+        (flat_map (instance_paths client.now.catalogue client.now.store object) instances.now)) }
+{
+    for instance in instances {
+        let instance = *instance;
+        put_instance(
+            alloc,
+            text,
+            client,
+            server,
+            InstancePath { object, instance },
+        )?;
+    }
+    Ok(())
+}
+
+/// A comma and a link for each path below this one.
+fn put_below(
+    alloc: Global,
+    text: &mut Vec<u8>,
+    client: &Client,
+    server: u16,
+    path: Path,
+) -> Result<(), AllocError>
+    ensures { OnOk result (text.new.items ≡ text.old.items
+        ++ more_links client.now server (paths_below client.now.catalogue client.now.store path)) }
+{
+    match path {
+        Path::Object(object) => {
+            let instances = client.store().instances(object);
+            put_instances(alloc, text, client, server, object, instances)
+        }
+        Path::Instance(object, instance) => {
+            let place = InstancePath { object, instance };
+            let resources = defined(client.catalog(), object);
+            put_resources(alloc, text, client, server, place, resources)
+        }
+        Path::Resource(_, _, _) | Path::Part(_, _, _, _) => Ok(()),
+    }
+}
+
+/// Whether the link of a Discover's target shows the periods that it inherits.
+fn inherits_at(path: Path) -> bool
+    ensures { result ≡ inherits_at path }
+{
+    match path {
+        Path::Resource(_, _, _) => true,
+        Path::Object(_) | Path::Instance(_, _) | Path::Part(_, _, _, _) => false,
+    }
+}
+
+/// The links of a path and of what lies below it, joined by commas, for a server.
+fn links(alloc: Global, client: &Client, server: u16, path: Path) -> Result<Bytes, AllocError>
+    ensures { IfOk result (λ b. b ≡ links_text client.now server (linked client.now.catalogue client.now.store path)) }
+{
+    let mut text = Vec::new(alloc);
+    put_link(alloc, &mut text, client, server, inherits_at(path), path)?;
+    put_below(alloc, &mut text, client, server, path)?;
+    Ok(Bytes::from_vec(text))
+}
+
+impl Client {
+    /// The answer to a Discover.
+    pub(crate) fn discover(&self, server: u16, path: Path) -> Result<Answer, AllocError>
+        ensures { IfOk result (λ a. a ≡ discover_answer self.now server path) }
+    {
+        if path.object() == SECURITY {
+            return Ok(Answer::bare(self.alloc, Code::Unauthorized));
+        }
+        if !exists(&self.catalog, &self.store, path) {
+            return Ok(Answer::bare(self.alloc, Code::NotFound));
+        }
+        let payload = links(self.alloc, self, server, path)?;
+        if payload.len() > LARGEST_PAYLOAD {
+            return Ok(Answer::bare(self.alloc, Code::InternalServerError));
+        }
+        Ok(Answer::content(LINK_FORMAT, payload))
+    }
+}

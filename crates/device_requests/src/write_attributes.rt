@@ -1,0 +1,173 @@
+//! A Write-Attributes: its rules, who may set attributes where, and what its queries change.
+
+ghost use Rattle.std.specs.Prelude.{◌≡◌, ◌∷◌, [], not, IfOk};
+ghost use Rattle.std.specs.Option.{is_some};
+ghost use Rattle.notifier.specs.Query.{changes_of};
+ghost use Rattle.object_defs.specs.Lines.{first_line};
+ghost use Rattle.device_requests.specs.Answer.{Leaves};
+ghost use Rattle.device_requests.specs.Options.{queries_of};
+ghost use Rattle.device_requests.specs.WriteAttributes.{agreed, annotate_unless, annotates, annotates_at, attributes_outcome, changes_given, is_number, is_number_kind, level_at, spelled};
+
+use crate::answer::{Answer, Code};
+use crate::client::Client;
+use crate::objects::{ACCESS_CONTROL, SECURITY};
+use crate::options::URI_QUERY;
+use crate::targets::{definition_at, exists};
+use access_control::Rights;
+use coap_codec::{Message, Opt};
+use lwm2m_values::ValueKind;
+use notifier::{Change, Changes, Level, QueryFault, WriteFault};
+use object_defs::{Catalog, Path, ResourceDef};
+use std::alloc::{AllocError, Global};
+
+/// Whether values of a kind are numbers.
+fn is_number_kind(kind: ValueKind) -> bool
+    ensures { result ≡ is_number_kind kind }
+{
+    match kind {
+        ValueKind::Whole | ValueKind::Moment => true,
+        ValueKind::Text | ValueKind::Flag | ValueKind::Opaque | ValueKind::Link => false,
+    }
+}
+
+/// Whether a resource is a single one of a number.
+fn is_number(definition: Option<ResourceDef>) -> bool
+    ensures { result ≡ is_number definition }
+{
+    match definition {
+        None => false,
+        Some(definition) => !definition.multiple && is_number_kind(definition.kind),
+    }
+}
+
+/// What a path is to attributes.
+fn level_at(catalog: &Catalog, path: Path) -> Level
+    ensures { result ≡ level_at catalog.now path }
+{
+    match path {
+        Path::Object(_) => Level::Object,
+        Path::Instance(_, _) => Level::Instance,
+        Path::Resource(_, _, _) => {
+            if is_number(definition_at(catalog, path)) {
+                Level::Number
+            } else {
+                Level::Resource
+            }
+        }
+        Path::Part(_, _, _, _) => Level::Resource,
+    }
+}
+
+/// Whether these rights on an instance of an object let a server set attributes there.
+fn annotates(rights: Rights, object: u16) -> bool
+    ensures { result ≡ annotates rights object }
+{
+    if object == ACCESS_CONTROL {
+        rights.write
+    } else {
+        rights.read
+    }
+}
+
+/// Whether a server with these rights at a path may set attributes there.
+fn annotates_at(rights: Rights, path: Path) -> bool
+    ensures { result ≡ annotates_at rights path }
+{
+    match path {
+        Path::Object(_) => true,
+        Path::Instance(object, _) | Path::Resource(object, _, _) | Path::Part(object, _, _, _) => {
+            annotates(rights, object)
+        }
+    }
+}
+
+/// These changes with that of an option behind them, where it is a query, or none where it has a
+/// fault.
+fn with_option(changes: Changes, level: Level, option: &Opt) -> Result<Option<Changes>, AllocError>
+    ensures { IfOk result (λ c. c ≡ spelled (changes_of changes level (queries_of (option.now ∷ [])))) }
+{
+    let mut changes = changes;
+    if option.number != URI_QUERY {
+        return Ok(Some(changes));
+    }
+    match changes.add_query(option.value.as_slice(), level) {
+        Ok(()) => Ok(Some(changes)),
+        Err(QueryFault::Memory) => Err(AllocError),
+        Err(_) => Ok(None),
+    }
+}
+
+/// The changes that the queries among options spell at a level, or none where one of them has a
+/// fault.
+fn changes_at(alloc: Global, level: Level, options: &[Opt]) -> Result<Option<Changes>, AllocError>
+    ensures { IfOk result (λ c. c ≡ spelled (changes_of [] level (queries_of options.now))) }
+{
+    let mut changes = Changes::new(alloc);
+    for option in options {
+        let Some(more) = with_option(changes, level, option)? else {
+            return Ok(None);
+        };
+        changes = more;
+    }
+    Ok(Some(changes))
+}
+
+/// The changes that the queries among options spell at a path, or none where one of them has a
+/// fault.
+fn changes_given(
+    alloc: Global,
+    catalog: &Catalog,
+    path: Path,
+    options: &[Opt],
+) -> Result<Option<Changes>, AllocError>
+    ensures { IfOk result (λ c. c ≡ changes_given catalog.now path (queries_of options.now)) }
+{
+    changes_at(alloc, level_at(catalog, path), options)
+}
+
+impl Client {
+    /// Sets attributes by these changes, where the numbers agree then.
+    fn annotate(
+        &mut self,
+        server: u16,
+        path: Path,
+        changes: &[Change],
+    ) -> Result<Answer, AllocError>
+        ensures { IfOk result (λ a. let given = agreed self.old.attributes server path changes.now in
+            Leaves a self.new
+            (annotate_unless (first_line ((not (is_some given), Code.BadRequest) ∷ [])) self.old given)) }
+    {
+        match self.attributes.write(server, path, changes) {
+            Ok(()) => Ok(Answer::bare(self.alloc, Code::Changed)),
+            Err(WriteFault::Inconsistent) => Ok(Answer::bare(self.alloc, Code::BadRequest)),
+            Err(WriteFault::Memory) => Err(AllocError),
+        }
+    }
+
+    /// Sets attributes, where no line refuses it.
+    pub(crate) fn write_attributes(
+        &mut self,
+        server: u16,
+        path: Path,
+        message: &Message,
+    ) -> Result<Answer, AllocError>
+        ensures { IfOk result (λ a. Leaves a self.new
+            (attributes_outcome self.old server path (queries_of message.now.options))) }
+    {
+        if path.object() == SECURITY {
+            return Ok(Answer::bare(self.alloc, Code::Unauthorized));
+        }
+        if !exists(&self.catalog, &self.store, path) {
+            return Ok(Answer::bare(self.alloc, Code::NotFound));
+        }
+        let rights = self.rights(server, path);
+        if !annotates_at(rights, path) {
+            return Ok(Answer::bare(self.alloc, Code::Unauthorized));
+        }
+        let options = message.options().as_slice();
+        let Some(changes) = changes_given(self.alloc, &self.catalog, path, options)? else {
+            return Ok(Answer::bare(self.alloc, Code::BadRequest));
+        };
+        self.annotate(server, path, changes.as_slice())
+    }
+}
