@@ -1,5 +1,5 @@
 /// A question and its answer.
-#[derive(Clone, Copy, Debug)]
+#[derive(Clone, Copy)]
 pub struct Case<'a> {
     /// The subject, and what is asked about it.
     pub question: &'a str,
@@ -10,7 +10,7 @@ pub struct Case<'a> {
 }
 
 /// A line of a table.
-#[derive(Clone, Copy, Debug)]
+#[derive(Clone, Copy)]
 pub enum Line<'a> {
     /// Empty, or begun by `#`.
     Comment,

@@ -19,7 +19,7 @@ pub fn answer(alloc: Global, subject: &str, rest: &str) -> Result<Option<String>
 fn decimal(alloc: Global, rest: &str) -> Result<String, Unanswered> {
     let text = forms::text(alloc, rest)?;
     match decimal_number(text.as_slice()) {
-        Some(number) => Ok(number.to_string(alloc)?),
+        Some(number) => Ok(forms::decimal(alloc, u64::from(number))?),
         None => forms::fixed(alloc, "none"),
     }
 }
@@ -90,7 +90,10 @@ fn object(alloc: Global, catalog: &Catalog, rest: &str) -> Result<String, Unansw
     let (id, rest) = forms::half(rest)?;
     forms::end(rest)?;
     match catalog.object(id) {
-        Some(object) => Ok(object.resources.as_slice().len().to_string(alloc)?),
+        Some(object) => {
+            let count = object.resources.as_slice().len();
+            Ok(forms::decimal(alloc, count as u64)?)
+        }
         None => forms::fixed(alloc, "none"),
     }
 }
@@ -103,7 +106,7 @@ fn resource(alloc: Global, catalog: &Catalog, rest: &str) -> Result<String, Unan
     let Some(found) = catalog.resource(object, id) else {
         return forms::fixed(alloc, "none");
     };
-    let number = found.id;
+    let number = forms::decimal(alloc, u64::from(found.id))?;
     let ops = ops_name(found.ops);
     let count = if found.multiple { "multiple" } else { "single" };
     let need = if found.mandatory {
@@ -112,7 +115,8 @@ fn resource(alloc: Global, catalog: &Catalog, rest: &str) -> Result<String, Unan
         "optional"
     };
     let kind = values::kind_name(found.kind);
-    Ok(format!(in alloc; "{number} {ops} {count} {need} {kind}")?)
+    let words = [number.as_str(), " ", ops, " ", count, " ", need, " ", kind];
+    Ok(forms::joined(alloc, &words)?)
 }
 
 /// `objects`: the numbers of the objects, in the order in which they stand.
@@ -120,9 +124,8 @@ fn objects(alloc: Global, catalog: &Catalog, rest: &str) -> Result<String, Unans
     forms::end(rest)?;
     let mut out = String::new(alloc);
     for object in catalog.objects() {
-        let id = object.id;
-        let space = if out.is_empty() { "" } else { " " };
-        write!(out, "{space}{id}")?;
+        let id = forms::decimal(alloc, u64::from(object.id))?;
+        crate::places::add(&mut out, " ", id.as_str())?;
     }
     Ok(out)
 }

@@ -1,6 +1,6 @@
 //! Firmware update (OMA LwM2M 1.1 Core, object 5): which events are taken in which State, and what they lead to.
 
-use crate::forms::{Unanswered, answered, bytes, end, fixed, half, word};
+use crate::forms::{Unanswered, answered, bytes, end, fixed, half, joined, signed, word};
 use crate::places::{text_value, text_word};
 use device_firmware::{FirmwareEvent, take, takes};
 use instance_store::Store;
@@ -33,10 +33,9 @@ fn store_in(alloc: Global, state: &str) -> Result<Store, Unanswered> {
     if state == "none" {
         return Ok(Store::new(alloc));
     }
-    crate::stores::store_of(
-        alloc,
-        format!(in alloc; "/5/0/1 text coap://old; /5/0/3 whole {state}; /5/0/5 whole 9")?.as_str(),
-    )
+    let front = "/5/0/1 text coap://old; /5/0/3 whole ";
+    let statement = joined(alloc, &[front, state, "; /5/0/5 whole 9"])?;
+    crate::stores::store_of(alloc, statement.as_str())
 }
 
 /// The event that words name: `clear`, `package`, `uri` to coap://new, `update`, or `ended CODE`.
@@ -63,7 +62,7 @@ fn event(alloc: Global, rest: &str) -> Result<FirmwareEvent, Unanswered> {
 /// What a resource of the instance holds, or `none`.
 fn held(alloc: Global, store: &Store, number: u16) -> Result<String, Unanswered> {
     match store.get(resource(number).single()) {
-        Some(Value::Whole(number)) => Ok(number.to_string(alloc)?),
+        Some(Value::Whole(number)) => Ok(signed(alloc, *number)?),
         Some(Value::Text(text)) => Ok(text_word(alloc, text.as_str())?),
         _ => fixed(alloc, "none"),
     }
@@ -82,7 +81,8 @@ fn event_in_state(alloc: Global, rest: &str) -> Result<String, Unanswered> {
     let word = if is_taken { "taken" } else { "refused" };
     let (state, result) = (held(alloc, &store, 3)?, held(alloc, &store, 5)?);
     let uri = held(alloc, &store, 1)?;
-    Ok(format!(in alloc; "{word} {state} {result} {uri}")?)
+    let (state, result, uri) = (state.as_str(), result.as_str(), uri.as_str());
+    Ok(joined(alloc, &[word, " ", state, " ", result, " ", uri])?)
 }
 
 /// What writing the Package or the Package URI is.

@@ -1,9 +1,9 @@
 //! The words of questions and answers: bytes in hex with runs, text with escapes, numbers.
 
-use std::alloc::{AllocError, AllocFailed, Global};
+use std::alloc::{AllocError, Global};
 
 /// Why a question has no answer.
-#[derive(Clone, Copy, Debug, PartialEq, Eq)]
+#[derive(Clone, Copy)]
 pub enum Unanswered {
     /// Its words can't be read, and why.
     Unread(&'static str),
@@ -17,12 +17,6 @@ impl From<AllocError> for Unanswered {
     }
 }
 
-impl<T: Drop> From<AllocFailed<T>> for Unanswered {
-    fn from(_e: AllocFailed<T>) -> Unanswered {
-        Unanswered::Memory
-    }
-}
-
 /// What a module answers: the text, or `? ` and why the words of the question can't be read.
 pub fn answered(
     alloc: Global,
@@ -30,7 +24,7 @@ pub fn answered(
 ) -> Result<Option<String>, AllocError> {
     match found {
         Ok(text) => Ok(Some(text)),
-        Err(Unanswered::Unread(why)) => Ok(Some(format!(in alloc; "? {why}")?)),
+        Err(Unanswered::Unread(why)) => Ok(Some(joined(alloc, &["? ", why])?)),
         Err(Unanswered::Memory) => Err(AllocError),
     }
 }
@@ -38,6 +32,38 @@ pub fn answered(
 /// A text that is the same each time.
 pub fn fixed(alloc: Global, text: &'static str) -> Result<String, Unanswered> {
     Ok(String::from_str(alloc, text)?)
+}
+
+/// Adds words as they are. This, `joined`, `decimal` and `signed` stand in the place of `write!` and `to_string`: a proof over one of
+/// those costs seconds each time, and no caller needs to know what is written.
+pub fn put_words(out: &mut String, words: &[&str]) -> Result<(), AllocError> {
+    for word in words {
+        out.push_str(word)?;
+    }
+    Ok(())
+}
+
+/// Adds an item to a list.
+pub fn push<T: Drop>(list: &mut Vec<T>, item: T) -> Result<(), AllocError> {
+    list.push(item)?;
+    Ok(())
+}
+
+/// Words, joined as they are.
+pub fn joined(alloc: Global, words: &[&str]) -> Result<String, AllocError> {
+    let mut out = String::new(alloc);
+    put_words(&mut out, words)?;
+    Ok(out)
+}
+
+/// A number in decimal.
+pub fn decimal(alloc: Global, number: u64) -> Result<String, AllocError> {
+    number.to_string(alloc)
+}
+
+/// An integer in decimal.
+pub fn signed(alloc: Global, number: i64) -> Result<String, AllocError> {
+    number.to_string(alloc)
 }
 
 /// The first word, and the words after it.
@@ -177,14 +203,23 @@ pub fn hex_word(alloc: Global, bytes: &[u8]) -> Result<String, AllocError> {
 }
 
 fn put_hex(out: &mut String, row: &[u8], is_run: bool) -> Result<(), AllocError> {
-    let count = row.len();
     for byte in row {
-        write!(out, "{byte:02X}")?;
+        put_byte(out, *byte)?;
         if is_run {
-            return write!(out, "*{count}");
+            return put_count(out, row.len());
         }
     }
     Ok(())
+}
+
+/// Adds the two hex digits of a byte.
+fn put_byte(out: &mut String, byte: u8) -> Result<(), AllocError> {
+    write!(out, "{byte:02X}")
+}
+
+/// Adds how often bytes stand in a row.
+fn put_count(out: &mut String, count: usize) -> Result<(), AllocError> {
+    write!(out, "*{count}")
 }
 
 /// The bytes of a text: `%XX` is the byte of these two hex digits, `%XX*N` that byte N times, `%-` alone no byte, and
@@ -241,32 +276,34 @@ pub fn put_text(alloc: Global, out: &mut String, bytes: &[u8]) -> Result<(), All
         return out.push_str("%-");
     }
     match text.as_str().strip_suffix(' ') {
-        Some(front) => write!(out, "{front}%20"),
+        Some(front) => put_words(out, &[front, "%20"]),
         None => out.push_str(text.as_str()),
     }
 }
 
 /// Adds equal bytes, of which a digit must not stand right after a run.
 fn put_row(out: &mut String, row: &[u8], is_run: bool, is_apart: bool) -> Result<(), AllocError> {
-    let count = row.len();
     for byte in row {
         if is_run {
-            return write!(out, "%{byte:02X}*{count}");
+            out.push('%')?;
+            put_byte(out, *byte)?;
+            return put_count(out, row.len());
         }
-        if stands_for_itself(*byte, out.is_empty()) && !(is_apart && byte.is_ascii_digit()) {
+        if stands_for_itself(*byte, out.is_empty(), is_apart) {
             out.push(char::from(*byte))?;
         } else {
-            write!(out, "%{byte:02X}")?;
+            out.push('%')?;
+            put_byte(out, *byte)?;
         }
     }
     Ok(())
 }
 
-/// Whether a byte of a text is written as its character.
-fn stands_for_itself(byte: u8, is_first: bool) -> bool {
-    match byte {
-        b'%' | b'|' => false,
-        b' ' => !is_first,
-        _ => byte.is_ascii_graphic(),
+/// Whether a byte of a text is written as its character, at the front of a text or right after a run.
+fn stands_for_itself(byte: u8, is_first: bool, is_apart: bool) -> bool {
+    if byte == b'%' || byte == b'|' || (is_first && byte == b' ') {
+        return false;
     }
+    let is_digit = b'0' <= byte && byte <= b'9';
+    b' ' <= byte && byte <= b'~' && !(is_apart && is_digit)
 }

@@ -5,7 +5,8 @@ ghost use Rattle.std.specs.Prelude.{◌≡◌, nat_lt};
 ghost use Rattle.std.specs.List.{list_all};
 
 use crate::forms::{
-    Unanswered, answered, bytes, end, fixed, half, hex_word, integer, natural, word,
+    Unanswered, answered, bytes, decimal, end, fixed, half, hex_word, integer, joined, natural,
+    push, put_words, signed, word,
 };
 use crate::places::{add, full_path_word, path};
 use crate::values::{kind_at as kind_of, kind_name, value_at as value_of, value_words};
@@ -82,7 +83,7 @@ fn fronts(alloc: Global, rest: &str) -> Result<String, Unanswered> {
             add(&mut list, "; ", answer.as_str())?;
         }
         last = answer;
-        front.push(*byte)?;
+        push(&mut front, *byte)?;
     }
     Ok(list)
 }
@@ -100,14 +101,19 @@ fn told(alloc: Global, total: usize, found: Result<String, Unfound>) -> Result<S
     }
 }
 
+fn fault_at_place(alloc: Global, name: &str, place: usize) -> Result<String, Unanswered> {
+    let place = decimal(alloc, place as u64)?;
+    Ok(joined(alloc, &[name, place.as_str()])?)
+}
+
 fn fault_text(alloc: Global, fault: LayoutFault) -> Result<String, Unanswered> {
     match fault {
         LayoutFault::Magic => fixed(alloc, "magic"),
         LayoutFault::Version => fixed(alloc, "version"),
         LayoutFault::Cut => fixed(alloc, "cut"),
         LayoutFault::Trailing => fixed(alloc, "trailing"),
-        LayoutFault::BadField(place) => Ok(format!(in alloc; "bad-field {place}")?),
-        LayoutFault::Limit(place) => Ok(format!(in alloc; "limit {place}")?),
+        LayoutFault::BadField(place) => fault_at_place(alloc, "bad-field ", place),
+        LayoutFault::Limit(place) => fault_at_place(alloc, "limit ", place),
         LayoutFault::Memory => Err(Unanswered::Memory),
     }
 }
@@ -157,19 +163,19 @@ fn plain_field_at<'a>(
     match name {
         "u8" => {
             let (number, rest) = u8_at(bytes)?;
-            Ok((number.to_string(alloc)?, rest))
+            Ok((decimal(alloc, u64::from(number))?, rest))
         }
         "u16" => {
             let (number, rest) = u16_at(bytes)?;
-            Ok((number.to_string(alloc)?, rest))
+            Ok((decimal(alloc, u64::from(number))?, rest))
         }
         "u32" => {
             let (number, rest) = u32_at(bytes)?;
-            Ok((number.to_string(alloc)?, rest))
+            Ok((decimal(alloc, u64::from(number))?, rest))
         }
         "i64" => {
             let (number, rest) = i64_at(bytes)?;
-            Ok((number.to_string(alloc)?, rest))
+            Ok((signed(alloc, number)?, rest))
         }
         "sized" => {
             let (len, rest) = u16_at(bytes)?;
@@ -222,11 +228,11 @@ fn numbered_field_at<'a>(
             let limit = u8::try_from(number).ok();
             let limit = limit.ok_or(Unanswered::Unread("not a limit of one byte"))?;
             let (found, rest) = u8_at_most(limit, bytes)?;
-            Ok((found.to_string(alloc)?, rest))
+            Ok((decimal(alloc, u64::from(found))?, rest))
         }
         "u16-at-most" => {
             let (found, rest) = u16_at_most(number, bytes)?;
-            Ok((found.to_string(alloc)?, rest))
+            Ok((decimal(alloc, u64::from(found))?, rest))
         }
         "bytes" => {
             let (field, rest) = bytes_at(usize::from(number), bytes)?;
@@ -300,7 +306,7 @@ fn definitions_in(alloc: Global, bytes: &[u8]) -> Result<String, Unfound> {
     let (definitions, again) = written_again(alloc, bytes)?;
     let text = definitions_text(alloc, definitions.as_slice())?;
     let again = hex_word(alloc, again.as_slice())?;
-    Ok(format!(in alloc; "{text} again {again}")?)
+    Ok(joined(alloc, &[text.as_str(), " again ", again.as_str()])?)
 }
 
 /// The definitions at the front of the bytes, and the bytes that are written of them.
@@ -318,7 +324,7 @@ fn written_again(alloc: Global, bytes: &[u8]) -> Result<(Vec<ResourceDef>, Vec<u
 fn definitions_text(alloc: Global, definitions: &[ResourceDef]) -> Result<String, AllocError> {
     let mut list = String::new(alloc);
     for definition in definitions {
-        let number = definition.id;
+        let number = decimal(alloc, u64::from(definition.id))?;
         let ops = ops_word(definition.ops);
         let kind = kind_name(definition.kind);
         let count = if definition.multiple {
@@ -331,8 +337,8 @@ fn definitions_text(alloc: Global, definitions: &[ResourceDef]) -> Result<String
         } else {
             "optional"
         };
-        let item = format!(in alloc; "{number} {ops} {count} {need} {kind}")?;
-        add(&mut list, "; ", item.as_str())?;
+        add(&mut list, "; ", number.as_str())?;
+        put_words(&mut list, &[" ", ops, " ", count, " ", need, " ", kind])?;
     }
     Ok(list)
 }

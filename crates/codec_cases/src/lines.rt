@@ -51,7 +51,8 @@ fn datagram_of(alloc: Global, server: u16, mnemonic: &Mnemonic) -> Result<String
     }
     let bytes = encode(alloc, mnemonic)?;
     let word = forms::hex_word(alloc, bytes.as_slice())?;
-    Ok(format!(in alloc; "{server} {word}")?)
+    let server = forms::decimal(alloc, u64::from(server))?;
+    Ok(forms::joined(alloc, &[server.as_str(), " ", word.as_str()])?)
 }
 
 /// `statement LINE`: the statement of a line, written again, or `nothing` for a line without words.

@@ -1,7 +1,7 @@
 //! What servers may do to the instances of a store, and how instances come and go (OMA LwM2M 1.1 Core, access control,
 //! Create and Delete). `stores` calls it for these operations.
 
-use crate::forms::{Unanswered, bytes, end, fixed, half};
+use crate::forms::{Unanswered, bytes, decimal, end, fixed, half};
 use crate::places::{only_place, place, yes_no};
 use access_control::{Rights, may_create, rights};
 use device_instances::{create, delete, free_number, has_no_room, number_for};
@@ -70,7 +70,7 @@ fn number_text(alloc: Global, store: &Store, rest: &str) -> Result<String, Unans
 
 fn number_or_none(alloc: Global, number: Option<u16>) -> Result<String, Unanswered> {
     match number {
-        Some(number) => Ok(number.to_string(alloc)?),
+        Some(number) => Ok(decimal(alloc, u64::from(number))?),
         None => fixed(alloc, "none"),
     }
 }

@@ -35,14 +35,22 @@ fn parts(alloc: Global, rest: &str) -> Result<String, Unanswered> {
 /// The parts of a message.
 fn parts_of(alloc: Global, message: &Message) -> Result<String, AllocError> {
     let kind = kind_name(message.kind());
-    let (class, detail) = (message.code() / 32, message.code() % 32);
-    let mid = message.mid();
+    let code = code_word(alloc, message.code())?;
+    let mid = forms::decimal(alloc, u64::from(message.mid()))?;
     let token = forms::hex_word(alloc, message.token().as_slice())?;
     let options = options_of(alloc, message)?;
     let payload = forms::hex_word(alloc, message.payload().as_slice())?;
-    format!(in alloc;
-        "{kind} {class}.{detail:02} mid {mid} token {token} options {options} payload {payload}"
-    )
+    let mut out = forms::joined(alloc, &[kind, " ", code.as_str(), " mid ", mid.as_str()])?;
+    forms::put_words(&mut out, &[" token ", token.as_str()])?;
+    forms::put_words(&mut out, &[" options ", options.as_str()])?;
+    forms::put_words(&mut out, &[" payload ", payload.as_str()])?;
+    Ok(out)
+}
+
+/// The class and the detail of a code, as in 2.05.
+fn code_word(alloc: Global, code: u8) -> Result<String, AllocError> {
+    let (class, detail) = (code / 32, code % 32);
+    format!(in alloc; "{class}.{detail:02}")
 }
 
 fn options_of(alloc: Global, message: &Message) -> Result<String, AllocError> {
@@ -51,10 +59,10 @@ fn options_of(alloc: Global, message: &Message) -> Result<String, AllocError> {
     }
     let mut out = String::new(alloc);
     for option in message.options().as_slice() {
-        let number = option.number;
+        let number = forms::decimal(alloc, u64::from(option.number))?;
         let value = forms::hex_word(alloc, option.value.as_slice())?;
         let space = if out.is_empty() { "" } else { " " };
-        write!(out, "{space}{number}:{value}")?;
+        forms::put_words(&mut out, &[space, number.as_str(), ":", value.as_str()])?;
     }
     Ok(out)
 }
@@ -121,8 +129,8 @@ fn front(alloc: Global, rest: &str) -> Result<String, Unanswered> {
     let Some((kind, mid)) = header(bytes.as_slice()) else {
         return forms::fixed(alloc, "none");
     };
-    let kind = kind_name(kind);
-    Ok(format!(in alloc; "{kind} mid {mid}")?)
+    let mid = forms::decimal(alloc, u64::from(mid))?;
+    Ok(forms::joined(alloc, &[kind_name(kind), " mid ", mid.as_str()])?)
 }
 
 /// `uint HEX`: the number that an option's value of at most 4 bytes spells.
@@ -132,7 +140,7 @@ fn number(alloc: Global, rest: &str) -> Result<String, Unanswered> {
     if bytes.len() > 4 {
         return Err(Unanswered::Unread("more than 4 bytes"));
     }
-    Ok(uint(bytes.as_slice()).to_string(alloc)?)
+    Ok(forms::decimal(alloc, u64::from(uint(bytes.as_slice())))?)
 }
 
 /// `write-uint N`: the value of an option of this number.
@@ -184,7 +192,7 @@ fn fault_number(alloc: Global, rest: &str) -> Result<String, Unanswered> {
     forms::end(rest)?;
     for fault in FAULTS {
         if fault_name(fault) == word {
-            return Ok((fault as u8).to_string(alloc)?);
+            return Ok(forms::decimal(alloc, u64::from(fault as u8))?);
         }
     }
     Err(Unanswered::Unread("not a fault"))

@@ -1,6 +1,8 @@
 //! Queries of attributes, and when an observation sends (OMA LwM2M 1.1 Core, attributes).
 
-use crate::forms::{Unanswered, answered, fixed, integer, natural, text, word};
+use crate::forms::{
+    Unanswered, answered, fixed, integer, natural, push, put_words, signed, text, word,
+};
 use crate::places::{add, listed, yes_no};
 use notifier::{Change, Level, Name, QueryFault, Report, is_due, parse_query, triggers};
 use octets::Bytes;
@@ -73,11 +75,11 @@ fn changes(alloc: Global, rest: &str) -> Result<String, Unanswered> {
     let (level, rest) = level(rest)?;
     let mut texts = Vec::new(alloc);
     for query in rest.split(' ') {
-        texts.push(text(alloc, query)?)?;
+        push(&mut texts, text(alloc, query)?)?;
     }
     let mut queries = Vec::new(alloc);
     for text in texts.iter() {
-        queries.push(text.as_slice())?;
+        push(&mut queries, text.as_slice())?;
     }
     match parse_query(alloc, queries.as_slice(), level) {
         Ok(changes) => Ok(changes_text(alloc, changes.as_slice())?),
@@ -100,11 +102,14 @@ fn changes_text(alloc: Global, changes: &[Change]) -> Result<String, AllocError>
     let mut list = String::new(alloc);
     for change in changes {
         let name = name_word(change.name);
-        let item = match change.number {
-            Some(number) => format!(in alloc; "{name} {number}")?,
-            None => format!(in alloc; "{name} unset")?,
-        };
-        add(&mut list, ", ", item.as_str())?;
+        add(&mut list, ", ", name)?;
+        match change.number {
+            Some(number) => {
+                let number = signed(alloc, number)?;
+                put_words(&mut list, &[" ", number.as_str()])?;
+            }
+            None => list.push_str(" unset")?,
+        }
     }
     listed(alloc, list)
 }

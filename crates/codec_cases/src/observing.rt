@@ -1,10 +1,12 @@
 //! The attributes that servers write (OMA LwM2M 1.1 Core), and the observations of a device (RFC 7641): what operations
 //! on them answer.
 
-use crate::forms::{Unanswered, answered, bytes, end, fixed, half, natural, word};
+use crate::forms::{
+    Unanswered, answered, bytes, decimal, end, fixed, half, natural, push, put_words, signed, word,
+};
 use crate::notifying::{change_of, name, name_word};
 use crate::places::{add, listed, only_path, path, yes_no};
-use notifier::{Attributes, Name, Observations, ObserveFault, Report, WriteFault};
+use notifier::{Attributes, Change, Name, Observations, ObserveFault, Report, WriteFault};
 use object_defs::Path;
 use octets::Bytes;
 use scenario_words::path_word;
@@ -75,11 +77,20 @@ fn with_attributes(
 fn write(alloc: Global, attributes: &mut Attributes, rest: &str) -> Result<String, Unanswered> {
     let (server, rest) = half(rest)?;
     let (path, rest) = path(rest)?;
+    let changes = changes_of(alloc, rest)?;
+    written(alloc, attributes.write(server, path, changes.as_slice()))
+}
+
+fn changes_of(alloc: Global, rest: &str) -> Result<Vec<Change>, Unanswered> {
     let mut changes = Vec::new(alloc);
     for word in rest.split(' ') {
-        changes.push(change_of(word)?)?;
+        push(&mut changes, change_of(word)?)?;
     }
-    match attributes.write(server, path, changes.as_slice()) {
+    Ok(changes)
+}
+
+fn written(alloc: Global, wrote: Result<(), WriteFault>) -> Result<String, Unanswered> {
+    match wrote {
         Ok(()) => fixed(alloc, "ok"),
         Err(WriteFault::Inconsistent) => fixed(alloc, "inconsistent"),
         Err(WriteFault::Memory) => Err(Unanswered::Memory),
@@ -97,7 +108,7 @@ fn attribute(rest: &str) -> Result<(u16, Path, Name), Unanswered> {
 
 fn number_text(alloc: Global, number: Option<i64>) -> Result<String, Unanswered> {
     match number {
-        Some(number) => Ok(number.to_string(alloc)?),
+        Some(number) => Ok(signed(alloc, number)?),
         None => fixed(alloc, "none"),
     }
 }
@@ -107,11 +118,9 @@ fn attributes_text(alloc: Global, items: &[(Path, Name, i64)]) -> Result<String,
     for (path, name, number) in items {
         let path = path_word(alloc, *path)?;
         let name = name_word(*name);
-        add(
-            &mut list,
-            ", ",
-            format!(in alloc; "{path} {name}={number}")?.as_str(),
-        )?;
+        let number = signed(alloc, *number)?;
+        add(&mut list, ", ", path.as_str())?;
+        put_words(&mut list, &[" ", name, "=", number.as_str()])?;
     }
     listed(alloc, list)
 }
@@ -164,17 +173,17 @@ fn with_observations(
             let (server, rest) = half(rest)?;
             let (mid, rest) = half(rest)?;
             end(rest)?;
-            Ok(observations.reset(server, mid).to_string(alloc)?)
+            Ok(decimal(alloc, observations.reset(server, mid) as u64)?)
         }
         "second" => {
             let (place, rest) = half(rest)?;
             end(rest)?;
             match observations.at(usize::from(place)) {
-                Some(observation) => Ok(observation.second.to_string(alloc)?),
+                Some(observation) => Ok(decimal(alloc, observation.second)?),
                 None => fixed(alloc, "none"),
             }
         }
-        "len" => Ok(observations.len().to_string(alloc)?),
+        "len" => Ok(decimal(alloc, observations.len() as u64)?),
         "is-empty" => fixed(alloc, yes_no(observations.is_empty())),
         _ => Err(Unanswered::Unread("not an operation on observations")),
     }
@@ -201,7 +210,7 @@ fn register(
     let path = Path::Resource(3, 0, 9);
     let report = reported(alloc, b"100", 100)?;
     match observations.register(1, token, path, None, report, 0, 10, false) {
-        Ok(number) => Ok(number.to_string(alloc)?),
+        Ok(number) => Ok(decimal(alloc, u64::from(number))?),
         Err(ObserveFault::Full) => fixed(alloc, "full"),
         Err(ObserveFault::Memory) => Err(Unanswered::Memory),
     }
@@ -233,11 +242,8 @@ fn sent(alloc: Global, observations: &mut Observations, rest: &str) -> Result<St
     if place >= observations.len() {
         return fixed(alloc, "none");
     }
-    Ok(
-        observations
-            .sent(place, second, mid, report)
-            .to_string(alloc)?,
-    )
+    let number = observations.sent(place, second, mid, report);
+    Ok(decimal(alloc, u64::from(number))?)
 }
 
 /// `remove PLACE`.

@@ -1,7 +1,9 @@
 //! The payloads of Read, Write, Create and Execute (OMA LwM2M 1.1 Core, data formats), of a device that holds some
 //! values.
 
-use crate::forms::{Unanswered, answered, bytes, end, fixed, half, hex_word, text, word};
+use crate::forms::{
+    Unanswered, answered, bytes, decimal, end, fixed, half, hex_word, joined, push, text, word,
+};
 use crate::places::{add, listed, path, yes_no};
 use crate::stores::store_of;
 use crate::values::value_at;
@@ -91,6 +93,15 @@ fn shown(alloc: Global, store: &Store, path: Path) -> Result<String, Unanswered>
 }
 
 /// These instances of an object, in TLV.
+fn instances_of(alloc: Global, rest: &str) -> Result<Vec<u16>, Unanswered> {
+    let mut instances = Vec::new(alloc);
+    for word in rest.split(' ').filter(|word| !word.is_empty()) {
+        let (instance, _) = half(word)?;
+        push(&mut instances, instance)?;
+    }
+    Ok(instances)
+}
+
 fn shown_instances(
     alloc: Global,
     store: &Store,
@@ -98,11 +109,7 @@ fn shown_instances(
     rest: &str,
 ) -> Result<String, Unanswered> {
     let catalog = Catalog::base(alloc)?;
-    let mut instances = Vec::new(alloc);
-    for word in rest.split(' ').filter(|word| !word.is_empty()) {
-        let (instance, _) = half(word)?;
-        instances.push(instance)?;
-    }
+    let instances = instances_of(alloc, rest)?;
     let resources = definitions(&catalog, object);
     payload_word(
         alloc,
@@ -118,7 +125,7 @@ fn shows(alloc: Global, rest: &str) -> Result<String, Unanswered> {
         None => ("", rest),
     };
     let joint = if more.is_empty() { "" } else { "; " };
-    let held = format!(in alloc; "{HELD}{joint}{more}")?;
+    let held = joined(alloc, &[HELD, joint, more])?;
     let store = store_of(alloc, held.as_str())?;
     let (path, rest) = path(rest)?;
     if let Path::Object(object) = path {
@@ -284,19 +291,19 @@ fn create(alloc: Global, rest: &str) -> Result<String, Unanswered> {
     };
     let given = numbers_given(alloc, &creation.assigned)?;
     match creation.number {
-        Some(number) => Ok(format!(in alloc; "{number} {given}")?),
-        None => Ok(format!(in alloc; "- {given}")?),
+        Some(number) => {
+            let number = decimal(alloc, u64::from(number))?;
+            Ok(joined(alloc, &[number.as_str(), " ", given.as_str()])?)
+        }
+        None => Ok(joined(alloc, &["- ", given.as_str()])?),
     }
 }
 
 fn numbers_given(alloc: Global, assigned: &Assignments) -> Result<String, AllocError> {
     let mut list = String::new(alloc);
     for assignment in assigned.as_slice() {
-        add(
-            &mut list,
-            ",",
-            assignment.resource.to_string(alloc)?.as_str(),
-        )?;
+        let number = decimal(alloc, u64::from(assignment.resource))?;
+        add(&mut list, ",", number.as_str())?;
     }
     listed(alloc, list)
 }
@@ -325,7 +332,7 @@ fn format_of(alloc: Global, rest: &str) -> Result<String, Unanswered> {
         format_for(path, definition, Some(number))
     };
     match served {
-        Some(format) => Ok(format.number().to_string(alloc)?),
+        Some(format) => Ok(decimal(alloc, u64::from(format.number()))?),
         None => fixed(alloc, "none"),
     }
 }

@@ -1,6 +1,6 @@
 //! The words for paths and texts, and how an answer lists things.
 
-use crate::forms::{Unanswered, end, put_text, text, word};
+use crate::forms::{Unanswered, decimal, end, put_text, text, word};
 use lwm2m_values::Text;
 use object_defs::{FullPath, InstancePath, Path, ResourcePath};
 use scenario_words::path_word;
@@ -98,7 +98,7 @@ pub fn listed(alloc: Global, list: String) -> Result<String, AllocError> {
 pub fn numbers(alloc: Global, numbers: &[u16]) -> Result<String, AllocError> {
     let mut list = String::new(alloc);
     for number in numbers {
-        add(&mut list, ",", number.to_string(alloc)?.as_str())?;
+        add(&mut list, ",", decimal(alloc, u64::from(*number))?.as_str())?;
     }
     listed(alloc, list)
 }

@@ -31,7 +31,7 @@ fn count(alloc: Global, rest: &str) -> Result<String, Unanswered> {
     let (bytes, rest) = forms::bytes(alloc, rest)?;
     forms::end(rest)?;
     match read_tlv(alloc, bytes.as_slice()) {
-        Ok(nodes) => Ok(nodes.len().to_string(alloc)?),
+        Ok(nodes) => Ok(forms::decimal(alloc, nodes.len() as u64)?),
         Err(fault) => refused(alloc, fault),
     }
 }
@@ -63,7 +63,7 @@ fn words_of(alloc: Global, nodes: &[Node]) -> Result<String, AllocError> {
     for node in nodes {
         match node {
             Node::Instance { id, children } => {
-                begin(&mut out, "instance", *id)?;
+                begin(alloc, &mut out, "instance", *id)?;
                 out.push_str(" (")?;
                 put_inner(alloc, &mut out, children.as_slice())?;
                 out.push_str(" )")?;
@@ -86,7 +86,7 @@ fn put_inner_record(alloc: Global, out: &mut String, node: &Node) -> Result<(), 
     let Node::Multi { id, parts } = node else {
         return put_leaf(alloc, out, node);
     };
-    begin(out, "multi", *id)?;
+    begin(alloc, out, "multi", *id)?;
     out.push_str(" (")?;
     for part in parts {
         put_leaf(alloc, out, part)?;
@@ -98,25 +98,26 @@ fn put_inner_record(alloc: Global, out: &mut String, node: &Node) -> Result<(), 
 fn put_leaf(alloc: Global, out: &mut String, node: &Node) -> Result<(), AllocError> {
     match node {
         Node::Part { id, bytes } => {
-            begin(out, "part", *id)?;
+            begin(alloc, out, "part", *id)?;
             put_bytes(alloc, out, bytes)
         }
         Node::Single { id, bytes } => {
-            begin(out, "single", *id)?;
+            begin(alloc, out, "single", *id)?;
             put_bytes(alloc, out, bytes)
         }
         Node::Instance { .. } | Node::Multi { .. } => out.push_str(" nested-too-deep"),
     }
 }
 
-fn begin(out: &mut String, name: &str, id: u16) -> Result<(), AllocError> {
+fn begin(alloc: Global, out: &mut String, name: &str, id: u16) -> Result<(), AllocError> {
     let space = if out.is_empty() { "" } else { " " };
-    write!(out, "{space}{name} {id}")
+    let id = forms::decimal(alloc, u64::from(id))?;
+    forms::put_words(out, &[space, name, " ", id.as_str()])
 }
 
 fn put_bytes(alloc: Global, out: &mut String, bytes: &Bytes) -> Result<(), AllocError> {
     let word = forms::hex_word(alloc, bytes.as_slice())?;
-    write!(out, " {word}")
+    forms::put_words(out, &[" ", word.as_str()])
 }
 
 /// A record whose closing bracket has not come yet.
@@ -183,11 +184,15 @@ impl Unfinished {
             "multi" => false,
             _ => return Err(Unanswered::Unread("this record holds bytes")),
         };
-        self.open.push(Open {
-            is_instance,
-            id,
-            nodes: Vec::new(alloc),
-        })?;
+        let nodes = Vec::new(alloc);
+        forms::push(
+            &mut self.open,
+            Open {
+                is_instance,
+                id,
+                nodes,
+            },
+        )?;
         Ok(())
     }
 
@@ -216,8 +221,8 @@ impl Unfinished {
     /// Adds a record inside what was begun last.
     fn put(&mut self, node: Node) -> Result<(), Unanswered> {
         match self.open.last_mut() {
-            Some(open) => open.nodes.push(node)?,
-            None => self.nodes.push(node)?,
+            Some(open) => forms::push(&mut open.nodes, node)?,
+            None => forms::push(&mut self.nodes, node)?,
         }
         Ok(())
     }

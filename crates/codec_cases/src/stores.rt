@@ -1,6 +1,6 @@
 //! A store of instances and values (OMA LwM2M 1.1 Core): what it is stated to hold, and what operations on it answer.
 
-use crate::forms::{Unanswered, answered, end, fixed, half, word};
+use crate::forms::{Unanswered, answered, decimal, end, fixed, half, put_words, word};
 use crate::managing;
 use crate::places::{
     add, full_path_word, listed, numbers, only_path, only_place, only_resource, path, place, yes_no,
@@ -246,11 +246,11 @@ fn ask(alloc: Global, store: &Store, name: &str, rest: &str) -> Result<String, U
         "has" => fixed(alloc, yes_no(store.has_instance(only_place(rest)?))),
         "count" => {
             let path = only_path(rest)?;
-            Ok(store.values_in(path)?.len().to_string(alloc)?)
+            Ok(decimal(alloc, store.values_in(path)?.len() as u64)?)
         }
         _ => {
             end(rest)?;
-            Ok(store.len().to_string(alloc)?)
+            Ok(decimal(alloc, store.len() as u64)?)
         }
     }
 }
@@ -297,11 +297,8 @@ fn values_text(alloc: Global, values: &[(FullPath, &Value)]) -> Result<String, A
     for (path, value) in values {
         let path = full_path_word(alloc, *path)?;
         let value = value_words(alloc, value)?;
-        add(
-            &mut list,
-            ", ",
-            format!(in alloc; "{path} {value}")?.as_str(),
-        )?;
+        add(&mut list, ", ", path.as_str())?;
+        put_words(&mut list, &[" ", value.as_str()])?;
     }
     listed(alloc, list)
 }

@@ -1,5 +1,5 @@
 /// What a table came to.
-#[derive(Clone, Copy, Debug)]
+#[derive(Clone, Copy)]
 pub struct Tally {
     cases: u64,
     differ: u64,

@@ -62,7 +62,7 @@ fn copy(alloc: Global, rest: &str) -> Result<String, Unanswered> {
     let copy = value.copy()?;
     let words = value_words(alloc, &copy)?;
     let same = if copy == value { "equal" } else { "unequal" };
-    Ok(format!(in alloc; "{same} {words}")?)
+    Ok(forms::joined(alloc, &[same, " ", words.as_str()])?)
 }
 
 /// The words of what was read, or its fault.
@@ -80,12 +80,18 @@ pub fn value_words(alloc: Global, value: &Value) -> Result<String, AllocError> {
     out.push(' ')?;
     match value {
         Value::Text(text) => forms::put_text(alloc, &mut out, text.as_str().as_bytes())?,
-        Value::Whole(number) | Value::Moment(number) => write!(out, "{number}")?,
-        Value::Flag(flag) => write!(out, "{flag}")?,
+        Value::Whole(number) | Value::Moment(number) => {
+            out.push_str(forms::signed(alloc, *number)?.as_str())?;
+        }
+        Value::Flag(flag) => out.push_str(if *flag { "true" } else { "false" })?,
         Value::Opaque(bytes) => {
             out.push_str(forms::hex_word(alloc, bytes.as_slice())?.as_str())?;
         }
-        Value::Link(object, instance) => write!(out, "{object}:{instance}")?,
+        Value::Link(object, instance) => {
+            let object = forms::decimal(alloc, u64::from(*object))?;
+            let instance = forms::decimal(alloc, u64::from(*instance))?;
+            forms::put_words(&mut out, &[object.as_str(), ":", instance.as_str()])?;
+        }
     }
     Ok(out)
 }

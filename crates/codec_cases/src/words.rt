@@ -69,7 +69,7 @@ fn natural_number(alloc: Global, rest: &str) -> Result<String, Unanswered> {
     let (high, rest) = forms::natural(rest)?;
     let line = forms::text(alloc, rest)?;
     match natural(line.as_slice(), low, high) {
-        Ok((number, _)) => Ok(number.to_string(alloc)?),
+        Ok((number, _)) => Ok(forms::decimal(alloc, number)?),
         Err(cause) => refused(alloc, cause),
     }
 }
@@ -78,7 +78,7 @@ fn natural_number(alloc: Global, rest: &str) -> Result<String, Unanswered> {
 fn integer_number(alloc: Global, rest: &str) -> Result<String, Unanswered> {
     let line = forms::text(alloc, rest)?;
     match integer(line.as_slice()) {
-        Ok((number, _)) => Ok(number.to_string(alloc)?),
+        Ok((number, _)) => Ok(forms::signed(alloc, number)?),
         Err(cause) => refused(alloc, cause),
     }
 }
@@ -108,14 +108,17 @@ fn path_of(alloc: Global, rest: &str) -> Result<String, Unanswered> {
         Ok((path, _)) => path,
         Err(cause) => return refused(alloc, cause),
     };
-    let name = match path {
+    let word = path_word(alloc, path)?;
+    Ok(forms::joined(alloc, &[path_kind(path), " ", word.as_str()])?)
+}
+
+fn path_kind(path: Path) -> &'static str {
+    match path {
         Path::Object(_) => "object",
         Path::Instance(_, _) => "instance",
         Path::Resource(_, _, _) => "resource",
         Path::Part(_, _, _, _) => "part",
-    };
-    let word = path_word(alloc, path)?;
-    Ok(format!(in alloc; "{name} {word}")?)
+    }
 }
 
 /// `kind LINE`: the kind that a line begins with.

@@ -3,6 +3,7 @@
 use crate::outputs::lines_of;
 use crate::playing::Made;
 use crate::report::Report;
+use crate::words::{decimal, joined};
 use device_machine::{Output, StepFault};
 use scenario_image::{Scenario, ScenarioFault, Step, play, save};
 use std::alloc::{AllocError, Global};
@@ -49,10 +50,14 @@ fn differs(
     way: &str,
     report: &mut Report,
 ) -> Result<(), AllocError> {
-    let stated = format!(in alloc;
-        "at step {step} of device {device} what is output step by step"
+    let step = decimal(alloc, u64::from(step))?;
+    let device = decimal(alloc, u64::from(device))?;
+    let mut stated = joined(
+        alloc,
+        &["at step ", step.as_str(), " of device ", device.as_str()],
     )?;
-    let came = format!(in alloc; "something else in {way}")?;
+    stated.push_str(" what is output step by step")?;
+    let came = joined(alloc, &["something else in ", way])?;
     report.differs(title, stated.as_str(), came.as_str())
 }
 

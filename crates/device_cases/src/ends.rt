@@ -5,6 +5,7 @@ use crate::named::layout_fault;
 use crate::pieces::{bytes_of, hex_of};
 use crate::report::Report;
 use crate::stated::Stated;
+use crate::words::{decimal, joined, numbered, put_words};
 use byte_layout::LayoutFault;
 use fleet_core::{Verdict, check, unfinished};
 use scenario_asm::disassemble;
@@ -57,7 +58,7 @@ fn meaning(alloc: Global, text: &str) -> Result<Option<String>, AllocError> {
             return Ok(None);
         };
         let hex = hex_of(alloc, bytes.as_slice())?;
-        return Ok(Some(format!(in alloc; "{name} {hex}")?));
+        return Ok(Some(joined(alloc, &[name, " ", hex.as_str()])?));
     }
     for word in rest.split(' ') {
         if word != "waiting" && word.parse::<u32>().is_err() {
@@ -70,14 +71,14 @@ fn meaning(alloc: Global, text: &str) -> Result<Option<String>, AllocError> {
 fn image_of(alloc: Global, scenario: &Scenario) -> Result<String, AllocError> {
     let image = save(alloc, scenario)?;
     let hex = hex_of(alloc, image.as_slice())?;
-    format!(in alloc; "image {hex}")
+    joined(alloc, &["image ", hex.as_str()])
 }
 
 fn trace_of(alloc: Global, entries: &[Entry]) -> Result<String, AllocError> {
     match write_entries(alloc, entries) {
         Ok(bytes) => {
             let hex = hex_of(alloc, bytes.as_slice())?;
-            format!(in alloc; "trace {hex}")
+            joined(alloc, &["trace ", hex.as_str()])
         }
         Err(WriteFault::Memory) => Err(AllocError),
         Err(WriteFault::TooLarge) => String::from_str(alloc, "fault too large"),
@@ -86,14 +87,15 @@ fn trace_of(alloc: Global, entries: &[Entry]) -> Result<String, AllocError> {
 
 /// How many entries there are, and which devices are not at the end of their rows, as `lwbench run` prints it.
 fn count_of(alloc: Global, scenario: &Scenario, entries: &[Entry]) -> Result<String, AllocError> {
-    let count = entries.len();
+    let count = decimal(alloc, entries.len() as u64)?;
     let waiting = unfinished(alloc, scenario, entries)?;
     if waiting.is_empty() {
-        return format!(in alloc; "done {count}");
+        return joined(alloc, &["done ", count.as_str()]);
     }
-    let mut text = format!(in alloc; "stalled {count} waiting")?;
+    let mut text = joined(alloc, &["stalled ", count.as_str(), " waiting"])?;
     for device in waiting {
-        write!(text, " {device}")?;
+        let device = decimal(alloc, u64::from(device))?;
+        put_words(&mut text, &[" ", device.as_str()])?;
     }
     Ok(text)
 }
@@ -172,7 +174,7 @@ fn judge_entries(
 fn verdict_of(alloc: Global, verdict: Verdict) -> Result<String, AllocError> {
     match verdict {
         Verdict::Run => String::from_str(alloc, "run"),
-        Verdict::NotRun(place) => format!(in alloc; "not a run at {place}"),
+        Verdict::NotRun(place) => numbered(alloc, "not a run at ", place as u64),
     }
 }
 
@@ -183,7 +185,7 @@ fn judge_fault(
     report: &mut Report,
 ) -> Result<(), AllocError> {
     let name = layout_fault(alloc, fault)?;
-    let came = format!(in alloc; "fault {name}")?;
+    let came = joined(alloc, &["fault ", name.as_str()])?;
     for stated in item.stated.iter() {
         judge_verdict(stated, came.as_str(), report)?;
     }

@@ -4,6 +4,7 @@
 use crate::named::act_name;
 use crate::outputs::lines_of;
 use crate::pieces::bytes_of;
+use crate::words::{decimal, put_words};
 use device_machine::{Act, Output};
 use octets::Bytes;
 use std::alloc::{AllocError, Global};
@@ -27,8 +28,14 @@ pub fn text_of(alloc: Global, entries: &[Entry]) -> Result<String, AllocError> {
 }
 
 fn add_entry(alloc: Global, text: &mut String, entry: &Entry) -> Result<(), AllocError> {
-    let (worker, device, step) = (entry.worker, entry.device, entry.step);
-    write!(text, "worker {worker} device {device} step {step}:")?;
+    let worker = decimal(alloc, u64::from(entry.worker))?;
+    let device = decimal(alloc, u64::from(entry.device))?;
+    let step = decimal(alloc, u64::from(entry.step))?;
+    put_words(
+        text,
+        &["worker ", worker.as_str(), " device ", device.as_str()],
+    )?;
+    put_words(text, &[" step ", step.as_str(), ":"])?;
     let outputs = lines_of(alloc, entry.outputs.as_slice())?;
     if outputs.is_empty() {
         text.push_str(" nothing")?;

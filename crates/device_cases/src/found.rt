@@ -3,6 +3,7 @@
 use crate::copies::{copy_of_entries, copy_of_scenario};
 use crate::entry_lines::{entries_of, text_of};
 use crate::named::{cause_name, layout_fault};
+use crate::words::{decimal, joined, put_words};
 use byte_layout::LayoutFault;
 use scenario_asm::{AsmFault, assemble, disassemble};
 use scenario_image::{Scenario, load, save};
@@ -12,7 +13,7 @@ use std::str;
 use trace_file::{Entries, WriteFault, read_entries, write_entries};
 
 /// What the bytes of a case are.
-#[derive(Clone, Copy, Debug, PartialEq, Eq)]
+#[derive(Clone, Copy)]
 pub enum FileKind {
     /// The image of a scenario.
     Image,
@@ -86,7 +87,7 @@ fn refused_as(alloc: Global, verdict: &str) -> Result<Found, AllocError> {
 /// What is found in a file with this fault.
 fn broken(alloc: Global, fault: LayoutFault) -> Result<Found, AllocError> {
     let name = layout_fault(alloc, fault)?;
-    let verdict = format!(in alloc; "fault {name}")?;
+    let verdict = joined(alloc, &["fault ", name.as_str()])?;
     Ok(refused(alloc, verdict))
 }
 
@@ -107,20 +108,26 @@ fn of_text(alloc: Global, text: &str) -> Result<Found, AllocError> {
             },
         ) => Err(AllocError),
         Err(AsmFault { line, cause }) => {
-            let cause = cause_name(cause);
-            let verdict = format!(in alloc; "fault line {line} {cause}")?;
+            let line = decimal(alloc, line as u64)?;
+            let verdict = joined(
+                alloc,
+                &["fault line ", line.as_str(), " ", cause_name(cause)],
+            )?;
             Ok(refused(alloc, verdict))
         }
     }
 }
 
 fn of_scenario(alloc: Global, scenario: &Scenario) -> Result<Found, AllocError> {
-    let classes = scenario.classes();
-    let devices = scenario.rows();
-    let steps = scenario.steps();
+    let classes = decimal(alloc, scenario.classes() as u64)?;
+    let devices = decimal(alloc, scenario.rows() as u64)?;
+    let steps = decimal(alloc, scenario.steps() as u64)?;
+    let mut verdict = joined(alloc, &["ok ", classes.as_str(), " classes "])?;
+    put_words(&mut verdict, &[devices.as_str(), " devices "])?;
+    put_words(&mut verdict, &[steps.as_str(), " steps"])?;
     let copy = copy_of_scenario(alloc, scenario)?;
     Ok(Found {
-        verdict: format!(in alloc; "ok {classes} classes {devices} devices {steps} steps")?,
+        verdict,
         text: disassemble(alloc, scenario)?,
         file: save(alloc, &copy)?,
     })
@@ -141,11 +148,11 @@ fn of_words(alloc: Global, text: &str) -> Result<Found, AllocError> {
 }
 
 fn of_entries(alloc: Global, entries: &Entries) -> Result<Found, AllocError> {
-    let count = entries.len();
+    let count = decimal(alloc, entries.len() as u64)?;
     let copies = copy_of_entries(alloc, entries.as_slice())?;
     match write_entries(alloc, copies.as_slice()) {
         Ok(file) => Ok(Found {
-            verdict: format!(in alloc; "ok {count} entries")?,
+            verdict: joined(alloc, &["ok ", count.as_str(), " entries"])?,
             text: text_of(alloc, entries.as_slice())?,
             file: file.into_vec(),
         }),

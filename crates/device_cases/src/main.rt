@@ -22,6 +22,7 @@ mod scenarios;
 mod stated;
 mod sweeps;
 mod trial;
+mod words;
 
 use cases::{Case, cases_of};
 use report::Report;

@@ -1,6 +1,7 @@
 //! Bytes in lines of pieces, which a case writes in hexadecimal or in quotes.
 
 use crate::pieces::{bytes_of, times_of};
+use crate::words::joined;
 use scenario_words::{Cause, next_word, quoted};
 use std::alloc::{AllocError, Global};
 use std::str;
@@ -62,7 +63,7 @@ fn counted(alloc: Global, word: &str) -> Result<Option<(String, u32)>, AllocErro
     let Some(times) = times_of(times) else {
         return Ok(None);
     };
-    Ok(Some((format!(in alloc; "{text}\"")?, times)))
+    Ok(Some((joined(alloc, &[text, "\""])?, times)))
 }
 
 /// These bytes with some of them changed, as words like `0700 at 41` say. None where they say no such thing.

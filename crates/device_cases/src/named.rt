@@ -1,5 +1,6 @@
 //! What the program `lwbench` calls things.
 
+use crate::words::numbered;
 use byte_layout::LayoutFault;
 use device_machine::Act;
 use scenario_words::Cause;
@@ -36,8 +37,8 @@ pub fn layout_fault(alloc: Global, fault: LayoutFault) -> Result<String, AllocEr
         LayoutFault::Version => String::from_str(alloc, "version"),
         LayoutFault::Cut => String::from_str(alloc, "cut"),
         LayoutFault::Trailing => String::from_str(alloc, "trailing"),
-        LayoutFault::BadField(place) => format!(in alloc; "bad field at {place}"),
-        LayoutFault::Limit(place) => format!(in alloc; "limit at {place}"),
+        LayoutFault::BadField(place) => numbered(alloc, "bad field at ", place as u64),
+        LayoutFault::Limit(place) => numbered(alloc, "limit at ", place as u64),
         LayoutFault::Memory => Err(AllocError),
     }
 }

@@ -4,6 +4,7 @@ use crate::named::act_name;
 use crate::pieces::{bytes_of, hex_of, times_of};
 use crate::report::Report;
 use crate::stated::Stated;
+use crate::words::{decimal, joined};
 use device_machine::{Act, Output};
 use std::alloc::{AllocError, Global};
 
@@ -20,13 +21,15 @@ fn line_of(alloc: Global, output: &Output) -> Result<String, AllocError> {
     match output {
         Output::Send { server, bytes } => {
             let hex = hex_of(alloc, bytes.as_slice())?;
-            format!(in alloc; "send {server} {hex}")
+            send_line(alloc, *server, hex.as_str())
         }
-        Output::Act(act) => {
-            let name = act_name(*act);
-            format!(in alloc; "act {name}")
-        }
+        Output::Act(act) => { joined(alloc, &["act ", act_name(*act)]) }
     }
+}
+
+fn send_line(alloc: Global, server: u16, hex: &str) -> Result<String, AllocError> {
+    let server = decimal(alloc, u64::from(server))?;
+    joined(alloc, &["send ", server.as_str(), " ", hex])
 }
 
 /// What is stated of the outputs of a step, or of a part of them.
@@ -93,7 +96,7 @@ fn sent(alloc: Global, text: &str) -> Result<Option<Meaning>, AllocError> {
         return Ok(None);
     };
     let hex = hex_of(alloc, bytes.as_slice())?;
-    let line = format!(in alloc; "send {server} {hex}")?;
+    let line = send_line(alloc, server, hex.as_str())?;
     Ok(Some(Meaning::Line(line)))
 }
 
@@ -155,11 +158,11 @@ fn first_difference(
             Meaning::More(count) => {
                 at = at.saturating_add(*count as usize);
                 if at > came.len() {
-                    let count = came.len();
+                    let count = decimal(alloc, came.len() as u64)?;
                     return Ok(Some(Difference {
                         line: *line,
                         stated: String::from_str(alloc, "more")?,
-                        came: format!(in alloc; "{count} in all")?,
+                        came: joined(alloc, &[count.as_str(), " in all"])?,
                     }));
                 }
             }

@@ -2,6 +2,7 @@
 
 use crate::report::Report;
 use crate::stated::Stated;
+use crate::words::decimal;
 use device_machine::Device;
 use lwm2m_values::Value;
 use object_defs::Path;
@@ -61,14 +62,8 @@ pub fn ask(
 fn answer(alloc: Global, question: Question, device: &Device) -> Result<String, AllocError> {
     match question {
         Question::Value(path) => value_word(alloc, device.value(&path)),
-        Question::Clock => {
-            let clock = device.clock();
-            format!(in alloc; "{clock}")
-        }
-        Question::Observations => {
-            let count = device.observations().len();
-            format!(in alloc; "{count}")
-        }
+        Question::Clock => { decimal(alloc, device.clock()) }
+        Question::Observations => { decimal(alloc, device.observations().len() as u64) }
     }
 }
 
@@ -93,7 +88,7 @@ fn meaning(alloc: Global, question: Question, text: &str) -> Result<Option<Strin
             Ok(Some(spell(alloc, &value)?))
         }
         Question::Clock | Question::Observations => match text.parse::<u64>() {
-            Ok(number) => Ok(Some(format!(in alloc; "{number}")?)),
+            Ok(number) => Ok(Some(decimal(alloc, number)?)),
             Err(_) => Ok(None),
         },
     }

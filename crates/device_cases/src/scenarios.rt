@@ -8,6 +8,7 @@ use crate::playing::{Play, event_of};
 use crate::questions::ask;
 use crate::report::Report;
 use crate::stated::Stated;
+use crate::words::{decimal, joined};
 use crate::{again, ends};
 use fleet_core::run_serial;
 use scenario_asm::{AsmFault, assemble};
@@ -57,8 +58,9 @@ fn refused(
         return Err(AllocError);
     }
     let number = script.number_of(fault.line);
-    let cause = cause_name(fault.cause);
-    let came = format!(in alloc; "fault line {number} {cause}")?;
+    let number = decimal(alloc, number as u64)?;
+    let words = ["fault line ", number.as_str(), " ", cause_name(fault.cause)];
+    let came = joined(alloc, &words)?;
     let mut is_stated = false;
     for item in script.items.iter() {
         for stated in item.stated.iter() {

@@ -1,6 +1,7 @@
 //! What is found in many files that differ little from one.
 
 use crate::found::{FileKind, found_in};
+use crate::words::{decimal, joined, numbered};
 use std::alloc::{AllocError, Global};
 
 /// The verdict on the proper fronts of a file: that on each of them, or the first that is another than on the one
@@ -14,7 +15,7 @@ pub fn verdict_of_fronts(
     for end in 0..bytes.len() {
         let found = found_in(alloc, kind, &bytes[..end])?.verdict;
         if found.as_str() != verdict.as_str() {
-            return format!(in alloc; "{found} for the first {end}");
+            return differing(alloc, found.as_str(), " for the first ", end);
         }
         verdict = found;
     }
@@ -36,11 +37,32 @@ pub fn verdict_of_changes(
             put(&mut changed, place, byte);
             let verdict = found_in(alloc, kind, changed.as_slice())?.verdict;
             if !is_due(verdict.as_str()) {
-                return format!(in alloc; "{verdict} with {byte} at {place}");
+                return changed_byte(alloc, verdict.as_str(), byte, place);
             }
         }
     }
     String::from_str(alloc, "fault or ok")
+}
+
+fn differing(
+    alloc: Global,
+    verdict: &str,
+    words: &str,
+    place: usize,
+) -> Result<String, AllocError> {
+    let place = decimal(alloc, place as u64)?;
+    joined(alloc, &[verdict, words, place.as_str()])
+}
+
+fn changed_byte(
+    alloc: Global,
+    verdict: &str,
+    byte: u8,
+    place: usize,
+) -> Result<String, AllocError> {
+    let words = numbered(alloc, " with ", u64::from(byte))?;
+    let verdict = joined(alloc, &[verdict, words.as_str()])?;
+    differing(alloc, verdict.as_str(), " at ", place)
 }
 
 fn put(bytes: &mut Vec<u8>, place: usize, byte: u8) {
