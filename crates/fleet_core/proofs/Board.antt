@@ -32,7 +32,7 @@ get-set_other (z ∷ zs) (suc i) (suc j) y h = get-set_other zs i j y (λ e. h (
 
 -- ---- the posts behind a step
 
-posts_length : (posts : List ℕ) (step : Step) → length (posts_after posts step) ≡ length posts
+pub posts_length : (posts : List ℕ) (step : Step) → length (posts_after posts step) ≡ length posts
 posts_length posts (Event event) = refl
 posts_length posts (Post group) = length-set posts group (slice_index posts group + 1)
 posts_length posts (Need group count) = refl
@@ -47,7 +47,7 @@ post_at posts group g len within (inr other) =
     get_or-set_other posts group g (slice_index posts group + 1) 0 (λ e. other (sym e))
     ∙ (sym (omega arith) ∙ ap (λ b. slice_index posts g + one b) (sym (ne_eqb group g other)))
 
-noted : (posts : List ℕ) (step : Step) (g : ℕ) → length posts ≡ 256 → g < 256
+pub noted : (posts : List ℕ) (step : Step) (g : ℕ) → length posts ≡ 256 → g < 256
     → slice_index (posts_after posts step) g ≡ slice_index posts g + one (posts_to g step)
 noted posts (Event event) g len within = omega arith
 noted posts (Post group) g len within = post_at posts group g len within (cases_eq group g)

@@ -5,6 +5,10 @@ pub mod Clock
 pub mod Valid
 pub mod Started
 pub mod Board
+pub mod Taken
+pub mod Sums
+pub mod Blocks
+pub mod Ends
 pub mod Lowest
 pub mod Checked
 pub mod Counted

@@ -225,7 +225,7 @@ left-same : (m n : ℕ → ℕ) (rs : List Row) → ((d : ℕ) → n d ≡ m d) 
 left-same m n [] h = refl
 left-same m n (r ∷ rs) h = omega (arith, h 0, left-same (λ d. m (suc d)) (λ d. n (suc d)) rs (λ d. h (suc d)))
 
-left-next : (m n : ℕ → ℕ) (rs : List Row) (d : ℕ) (step : Step) → step_in rs d (m d) ≡ Some step → n d ≡ suc (m d)
+pub left-next : (m n : ℕ → ℕ) (rs : List Row) (d : ℕ) (step : Step) → step_in rs d (m d) ≡ Some step → n d ≡ suc (m d)
     → ((i : ℕ) → (d ≡ i → ⊥) → n i ≡ m i) → left m rs ≡ suc (left n rs)
 left-next m n [] d step at here others = let e : None ≡ Some step = at in absurd cc
 left-next m n (r ∷ rs) zero step at here others =

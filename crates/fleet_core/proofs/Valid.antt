@@ -15,12 +15,12 @@ use Rattle.fleet_core.specs.Run.{steps_in, step_at, made_by, posts_to, posts_of,
 use Rattle.fleet_core.proofs.Posts.{one, posts_in, posted, posts_are}
 use Rattle.fleet_core.proofs.Clock.{recv_clock, put_clock, firmware_clock}
 
-all_at : {X : Type 0} (P : X → Type 0) (xs : List X) (i : ℕ) (x : X) → AllByRecursion P xs → slice_get xs i ≡ Some x → P x
+pub all_at : {X : Type 0} (P : X → Type 0) (xs : List X) (i : ℕ) (x : X) → AllByRecursion P xs → slice_get xs i ≡ Some x → P x
 all_at P [] i x all h = let e : None ≡ Some x = h in absurd cc
 all_at P (y ∷ ys) zero x all h = subst P (let e : Some y ≡ Some x = h in cc) all.0
 all_at P (y ∷ ys) (suc i) x all h = all_at P ys i x all.1 h
 
-in_row : (o : Option Row) (k : ℕ) (step : Step) → slice_get (steps_in o) k ≡ Some step → (row : Row) × (o ≡ Some row) × (slice_get row.steps k ≡ Some step)
+pub in_row : (o : Option Row) (k : ℕ) (step : Step) → slice_get (steps_in o) k ≡ Some step → (row : Row) × (o ≡ Some row) × (slice_get row.steps k ≡ Some step)
 in_row None k step h = let e : None ≡ Some step = h in absurd cc
 in_row (Some row) k step h = (row, refl, h)
 

@@ -39,6 +39,10 @@ pub record IsFleet (s : Script) (es : List Entry) (made posts : List ℕ) (devic
 pub record AreStarted (s : Script) (devices : List Shown) : Type 0 where
   pub each : (d : ℕ) (x : Shown) → slice_get devices d ≡ Some x → (class : Class) (steps : List Step) → IsRowOf s d class steps → Shows x (start class)
 
+-- the device shows the state after the first k steps of row d
+abbrev pub ShowsAfter : Script → ℕ → ℕ → Shown → Type 0
+ShowsAfter s d k x = (class : Class) (steps : List Step) → IsRowOf s d class steps → Shows x (state_at class steps k)
+
 -- the posts to each group behind a step
 abbrev pub posts_after : List ℕ → Step → List ℕ
 posts_after posts (Event event) = posts

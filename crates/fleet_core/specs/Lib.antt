@@ -1,5 +1,6 @@
 pub mod Along
 pub mod Run
 pub mod Board
+pub mod Blocks
 pub mod Verdict
 pub mod Waiting

@@ -14,7 +14,12 @@ mod waiting;
 pub use checking::check;
 pub use fault::CommitFault;
 pub use fleet::Fleet;
-pub use laws::{outputs_are_the_rows, runs_agree, runs_grow};
+pub use laws::{
+    blocks_follow, counts_add_up, outputs_are_the_rows, runs_agree, runs_end, runs_grow,
+    steps_are_taken,
+};
+pub use performing::{make_step, note_post, start_devices, step_of};
 pub use serial::run_serial;
+pub use trace_file::{Entries, Entry, OutputList, WriteFault, read_entries, write_entries};
 pub use verdict::Verdict;
 pub use waiting::unfinished;

@@ -6,8 +6,8 @@ ghost use Rattle.device_template.specs.Class.{Class};
 ghost use Rattle.device_machine.specs.State.{Flat, Shows};
 ghost use Rattle.scenario_image.specs.Script.{Script};
 ghost use Rattle.scenario_image.specs.Play.{start, step_outputs, step_after, is_step_refused, IsRowOf};
-ghost use Rattle.fleet_core.specs.Run.{step_at};
-ghost use Rattle.fleet_core.specs.Board.{AreStarted, posts_after};
+ghost use Rattle.fleet_core.specs.Run.{step_at, out_at};
+ghost use Rattle.fleet_core.specs.Board.{AreStarted, ShowsAfter, posts_after};
 ghost use Rattle.scenario_image.specs.declared.step.Step.{Step};
 
 use device_machine::{Device, StepFault};
@@ -15,8 +15,8 @@ use scenario_image::{Scenario, Step, take_step};
 use std::alloc::{AllocError, Global};
 use trace_file::OutputList;
 
-/// The step of this number in the device's row, lent.
-pub(crate) fn step_of(scenario: &Scenario, device: u16, place: u32) -> Option<&Step>
+/// A reference to the step of this number, counted from 0, in the device's row; none after its last one.
+pub fn step_of(scenario: &Scenario, device: u16, place: u32) -> Option<&Step>
     ensures { option_copied result ≡ step_at scenario.now device place }
 {
     let (_, steps) = scenario.row(device)?;
@@ -26,7 +26,8 @@ pub(crate) fn step_of(scenario: &Scenario, device: u16, place: u32) -> Option<&S
 /// A device at the start of a row.
 fn start_of_row(scenario: &Scenario, device: u16) -> Result<Device, AllocError>
     requires { device < length scenario.now.rows }
-    ensures { IfOk result (λ x. (class : Class) (steps : List Step) → IsRowOf scenario.now device class steps → Shows x (start class)) }
+    ensures { IfOk result (λ x. (class : Class) (steps : List Step) → IsRowOf scenario.now device class steps
+        → Shows x (start class)) }
 {
     let _rows = scenario.rows();
     let Some((class, _)) = scenario.row(device) else {
@@ -39,7 +40,7 @@ fn start_of_row(scenario: &Scenario, device: u16) -> Result<Device, AllocError>
 }
 
 /// The devices of a scenario, each at the start of its row.
-pub(crate) fn start_devices(alloc: Global, scenario: &Scenario) -> Result<Vec<Device>, AllocError>
+pub fn start_devices(alloc: Global, scenario: &Scenario) -> Result<Vec<Device>, AllocError>
     ensures count { IfOk result (λ v. length v.items ≡ length scenario.now.rows) }
     ensures started { IfOk result (λ v. AreStarted scenario.now v.items) }
 {
@@ -69,8 +70,27 @@ pub(crate) fn perform(
     }
 }
 
-/// Counts a step that is a post.
-pub(crate) fn note_post(posts: &mut Vec<u32>, step: &Step)
+/// Lets a device that has made the steps before it make the step of this number in its row, and returns what it
+/// outputs. The device refuses none, so only an allocation can fail; nothing is promised of the device then.
+pub fn make_step(
+    alloc: Global,
+    scenario: &Scenario,
+    machine: &mut Device,
+    device: u16,
+    place: u32,
+    step: &Step,
+) -> Result<OutputList, AllocError>
+    requires stands { step_at scenario.now device place ≡ Some step.now }
+    requires shows { ShowsAfter scenario.now device place machine.old }
+    ensures outputs { IfOk result (λ o. o ≡ out_at scenario.now device place) }
+    ensures shows { OnOk result (ShowsAfter scenario.now device (place + 1) machine.new) }
+{
+    let _rows = scenario.rows();
+    perform(alloc, machine, step)
+}
+
+/// Counts a step that is a post. There is a count for each of the 256 groups.
+pub fn note_post(posts: &mut Vec<u32>, step: &Step)
     requires groups { length posts.old.items ≡ 256 }
     requires room { (g : ℕ) → slice_index posts.old.items g + 1 < 2 ^ 32 }
     ensures { posts.new.items ≡ posts_after posts.old.items step.now }

@@ -107,8 +107,8 @@ module _ {T E S O : Type 0} (R : Reading T E S O) where
   pub given_aware : (x : T) (v : View T E S O) → v.subject ≡ Some (R.subject x) → IsAware R x (given R v x)
   given_aware x v same = record { after = []; front = sym (append-nil (R.entries x)); others = tt; subject = same; shares = refl }
 
-  pub whole_aware : (x : T) → IsAware R x (whole R x)
-  whole_aware x = record { after = []; front = sym (append-nil (R.entries x)); others = tt; subject = refl; shares = refl }
+  pub whole_aware : (x : T) (t : ℕ) → IsAware R x (whole R x t)
+  whole_aware x t = record { after = []; front = sym (append-nil (R.entries x)); others = tt; subject = refl; shares = refl }
 
   -- a pass with all numbers has seen the whole log
   pub sees_all : (x : T) (v : View T E S O) → v.low ≡ 1 → v.count ≡ NUMBERS → IsAware R x v → R.entries x ≡ v.front

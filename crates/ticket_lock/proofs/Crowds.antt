@@ -13,8 +13,9 @@ use Rattle.ticket_lock.specs.Log.{Reading, shares}
 use Rattle.ticket_lock.specs.Lock.{IsAt, is_resting, HasTicket, IsApart, Knows, Fits}
 use Rattle.ticket_lock.specs.Changes.{gone, lower, upper, joined}
 use Rattle.ticket_lock.proofs.Views.{same_at, each_end, some_end, pairs_end, set_swap}
+use Rattle.ticket_lock.proofs.Logs.{shorter_begins}
 use Rattle.ticket_lock.proofs.Aware.{both_aware, lower_aware, upper_aware, sees_all}
-use Rattle.ticket_lock.proofs.Stages.{even_home, resting_lives, no_ticket, ticket_lives}
+use Rattle.ticket_lock.proofs.Stages.{no_turn, even_home, resting_lives, no_ticket, ticket_lives}
 use Rattle.ticket_lock.proofs.Steps.{flip, changes}
 
 either_true : (a b : Bool) (P : Type 0) → (a ≡ true → P) → (b ≡ true → P) → (a || b) ≡ true → P
@@ -50,6 +51,8 @@ module _ {T E S O : Type 0} (R : Reading T E S O) (opened : T × ℕ) where
         empty = λ e. absurd (false≢true (sym e ∙ live));
         within = λ _. (omega arith, inside.1, omega arith);
         seen_end = k.seen_end;
+        turn = λ t e. absurd (no_turn t e);
+        earlier = k.earlier;
         aware = λ l. lower_aware R f.value v (omega arith) (k.aware l);
       }
       (λ u p h. h) (λ j u _ _ p h. record { numbers = λ n a b. p.numbers n (a.0, omega arith) b; tickets = p.tickets }) (λ t lo hi. inr (lo, hi, λ h. h)) in
@@ -59,6 +62,8 @@ module _ {T E S O : Type 0} (R : Reading T E S O) (opened : T × ℕ) where
         empty = λ e. absurd (false≢true (sym e ∙ live));
         within = λ _. (omega arith, omega arith, omega arith);
         seen_end = k.seen_end;
+        turn = λ t e. absurd (no_turn t e);
+        earlier = k.earlier;
         aware = λ l. upper_aware R f.value v (omega arith) (k.aware l);
       }
       (λ j u a. ⊎_elim
@@ -75,7 +80,15 @@ module _ {T E S O : Type 0} (R : Reading T E S O) (opened : T × ℕ) where
       let inside = k.within live in let inside' = l.within live' in
       let empty : State (Option T) (View T E S O) = record { words = s.words; homes = s.homes; views = set s.views other gone } in
       let spent : Fits R opened empty = changes R opened s f other w gone there s.words s.homes f.next f.serving f.value f.words f.homes (f.served, f.drawn, f.subject, f.begun)
-      record { stands = tt; empty = λ _. refl; within = λ e. absurd (false≢true e); seen_end = λ e. absurd (false≢true e); aware = λ e. absurd (false≢true e) }
+      record {
+        stands = tt;
+        empty = λ _. refl;
+        within = λ e. absurd (false≢true e);
+        seen_end = λ e. absurd (false≢true e);
+        turn = λ t e. absurd (no_turn t e);
+        earlier = ([], refl);
+        aware = λ e. absurd (false≢true e);
+      }
       (λ u p h. h) (λ j u _ _ p h. record { numbers = λ n a b. let x = a.1 in absurd (omega arith); tickets = λ n a b. a }) (λ t lo hi. inr (lo, hi, λ h. absurd (no_ticket w.stage t rest' h))) in
       subst (λ vs. Fits R opened record { words = s.words; homes = s.homes; views = vs }) (set_swap s.views other id gone (joined v w) ne)
       (changes R opened empty spent id v (joined v w) (set_else s.views other id gone (λ e. ne (sym e)) ∙ at) s.words s.homes f.next f.serving f.value f.words f.homes (f.served, f.drawn, f.subject, f.begun)
@@ -84,6 +97,8 @@ module _ {T E S O : Type 0} (R : Reading T E S O) (opened : T × ℕ) where
         empty = λ e. absurd (false≢true (sym e));
         within = λ _. (omega arith, inside.1, omega arith);
         seen_end = either_true v.end w.end (f.next ≡ LAST) k.seen_end l.seen_end;
+        turn = λ t e. absurd (no_turn t e);
+        earlier = let a = k.aware live in let b = l.aware live' in shorter_begins v.front w.front a.after b.after (sym a.front ∙ b.front);
         aware = λ _. both_aware R f.value v w next (k.aware live) (l.aware live');
       }
       (λ u p h. h)
@@ -96,19 +111,26 @@ module _ {T E S O : Type 0} (R : Reading T E S O) (opened : T × ℕ) where
       (at_set s.views other j gone u a))
       (λ t lo hi. inr (lo, hi, λ h. absurd (no_ticket v.stage t rest h))))
 
-  -- while a pass with all numbers has no ticket, nobody has one, and the value is at home
+  -- while a pass with all numbers has no ticket, nobody has one: all that were drawn are served, and the value is at home
   pub alone : (s : State (Option T) (View T E S O)) (f : Fits R opened s) (id : ℕ) (v : View T E S O) → IsAt s.views id v → is_resting v.stage ≡ true → v.count ≡ NUMBERS
-      → (v.low ≡ 1) × (f.serving ≡ 2 * (f.serving / 2))
+      → (v.low ≡ 1) × (f.serving ≡ 2 * f.next)
   alone s f id v at rest all = let k = f.each id v at in let inside = k.within (resting_lives v.stage rest) in let served = f.served in
       let one : v.low ≡ 1 = omega arith in (
         one,
-        dite (ℕ_discrete f.serving (2 * (f.serving / 2))) (λ e. e) (λ odd.
-            let h = f.held (f.serving / 2) (omega arith) (omega arith) in
+        dite (dec_lt (f.serving / 2) f.next)
+            (λ lt.
+            let h = f.held (f.serving / 2) (omega arith) lt in
             let j = h.0 in let u = h.1 in
             absurd (dite (ℕ_discrete j id)
             (λ e. no_ticket v.stage (f.serving / 2) rest (subst (λ x. HasTicket x.stage (f.serving / 2)) (same_at s.views id u v (subst (λ i. IsAt s.views i u) e h.2) at) h.3))
-            (λ ne. let there = (f.each j u h.2).within (ticket_lives u.stage (f.serving / 2) h.3) in (f.apart id j v u at h.2 (λ e. ne (sym e))).numbers u.low (omega arith, omega arith) (omega arith, omega arith)))),
+            (λ ne. let there = (f.each j u h.2).within (ticket_lives u.stage (f.serving / 2) h.3) in (f.apart id j v u at h.2 (λ e. ne (sym e))).numbers u.low (omega arith, omega arith) (omega arith, omega arith))))
+            (λ ge. omega arith),
       )
+
+  -- a resting pass that knows the turn knows the next ticket
+  pub turn_next : (s : State (Option T) (View T E S O)) (f : Fits R opened s) (id : ℕ) (v : View T E S O) (t : ℕ) → IsAt s.views id v → v.turn ≡ Some t → is_resting v.stage ≡ true
+      → f.next ≡ t
+  turn_next s f id v t at knows rest = let q = (f.each id v at).turn t knows in let now = q.1 in let all = (alone s f id v at rest q.0).1 in omega arith
 
   -- what is left at the end: the value, with what the last pass knows of it
   pub record Closes (v : View T E S O) (x : T) : Type 0 where
@@ -121,7 +143,7 @@ module _ {T E S O : Type 0} (R : Reading T E S O) (opened : T × ℕ) where
   closes id v ws xs final rest all = let s = final.0 in let f = final.1.0 in let at = final.1.1 in let a = alone s f id v at rest all in
       let k = (f.each id v at).aware (resting_lives v.stage rest) in (
         f.value,
-        final.4 0 (Some f.value) (ap (λ h. get_elem? h 0) f.homes ∙ ap some (even_home f.serving (f.serving / 2) f.value a.1)),
+        final.4 0 (Some f.value) (ap (λ h. get_elem? h 0) f.homes ∙ ap some (even_home f.serving f.next f.value a.1)),
         record {
           entries = sees_all R f.value v a.0 all k;
           subject = f.subject;

@@ -1,11 +1,11 @@
 -- Lists of which one begins another, and lists of what each number in a row has.
-use Rattle.std.proofs.Common.{◌≡◌, ℕ, zero, suc, ◌+◌, ◌-◌, ◌<◌, ◌≤◌, cond, List, [], ◌∷◌, ◌++◌, map, length, take, drop, refl, ap, subst, arith}
+use Rattle.std.proofs.Common.{◌≡◌, ℕ, zero, suc, ◌+◌, ◌-◌, ◌<◌, ◌≤◌, cond, List, [], ◌∷◌, ◌++◌, map, length, take, drop, refl, sym, ap, ◌∙◌, subst, arith, append_assoc, append-nil}
 use Rattle.std.specs.List.{AllByRecursion}
 use Rattle.std.proofs.lemmas.Bool.{lt-ltb, le-ltb}
 use mathlib.Core.Logic.{dite}
 use native.Mathlib.Decide.{dec_lt}
-use Rattle.ticket_lock.specs.Log.{each_of}
-use Rattle.ticket_lock.specs.Changes.{longer}
+use Rattle.ticket_lock.specs.Log.{Begins, each_of}
+use Rattle.ticket_lock.specs.Changes.{longer, shorter}
 
 module _ {X : Type 0} where
   pub every-append : (P : X → Type 0) (a b : List X) → AllByRecursion P a → AllByRecursion P b → AllByRecursion P (a ++ b)
@@ -49,11 +49,38 @@ module _ {X : Type 0} where
       let r = parts a b x y tails (omega arith) in
       ((let same = r.0 in cc), r.1)
 
+  -- a prefix of a prefix
+  pub begins_both : (a b c : List X) → Begins a b → Begins b c → Begins a c
+  begins_both a b c h k = (h.0 ++ k.0, k.1 ∙ (ap (λ l. l ++ k.0) h.1 ∙ append_assoc a h.0 k.0))
+
   pub longer_first : (a b : List X) → length b ≤ length a → longer a b ≡ a
   longer_first a b le = ap (λ t. cond t b a) (le-ltb (length a) (length b) le)
 
   pub longer_second : (a b : List X) → length a < length b → longer a b ≡ b
   longer_second a b lt = ap (λ t. cond t b a) (lt-ltb (length a) (length b) lt)
+
+  shorter_first : (a b : List X) → length a < length b → shorter a b ≡ a
+  shorter_first a b lt = ap (λ t. cond t a b) (lt-ltb (length a) (length b) lt)
+
+  shorter_second : (a b : List X) → length b ≤ length a → shorter a b ≡ b
+  shorter_second a b le = ap (λ t. cond t a b) (le-ltb (length a) (length b) le)
+
+  -- of two prefixes of one list, the shorter is a prefix of the longer
+  pub shorter_begins : (a b x y : List X) → a ++ x ≡ b ++ y → Begins (shorter a b) (longer a b)
+  shorter_begins a b x y e = dite (dec_lt (length a) (length b))
+      (λ lt. let m = between a b x y e (omega arith) in
+      (m.0, longer_second a b lt ∙ (m.1 ∙ ap (λ l. l ++ m.0) (sym (shorter_first a b lt)))))
+      (λ ge. let m = between b a y x (sym e) (omega arith) in
+      (m.0, longer_first a b (omega arith) ∙ (m.1 ∙ ap (λ l. l ++ m.0) (sym (shorter_second a b (omega arith))))))
+
+  -- then each of the two is a prefix of the longer
+  pub both_begin : (a b : List X) → Begins (shorter a b) (longer a b) → Begins a (longer a b) × Begins b (longer a b)
+  both_begin a b h = dite (dec_lt (length a) (length b))
+      (λ lt. (subst (λ l. Begins l (longer a b)) (shorter_first a b lt) h, itself b (longer_second a b lt)))
+      (λ ge. (itself a (longer_first a b (omega arith)), subst (λ l. Begins l (longer a b)) (shorter_second a b (omega arith)) h))
+    where
+      itself : (l : List X) → longer a b ≡ l → Begins l (longer a b)
+      itself l e = ([], e ∙ sym (append-nil l))
 
   pub each_same : (f g : ℕ → X) (low n : ℕ) → ((k : ℕ) → low ≤ k → k < low + n → f k ≡ g k) → each_of f low n ≡ each_of g low n
   unfolding each_of

@@ -1,5 +1,5 @@
 -- What each call of the table owes: its step keeps the rule, and tells what it says.
-use Rattle.std.proofs.Common.{◌≡◌, ℕ, ◌+◌, ◌*◌, ◌/◌, ◌<◌, true, eqb, List, [], ◌∷◌, get_or, refl, sym, ap, ◌∙◌, subst, arith, Option, Some, eq-eqb, ne_eqb}
+use Rattle.std.proofs.Common.{◌≡◌, ℕ, ◌+◌, ◌*◌, ◌/◌, ◌<◌, ◌≤◌, true, eqb, List, [], ◌∷◌, get_or, refl, sym, ap, ◌∙◌, subst, arith, Option, Some, eq-eqb, ne_eqb}
 use mathlib.Core.Option.{none}
 use mathlib.Core.Logic.{dite}
 use native.Mathlib.Decide.{ℕ_discrete}
@@ -11,20 +11,47 @@ use Rattle.ticket_lock.specs.declared.rule.View.{View}
 use Rattle.ticket_lock.specs.declared.rule.Stage.TheVariants.{Waiting, Inside}
 use Rattle.ticket_lock.specs.Log.{Reading, Adds}
 use Rattle.ticket_lock.specs.Lock.{is_live, is_resting, is_inside, ticket_of, found_or, holds_slot, Fits}
-use Rattle.ticket_lock.specs.Changes.{gone, ended, staged, lower, upper, joined, arrived, given, Looked, Recalled, Drew, Entered, Left}
+use Rattle.ticket_lock.specs.Changes.{gone, ended, staged, lower, upper, joined, arrived, given, Looked, Drew, Entered, Left}
 use Rattle.ticket_lock.proofs.Stages.{insider, one_slot}
 use Rattle.ticket_lock.proofs.Steps.{stays, draw_fits, enter_fits, leave_fits}
-use Rattle.ticket_lock.proofs.Crowds.{split_fits, join_fits}
+use Rattle.ticket_lock.proofs.Crowds.{split_fits, join_fits, turn_next}
 
 module _ {T E S O : Type 0} (R : Reading T E S O) (opened : T × ℕ) (slots id : ℕ) (me : Me (Option T) (View T E S O)) where
-  pub looks : Allows (Fits R opened) slots id me 0 (λ n. n) (Looked (step slots 0 0 0 none) me)
-  looks s f _ at _ = let x : ℕ = get_or s.words 0 0 in let is : x ≡ f.next = ap (λ ws. get_or ws 0 0) f.words in let most = f.drawn in let seen = (f.each id me.0 at).seen_end in
+  pub looks : Allows (Fits R opened) slots id me 0 (λ n. n) (Looked R (step slots 0 0 0 none) me)
+  looks s f _ at _ = let x : ℕ = get_or s.words 0 0 in let is : x ≡ f.next = ap (λ ws. get_or ws 0 0) f.words in let drawn = f.drawn in let k = f.each id me.0 at in
+      let most : x ≤ LAST = omega arith in
+      let turn : (t : ℕ) → me.0.turn ≡ Some t → is_resting me.0.stage ≡ true → x ≡ t = λ t e rest. is ∙ turn_next R opened s f id me.0 t at e rest in
       dite (ℕ_discrete x LAST)
-      (λ hit. (ended me.0, keeps, tt, stays R opened s f id me.0 true 0 me.1 at (λ _. sym is ∙ hit), (omega arith, (λ _. refl), (λ ne. absurd (ne hit)), λ _. hit)))
-      (λ miss. (me.0, keeps, tt, stays R opened s f id me.0 me.0.end 0 me.1 at seen, (omega arith, (λ e. absurd (miss e)), (λ _. refl), λ e. is ∙ seen e)))
-
-  pub recalls : Allows (Fits R opened) slots id me 0 (λ n. n) (Recalled R (step slots 0 0 0 none) me)
-  recalls s f _ at _ = let k = f.each id me.0 at in (me.0, keeps, tt, stays R opened s f id me.0 me.0.end 0 me.1 at k.seen_end, (refl, λ live. (f.value, k.aware live)))
+      (λ hit. (
+        ended me.0,
+        keeps,
+        tt,
+        stays R opened s f id me.0 true 0 me.1 at (λ _. sym is ∙ hit),
+        record {
+          most = most;
+          last = λ _. refl;
+          other = λ ne. absurd (ne hit);
+          seen_end = λ _. hit;
+          turn = turn;
+          aware = λ live. (f.value, k.aware live);
+          earlier = k.earlier;
+        },
+      ))
+      (λ miss. (
+        me.0,
+        keeps,
+        tt,
+        stays R opened s f id me.0 me.0.end 0 me.1 at k.seen_end,
+        record {
+          most = most;
+          last = λ e. absurd (miss e);
+          other = λ _. refl;
+          seen_end = λ e. is ∙ k.seen_end e;
+          turn = turn;
+          aware = λ live. (f.value, k.aware live);
+          earlier = k.earlier;
+        },
+      ))
 
   pub draws : (t : ℕ) → t < LAST → is_resting me.0.stage ≡ true → Allows (Fits R opened) slots id me 0 (λ n. either (eqb n t) (t + 1) n) (Drew (step slots 0 t (t + 1) none) me)
   draws t small rest s f _ at _ = let x : ℕ = get_or s.words 0 0 in let is : x ≡ f.next = ap (λ ws. get_or ws 0 0) f.words in

@@ -1,6 +1,6 @@
 -- Every list of steps keeps the rule.
 use Rattle.std.proofs.Common.{◌≡◌, ◌≢◌, ℕ, ◌+◌, ◌*◌, ◌/◌, ◌%◌, ◌<◌, ◌≤◌, true, List, [], ◌∷◌, get_or, set, refl, sym, ap, ◌∙◌, subst, arith, Option, Some}
-use Rattle.std.proofs.lemmas.Bool.{false≢true}
+use Rattle.std.proofs.lemmas.Bool.{false≢true, eqb-true}
 use mathlib.Core.Option.{some, none, some-injective, some-ne-none}
 use mathlib.Core.Logic.{dite}
 use native.Mathlib.Decide.{ℕ_discrete}
@@ -16,7 +16,7 @@ use Rattle.ticket_lock.specs.Lock.{IsAt, is_inside, HasTicket, Stands, Knows, Fi
 use Rattle.ticket_lock.specs.Changes.{whole, arrived}
 use Rattle.ticket_lock.specs.Moves.{Move, splits, joins, loads, draws, enters, leaves, closes, made, Steps, Run, IsExclusive, Law}
 use Rattle.ticket_lock.proofs.Aware.{whole_aware}
-use Rattle.ticket_lock.proofs.Stages.{even_home, odd_home}
+use Rattle.ticket_lock.proofs.Stages.{one_turn, even_home, odd_home}
 use Rattle.ticket_lock.proofs.Steps.{stays, draw_fits, enter_fits, leave_fits}
 use Rattle.ticket_lock.proofs.Crowds.{split_fits, join_fits}
 
@@ -80,7 +80,7 @@ module _ {T E S O : Type 0} (R : Reading T E S O) (opened : T × ℕ) where
 
 module _ {T E S O : Type 0} (R : Reading T E S O) where
   -- the lock as it is made
-  made_fits : (first : ℕ) (x : T) → first ≤ LAST → Fits R (x, first) (made R first x)
+  pub made_fits : (first : ℕ) (x : T) → first ≤ LAST → Fits R (x, first) (made R first x)
   made_fits first x small = record {
     next = first;
     serving = 2 * first;
@@ -95,18 +95,20 @@ module _ {T E S O : Type 0} (R : Reading T E S O) where
       stands = tt;
       empty = λ e. absurd (false≢true (sym e));
       within = λ _. (omega arith, omega arith, omega arith);
-      seen_end = λ e. absurd (false≢true e);
-      aware = λ _. whole_aware R x;
+      seen_end = λ e. eqb-true first LAST e;
+      turn = λ t e. (refl, let same = one_turn first t e in omega arith);
+      earlier = (R.entries x, refl);
+      aware = λ _. whole_aware R x first;
     };
     apart = λ i j v w a b ne. absurd (ne (first_place i v a ∙ sym (first_place j w b)));
     held = λ t lo hi. absurd (omega arith);
   }
     where
-      first_view : (i : ℕ) (v : View T E S O) → IsAt (whole R x ∷ []) i v → whole R x ≡ v
-      first_view Rattle.std.proofs.Common.zero v a = some-injective (whole R x) v a
+      first_view : (i : ℕ) (v : View T E S O) → IsAt (whole R x first ∷ []) i v → whole R x first ≡ v
+      first_view Rattle.std.proofs.Common.zero v a = some-injective (whole R x first) v a
       first_view (Rattle.std.proofs.Common.suc i) v a = absurd (some-ne-none v (sym a))
 
-      first_place : (i : ℕ) (v : View T E S O) → IsAt (whole R x ∷ []) i v → i ≡ 0
+      first_place : (i : ℕ) (v : View T E S O) → IsAt (whole R x first ∷ []) i v → i ≡ 0
       first_place Rattle.std.proofs.Common.zero v a = refl
       first_place (Rattle.std.proofs.Common.suc i) v a = absurd (some-ne-none v (sym a))
 

@@ -1,13 +1,16 @@
 -- What the clauses say of a pass's seat and of the value, from what the rule says of the pass.
-use Rattle.std.proofs.Common.{◌≡◌, ℕ, zero, suc, ◌+◌, ◌<◌, List, [], ◌∷◌, ◌++◌, map, length, take, drop, refl, sym, ap, ◌∙◌, arith}
+use Rattle.std.proofs.Common.{◌≡◌, ℕ, zero, suc, ◌+◌, ◌<◌, true, Option, List, [], ◌∷◌, ◌++◌, map, length, take, drop, refl, sym, ap, ◌∙◌, arith}
 use mathlib.Core.List.{map-append}
-use Rattle.atomic_table.specs.Table.{Me, rest}
+use mathlib.Core.Logic.{dite}
+use native.Mathlib.Decide.{ℕ_discrete}
+use Rattle.atomic_table.specs.Table.{Me, Step, rest}
+use Rattle.ticket_lock.specs.declared.rule.TheConstants.{LAST}
 use Rattle.ticket_lock.specs.declared.logged.Share.{Share}
 use Rattle.ticket_lock.specs.declared.rule.View.{View}
 use Rattle.ticket_lock.specs.declared.rule.Stage.{Stage}
 use Rattle.ticket_lock.specs.Log.{Reading, each_of, own, owns, share, shares}
 use Rattle.ticket_lock.specs.Lock.{IsAware, HasNumber}
-use Rattle.ticket_lock.specs.Changes.{staged, lower, upper, joined}
+use Rattle.ticket_lock.specs.Changes.{ended, staged, lower, upper, joined, Looked}
 use Rattle.ticket_lock.specs.Names.{work_or, lowest_work, IsFaithful}
 use Rattle.ticket_lock.proofs.Logs.{map-each, parts, length-each, each_same, each-append, each_first, each_rest, each_at}
 use Rattle.ticket_lock.proofs.Aware.{own_of_front}
@@ -30,6 +33,16 @@ pub first_slot : {S V : Type 0} (cs : List (ℕ × S)) (n : Me S V) (k : ℕ) (x
 first_slot {S} cs n k x v e = let now : n.1 ≡ (k, x) ∷ cs = ap (λ z. z.1) e in (x, now ∙ ap (λ (c : List (ℕ × S)). (k, x) ∷ rest c) (sym now))
 
 module _ {T E S O : Type 0} (R : Reading T E S O) where
+  -- a load changes nothing but whether the end was seen
+  pub looked_view : (st : Step (Option T)) (m n : Me (Option T) (View T E S O)) (found : ℕ) → Looked R st m found n → n.0 ≡ record m.0 { end = n.0.end }
+  looked_view st m n found l = dite (ℕ_discrete found LAST)
+      (λ hit. let e : n.0 ≡ ended m.0 = ap (λ z. z.0) (l.last hit) in e ∙ ap (λ b. record m.0 { end = b }) (sym (ap (λ v. v.end) e)))
+      (λ miss. let e : n.0 ≡ m.0 = ap (λ z. z.0) (l.other miss) in e ∙ ap (λ b. record m.0 { end = b }) (sym (ap (λ v. v.end) e)))
+
+  -- and what was seen stays seen
+  pub looked_end : (st : Step (Option T)) (m n : Me (Option T) (View T E S O)) (found : ℕ) → Looked R st m found n → m.0.end ≡ true → n.0.end ≡ true
+  looked_end st m n found l e = ap (λ z. z.0.end) (l.last (l.seen_end e))
+
   -- the shares of a value are those of its log
   pub map-shares : (x : T) (low n : ℕ) → map (λ s. s.own) (shares R x low n) ≡ owns R (R.entries x) low n
   map-shares x low n = map-each (λ (s : Share E O). s.own) (share R x) low n

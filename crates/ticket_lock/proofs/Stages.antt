@@ -5,6 +5,19 @@ use mathlib.Core.Option.{some, none}
 use Rattle.ticket_lock.specs.declared.rule.Stage.{Stage}
 use Rattle.ticket_lock.specs.declared.rule.Stage.TheVariants.{Spent, Resting, Waiting, Inside}
 use Rattle.ticket_lock.specs.Lock.{home_of, is_live, is_resting, is_inside, ticket_of, found_or, holds_slot, HasTicket, Stands}
+use Rattle.ticket_lock.specs.Changes.{turn_after}
+
+-- an unknown turn
+pub no_turn : (t : ℕ) → ◌≡◌ {A = Option ℕ} None (Some t) → ⊥
+no_turn t e = cc
+
+pub one_turn : (t u : ℕ) → ◌≡◌ {A = Option ℕ} (Some t) (Some u) → t ≡ u
+one_turn t u e = cc
+
+-- the turn before
+pub turn_before : (o : Option ℕ) (t : ℕ) → turn_after o ≡ Some t → (u : ℕ) × (o ≡ Some u) × (u + 1 ≡ t)
+turn_before None t e = absurd (no_turn t e)
+turn_before (Some u) t e = (u, refl, one_turn (u + 1) t e)
 
 module _ {T : Type 0} where
   pub even_home : (serving t : ℕ) (x : T) → serving ≡ 2 * t → home_of (serving % 2) x ≡ some (Some x)

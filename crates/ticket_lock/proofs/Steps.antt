@@ -1,5 +1,5 @@
 -- Each step keeps the rule.
-use Rattle.std.proofs.Common.{◌≡◌, ◌≢◌, ℕ, ◌+◌, ◌*◌, ◌/◌, ◌%◌, ◌<◌, ◌≤◌, ◌⊎◌, inl, inr, ⊎_elim, Bool, true, List, [], ◌∷◌, get_or, set, refl, sym, ap, ◌∙◌, subst, arith, Option, Some}
+use Rattle.std.proofs.Common.{◌≡◌, ◌≢◌, ℕ, ◌+◌, ◌*◌, ◌/◌, ◌%◌, ◌<◌, ◌≤◌, ◌⊎◌, inl, inr, ⊎_elim, Bool, true, false, List, [], ◌∷◌, get_or, set, refl, sym, ap, ◌∙◌, subst, arith, Option, Some}
 use Rattle.std.proofs.lemmas.Bool.{false≢true}
 use mathlib.Core.Option.{none, some}
 use mathlib.Core.Option as maybe
@@ -8,7 +8,7 @@ use native.Mathlib.Decide.{ℕ_discrete}
 use lib.ListN.{get_elem?}
 use lib.Seq.{set-get_or}
 use Rattle.atomic_table.specs.Table.{State, keeps, takes, gives, stepped}
-use Rattle.ticket_lock.specs.declared.rule.TheConstants.{LAST}
+use Rattle.ticket_lock.specs.declared.rule.TheConstants.{NUMBERS, LAST}
 use Rattle.ticket_lock.specs.declared.rule.View.{View}
 use Rattle.ticket_lock.specs.declared.rule.Stage.TheVariants.{Waiting, Inside}
 use Rattle.ticket_lock.specs.Log.{Reading, Adds}
@@ -16,9 +16,16 @@ use Rattle.ticket_lock.specs.Lock.{IsAt, home_of, is_live, is_resting, HasTicket
 use Rattle.ticket_lock.specs.Changes.{staged, arrived, given}
 use Rattle.ticket_lock.proofs.Views.{set_at, each_set, some_set, pairs_set}
 use Rattle.ticket_lock.proofs.Aware.{still_aware, arrived_aware, given_aware}
-use Rattle.ticket_lock.proofs.Stages.{even_home, odd_home, resting_lives, no_ticket, ticket_drawn, stands_drawn, stands_entered, stands_left}
+use Rattle.ticket_lock.proofs.Logs.{begins_both}
+use Rattle.ticket_lock.proofs.Stages.{turn_before, even_home, odd_home, resting_lives, no_ticket, ticket_drawn, stands_drawn, stands_entered, stands_left}
 
 module _ {T E S O : Type 0} where
+  -- where a pass has a number, no other has all
+  not_all : (v u : View T E S O) → IsApart v u → (0 < v.count) × (1 ≤ v.low) × (v.low + v.count ≤ NUMBERS + 1) → (b : Bool) → (b ≡ false → u.count ≡ 0)
+      → (b ≡ true → (0 < u.count) × (1 ≤ u.low) × (u.low + u.count ≤ NUMBERS + 1)) → u.count ≡ NUMBERS → ⊥
+  not_all v u p within false empty inside all = let zero = empty refl in omega arith
+  not_all v u p within true empty inside all = let has = inside refl in p.numbers v.low (omega arith, omega arith) (omega arith, omega arith)
+
   pub flip : (v w : View T E S O) → IsApart v w → IsApart w v
   flip v w a = record { numbers = λ n p q. a.numbers n q p; tickets = λ t p q. a.tickets t q p }
 
@@ -56,6 +63,8 @@ module _ {T E S O : Type 0} (R : Reading T E S O) (opened : T × ℕ) where
         empty = k.empty;
         within = k.within;
         seen_end = seen;
+        turn = k.turn;
+        earlier = k.earlier;
         aware = λ live. let a = k.aware live in record { after = a.after; front = a.front; others = a.others; subject = a.subject; shares = a.shares };
       }
       (λ u a h. h) (λ j u _ _ a h. record { numbers = a.numbers; tickets = a.tickets }) (λ t lo hi. inr (lo, hi, λ h. h))
@@ -70,6 +79,8 @@ module _ {T E S O : Type 0} (R : Reading T E S O) (opened : T × ℕ) where
         empty = λ e. absurd (false≢true (sym e));
         within = λ _. some;
         seen_end = λ e. let q = k.seen_end e in absurd (omega arith);
+        turn = k.turn;
+        earlier = k.earlier;
         aware = λ _. record { after = a.after; front = a.front; others = a.others; subject = a.subject; shares = a.shares };
       }
       (λ u _ h. record {
@@ -77,6 +88,8 @@ module _ {T E S O : Type 0} (R : Reading T E S O) (opened : T × ℕ) where
         empty = h.empty;
         within = h.within;
         seen_end = λ e. let q = h.seen_end e in absurd (omega arith);
+        turn = h.turn;
+        earlier = h.earlier;
         aware = h.aware;
       })
       (λ j u _ _ p h. record { numbers = p.numbers; tickets = λ n e m. let q = ticket_drawn f.next f.serving f.value u.stage n h.stands m in absurd (omega arith) })
@@ -94,6 +107,8 @@ module _ {T E S O : Type 0} (R : Reading T E S O) (opened : T × ℕ) where
               empty = λ e. absurd (false≢true (sym e));
               within = λ _. some';
               seen_end = k.seen_end;
+              turn = λ u e. let q = k.turn u e in let now = q.1 in (q.0, omega arith);
+              earlier = begins_both v.earlier v.front (R.entries f.value) k.earlier ((k.aware live).after, (k.aware live).front);
               aware = λ _. arrived_aware R f.value v t (k.aware live);
             }
             (λ u p h. record {
@@ -101,6 +116,8 @@ module _ {T E S O : Type 0} (R : Reading T E S O) (opened : T × ℕ) where
               empty = h.empty;
               within = h.within;
               seen_end = h.seen_end;
+              turn = λ n e. let q = h.turn n e in let now = q.1 in (q.0, omega arith);
+              earlier = h.earlier;
               aware = h.aware;
             })
             (λ j u _ _ p h. record { numbers = p.numbers; tickets = λ n e m. p.tickets n (subst (λ st. HasTicket st n) (sym waits) e) m })
@@ -119,6 +136,8 @@ module _ {T E S O : Type 0} (R : Reading T E S O) (opened : T × ℕ) where
         empty = λ e. absurd (false≢true (sym e));
         within = λ _. some';
         seen_end = k.seen_end;
+        turn = λ u e. let b = turn_before v.turn u e in let q = k.turn b.0 b.1 in let was = q.1 in let next = b.2 in (q.0, omega arith);
+        earlier = begins_both v.earlier (R.entries f.value) (R.entries y) (begins_both v.earlier v.front (R.entries f.value) k.earlier (aware.after, aware.front)) (adds'.added, adds'.entries);
         aware = λ _. given_aware R y v (aware.subject ∙ ap Some (sym adds'.subject));
       }
       (λ u p h. record {
@@ -126,6 +145,8 @@ module _ {T E S O : Type 0} (R : Reading T E S O) (opened : T × ℕ) where
         empty = h.empty;
         within = h.within;
         seen_end = h.seen_end;
+        turn = λ n e. absurd (not_all v u p some' (is_live u.stage) h.empty h.within (h.turn n e).0);
+        earlier = h.earlier;
         aware = λ l. still_aware R f.value y v.low u adds' (omega arith) (omega arith) (λ m. p.numbers v.low (omega arith, omega arith) m) (h.aware l);
       })
       (λ j u _ _ p h. record { numbers = p.numbers; tickets = λ n e m. e })

@@ -1,21 +1,39 @@
 -- What each step makes of the view of the pass that steps, and what it tells the pass.
-use Rattle.std.specs.Prelude.{◌≡◌, ◌≢◌, ℕ, ◌+◌, ◌-◌, ◌/◌, ◌≤◌, true, false, ◌||◌, if◌then◌else◌, List, [], ◌∷◌, ◌++◌, length, take, drop, Option, Some, None, nat_lt}
+use Rattle.std.specs.Prelude.{◌≡◌, ◌≢◌, ℕ, ◌+◌, ◌-◌, ◌/◌, ◌≤◌, true, false, ◌||◌, ◌==◌, if◌then◌else◌, List, [], ◌∷◌, ◌++◌, length, take, drop, Option, Some, None, nat_lt}
 use Rattle.atomic_table.specs.Table.{Me, Step}
 use Rattle.ticket_lock.specs.declared.rule.TheConstants.{NUMBERS, LAST}
 use Rattle.ticket_lock.specs.declared.rule.View.{View}
 use Rattle.ticket_lock.specs.declared.rule.Stage.{Stage}
 use Rattle.ticket_lock.specs.declared.rule.Stage.TheVariants.{Spent, Resting, Waiting, Inside}
-use Rattle.ticket_lock.specs.Log.{Reading, shares}
-use Rattle.ticket_lock.specs.Lock.{IsAware, is_live}
+use Rattle.ticket_lock.specs.Log.{Reading, Begins, shares}
+use Rattle.ticket_lock.specs.Lock.{IsAware, is_live, is_resting}
 
--- the longer of two lists
+-- the longer of two lists, and the other one
 abbrev pub longer : {E : Type 0} → List E → List E → List E
 longer a b = if nat_lt (length a) (length b) then b else a
 
+abbrev pub shorter : {E : Type 0} → List E → List E → List E
+shorter a b = if nat_lt (length a) (length b) then a else b
+
+-- the ticket after the one whose turn it is, where that is known
+abbrev pub turn_after : Option ℕ → Option ℕ
+turn_after None = None
+turn_after (Some t) = Some (t + 1)
+
 module _ {T E S O : Type 0} where
-  -- a seat that is no pass any more
+  -- a seat that is not a pass any more
   abbrev pub gone : View T E S O
-  gone = record { low = 0; count = 0; end = false; stage = Spent; front = []; subject = None; shares = [] }
+  gone = record {
+    low = 0;
+    count = 0;
+    end = false;
+    turn = None;
+    stage = Spent;
+    front = [];
+    earlier = [];
+    subject = None;
+    shares = [];
+  }
 
   abbrev pub ended : View T E S O → View T E S O
   ended v = record v { end = true }
@@ -25,11 +43,11 @@ module _ {T E S O : Type 0} where
 
   -- the lowest number alone
   abbrev pub lower : View T E S O → View T E S O
-  lower v = record v { count = 1; shares = take 1 v.shares }
+  lower v = record v { count = 1; turn = None; shares = take 1 v.shares }
 
   -- the numbers above the lowest
   abbrev pub upper : View T E S O → View T E S O
-  upper v = record v { low = v.low + 1; count = v.count - 1; shares = drop 1 v.shares }
+  upper v = record v { low = v.low + 1; count = v.count - 1; turn = None; shares = drop 1 v.shares }
 
   -- two neighbours as one pass
   abbrev pub joined : View T E S O → View T E S O → View T E S O
@@ -37,29 +55,29 @@ module _ {T E S O : Type 0} where
     low = v.low;
     count = v.count + w.count;
     end = v.end || w.end;
+    turn = None;
     stage = Resting;
     front = longer v.front w.front;
+    earlier = shorter v.front w.front;
     subject = v.subject;
     shares = v.shares ++ w.shares;
   }
-
-  -- the word `next` was found: the pass has seen the end where that is the last, and else all is as it was. Where it had seen the end, that is what it finds
-  abbrev pub Looked : Step (Option T) → Me (Option T) (View T E S O) → ℕ → Me (Option T) (View T E S O) → Type 0
-  Looked st m found n = (found ≤ LAST) × (found ≡ LAST → n ≡ (ended m.0, m.1)) × (found ≢ LAST → n ≡ m) × (m.0.end ≡ true → found ≡ LAST)
 
   -- where the word `next` was the one expected, the pass has it as its ticket
   abbrev pub Drew : Step (Option T) → Me (Option T) (View T E S O) → ℕ → Me (Option T) (View T E S O) → Type 0
   Drew st m found n = (found ≡ st.first → n ≡ (staged m.0 (Waiting st.first), m.1)) × (found ≢ st.first → n ≡ m)
 
 module _ {T E S O : Type 0} (R : Reading T E S O) where
-  -- the first pass, which holds all numbers
-  abbrev pub whole : T → View T E S O
-  whole x = record {
+  -- the first pass, which holds all numbers, where the first ticket is t
+  abbrev pub whole : T → ℕ → View T E S O
+  whole x t = record {
     low = 1;
     count = NUMBERS;
-    end = false;
+    end = t == LAST;
+    turn = Some t;
     stage = Resting;
     front = R.entries x;
+    earlier = [];
     subject = Some (R.subject x);
     shares = shares R x 1 NUMBERS;
   }
@@ -70,16 +88,30 @@ module _ {T E S O : Type 0} (R : Reading T E S O) where
 
   -- after the value was given back as x
   abbrev pub given : View T E S O → T → View T E S O
-  given v x = record v { stage = Resting; front = R.entries x; shares = shares R x v.low v.count }
+  given v x = record v {
+    turn = turn_after v.turn;
+    stage = Resting;
+    front = R.entries x;
+    shares = shares R x v.low v.count;
+  }
 
-  -- nothing changed, and the rule says this of the pass
-  abbrev pub Recalled : Step (Option T) → Me (Option T) (View T E S O) → ℕ → Me (Option T) (View T E S O) → Type 0
-  Recalled st m found n = (n ≡ m) × (is_live m.0.stage ≡ true → (value : T) × IsAware R value m.0)
+  -- The word `next` was found: the pass has seen the end if that is `LAST`, and otherwise is as it was. The other
+  -- fields are what the rule says of the pass
+  pub record Looked (st : Step (Option T)) (m : Me (Option T) (View T E S O)) (found : ℕ)
+      (n : Me (Option T) (View T E S O)) : Type 0 where
+    pub most : found ≤ LAST
+    pub last : found ≡ LAST → n ≡ (ended m.0, m.1)
+    pub other : found ≢ LAST → n ≡ m
+    pub seen_end : m.0.end ≡ true → found ≡ LAST
+    pub turn : (t : ℕ) → m.0.turn ≡ Some t → is_resting m.0.stage ≡ true → found ≡ t
+    pub aware : is_live m.0.stage ≡ true → (value : T) × IsAware R value m.0
+    pub earlier : Begins m.0.earlier m.0.front
 
   -- where the word `serving` was twice the ticket, the pass is inside with the value
   abbrev pub Entered : Step (Option T) → Me (Option T) (View T E S O) → ℕ → Me (Option T) (View T E S O) → Type 0
   Entered st m found n =
-      (found ≡ st.first → (value : T) × IsAware R value m.0 × (n ≡ (arrived m.0 (st.first / 2) value, (0, Some value) ∷ m.1)))
+      (found ≡ st.first
+      → (value : T) × IsAware R value m.0 × (n ≡ (arrived m.0 (st.first / 2) value, (0, Some value) ∷ m.1)))
       × (found ≢ st.first → n ≡ m)
 
   -- the value in the slot was given back

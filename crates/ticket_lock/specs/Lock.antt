@@ -1,4 +1,5 @@
--- The rule of a ticket lock: what its two words, its slot and the views of all passes have to do with each other between any two steps.
+-- The rule of a ticket lock: what its two words, its slot and the views of all passes have to do with each other
+-- between any two steps.
 use Rattle.std.specs.Prelude.{◌≡◌, ◌≢◌, ℕ, ◌+◌, ◌*◌, ◌/◌, ◌%◌, ◌<◌, ◌≤◌, Bool, true, false, List, [], ◌∷◌, ◌++◌, Option, Some, None}
 use Rattle.std.proofs.Common.{zero, suc}
 use Rattle.std.specs.List.{AllByRecursion}
@@ -10,7 +11,7 @@ use Rattle.ticket_lock.specs.declared.rule.TheConstants.{NUMBERS, LAST}
 use Rattle.ticket_lock.specs.declared.rule.View.{View}
 use Rattle.ticket_lock.specs.declared.rule.Stage.{Stage}
 use Rattle.ticket_lock.specs.declared.rule.Stage.TheVariants.{Spent, Resting, Waiting, Inside}
-use Rattle.ticket_lock.specs.Log.{Reading, shares}
+use Rattle.ticket_lock.specs.Log.{Reading, Begins, shares}
 
 -- the view v stands at place i
 abbrev pub IsAt : {V : Type 0} → List V → ℕ → V → Type 0
@@ -75,9 +76,11 @@ module _ {T E S O : Type 0} where
 module _ {T E S O : Type 0} (R : Reading T E S O) where
   -- the entry carries a number of the lock, and none of those from low on
   abbrev pub IsOther : ℕ → ℕ → E → Type 0
-  IsOther low count e = (1 ≤ R.worker e) × (R.worker e < NUMBERS + 1) × (low ≤ R.worker e → R.worker e < low + count → ⊥)
+  IsOther low count e =
+      (1 ≤ R.worker e) × (R.worker e < NUMBERS + 1) × (low ≤ R.worker e → R.worker e < low + count → ⊥)
 
-  -- the pass's front begins the log of the value and lacks none of its own entries; its subject and its shares are the value's
+  -- the pass's front is a prefix of the value's log and lacks none of its own entries; its subject and its shares are
+  -- the value's
   pub record IsAware (value : T) (v : View T E S O) : Type 0 where
     pub after : List E
     pub front : R.entries value ≡ v.front ++ after
@@ -91,6 +94,8 @@ module _ {T E S O : Type 0} (R : Reading T E S O) where
     pub empty : is_live v.stage ≡ false → v.count ≡ 0
     pub within : is_live v.stage ≡ true → (0 < v.count) × (1 ≤ v.low) × (v.low + v.count ≤ NUMBERS + 1)
     pub seen_end : v.end ≡ true → next ≡ LAST
+    pub turn : (t : ℕ) → v.turn ≡ Some t → (v.count ≡ NUMBERS) × (serving / 2 ≡ t)
+    pub earlier : Begins v.earlier v.front
     pub aware : is_live v.stage ≡ true → IsAware value v
 
   -- The rule. The value is the one at home or, while it is out, the value as found
@@ -106,4 +111,5 @@ module _ {T E S O : Type 0} (R : Reading T E S O) where
     pub begun : opened.1 ≤ next
     pub each : (i : ℕ) (v : View T E S O) → IsAt s.views i v → Knows next serving value v
     pub apart : (i j : ℕ) (v w : View T E S O) → IsAt s.views i v → IsAt s.views j w → i ≢ j → IsApart v w
-    pub held : (t : ℕ) → serving / 2 ≤ t → t < next → (i : ℕ) × (v : View T E S O) × IsAt s.views i v × HasTicket v.stage t
+    pub held : (t : ℕ) → serving / 2 ≤ t → t < next
+        → (i : ℕ) × (v : View T E S O) × IsAt s.views i v × HasTicket v.stage t

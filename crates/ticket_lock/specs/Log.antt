@@ -1,4 +1,5 @@
--- How a ticket lock reads the value that it keeps: a log whose entries each have a worker, a subject, and the open work of each worker.
+-- How a ticket lock reads the value that it keeps: a log whose entries each have a worker, a subject, and the open work
+-- of each worker.
 use Rattle.std.specs.Prelude.{◌≡◌, ℕ, ◌+◌, ◌==◌, List, [], ◌∷◌, ◌++◌, filter}
 use Rattle.std.proofs.Common.{zero, suc}
 use Rattle.std.specs.List.{AllByRecursion}
@@ -10,6 +11,10 @@ pub record Reading (T E S O : Type 0) : Type 0 where
   pub worker : E → ℕ
   pub subject : T → S
   pub work : T → ℕ → O
+
+-- the first list is a prefix of the second
+abbrev pub Begins : {E : Type 0} → List E → List E → Type 0
+Begins {E} front log = (after : List E) × (log ≡ front ++ after)
 
 -- f of low, of low + 1 and so on, n of them
 unfoldable pub each_of : {X : Type 0} → (ℕ → X) → ℕ → ℕ → List X
@@ -33,7 +38,8 @@ module _ {T E S O : Type 0} (R : Reading T E S O) where
   abbrev pub shares : T → ℕ → ℕ → List (Share E O)
   shares x low n = each_of (share x) low n
 
-  -- y is x with entries of the worker w behind the others, the same subject, and the same open work of every other worker
+  -- y is x with entries of the worker w after the others, the same subject, and the same open work of every other
+  -- worker
   pub record Adds (w : ℕ) (x y : T) : Type 0 where
     pub added : List E
     pub entries : R.entries y ≡ R.entries x ++ added

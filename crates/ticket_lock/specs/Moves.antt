@@ -1,4 +1,5 @@
--- The steps of a ticket lock, by themselves: what each does to the words, the slot and the views, and what holds after every list of them.
+-- The steps of a ticket lock, by themselves: what each does to the words, the slot and the views, and what holds after
+-- every list of them.
 use Rattle.std.specs.Prelude.{◌≡◌, ◌≢◌, ℕ, ◌+◌, ◌*◌, ◌/◌, ◌%◌, ◌<◌, ◌≤◌, Bool, true, false, List, [], ◌∷◌, ◌++◌, slice_index, slice_set, Option, Some}
 use mathlib.Core.Option.{none, some}
 use lib.ListN.{get_elem?}
@@ -10,7 +11,8 @@ use Rattle.ticket_lock.specs.Log.{Reading, Adds}
 use Rattle.ticket_lock.specs.Lock.{IsAt, is_live, is_resting, is_inside, Fits}
 use Rattle.ticket_lock.specs.Changes.{gone, ended, staged, lower, upper, joined, whole, arrived, given}
 
--- a step, by the place of the pass that steps; a join also by the other's, a draw by the ticket that it expects, and a leave by the value that goes back
+-- a step, by the place of the pass that steps; a join also by the other's, a draw by the ticket that it expects, and a
+-- leave by the value that goes back
 pub data Move (T : Type 0) : Type 0 where
   splits : ℕ → Move T
   joins : ℕ → ℕ → Move T
@@ -28,7 +30,7 @@ module _ {T : Type 0} where
 module _ {T E S O : Type 0} (R : Reading T E S O) where
   -- the lock as it is made: the first ticket is both words' start, the value is at home, and one pass has all numbers
   abbrev pub made : ℕ → T → State (Option T) (View T E S O)
-  made first x = record { words = first ∷ (2 * first) ∷ []; homes = some (Some x) ∷ []; views = whole R x ∷ [] }
+  made first x = record { words = first ∷ (2 * first) ∷ []; homes = some (Some x) ∷ []; views = whole R x first ∷ [] }
 
   -- what one step makes of the lock
   abbrev pub Steps : Move T → State (Option T) (View T E S O) → State (Option T) (View T E S O) → Type 0
@@ -45,18 +47,30 @@ module _ {T E S O : Type 0} (R : Reading T E S O) where
       × (slice_index s.words 0 ≢ LAST → t ≡ s)
   Steps (draws id ticket) s t =
       (v : View T E S O) × IsAt s.views id v × (is_resting v.stage ≡ true) × (ticket < LAST)
-      × (slice_index s.words 0 ≡ ticket → t ≡ record s { words = slice_set s.words 0 (ticket + 1); views = slice_set s.views id (staged v (Waiting ticket)) })
+      × (slice_index s.words 0 ≡ ticket → t ≡ record s {
+        words = slice_set s.words 0 (ticket + 1);
+        views = slice_set s.views id (staged v (Waiting ticket));
+      })
       × (slice_index s.words 0 ≢ ticket → t ≡ s)
   Steps (enters id) s t =
       (v : View T E S O) × (ticket : ℕ) × IsAt s.views id v × (v.stage ≡ Waiting ticket)
       × (slice_index s.words 1 ≡ 2 * ticket
       → (x : T) × (get_elem? s.homes 0 ≡ some (some (Some x)))
-      × (t ≡ record { words = slice_set s.words 1 (2 * ticket + 1); homes = slice_set s.homes 0 none; views = slice_set s.views id (arrived R v ticket x) }))
+      × (t ≡ record {
+        words = slice_set s.words 1 (2 * ticket + 1);
+        homes = slice_set s.homes 0 none;
+        views = slice_set s.views id (arrived R v ticket x);
+      }))
       × (slice_index s.words 1 ≢ 2 * ticket → t ≡ s)
   Steps (leaves id y) s t =
       (v : View T E S O) × (ticket : ℕ) × (x : T) × IsAt s.views id v × (v.stage ≡ Inside ticket x) × Adds R v.low x y
-      × (t ≡ record { words = slice_set s.words 1 (2 * ticket + 2); homes = slice_set s.homes 0 (some (Some y)); views = slice_set s.views id (given R v y) })
-  Steps (closes id) s t = (v : View T E S O) × IsAt s.views id v × (is_resting v.stage ≡ true) × (v.count ≡ NUMBERS) × (t ≡ s)
+      × (t ≡ record {
+        words = slice_set s.words 1 (2 * ticket + 2);
+        homes = slice_set s.homes 0 (some (Some y));
+        views = slice_set s.views id (given R v y);
+      })
+  Steps (closes id) s t =
+      (v : View T E S O) × IsAt s.views id v × (is_resting v.stage ≡ true) × (v.count ≡ NUMBERS) × (t ≡ s)
 
   -- the steps in order, of any passes, of which a close is the last
   abbrev pub Run : List (Move T) → State (Option T) (View T E S O) → State (Option T) (View T E S O) → Type 0
@@ -64,15 +78,21 @@ module _ {T E S O : Type 0} (R : Reading T E S O) where
   Run (m ∷ ms) s u = (t : State (Option T) (View T E S O)) × Steps m s t × (is_close m ≡ true → ms ≡ []) × Run ms t u
 
 module _ {T E S O : Type 0} where
-  -- One pass at most is inside. The value is at home where `serving` is even. It is out where that is odd, with the pass inside, which has the ticket that is served
+  -- One pass at most is inside. The value is at home if `serving` is even. If that is odd, it is out with the pass
+  -- inside, which has the ticket that is served
   pub record IsExclusive (s : State (Option T) (View T E S O)) : Type 0 where
-    pub one : (i j : ℕ) (v w : View T E S O) → IsAt s.views i v → IsAt s.views j w → is_inside v.stage ≡ true → is_inside w.stage ≡ true → i ≡ j
+    pub one : (i j : ℕ) (v w : View T E S O) → IsAt s.views i v → IsAt s.views j w
+        → is_inside v.stage ≡ true → is_inside w.stage ≡ true → i ≡ j
     pub at_home : slice_index s.words 1 % 2 ≡ 0 → (x : T) × (get_elem? s.homes 0 ≡ some (some (Some x)))
     pub out : slice_index s.words 1 % 2 ≡ 1
-        → (get_elem? s.homes 0 ≡ some none) × ((i : ℕ) × (v : View T E S O) × (x : T) × IsAt s.views i v × (v.stage ≡ Inside (slice_index s.words 1 / 2) x))
-    pub inside : (i : ℕ) (v : View T E S O) → IsAt s.views i v → is_inside v.stage ≡ true → slice_index s.words 1 % 2 ≡ 1
+        → (get_elem? s.homes 0 ≡ some none)
+        × ((i : ℕ) × (v : View T E S O) × (x : T) × IsAt s.views i v
+        × (v.stage ≡ Inside (slice_index s.words 1 / 2) x))
+    pub inside : (i : ℕ) (v : View T E S O) → IsAt s.views i v → is_inside v.stage ≡ true
+        → slice_index s.words 1 % 2 ≡ 1
 
 -- every list of steps from a make keeps the rule, and one pass at most is inside
 abbrev pub Law : {T E S O : Type 0} → Reading T E S O → Type 0
 Law {T} {E} {S} {O} R =
-    (first : ℕ) (x : T) → first ≤ LAST → (moves : List (Move T)) (s : State (Option T) (View T E S O)) → Run R moves (made R first x) s → Fits R (x, first) s × IsExclusive s
+    (first : ℕ) (x : T) → first ≤ LAST → (moves : List (Move T)) (s : State (Option T) (View T E S O))
+    → Run R moves (made R first x) s → Fits R (x, first) s × IsExclusive s

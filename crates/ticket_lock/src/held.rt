@@ -40,19 +40,23 @@ impl<T: Logged + Drop> Held<'_, T> {
 
     /// What is written through it has to meet the condition of `give` in the end.
     pub fn value_mut(&mut self) -> &mut T
-        ensures* writes_back { sem 𝓛 (LendsValue T.row T.Entry.row T.Subject.row T.Work.row T.Logged self.entry result) }
+        ensures* writes_back { sem 𝓛
+            (LendsValue T.row T.Entry.row T.Subject.row T.Work.row T.Logged self.entry result) }
         ensures value { result.now ≡ held_value self.old }
     {
         &mut self.value
     }
 
-    /// Gives the value back, with more entries of the pass's lowest number and that number's open work changed, and nothing else.
+    /// Gives the value back, with more entries of the pass's lowest number and that number's open work changed, and
+    /// nothing else.
     pub fn give(self) -> Pass<T>
         requires { Adds T.log (held_view self).low (found self) (held_value self) }
         ensures own { IsPass (held_id self.entry) result }
         ensures given { pass_view result ≡ given T.log (held_view self.entry) (held_value self.entry) }
-        ensures others { (w : ℕ) → (w ≡ (held_view self.entry).low → ⊥) → own T.log w (pass_view result).front ≡ own T.log w (T.log.entries (found self.entry)) }
-        ensures work { (d : T.Work) → lowest_work (pass_view result) d ≡ T.log.work (held_value self.entry) (held_view self.entry).low }
+        ensures others { (w : ℕ) → (w ≡ (held_view self.entry).low → ⊥)
+            → own T.log w (pass_view result).front ≡ own T.log w (T.log.entries (found self.entry)) }
+        ensures work { (d : T.Work)
+            → lowest_work (pass_view result) d ≡ T.log.work (held_value self.entry) (held_view self.entry).low }
     {
         let Held {
             lock,

@@ -27,7 +27,7 @@ pub struct Spent;
 pub struct PassesOut;
 
 impl<T: Logged + Drop> TicketLock<T> {
-    ghost use Rattle.std.specs.Prelude.{◌≡◌, ◌≢◌, ℕ, ◌+◌, ◌*◌, ◌<◌, ◌≤◌, true, [], ◌∷◌, IfOk, IfErr, IsErr, IfSome, IfNone, IsNone, Some, None};
+    ghost use Rattle.std.specs.Prelude.{◌≡◌, ◌≢◌, ℕ, ◌+◌, ◌*◌, ◌<◌, ◌≤◌, true, [], ◌∷◌, IfOk, IfErr, IsOk, IsErr, IfSome, IfNone, IsSome, IsNone, Some, None};
     ghost use Rattle.atomic_table.specs.Table.{rest};
     ghost use Rattle.ticket_lock.specs.declared.rule.TheConstants.{NUMBERS, LAST};
     ghost use Rattle.ticket_lock.specs.declared.rule.Stage.TheVariants.{Waiting};
@@ -36,22 +36,24 @@ impl<T: Logged + Drop> TicketLock<T> {
     ghost use Rattle.ticket_lock.specs.Changes.{whole, ended, staged, arrived};
     ghost use Rattle.ticket_lock.specs.Names.{lock_id, opening_value, opening_ticket, pass_view, IsPass, held_id, held_view, held_value, lowest_work};
 
-    /// A lock on the value, and the first pass, which holds the worker numbers from 1 to `NUMBERS`. The first ticket is 0.
+    /// A lock on the value, and the first pass, which holds the worker numbers from 1 to `NUMBERS`. The first ticket
+    /// is 0.
     pub fn new(value: T, alloc: Global) -> Result<(TicketLock<T>, Pass<T>), AllocError>
-        ensures pass { IfOk result (λ r. IsPass (lock_id r.0) r.1 × (pass_view r.1 ≡ whole T.log value)) }
+        ensures pass { IfOk result (λ r. IsPass (lock_id r.0) r.1 × (pass_view r.1 ≡ whole T.log value 0)) }
         ensures lock { IfOk result (λ r. (opening_value r.0 ≡ value) × (opening_ticket r.0 ≡ 0)) }
     {
         TicketLock::with_first(value, alloc, 0)
     }
 
-    /// The same, and the first ticket is `ticket`, at most 2^63 - 1.
+    /// The same, and the first ticket is `ticket`, at most 2^63 - 1. If it is 2^63 - 1, no ticket is left from the
+    /// start.
     pub fn with_first(
         value: T,
         alloc: Global,
         ticket: u64,
     ) -> Result<(TicketLock<T>, Pass<T>), AllocError>
         requires { ticket ≤ LAST }
-        ensures pass { IfOk result (λ r. IsPass (lock_id r.0) r.1 × (pass_view r.1 ≡ whole T.log value)) }
+        ensures pass { IfOk result (λ r. IsPass (lock_id r.0) r.1 × (pass_view r.1 ≡ whole T.log value ticket)) }
         ensures lock { IfOk result (λ r. (opening_value r.0 ≡ value) × (opening_ticket r.0 ≡ ticket)) }
     {
         let about = (Snapshot::of(&value), ticket);
@@ -72,9 +74,12 @@ impl<T: Logged + Drop> TicketLock<T> {
     fn draw<R: Wait>(&self, rt: &R, seat: &mut SeatOf<T>) -> Option<u64>
         requires { (seat.old.table_id ≡ lock_id self.now) × (is_resting seat.old.me.0.stage ≡ true) }
         ensures seat { (seat.new.table_id ≡ seat.old.table_id) × (seat.new.id ≡ seat.old.id) }
-        ensures drawn { IfSome result (λ t. (t < LAST) × (seat.new.me ≡ (staged seat.old.me.0 (Waiting t), seat.old.me.1))) }
+        ensures drawn { IfSome result (λ t. (t < LAST)
+            × (seat.new.me ≡ (staged seat.old.me.0 (Waiting t), seat.old.me.1))) }
         ensures spent { IfNone result (seat.new.me ≡ (ended seat.old.me.0, seat.old.me.1)) }
         ensures end { seat.old.me.0.end ≡ true → IsNone result }
+        ensures some { (t : ℕ) → seat.old.me.0.turn ≡ Some t → t < LAST → IsSome result }
+        ensures none { seat.old.me.0.turn ≡ Some LAST → IsNone result }
     {
         let shared = &self.table.shared;
         let backoff = Backoff::new();
@@ -95,7 +100,8 @@ impl<T: Logged + Drop> TicketLock<T> {
     fn enter<R: Wait>(&self, rt: &R, seat: &mut SeatOf<T>, ticket: u64)
         requires { (seat.old.table_id ≡ lock_id self.now) × (seat.old.me.0.stage ≡ Waiting ticket) × (ticket < LAST) }
         ensures seat { (seat.new.table_id ≡ seat.old.table_id) × (seat.new.id ≡ seat.old.id) }
-        ensures inside { (value : T) × IsAware T.log value seat.old.me.0 × (seat.new.me ≡ (arrived T.log seat.old.me.0 ticket value, (0, Some value) ∷ seat.old.me.1)) }
+        ensures inside { (value : T) × IsAware T.log value seat.old.me.0
+            × (seat.new.me ≡ (arrived T.log seat.old.me.0 ticket value, (0, Some value) ∷ seat.old.me.1)) }
     {
         let shared = &self.table.shared;
         let due = 2 * ticket;
@@ -113,7 +119,8 @@ impl<T: Logged + Drop> TicketLock<T> {
 
     // Reads and writes the slot that the seat holds. Nothing else does.
     pub(crate) fn exchange(&self, seat: &mut SeatOf<T>, new: Option<T>) -> Option<T>
-        requires { (seat.old.table_id ≡ lock_id self.now) × ((old : _) × (seat.old.me.1 ≡ (0, old) ∷ rest seat.old.me.1)) }
+        requires { (seat.old.table_id ≡ lock_id self.now)
+            × ((old : _) × (seat.old.me.1 ≡ (0, old) ∷ rest seat.old.me.1)) }
         ensures seat { (seat.new.table_id ≡ seat.old.table_id) × (seat.new.id ≡ seat.old.id) }
         ensures found { seat.old.me.1 ≡ (0, result) ∷ rest seat.old.me.1 }
         ensures left { seat.new.me ≡ (seat.old.me.0, (0, new) ∷ rest seat.old.me.1) }
@@ -121,16 +128,21 @@ impl<T: Logged + Drop> TicketLock<T> {
         self.table.shared.exchange(seat, 0, new)
     }
 
-    /// Draws a ticket, waits until it is due, and takes the value. The pass comes back where no ticket up to 2^63 - 2 is left.
+    /// Draws a ticket, waits until it is due, and takes the value. The pass comes back if no ticket up to 2^63 - 2 is
+    /// left.
     pub fn take<R: Wait>(&self, rt: &R, pass: Pass<T>) -> Result<Held<'_, T>, (Pass<T>, Spent)>
         requires { IsPass (lock_id self.now) pass }
         ensures lock { IfOk result (λ h. held_id h ≡ lock_id self.now) }
         ensures value { IfOk result (λ h. IsAware T.log (held_value h) (pass_view pass)) }
         ensures view { IfOk result (λ h. (t : ℕ) × (held_view h ≡ arrived T.log (pass_view pass) t (held_value h))) }
-        ensures own { IfOk result (λ h. (w : ℕ) → HasNumber (pass_view pass) w → own T.log w (T.log.entries (held_value h)) ≡ own T.log w (pass_view pass).front) }
-        ensures work { IfOk result (λ h. (d : T.Work) → lowest_work (pass_view pass) d ≡ T.log.work (held_value h) (pass_view pass).low) }
+        ensures own { IfOk result (λ h. (w : ℕ) → HasNumber (pass_view pass) w
+            → own T.log w (T.log.entries (held_value h)) ≡ own T.log w (pass_view pass).front) }
+        ensures work { IfOk result (λ h. (d : T.Work)
+            → lowest_work (pass_view pass) d ≡ T.log.work (held_value h) (pass_view pass).low) }
         ensures spent { IfErr result (λ e. IsPass (lock_id self.now) e.0 × (pass_view e.0 ≡ ended (pass_view pass))) }
         ensures end { (pass_view pass).end ≡ true → IsErr result }
+        ensures left { (t : ℕ) → (pass_view pass).turn ≡ Some t → t < LAST → IsOk result }
+        ensures none_left { (pass_view pass).turn ≡ Some LAST → IsErr result }
     {
         let Pass {
             low,

@@ -5,7 +5,7 @@ ghost use Rattle.ticket_lock.specs.Lock.{is_resting};
 
 use crate::lock::TicketLock;
 use crate::logged::Logged;
-use crate::rule::{Cut, Glue, NEXT, Recall, SeatOf};
+use crate::rule::{Cut, Glue, Look, NEXT, SeatOf};
 
 /// Some neighbouring worker numbers of one lock, and what they have seen of its value. It acts under the lowest.
 /// One that is dropped takes its numbers with it, and the lock can then not be closed.
@@ -25,8 +25,8 @@ pub struct Pass<T: Logged> {
 pub struct OneLeft;
 
 impl<T: Logged + Drop> Pass<T> {
-    ghost use Rattle.std.specs.Prelude.{◌≡◌, ℕ, ◌+◌, ◌<◌, IfOk, IfErr};
-    ghost use Rattle.ticket_lock.specs.Log.{own};
+    ghost use Rattle.std.specs.Prelude.{◌≡◌, ℕ, ◌+◌, ◌<◌, true, IfOk, IfErr};
+    ghost use Rattle.ticket_lock.specs.Log.{Begins, own};
     ghost use Rattle.ticket_lock.specs.Lock.{HasNumber};
     ghost use Rattle.ticket_lock.specs.Changes.{lower, upper, joined};
     ghost use Rattle.ticket_lock.specs.Names.{lock_id, pass_view, IsPass};
@@ -68,15 +68,22 @@ impl<T: Logged + Drop> Pass<T> {
         Ok((first, others))
     }
 
-    /// The numbers of both, with the longer front. The other's lowest number comes right after this pass's last.
+    /// The numbers of both, with the longer front, of which both fronts are prefixes. The other's lowest number comes
+    /// right after this pass's last. Then it looks whether a ticket is left.
     pub fn join(self, lock: &TicketLock<T>, other: Pass<T>) -> Pass<T>
         requires this { IsPass (lock_id lock.now) self }
         requires other { IsPass (lock_id lock.now) other }
         requires neighbours { (pass_view self).low + (pass_view self).count ≡ (pass_view other).low }
         ensures own { IsPass (lock_id lock.now) result }
-        ensures joined { pass_view result ≡ joined (pass_view self) (pass_view other) }
-        ensures lower { (w : ℕ) → HasNumber (pass_view self) w → own T.log w (pass_view result).front ≡ own T.log w (pass_view self).front }
-        ensures upper { (w : ℕ) → HasNumber (pass_view other) w → own T.log w (pass_view result).front ≡ own T.log w (pass_view other).front }
+        ensures joined { pass_view result
+            ≡ record (joined (pass_view self) (pass_view other)) { end = (pass_view result).end } }
+        ensures end { (joined (pass_view self) (pass_view other)).end ≡ true → (pass_view result).end ≡ true }
+        ensures fronts { Begins (pass_view self).front (pass_view result).front
+            × Begins (pass_view other).front (pass_view result).front }
+        ensures lower { (w : ℕ) → HasNumber (pass_view self) w
+            → own T.log w (pass_view result).front ≡ own T.log w (pass_view self).front }
+        ensures upper { (w : ℕ) → HasNumber (pass_view other) w
+            → own T.log w (pass_view result).front ≡ own T.log w (pass_view other).front }
     {
         let Pass {
             low,
@@ -90,7 +97,7 @@ impl<T: Logged + Drop> Pass<T> {
         } = other;
         let shared = &lock.table.shared;
         shared.join_seat::<Glue>(&mut seat, spent);
-        shared.load::<Recall>(&mut seat, NEXT);
+        shared.load::<Look>(&mut seat, NEXT);
         Pass {
             low,
             count: count + more,

@@ -1,23 +1,24 @@
 //! The table of a ticket lock: its words, its slot, what a seat knows, and what each step tells.
-//! Word 0 is `next`, the next ticket to be drawn. Word 1 is `serving`: twice the number of tickets that are served, and one more while the value is out.
-//! The slot holds the value.
+//! Word 0 is `next`, the next ticket to be drawn. Word 1 is `serving`: twice the number of tickets that are served, and
+//! one more while the value is out. The slot holds the value.
 use crate::logged::{Logged, Share};
 use atomic_table::{Join, Play, Seat, Split, Table, TableRule};
 use std::alloc::Global;
 use std::collections::LinkedList;
 use std::snapshot::Snapshot;
 
-/// How many worker numbers a lock has. The first pass holds the numbers from 1 up to it.
+/// How many worker numbers a lock has. The first pass holds the numbers from 1 up to it. `laws::limits` says it.
 pub const NUMBERS: u16 = 2;
 
-/// The end of the tickets, 2^63 - 1: the last one that is drawn is one less.
+/// The end of the tickets, 2^63 - 1: the last one that is drawn is one less. `laws::limits` says it.
 pub const LAST: u64 = 9223372036854775807;
 
 pub const NEXT: usize = 0;
 
 pub const SERVING: usize = 1;
 
-/// Where a seat stands. A spent seat is no pass any more. One that is inside keeps its ticket and the value as found.
+/// Where a seat stands. A spent seat is not a pass any more. One that is inside keeps its ticket and the value as
+/// found.
 pub enum Stage<T> {
     Spent,
     Resting,
@@ -33,9 +34,13 @@ pub struct View<T, E, S, O> {
     pub count: u64,
     /// Whether it has seen the end of the tickets.
     pub end: bool,
+    /// The ticket whose turn it is. A pass knows it while it has all numbers from the make on.
+    pub turn: Option<u64>,
     pub stage: Stage<T>,
     /// The log as far as it has seen it.
     pub front: LinkedList<E>,
+    /// The shorter of the two fronts at its last join. It is a prefix of the front.
+    pub earlier: LinkedList<E>,
     pub subject: Option<S>,
     /// A share for each of its numbers, from the lowest on.
     pub shares: LinkedList<Share<E, O>>,
@@ -54,25 +59,16 @@ impl<T: Logged> TableRule<Option<T>, ViewOf<T>, Opening<T>> for Order {
 
     ghost holds = { λ key. Fits T.log (key.0.value, key.1) };
 
-    ghost first = { λ key. whole T.log key.0.value };
+    ghost first = { λ key. whole T.log key.0.value key.1 };
 }
 
-/// A load that looks for the end of the tickets.
+/// A load, which sees whether the tickets are at their end.
 pub struct Look;
 
 impl<T: Logged> Play<Option<T>, ViewOf<T>> for Look {
     ghost use Rattle.ticket_lock.specs.Changes.{Looked};
 
-    ghost then = { Looked };
-}
-
-/// A load that only recalls what the rule says of the pass.
-pub struct Recall;
-
-impl<T: Logged> Play<Option<T>, ViewOf<T>> for Recall {
-    ghost use Rattle.ticket_lock.specs.Changes.{Recalled};
-
-    ghost then = { Recalled T.log };
+    ghost then = { Looked T.log };
 }
 
 /// A ticket is drawn.

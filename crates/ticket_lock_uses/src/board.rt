@@ -1,5 +1,5 @@
 //! A board of places, each parked or out under a worker's number.
-ghost use Rattle.std.specs.Prelude.{◌≡◌, IfSome, Some, slice_get};
+ghost use Rattle.std.specs.Prelude.{◌≡◌, ◌≢◌, All, IfSome, IfNone, Some, slice_get};
 ghost use Rattle.ticket_lock_uses.specs.declared.board.Place.TheVariants.{Parked};
 
 use std::alloc::{AllocError, Global};
@@ -42,7 +42,8 @@ impl Logged for Board {
 
 // The first place that is parked.
 fn first_parked(places: &[Place]) -> Option<usize>
-    ensures { IfSome result (λ i. slice_get places.now i ≡ Some Parked) }
+    ensures some { IfSome result (λ i. slice_get places.now i ≡ Some Parked) }
+    ensures none { IfNone result (All (λ p. p ≢ Parked) places.now) }
 {
     for (i, place) in places.iter().enumerate() {
         if let Place::Parked = place {
@@ -53,7 +54,7 @@ fn first_parked(places: &[Place]) -> Option<usize>
 }
 
 impl Board {
-    ghost use Rattle.std.specs.Prelude.{◌≡◌, IfOk, IfSome, IfNone, Some, replicate, slice_get, slice_set};
+    ghost use Rattle.std.specs.Prelude.{◌≡◌, ◌≢◌, All, IfOk, IfSome, IfNone, Some, replicate, slice_get, slice_set};
     ghost use Rattle.ticket_lock_uses.specs.declared.board.Place.TheVariants.{Parked, Out};
 
     /// A board whose places are all parked.
@@ -65,10 +66,10 @@ impl Board {
         })
     }
 
-    /// Takes the first place that is parked. It is then out under the worker.
+    /// Takes a place that is parked, if there is one. It is then out under the worker.
     pub fn claim(&mut self, worker: u16) -> Option<usize>
         ensures some { IfSome result (λ i. (slice_get self.old i ≡ Some Parked) × (self.new ≡ slice_set self.old i (Out worker))) }
-        ensures none { IfNone result (self.new ≡ self.old) }
+        ensures none { IfNone result ((self.new ≡ self.old) × All (λ p. p ≢ Parked) self.old) }
     {
         let i = first_parked(self.places.as_slice())?;
         self.places[i] = Place::Out(worker);

@@ -1,5 +1,5 @@
 //! Workers that claim places of a board under a lock.
-ghost use Rattle.std.specs.Prelude.{◌≡◌, [], IfSome, Contains};
+ghost use Rattle.std.specs.Prelude.{◌≡◌, [], not, ◌==◌, filter, IfSome, IfNone, Contains};
 ghost use Rattle.ticket_lock.specs.Names.{lock_id, pass_view, IsPass, lowest_work};
 
 use crate::board::Board;
@@ -7,6 +7,7 @@ use std::sync::Wait;
 use ticket_lock::{Pass, TicketLock};
 
 /// Claims a place under the lowest number of the pass. It then stands in that number's open work, as the pass knows it.
+/// Nothing else is claimed.
 pub fn claim<R: Wait>(
     rt: &R,
     lock: &TicketLock<Board>,
@@ -15,6 +16,8 @@ pub fn claim<R: Wait>(
     requires { IsPass (lock_id lock.now) pass }
     ensures pass { IsPass (lock_id lock.now) result.0 × ((pass_view result.0).low ≡ (pass_view pass).low) × ((pass_view result.0).count ≡ (pass_view pass).count) }
     ensures claimed { IfSome result.1 (λ i. Contains (lowest_work (pass_view result.0) []) i) }
+    ensures others { IfSome result.1 (λ i. filter (λ j. not (j == i)) (lowest_work (pass_view result.0) []) ≡ lowest_work (pass_view pass) []) }
+    ensures none { IfNone result.1 (lowest_work (pass_view result.0) [] ≡ lowest_work (pass_view pass) []) }
 {
     let worker = pass.number();
     match lock.take(rt, pass) {
