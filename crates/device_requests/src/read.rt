@@ -87,8 +87,11 @@ impl Client {
         ensures { IfOk result (λ b. b ≡ payload_in self.now.catalogue self.now.store
             (shown_instances self.now.store (length self.now.accounts) server (object_in path)) path format) }
     {
+        let Path::Object(object) = path else {
+            return payload_in(self.alloc, &self.catalog, &self.store, &[], path, format);
+        };
         let accounts = self.account_count();
-        let instances = shown_instances(self.alloc, &self.store, accounts, server, path.object())?;
+        let instances = shown_instances(self.alloc, &self.store, accounts, server, object)?;
         let instances = instances.as_slice();
         payload_in(
             self.alloc,
