@@ -68,7 +68,8 @@ impl Board {
 
     /// Takes a place that is parked, if there is one. It is then out under the worker.
     pub fn claim(&mut self, worker: u16) -> Option<usize>
-        ensures some { IfSome result (λ i. (slice_get self.old i ≡ Some Parked) × (self.new ≡ slice_set self.old i (Out worker))) }
+        ensures some { IfSome result (λ i. (slice_get self.old i ≡ Some Parked)
+            × (self.new ≡ slice_set self.old i (Out worker))) }
         ensures none { IfNone result ((self.new ≡ self.old) × All (λ p. p ≢ Parked) self.old) }
     {
         let i = first_parked(self.places.as_slice())?;

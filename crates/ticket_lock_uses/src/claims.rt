@@ -14,9 +14,11 @@ pub fn claim<R: Wait>(
     pass: Pass<Board>,
 ) -> (Pass<Board>, Option<usize>)
     requires { IsPass (lock_id lock.now) pass }
-    ensures pass { IsPass (lock_id lock.now) result.0 × ((pass_view result.0).low ≡ (pass_view pass).low) × ((pass_view result.0).count ≡ (pass_view pass).count) }
+    ensures pass { IsPass (lock_id lock.now) result.0 × ((pass_view result.0).low ≡ (pass_view pass).low)
+        × ((pass_view result.0).count ≡ (pass_view pass).count) }
     ensures claimed { IfSome result.1 (λ i. Contains (lowest_work (pass_view result.0) []) i) }
-    ensures others { IfSome result.1 (λ i. filter (λ j. not (j == i)) (lowest_work (pass_view result.0) []) ≡ lowest_work (pass_view pass) []) }
+    ensures others { IfSome result.1 (λ i. filter (λ j. not (j == i)) (lowest_work (pass_view result.0) [])
+        ≡ lowest_work (pass_view pass) []) }
     ensures none { IfNone result.1 (lowest_work (pass_view result.0) [] ≡ lowest_work (pass_view pass) []) }
 {
     let worker = pass.number();

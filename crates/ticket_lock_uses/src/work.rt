@@ -12,7 +12,8 @@ use std::sync::Wait;
 use std::thread::{Threads, join};
 use ticket_lock::{Pass, TicketLock};
 
-/// Adds a number under the lowest number of the pass. The answer says whether it was added: it was not where memory or the tickets ran out.
+/// Adds a number under the lowest number of the pass. The answer says whether it was added: it was not if memory or the
+/// tickets ran out.
 pub fn add<R: Wait>(
     rt: &R,
     lock: &TicketLock<Items>,
@@ -20,10 +21,16 @@ pub fn add<R: Wait>(
     number: u64,
 ) -> (Pass<Items>, bool)
     requires { IsPass (lock_id lock.now) pass }
-    ensures pass { IsPass (lock_id lock.now) result.0 × ((pass_view result.0).low ≡ (pass_view pass).low) × ((pass_view result.0).count ≡ (pass_view pass).count) }
-    ensures added { result.1 ≡ true → own items_log (pass_view pass).low (pass_view result.0).front ≡ own items_log (pass_view pass).low (pass_view pass).front ++ ((pass_view pass).low, number) ∷ [] }
-    ensures not { result.1 ≡ false → own items_log (pass_view pass).low (pass_view result.0).front ≡ own items_log (pass_view pass).low (pass_view pass).front }
-    ensures others { (w : ℕ) → HasNumber (pass_view pass) w → w ≢ (pass_view pass).low → own items_log w (pass_view result.0).front ≡ own items_log w (pass_view pass).front }
+    ensures pass { IsPass (lock_id lock.now) result.0 × ((pass_view result.0).low ≡ (pass_view pass).low)
+        × ((pass_view result.0).count ≡ (pass_view pass).count) }
+    ensures added { result.1 ≡ true
+        → own items_log (pass_view pass).low (pass_view result.0).front
+        ≡ own items_log (pass_view pass).low (pass_view pass).front ++ ((pass_view pass).low, number) ∷ [] }
+    ensures not { result.1 ≡ false
+        → own items_log (pass_view pass).low (pass_view result.0).front
+        ≡ own items_log (pass_view pass).low (pass_view pass).front }
+    ensures others { (w : ℕ) → HasNumber (pass_view pass) w → w ≢ (pass_view pass).low
+        → own items_log w (pass_view result.0).front ≡ own items_log w (pass_view pass).front }
 {
     let worker = pass.number();
     match lock.take(rt, pass) {
@@ -35,7 +42,7 @@ pub fn add<R: Wait>(
     }
 }
 
-/// Adds the numbers in turn, and stops where one is not added. The answer says how many were.
+/// Adds the numbers in turn, and stops at one that is not added. The answer says how many were.
 pub fn add_all<R: Wait>(
     rt: &R,
     lock: &TicketLock<Items>,
@@ -43,9 +50,13 @@ pub fn add_all<R: Wait>(
     numbers: &[u64],
 ) -> (Pass<Items>, usize)
     requires { IsPass (lock_id lock.now) pass }
-    ensures pass { IsPass (lock_id lock.now) result.0 × ((pass_view result.0).low ≡ (pass_view pass).low) × ((pass_view result.0).count ≡ (pass_view pass).count) }
-    ensures added { own items_log (pass_view pass).low (pass_view result.0).front ≡ own items_log (pass_view pass).low (pass_view pass).front ++ by_worker (pass_view pass).low (take result.1 numbers.now) }
-    ensures others { (w : ℕ) → HasNumber (pass_view pass) w → w ≢ (pass_view pass).low → own items_log w (pass_view result.0).front ≡ own items_log w (pass_view pass).front }
+    ensures pass { IsPass (lock_id lock.now) result.0 × ((pass_view result.0).low ≡ (pass_view pass).low)
+        × ((pass_view result.0).count ≡ (pass_view pass).count) }
+    ensures added { own items_log (pass_view pass).low (pass_view result.0).front
+        ≡ own items_log (pass_view pass).low (pass_view pass).front
+        ++ by_worker (pass_view pass).low (take result.1 numbers.now) }
+    ensures others { (w : ℕ) → HasNumber (pass_view pass) w → w ≢ (pass_view pass).low
+        → own items_log w (pass_view result.0).front ≡ own items_log w (pass_view pass).front }
 {
     for (count, number) in numbers.iter().enumerate() {
         let (back, added) = add(rt, lock, pass, *number);
@@ -76,12 +87,18 @@ pub fn two<R: Threads + Wait + Sync>(
     let ((one, a), (two, b)) = join(
         rt,
         move || -> (Pass<Items>, usize)
-            requires { IsSync R.row × IsPass (lock_id shared.now) one × ((pass_view one).low ≡ 1) × ((pass_view one).count ≡ 1) × ((pass_view one).front ≡ []) }
-            ensures { IsPass (lock_id shared.entry.now) result.0 × ((pass_view result.0).low ≡ 1) × ((pass_view result.0).count ≡ 1) × (own items_log 1 (pass_view result.0).front ≡ by_worker 1 (take result.1 first.entry.now)) }
+            requires { IsSync R.row × IsPass (lock_id shared.now) one × ((pass_view one).low ≡ 1)
+                × ((pass_view one).count ≡ 1) × ((pass_view one).front ≡ []) }
+            ensures { IsPass (lock_id shared.entry.now) result.0 × ((pass_view result.0).low ≡ 1)
+                × ((pass_view result.0).count ≡ 1)
+                × (own items_log 1 (pass_view result.0).front ≡ by_worker 1 (take result.1 first.entry.now)) }
         { add_all(rt, shared, one, first) },
         move || -> (Pass<Items>, usize)
-            requires { IsSync R.row × IsPass (lock_id shared.now) two × ((pass_view two).low ≡ 2) × ((pass_view two).count ≡ 1) × ((pass_view two).front ≡ []) }
-            ensures { IsPass (lock_id shared.entry.now) result.0 × ((pass_view result.0).low ≡ 2) × ((pass_view result.0).count ≡ 1) × (own items_log 2 (pass_view result.0).front ≡ by_worker 2 (take result.1 second.entry.now)) }
+            requires { IsSync R.row × IsPass (lock_id shared.now) two × ((pass_view two).low ≡ 2)
+                × ((pass_view two).count ≡ 1) × ((pass_view two).front ≡ []) }
+            ensures { IsPass (lock_id shared.entry.now) result.0 × ((pass_view result.0).low ≡ 2)
+                × ((pass_view result.0).count ≡ 1)
+                × (own items_log 2 (pass_view result.0).front ≡ by_worker 2 (take result.1 second.entry.now)) }
         { add_all(rt, shared, two, second) },
     );
     let pass = one.join(&lock, two);
