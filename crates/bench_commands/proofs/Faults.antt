@@ -17,7 +17,7 @@ use Rattle.trace_file.specs.Layout.{IsTraceFile}
 use Rattle.fleet_core.specs.Run.{IsSerial}
 use Rattle.bench_commands.specs.declared.fault.Fault.{Fault}
 use Rattle.bench_commands.specs.declared.fault.Fault.TheVariants as faults
-use Rattle.bench_commands.specs.Fault.{IsReadingFault, IsWritingFault, IsTemplateFault, layout_fault, refused_text, text_fault, trace_fault}
+use Rattle.bench_commands.specs.Fault.{IsReadingFault, IsTemplateFault, layout_fault, refused_text, text_fault, trace_fault}
 use Rattle.bench_commands.specs.Serial.{IsRunFault, IsSavingFault}
 use Rattle.bench_commands.specs.Texts.{IsTextFault}
 use Rattle.bench_commands.specs.Jobs.{IsFileFault, IsOneFault}
@@ -80,36 +80,16 @@ pub unsaved : (es : List Entry) (e : WriteFault) → ((e ≡ trace.TooLarge) ↔
 unsaved es trace.TooLarge h = h.0 refl
 unsaved es trace.Memory h = tt
 
-pub unwritten : (es : List Entry) (f : Fault) → IsWritingFault f → IsSavingFault es f
-unwritten es faults.Memory h = tt
-unwritten es faults.Write h = tt
-unwritten es faults.Hex h = absurd h
-unwritten es faults.Read h = absurd h
-unwritten es (faults.Layout fault) h = absurd h
-unwritten es (faults.Text fault) h = absurd h
-unwritten es faults.TooLarge h = absurd h
-unwritten es (faults.Template fault) h = absurd h
-
 -- a serial run that was not saved
 pub unsaved_run : (s : Script) (es : List Entry) → IsSerial s es → (f : Fault) → IsSavingFault es f → IsRunFault s f
 unsaved_run s es serial faults.Memory h = tt
-unsaved_run s es serial faults.Write h = tt
+unsaved_run s es serial faults.Write h = absurd h
 unsaved_run s es serial faults.TooLarge h = (es, serial, h)
 unsaved_run s es serial faults.Hex h = absurd h
 unsaved_run s es serial faults.Read h = absurd h
 unsaved_run s es serial (faults.Layout fault) h = absurd h
 unsaved_run s es serial (faults.Text fault) h = absurd h
 unsaved_run s es serial (faults.Template fault) h = absurd h
-
-pub unwritten_run : (s : Script) (f : Fault) → IsWritingFault f → IsRunFault s f
-unwritten_run s faults.Memory h = tt
-unwritten_run s faults.Write h = tt
-unwritten_run s faults.Hex h = absurd h
-unwritten_run s faults.Read h = absurd h
-unwritten_run s (faults.Layout fault) h = absurd h
-unwritten_run s (faults.Text fault) h = absurd h
-unwritten_run s faults.TooLarge h = absurd h
-unwritten_run s (faults.Template fault) h = absurd h
 
 -- the demonstration device's faults
 pub no_hex : (hex : List ℕ) (f : Fault) → (f ≡ faults.Memory) ⊎ ((f ≡ faults.Hex) × IsErr (decode_of hex)) → IsOneFault hex f
@@ -126,12 +106,13 @@ no_demo hex (faults.Text fault) h = absurd h
 no_demo hex faults.TooLarge h = absurd h
 no_demo hex (faults.Template fault) h = tt
 
-pub unwritten_one : (hex : List ℕ) (f : Fault) → IsWritingFault f → IsOneFault hex f
-unwritten_one hex faults.Hex h = absurd h
-unwritten_one hex faults.Memory h = tt
-unwritten_one hex faults.Read h = absurd h
-unwritten_one hex faults.Write h = tt
-unwritten_one hex (faults.Layout fault) h = absurd h
-unwritten_one hex (faults.Text fault) h = absurd h
-unwritten_one hex faults.TooLarge h = absurd h
-unwritten_one hex (faults.Template fault) h = absurd h
+-- no memory is left
+pub text_memory : (holds : List ℕ → List ℕ → Type 0) (fails : List ℕ → Type 0) (path : List ℕ) (f : Fault) → f ≡ faults.Memory → IsTextFault holds fails path f
+text_memory holds fails path f same = subst (λ g. IsTextFault holds fails path g) (sym same) tt
+
+pub file_memory : (holds : List ℕ → List ℕ → Type 0) (fails : List ℕ → Type 0) (broken : List ℕ → LayoutFault → Type 0) (path : List ℕ) (f : Fault) → f ≡ faults.Memory
+    → IsFileFault holds fails broken path f
+file_memory holds fails broken path f same = subst (λ g. IsFileFault holds fails broken path g) (sym same) tt
+
+pub one_memory : (hex : List ℕ) (f : Fault) → f ≡ faults.Memory → IsOneFault hex f
+one_memory hex f same = subst (λ g. IsOneFault hex g) (sym same) tt

@@ -1,54 +1,101 @@
--- What a command comes to: what the words ask for was done or refused, and the status says which.
+-- What a command comes to: the words were answered, or refused, and the status says which.
 --
--- Four relations say what is known of the files and of the writer: `holds path bytes`, the file at the path had these bytes when it was read; `fails path`, it
--- could not be read; `wrote path bytes`, it was made or replaced, and got these bytes; `appended text`, these bytes were printed, and no others.
-use Rattle.std.specs.Prelude.{ℕ, ◌⊎◌, List, option_map}
-use Rattle.bench_words.specs.Words.{AsksNothing, IsAsked}
+-- What is known of the files: `holds path bytes`, the file at the path had these bytes when it was read; `fails path`, it could not be read;
+-- `refuses path`, no file could be made there; and which files were made before and after. What is known of a stream: `refuses text`, it did not
+-- take these bytes; and which bytes it got before and after.
+use Rattle.std.specs.Prelude.{◌≡◌, ℕ, ◌⊎◌, List, [], Option, option_map}
+use Rattle.std.specs.Io.KnownBytes.{Appends}
+use Rattle.std.specs.String.{string_bytes}
+use Rattle.bench_words.specs.Words.{IsReadAs}
+use Rattle.bench_words.specs.declared.words.Asked.{Asked}
+use Rattle.bench_words.specs.declared.words.Asked.TheVariants as asked
 use Rattle.bench_words.specs.declared.words.Job.{Job}
 use Rattle.bench_words.specs.declared.words.Job.TheVariants as jobs
-use Rattle.bench_commands.specs.Fault.{IsWritingFault}
-use Rattle.bench_commands.specs.Jobs.{IsAsmDone, IsAsmRefused, IsCheckDone, IsCheckRefused, IsDisDone, IsDisRefused, IsOneDone, IsOneFault, IsRunDone, IsRunRefused}
+use Rattle.bench_commands.specs.Answers.{IsUndelivered, files_of}
+use Rattle.bench_commands.specs.Files.{Grows, Made}
+use Rattle.bench_commands.specs.Jobs.{IsAsmDone, IsCheckDone, IsCheckRefused, IsDisDone, IsImageFault, IsOneDone, IsOneFault, IsRunDone, IsRunRefused}
+use Rattle.bench_commands.specs.Refusals.{IsTold}
+use Rattle.bench_commands.specs.Status.{text_status}
+use Rattle.bench_commands.specs.Texts.{IsTextFault}
+use Rattle.bench_commands.specs.declared.answer.Answer.{Answer}
 use Rattle.bench_commands.specs.declared.fault.Fault.{Fault}
+use Rattle.bench_commands.specs.declared.fault.Fault.TheVariants.{Memory}
 use Rattle.bench_commands.specs.declared.status.Status.{Status}
 use Rattle.bench_commands.specs.declared.status.Status.TheVariants as ends
 
--- what the words ask for was done
-abbrev pub IsDone : (List ℕ → List ℕ → Type 0) → (List ℕ → List ℕ → Type 0) → (List ℕ → Type 0) → Job → Status → Type 0
-IsDone holds wrote appended (jobs.One hex) status = IsOneDone appended hex.now status
-IsDone holds wrote appended (jobs.Asm input output) status = IsAsmDone holds wrote appended input.now output.now status
-IsDone holds wrote appended (jobs.Dis input) status = IsDisDone holds appended input.now status
-IsDone holds wrote appended (jobs.Run image trace) status = IsRunDone holds wrote appended image.now (option_map (λ p. p.now) trace) status
-IsDone holds wrote appended (jobs.Check image trace) status = IsCheckDone holds appended image.now trace.now status
+-- ---- what words are answered with
 
--- what the words ask for was not done, for this fault
-abbrev pub IsRefused : (List ℕ → List ℕ → Type 0) → (List ℕ → Type 0) → Job → Fault → Type 0
-IsRefused holds fails (jobs.One hex) fault = IsOneFault hex.now fault
-IsRefused holds fails (jobs.Asm input output) fault = IsAsmRefused holds fails input.now fault
-IsRefused holds fails (jobs.Dis input) fault = IsDisRefused holds fails input.now fault
-IsRefused holds fails (jobs.Run image trace) fault = IsRunRefused holds fails image.now fault
-IsRefused holds fails (jobs.Check image trace) fault = IsCheckRefused holds fails image.now trace.now fault
+-- what a job is answered with: how the program ends, what it prints, and the files that it makes
+abbrev pub IsDone : (List ℕ → List ℕ → Type 0) → Job → Status → List ℕ → List Made → Type 0
+IsDone holds (jobs.One hex) status text made = IsOneDone hex.now status text made
+IsDone holds (jobs.Asm input output) status text made = IsAsmDone holds input.now output.now status text made
+IsDone holds (jobs.Dis input) status text made = IsDisDone holds input.now status text made
+IsDone holds (jobs.Run image trace) status text made = IsRunDone holds image.now (option_map (λ p. p.now) trace) status text made
+IsDone holds (jobs.Check image trace) status text made = IsCheckDone holds image.now trace.now status text made
+
+-- a job is refused for this fault
+abbrev pub IsRefusedJob : (List ℕ → List ℕ → Type 0) → (List ℕ → Type 0) → Job → Fault → Type 0
+IsRefusedJob holds fails (jobs.One hex) fault = IsOneFault hex.now fault
+IsRefusedJob holds fails (jobs.Asm input output) fault = IsTextFault holds fails input.now fault
+IsRefusedJob holds fails (jobs.Dis input) fault = IsImageFault holds fails input.now fault
+IsRefusedJob holds fails (jobs.Run image trace) fault = IsRunRefused holds fails image.now fault
+IsRefusedJob holds fails (jobs.Check image trace) fault = IsCheckRefused holds fails image.now trace.now fault
+
+-- what words are answered with; a text on how to use the program is printed as it is
+abbrev pub IsAnswerTo : (List ℕ → List ℕ → Type 0) → Asked → Status → List ℕ → List Made → Type 0
+IsAnswerTo holds (asked.Job job) status text made = IsDone holds job status text made
+IsAnswerTo holds (asked.Text help is_mistake) status text made =
+    (status ≡ text_status is_mistake) × (text ≡ string_bytes help) × (made ≡ [])
+
+abbrev pub IsRefused : (List ℕ → List ℕ → Type 0) → (List ℕ → Type 0) → Asked → Fault → Type 0
+IsRefused holds fails (asked.Job job) fault = IsRefusedJob holds fails job fault
+IsRefused holds fails (asked.Text help is_mistake) fault = ⊥
 
 -- ---- a command
 
--- the words ask for a job, which was done
-pub record DidAsAsked (holds wrote : List ℕ → List ℕ → Type 0) (appended : List ℕ → Type 0) (words : List (List ℕ)) (status : Status) : Type 0 where
-  pub job : Job
-  pub asked : IsAsked words job
-  pub done : IsDone holds wrote appended job status
+-- the answer's file was made, its text printed, and nothing else
+pub record IsAnswered (holds : List ℕ → List ℕ → Type 0) (made_before made_after : Option (List Made)) (taken_before taken_after : Option (List ℕ)) (words : List (List ℕ)) (status : Status) : Type 0 where
+  pub asked : Asked
+  pub read : IsReadAs words asked
+  pub answer : Answer
+  pub right : IsAnswerTo holds asked answer.status (string_bytes answer.text) (files_of answer.file)
+  pub made : Grows made_before made_after (files_of answer.file)
+  pub printed : Appends taken_before taken_after (string_bytes answer.text)
+  pub ended : status ≡ answer.status
 
--- the words ask for a job, which was refused for this fault
-pub record RefusedAsAsked (holds : List ℕ → List ℕ → Type 0) (fails : List ℕ → Type 0) (words : List (List ℕ)) (fault : Fault) : Type 0 where
-  pub job : Job
-  pub asked : IsAsked words job
-  pub refused : IsRefused holds fails job fault
+-- what the words ask for was refused for this fault
+pub record IsRefusedAsked (holds : List ℕ → List ℕ → Type 0) (fails : List ℕ → Type 0) (words : List (List ℕ)) (fault : Fault) : Type 0 where
+  pub asked : Asked
+  pub read : IsReadAs words asked
+  pub refused : IsRefused holds fails asked fault
 
--- memory or what takes the answer failed, or what the words ask for was refused for this fault
-abbrev pub IsCommandFault : (List ℕ → List ℕ → Type 0) → (List ℕ → Type 0) → List (List ℕ) → Fault → Type 0
-IsCommandFault holds fails words fault = IsWritingFault fault ⊎ RefusedAsAsked holds fails words fault
+-- there was an answer, and its file was not made or its text not printed
+pub record IsLost (holds : List ℕ → List ℕ → Type 0) (file_refuses : List ℕ → Type 0) (made_before made_after : Option (List Made)) (refuses : List ℕ → Type 0) (taken_before taken_after : Option (List ℕ)) (words : List (List ℕ)) (fault : Fault) : Type 0 where
+  pub asked : Asked
+  pub read : IsReadAs words asked
+  pub answer : Answer
+  pub right : IsAnswerTo holds asked answer.status (string_bytes answer.text) (files_of answer.file)
+  pub undelivered : IsUndelivered file_refuses made_before made_after refuses taken_before taken_after answer fault
 
--- the status says so: what the words ask for was done; they ask for nothing, and a text was printed; or there was a fault
-abbrev pub Ends : (List ℕ → List ℕ → Type 0) → (List ℕ → Type 0) → (List ℕ → List ℕ → Type 0) → (List ℕ → Type 0) → List (List ℕ) → Status → Type 0
-Ends holds fails wrote appended words ends.Done = DidAsAsked holds wrote appended words ends.Done ⊎ AsksNothing words
-Ends holds fails wrote appended words ends.NotRun = DidAsAsked holds wrote appended words ends.NotRun
-Ends holds fails wrote appended words ends.Usage = AsksNothing words
-Ends holds fails wrote appended words ends.Fault = (fault : Fault) × IsCommandFault holds fails words fault
+-- no memory was left for an answer, or there was a fault, and then nothing was made and nothing printed; or the answer was lost
+abbrev pub IsUndone : (List ℕ → List ℕ → Type 0) → (List ℕ → Type 0) → (List ℕ → Type 0) → Option (List Made) → Option (List Made) → (List ℕ → Type 0) → Option (List ℕ) → Option (List ℕ) → List (List ℕ) → Fault → Type 0
+IsUndone holds fails file_refuses made_before made_after refuses taken_before taken_after words fault =
+    (((fault ≡ Memory) ⊎ IsRefusedAsked holds fails words fault) × (made_after ≡ made_before) × (taken_after ≡ taken_before))
+    ⊎ IsLost holds file_refuses made_before made_after refuses taken_before taken_after words fault
+
+-- what the words ask for was not done, and that was told
+pub record IsFaulted (holds : List ℕ → List ℕ → Type 0) (fails file_refuses : List ℕ → Type 0) (made_before made_after : Option (List Made)) (refuses : List ℕ → Type 0) (taken_before taken_after : Option (List ℕ)) (error_refuses : List ℕ → Type 0) (error_before error_after : Option (List ℕ)) (words : List (List ℕ)) : Type 0 where
+  pub fault : Fault
+  -- what standard output had got when the fault was met
+  pub between : Option (List ℕ)
+  pub undone : IsUndone holds fails file_refuses made_before made_after refuses taken_before between words fault
+  -- the file or the word that standard error names
+  pub about : Option (List ℕ)
+  pub told : IsTold refuses between taken_after error_refuses error_before error_after about fault
+
+-- the words were answered, and standard error got nothing; or there was a fault
+abbrev pub Ends : (List ℕ → List ℕ → Type 0) → (List ℕ → Type 0) → (List ℕ → Type 0) → Option (List Made) → Option (List Made) → (List ℕ → Type 0) → Option (List ℕ) → Option (List ℕ) → (List ℕ → Type 0) → Option (List ℕ) → Option (List ℕ) → List (List ℕ) → Status → Type 0
+Ends holds fails file_refuses made_before made_after refuses taken_before taken_after error_refuses error_before error_after words status =
+    (IsAnswered holds made_before made_after taken_before taken_after words status × (error_after ≡ error_before))
+    ⊎ ((status ≡ ends.Fault)
+    × IsFaulted holds fails file_refuses made_before made_after refuses taken_before taken_after error_refuses error_before error_after words)

@@ -9,6 +9,8 @@ use Rattle.byte_layout.specs.declared.fault.LayoutFault.{LayoutFault}
 use Rattle.byte_layout.specs.declared.fault.LayoutFault.TheVariants as layout
 use Rattle.trace_file.specs.declared.fault.WriteFault.{WriteFault}
 use Rattle.trace_file.specs.declared.fault.WriteFault.TheVariants as trace
+use Rattle.device_template.specs.declared.fault.TemplateFault.{TemplateFault}
+use Rattle.device_template.specs.declared.fault.TemplateFault.TheVariants as template
 use Rattle.bench_commands.specs.declared.fault.Fault.{Fault}
 use Rattle.bench_commands.specs.declared.fault.Fault.TheVariants.{Hex, Memory, Read, Write, Layout, Text, TooLarge, Template}
 
@@ -42,11 +44,19 @@ abbrev pub trace_fault : WriteFault → Fault
 trace_fault trace.TooLarge = TooLarge
 trace_fault trace.Memory = Memory
 
--- what may befall a writer, and a file that is written
-abbrev pub IsWritingFault : Fault → Type 0
-IsWritingFault Memory = ⊤
-IsWritingFault Write = ⊤
-IsWritingFault _ = ⊥
+-- the fault of a template that refused a part: want of memory is not the part's fault
+abbrev pub template_fault : TemplateFault → Fault
+template_fault template.Range = Template template.Range
+template_fault template.Missing = Template template.Missing
+template_fault template.Duplicate = Template template.Duplicate
+template_fault template.Full = Template template.Full
+template_fault template.Memory = Memory
+
+-- what may befall a text that is printed, or a file that is made: want of memory, or that it was not taken
+abbrev pub IsWritingFault : Type 0 → Fault → Type 0
+IsWritingFault refused Memory = ⊤
+IsWritingFault refused Write = refused
+IsWritingFault refused _ = ⊥
 
 -- what may befall a file that is read: want of memory, or that it could not be read
 abbrev pub IsReadingFault : Type 0 → Fault → Type 0

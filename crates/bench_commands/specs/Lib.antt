@@ -1,10 +1,14 @@
+pub mod Answers
 pub mod Command
 pub mod Demo
 pub mod Fault
 pub mod FaultLine
+pub mod Files
 pub mod Jobs
 pub mod Printed
+pub mod Refusals
 pub mod Runs
 pub mod Serial
 pub mod Status
 pub mod Texts
+pub mod Unread

@@ -1,4 +1,4 @@
-use Rattle.std.specs.Prelude.{ℕ}
+use Rattle.std.specs.Prelude.{ℕ, Bool, true, false}
 use Rattle.bench_commands.specs.declared.status.Status.{Status}
 use Rattle.bench_commands.specs.declared.status.Status.TheVariants.{Done, Fault, Usage, NotRun}
 
@@ -8,3 +8,8 @@ exit_code Done = 0
 exit_code Fault = 1
 exit_code Usage = 2
 exit_code NotRun = 3
+
+-- how it ends with a text on how to use it: help is no mistake in the words
+abbrev pub text_status : Bool → Status
+text_status true = Usage
+text_status false = Done

@@ -4,7 +4,6 @@ use Rattle.std.specs.List.{sum_by}
 use Rattle.std.specs.Fmt.{decimal}
 use Rattle.std.specs.Str.{IsUtf8}
 use Rattle.scenario_image.specs.Script.{Script}
-use Rattle.scenario_image.specs.Image.{IsImage}
 use Rattle.scenario_asm.specs.Denotes.{Denotes}
 use Rattle.scenario_asm.specs.Text.{assembled}
 use Rattle.scenario_asm.specs.declared.fault.AsmFault.{AsmFault}
@@ -36,12 +35,6 @@ IsTextFault holds fails path Memory = ⊤
 IsTextFault holds fails path Read = fails path ⊎ IsNoTextAt holds path
 IsTextFault holds fails path (Text fault) = IsWrongTextAt holds path fault
 IsTextFault holds fails path _ = ⊥
-
--- the image of this scenario was written to the path; `wrote path bytes` says that the file at the path got these bytes
-pub record IsImageAt (wrote : List ℕ → List ℕ → Type 0) (path : List ℕ) (s : Script) : Type 0 where
-  pub bytes : List ℕ
-  pub image : IsImage bytes s
-  pub written : wrote path bytes
 
 abbrev pub ok_line : ℕ → ℕ → ℕ → List ℕ
 ok_line classes devices steps = line (codes "ok " ++ decimal classes ++ codes " classes " ++ decimal devices ++ codes " devices " ++ decimal steps ++ codes " steps")

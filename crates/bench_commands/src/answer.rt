@@ -1,43 +1,104 @@
-//! An answer of the program: what it prints, and how it then ends.
-ghost use Rattle.std.specs.Prelude.{◌≡◌, IfErr, IfOk, OnOk};
+//! An answer of the program: the file that it makes, what it prints, and how it then ends.
+ghost use Rattle.std.specs.Prelude.{◌≡◌, None, IfErr, IfOk, IfSome, OnErr, OnOk};
 ghost use Rattle.std.specs.Io.KnownBytes.{Appends};
 ghost use Rattle.std.specs.String.{string_bytes};
+ghost use Rattle.bench_commands.specs.Answers.{IsUndelivered, files_of, writing_fault};
 ghost use Rattle.bench_commands.specs.Fault.{IsWritingFault};
-ghost use Rattle.bench_commands.specs.declared.status.Status.TheVariants.{Done};
+ghost use Rattle.bench_commands.specs.Files.{Grows};
 
 use crate::fault::Fault;
+use crate::files::{FileFault, Files};
+use crate::output::Output;
+use crate::refusal::{Refusal, Why};
 use crate::status::Status;
-use std::io::Write;
+use octets::Bytes;
 
-/// What the program prints, and how it then ends.
-#[derive(Debug, Drop)]
-pub struct Answer {
+/// A file that is still to be made.
+#[derive(Drop)]
+pub struct NewFile<'a> {
+    /// Where it goes. What is there is replaced.
+    pub path: &'a str,
+    /// All that it has.
+    pub bytes: Bytes,
+}
+
+/// What the program answers: it makes the file, if there is one, then prints the text, and then ends.
+#[derive(Drop)]
+pub struct Answer<'a> {
     /// How it ends.
     pub status: Status,
     /// The lines, each with its line feed.
     pub text: String,
+    /// The file that is made before the text is printed.
+    pub file: Option<NewFile<'a>>,
 }
 
-impl Answer {
-    /// The answer of what was done, and has no other end.
-    pub fn done(text: String) -> Answer
-        ensures status { result.status ≡ Done }
+impl<'a> Answer<'a> {
+    /// The answer that makes no file.
+    pub fn printed(status: Status, text: String) -> Answer<'a>
+        ensures status { result.status ≡ status }
         ensures text { result.text ≡ text }
+        ensures file { result.file ≡ None }
     {
         Answer {
-            status: Status::Done,
+            status,
             text,
+            file: None,
         }
     }
 }
 
-/// Prints an answer, and says how the program then ends.
-pub fn say<W: Write>(answer: &Answer, writer: &mut W) -> Result<Status, Fault>
-    ensures status { IfOk result (λ status. status ≡ answer.now.status) }
-    ensures written { OnOk result (Appends (W.contents writer.old) (W.contents writer.new) (string_bytes answer.now.text)) }
-    ensures refused { IfErr result IsWritingFault }
+/// Makes the file, if there is one.
+#[tactic(auto, using(crate::proofs::Delivered::unwritten))]
+fn make<'a, F: Files>(file: &Option<NewFile<'a>>, files: &mut F) -> Result<(), Refusal<'a>>
+    ensures made { OnOk result (Grows (F.made files.old) (F.made files.new) (files_of file.now)) }
+    ensures kept { OnErr result (F.made files.new ≡ F.made files.old) }
+    ensures refused { IfErr result (λ r. IsWritingFault (IfSome file.now (λ f. F.refuses f.path.now)) r.fault) }
 {
-    writer.write_all(answer.text.as_bytes())?;
-    writer.flush()?;
-    Ok(answer.status)
+    match file {
+        None => Ok(()),
+        Some(file) => match files.write_all(file.path, file.bytes.as_slice()) {
+            Ok(()) => Ok(()),
+            Err(fault) => Err(unwritten(file.path, fault)),
+        },
+    }
+}
+
+/// The refusal of a file that was not made, or of a text that was not printed.
+pub(crate) fn unwritten<'a>(about: &'a str, fault: FileFault) -> Refusal<'a>
+    ensures { result.fault ≡ writing_fault fault }
+{
+    match fault {
+        FileFault::Failed(why) => Refusal {
+            fault: Fault::Write,
+            about: Some(about),
+            why: Why::Known(why),
+        },
+        FileFault::Memory => Refusal {
+            fault: Fault::Memory,
+            about: Some(about),
+            why: Why::Named,
+        },
+    }
+}
+
+/// Makes the file of an answer, if it has one, and then prints its text. Nothing is printed before the file is made.
+#[tactic(auto, using(crate::proofs::Delivered::unwritten, crate::proofs::Delivered::unmade, crate::proofs::Delivered::unprinted))]
+pub fn deliver<'a, F: Files, O: Output>(
+    answer: &Answer<'a>,
+    files: &mut F,
+    output: &mut O,
+) -> Result<Status, Refusal<'a>>
+    ensures status { IfOk result (λ status. status ≡ answer.now.status) }
+    ensures made { OnOk result (Grows (F.made files.old) (F.made files.new) (files_of answer.now.file)) }
+    ensures printed { OnOk result (Appends (O.taken output.old) (O.taken output.new) (string_bytes answer.now.text)) }
+    ensures refused { IfErr result (λ r.
+        IsUndelivered F.refuses (F.made files.old) (F.made files.new)
+        O.refuses (O.taken output.old) (O.taken output.new) answer.now r.fault) }
+{
+    make(&answer.file, files)?;
+    match output.print(answer.text.as_str()) {
+        Ok(()) => Ok(answer.status),
+        Err(fault) => Err(unwritten("standard output", fault)),
+    }
 }

@@ -1,111 +1,118 @@
-//! What the program answers to each of its words.
-ghost use Rattle.std.specs.Prelude.{◌≡◌, IfErr, IfOk, OnOk, option_map};
-ghost use Rattle.std.specs.Result.{IsOkAnd};
-ghost use Rattle.std.specs.Io.KnownBytes.{Appends};
+//! What the program answers to each of its words. Nothing is written or printed here: a file that is only borrowed
+//! cannot be.
+ghost use Rattle.std.specs.Prelude.{◌≡◌, IfErr, IfOk, option_map};
+ghost use Rattle.bench_commands.specs.Answers.{files_of};
 ghost use Rattle.bench_commands.specs.Demo.{demo_outputs};
-ghost use Rattle.hex.specs.Hex.{decode_of};
 ghost use Rattle.std.specs.String.{string_bytes};
-ghost use Rattle.bench_commands.specs.Jobs.{IsAsmDone, IsAsmRefused, IsCheckDone, IsCheckRefused, IsDisDone, IsDisRefused, IsOneDone, IsOneFault, IsRunDone, IsRunRefused};
+ghost use Rattle.bench_commands.specs.Jobs.{IsAsmDone, IsCheckDone, IsCheckRefused, IsDisDone, IsImageFault, IsOneDone, IsOneFault, IsRunDone, IsRunRefused};
+ghost use Rattle.bench_commands.specs.Texts.{IsTextFault};
 ghost use Rattle.bench_commands.specs.Printed.{act_line, act_name, line_of, printed, send_line};
-ghost use Rattle.bench_commands.specs.declared.status.Status.TheVariants.{Done};
 
-use crate::answer::{Answer, say};
+use crate::answer::Answer;
 use crate::demo;
 use crate::fault::Fault;
 use crate::files::Files;
 use crate::hex_text::{read_hex, write_hex};
 use crate::loading::{load_scenario, load_text, load_trace};
+use crate::refusal::{Refusal, Why};
 use crate::runs::{judge, run_scenario};
 use crate::status::Status;
-use crate::texts::{count_line, save_scenario};
+use crate::texts::{count_line, image_file};
 use device_machine::{Act, Output};
 use scenario_asm::disassemble;
 use std::alloc::{AllocError, Global};
-use std::io::Write;
 
-/// `one HEX`: what the DEMO device puts out for a datagram from its server, a line for each
-/// output, or `nothing`.
-#[tactic(auto, using(crate::proofs::Built::one_done, crate::proofs::Faults::no_hex, crate::proofs::Faults::no_demo, crate::proofs::Faults::unwritten_one))]
-pub fn one<W: Write>(alloc: Global, hex: &str, writer: &mut W) -> Result<Status, Fault>
-    ensures done { IfOk result (IsOneDone (Appends (W.contents writer.old) (W.contents writer.new)) hex.now) }
-    ensures refused { IfErr result (IsOneFault hex.now) }
+/// `one HEX`: what the DEMO device outputs for a datagram from its server, a line for each output, or `nothing`.
+#[tactic(auto, using(crate::proofs::Built::one_done, crate::proofs::Faults::no_hex, crate::proofs::Faults::no_demo, crate::proofs::Faults::one_memory))]
+pub fn one<'a>(alloc: Global, hex: &'a str) -> Result<Answer<'a>, Refusal<'a>>
+    ensures done { IfOk result (λ a. IsOneDone hex.entry.now a.status (string_bytes a.text) (files_of a.file)) }
+    ensures refused { IfErr result (λ r. IsOneFault hex.entry.now r.fault) }
 {
-    let outputs = demo::answer(alloc, read_hex(alloc, hex)?)?;
-    let text = text_of(alloc, outputs.as_slice())?;
-    say(&Answer::done(text), writer)
+    match read_hex(alloc, hex) {
+        Ok(bytes) => {
+            let outputs = demo::answer(alloc, bytes)?;
+            let text = text_of(alloc, outputs.as_slice())?;
+            Ok(Answer::printed(Status::Done, text))
+        }
+        Err(Fault::Hex) => Err(Refusal {
+            fault: Fault::Hex,
+            about: Some(hex),
+            why: Why::Known("it is not pairs of hexadecimal digits"),
+        }),
+        Err(fault) => Err(Refusal::from(fault)),
+    }
 }
 
-/// `asm IN OUT`: the scenario of a text, whose image goes to OUT before its line is printed.
-#[tactic(auto, using(crate::proofs::Built::asm_done, crate::proofs::Built::asm_text, crate::proofs::Built::asm_work))]
-pub fn asm<F: Files, W: Write>(
+/// `asm IN OUT`: the scenario of a text, whose image goes to OUT.
+#[tactic(auto, using(crate::proofs::Built::asm_done, crate::proofs::Faults::text_memory))]
+pub fn asm<'a, F: Files>(
     alloc: Global,
-    input: &str,
-    output: &str,
+    input: &'a str,
+    output: &'a str,
     files: &F,
-    writer: &mut W,
-) -> Result<Status, Fault>
-    ensures done { IfOk result (IsAsmDone (F.holds files.now) (F.wrote files.now)
-        (Appends (W.contents writer.old) (W.contents writer.new)) input.now output.now) }
-    ensures refused { IfErr result (IsAsmRefused (F.holds files.now) (F.fails files.now) input.now) }
+) -> Result<Answer<'a>, Refusal<'a>>
+    ensures done { IfOk result (λ a.
+        IsAsmDone (F.holds files.now) input.entry.now output.entry.now a.status (string_bytes a.text) (files_of a.file)) }
+    ensures refused { IfErr result (λ r. IsTextFault (F.holds files.now) (F.fails files.now) input.entry.now r.fault) }
 {
     let scenario = load_text(alloc, input, files)?;
-    save_scenario(alloc, &scenario, output, files)?;
+    let file = image_file(alloc, &scenario, output)?;
     let text = count_line(alloc, &scenario)?;
-    say(&Answer::done(text), writer)
+    Ok(Answer {
+        status: Status::Done,
+        text,
+        file: Some(file),
+    })
 }
 
 /// `dis IN`: the canonical text of a scenario.
-#[tactic(auto, using(crate::proofs::Built::dis_done, crate::proofs::Built::dis_image, crate::proofs::Built::dis_work))]
-pub fn dis<F: Files, W: Write>(
+#[tactic(auto, using(crate::proofs::Built::dis_done, crate::proofs::Faults::file_memory))]
+pub fn dis<'a, F: Files>(
     alloc: Global,
-    input: &str,
+    input: &'a str,
     files: &F,
-    writer: &mut W,
-) -> Result<Status, Fault>
-    ensures done { IfOk result (IsDisDone (F.holds files.now)
-        (Appends (W.contents writer.old) (W.contents writer.new)) input.now) }
-    ensures refused { IfErr result (IsDisRefused (F.holds files.now) (F.fails files.now) input.now) }
+) -> Result<Answer<'a>, Refusal<'a>>
+    ensures done { IfOk result (λ a.
+        IsDisDone (F.holds files.now) input.entry.now a.status (string_bytes a.text) (files_of a.file)) }
+    ensures refused { IfErr result (λ r. IsImageFault (F.holds files.now) (F.fails files.now) input.entry.now r.fault) }
 {
     let scenario = load_scenario(alloc, input, files)?;
     let text = disassemble(alloc, &scenario)?;
-    say(&Answer::done(text), writer)
+    Ok(Answer::printed(Status::Done, text))
 }
 
-/// `run IMAGE [--trace FILE]`: the serial run of the scenario; its trace file goes to FILE, before the line is printed.
-#[tactic(auto, using(crate::proofs::Faults::unwritten_run, crate::proofs::Built::run_done, crate::proofs::Built::run_image, crate::proofs::Built::run_work))]
-pub fn run<F: Files, W: Write>(
+/// `run IMAGE [--trace FILE]`: the serial run of the scenario, whose trace file goes to FILE.
+#[tactic(auto, using(crate::proofs::Built::run_done, crate::proofs::Built::run_image, crate::proofs::Built::run_work))]
+pub fn run<'a, F: Files>(
     alloc: Global,
-    image: &str,
-    trace: Option<&str>,
+    image: &'a str,
+    trace: Option<&'a str>,
     files: &F,
-    writer: &mut W,
-) -> Result<Status, Fault>
-    ensures done { IfOk result (IsRunDone (F.holds files.now) (F.wrote files.now)
-        (Appends (W.contents writer.old) (W.contents writer.new)) image.now (option_map (λ p. p.now) trace.entry)) }
-    ensures refused { IfErr result (IsRunRefused (F.holds files.now) (F.fails files.now) image.now) }
+) -> Result<Answer<'a>, Refusal<'a>>
+    ensures done { IfOk result (λ a. IsRunDone (F.holds files.now) image.entry.now
+        (option_map (λ p. p.now) trace.entry) a.status (string_bytes a.text) (files_of a.file)) }
+    ensures refused { IfErr result (λ r. IsRunRefused (F.holds files.now) (F.fails files.now) image.entry.now r.fault) }
 {
     let scenario = load_scenario(alloc, image, files)?;
-    let answer = run_scenario(alloc, &scenario, trace, files)?;
-    say(&answer, writer)
+    Ok(run_scenario(alloc, &scenario, trace)?)
 }
 
-/// `check IMAGE TRACE`: whether the trace is a run of the scenario, else the least place at which it breaks off.
-#[tactic(auto, using(crate::proofs::Built::check_done, crate::proofs::Built::check_image, crate::proofs::Built::check_trace, crate::proofs::Built::check_writing))]
-pub fn check<F: Files, W: Write>(
+/// `check IMAGE TRACE`: whether the trace is a run of the scenario, else the least place at which it is not.
+#[tactic(auto, using(crate::proofs::Built::check_done, crate::proofs::Built::check_image, crate::proofs::Built::check_trace, crate::proofs::Faults::file_memory))]
+pub fn check<'a, F: Files>(
     alloc: Global,
-    image: &str,
-    trace: &str,
+    image: &'a str,
+    trace: &'a str,
     files: &F,
-    writer: &mut W,
-) -> Result<Status, Fault>
-    ensures done { IfOk result (IsCheckDone (F.holds files.now)
-        (Appends (W.contents writer.old) (W.contents writer.new)) image.now trace.now) }
-    ensures refused { IfErr result (IsCheckRefused (F.holds files.now) (F.fails files.now) image.now trace.now) }
+) -> Result<Answer<'a>, Refusal<'a>>
+    ensures done { IfOk result (λ a. IsCheckDone (F.holds files.now) image.entry.now trace.entry.now
+        a.status (string_bytes a.text) (files_of a.file)) }
+    ensures refused { IfErr result (λ r.
+        IsCheckRefused (F.holds files.now) (F.fails files.now) image.entry.now trace.entry.now r.fault) }
 {
     let scenario = load_scenario(alloc, image, files)?;
     let entries = load_trace(alloc, trace, files)?;
-    let answer = judge(alloc, &scenario, entries.as_slice())?;
-    say(&answer, writer)
+    Ok(judge(alloc, &scenario, entries.as_slice())?)
 }
 
 /// The outputs, a line for each, or the line `nothing`.

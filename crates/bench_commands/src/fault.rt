@@ -7,7 +7,7 @@ use hex::FromHexError;
 use scenario_asm::AsmFault;
 use scenario_words::Cause;
 use std::alloc::{AllocError, AllocFailed};
-use std::{fmt, io};
+use std::fmt;
 use trace_file::WriteFault;
 
 /// Why the program could not do what its words ask for. It prints as the fault's name.
@@ -53,6 +53,22 @@ impl fmt::Display for Fault {
     }
 }
 
+/// The line of a fault, as standard output gets it.
+#[derive(Clone, Copy)]
+pub struct FaultLine(pub Fault);
+
+impl fmt::Display for FaultLine {
+    ghost use Rattle.std.specs.Prelude.{Some};
+    ghost use Rattle.bench_commands.specs.FaultLine.{fault_line};
+
+    ghost output = { λ line. Some (fault_line line.0) };
+
+    fn fmt<W: fmt::Write>(&self, f: &mut fmt::Formatter<W>) -> fmt::Result {
+        let fault = self.0;
+        writeln!(f, "fault: {fault}")
+    }
+}
+
 /// The name of a fault; of one with a place or a line, without it.
 fn word_of(fault: Fault) -> &'static str
     ensures { result.now ≡ fault_word fault }
@@ -83,7 +99,7 @@ fn layout_word(fault: LayoutFault) -> &'static str
     }
 }
 
-fn cause_words(cause: Cause) -> &'static str
+pub(crate) fn cause_words(cause: Cause) -> &'static str
     ensures { result.now ≡ cause_words cause }
 {
     match cause {
@@ -145,23 +161,11 @@ impl From<FromHexError> for Fault {
     }
 }
 
-impl From<io::Error> for Fault {
-    ghost use Rattle.bench_commands.specs.Fault.{IsWritingFault};
-
-    ghost from_gives = { λ _ e. IsWritingFault e };
-
-    fn from(error: io::Error) -> Fault {
-        match error.kind() {
-            io::ErrorKind::OutOfMemory => Fault::Memory,
-            _ => Fault::Write,
-        }
-    }
-}
-
 impl From<TemplateFault> for Fault {
-    ghost use Rattle.bench_commands.specs.Fault.{IsTemplateFault};
+    ghost use Rattle.std.specs.Prelude.{◌≡◌};
+    ghost use Rattle.bench_commands.specs.Fault.{template_fault};
 
-    ghost from_gives = { λ _ e. IsTemplateFault e };
+    ghost from_gives = { λ fault e. e ≡ template_fault fault };
 
     fn from(fault: TemplateFault) -> Fault {
         match fault {

@@ -1,35 +1,55 @@
-ghost use Rattle.std.specs.Prelude.{◌≡◌, ◌≤◌, ℕ, List, Err, IfErr, IfOk, IfSome, OnOk, vec_len};
-ghost use Rattle.bench_commands.specs.Fault.{IsReadingFault, IsWritingFault};
-ghost use Rattle.bench_commands.specs.declared.files.FileFault.TheVariants.{Failed};
+ghost use Rattle.std.specs.Prelude.{◌≡◌, ◌≤◌, ◌∷◌, [], ℕ, List, Option, None, IfErr, IfOk, IfSome, OnErr, OnOk, vec_len};
+ghost use Rattle.bench_commands.specs.Files.{Grows, IsFailure, IsFileFaultOf, Made, most_bytes};
 
-use crate::fault::Fault;
 use std::alloc::Global;
 use std::fs::File;
-use std::io::Read;
+use std::io::{ErrorKind, Read};
 use std::{fs, io};
 
 /// The most bytes that a file may have to be read: 64 MiB.
-pub const LARGEST: u32 = 67_108_864;
+pub fn most_bytes() -> u32
+    ensures { result ≡ most_bytes }
+{
+    67_108_864
+}
 
-/// Why a file was not read or not written.
-#[derive(Clone, Copy, Debug, PartialEq, Eq)]
+/// Why a file was not read or not written, or a text not printed.
+#[derive(Clone, Copy, Debug)]
 pub enum FileFault {
-    /// The system refused it, or the file is too large.
-    Failed,
+    /// The system refused it, or the file is too large: why, in words for people.
+    Failed(&'static str),
     /// No memory was left.
     Memory,
 }
 
 impl From<io::Error> for FileFault {
+    ghost use Rattle.std.specs.IoError.{error_kind};
+
+    ghost from_gives = { λ error e. IsFileFaultOf (error_kind error) e };
+
     fn from(error: io::Error) -> FileFault {
-        match error.kind() {
-            io::ErrorKind::OutOfMemory => FileFault::Memory,
-            _ => FileFault::Failed,
+        if error.kind() == ErrorKind::OutOfMemory {
+            return FileFault::Memory;
         }
+        FileFault::Failed(words_of(error.kind()))
     }
 }
 
-/// Where files are: the system, or what a test has in memory.
+fn words_of(kind: ErrorKind) -> &'static str {
+    match kind {
+        ErrorKind::NotFound => "no such file",
+        ErrorKind::PermissionDenied => "permission denied",
+        ErrorKind::IsADirectory => "it is a directory",
+        ErrorKind::NotADirectory => "a part of its path is not a directory",
+        ErrorKind::InvalidFilename => "a name is too long",
+        ErrorKind::StorageFull => "no space is left",
+        ErrorKind::ReadOnlyFilesystem => "its file system is read-only",
+        ErrorKind::BrokenPipe => "nothing reads from it",
+        _ => "input or output failed",
+    }
+}
+
+/// Where files are: the system, or what a test has in memory. Only what has it by `&mut` can write.
 pub trait Files {
     /// That the file at a path had these bytes when it was read.
     ghost holds: { Self → List ℕ → List ℕ → Type 0 };
@@ -37,42 +57,23 @@ pub trait Files {
     /// That the file at a path could not be read.
     ghost fails: { Self → List ℕ → Type 0 };
 
-    /// That the file at a path was made or replaced, and got these bytes.
-    ghost wrote: { Self → List ℕ → List ℕ → Type 0 };
+    /// The files that were made or replaced, in this order, each with all its bytes; where that is known.
+    ghost made: { Self → Option (List Made) };
 
-    /// All bytes of the file at this path, which are at most `LARGEST`. A larger file is `Failed`.
+    /// That a file could not be made at a path.
+    ghost refuses: { List ℕ → Type 0 };
+
+    /// All bytes of the file at this path, which are at most `most_bytes`. A larger file is `Failed`.
     fn read_all(&self, alloc: Global, path: &str) -> Result<Vec<u8>, FileFault>
-        ensures bound { IfOk result (λ bytes. vec_len bytes ≤ LARGEST) }
+        ensures bound { IfOk result (λ bytes. vec_len bytes ≤ most_bytes) }
         ensures held { IfOk result (λ bytes. holds self.now path.now bytes.items) }
-        ensures failed { result ≡ Err Failed → fails self.now path.now };
+        ensures failed { IfErr result (IsFailure (fails self.now path.now)) };
 
     /// Makes or replaces the file at this path.
-    fn write_all(&self, path: &str, bytes: &[u8]) -> Result<(), FileFault>
-        ensures { OnOk result (wrote self.now path.now bytes.now) };
-}
-
-/// All bytes of the file at this path.
-pub fn read_file<F: Files>(alloc: Global, path: &str, files: &F) -> Result<Vec<u8>, Fault>
-    ensures held { IfOk result (λ bytes. F.holds files.now path.now bytes.items) }
-    ensures refused { IfErr result (IsReadingFault (F.fails files.now path.now)) }
-{
-    match files.read_all(alloc, path) {
-        Ok(bytes) => Ok(bytes),
-        Err(FileFault::Failed) => Err(Fault::Read),
-        Err(FileFault::Memory) => Err(Fault::Memory),
-    }
-}
-
-/// Makes or replaces the file at this path.
-pub fn write_file<F: Files>(path: &str, bytes: &[u8], files: &F) -> Result<(), Fault>
-    ensures written { OnOk result (F.wrote files.now path.now bytes.now) }
-    ensures refused { IfErr result IsWritingFault }
-{
-    match files.write_all(path, bytes) {
-        Ok(()) => Ok(()),
-        Err(FileFault::Failed) => Err(Fault::Write),
-        Err(FileFault::Memory) => Err(Fault::Memory),
-    }
+    fn write_all(&mut self, path: &str, bytes: &[u8]) -> Result<(), FileFault>
+        ensures made { OnOk result (Grows (made self.old) (made self.new) ((path.now, bytes.now) ∷ [])) }
+        ensures kept { OnErr result (made self.new ≡ made self.old) }
+        ensures failed { IfErr result (IsFailure (refuses path.now)) };
 }
 
 /// All that a reader has to give, where that is at most `most` bytes; else `Failed`.
@@ -89,7 +90,7 @@ pub fn read_at_most<R: Read + Drop>(
     let mut bytes = Vec::new(alloc);
     reader.take(most + 1).read_to_end(&mut bytes)?;
     if bytes.len() as u64 > most {
-        return Err(FileFault::Failed);
+        return Err(FileFault::Failed("it is larger than 64 MiB"));
     }
     Ok(bytes)
 }
@@ -106,13 +107,15 @@ impl<R: std::rt::Files> Files for SystemFiles<'_, R> {
 
     ghost fails = { λ _ _. Unit {0} };
 
-    ghost wrote = { λ _ _ _. Unit {0} };
+    ghost made = { λ _. None };
+
+    ghost refuses = { λ _. Unit {0} };
 
     fn read_all(&self, alloc: Global, path: &str) -> Result<Vec<u8>, FileFault> {
-        read_at_most(alloc, File::open(self.rt, path)?, LARGEST)
+        read_at_most(alloc, File::open(self.rt, path)?, most_bytes())
     }
 
-    fn write_all(&self, path: &str, bytes: &[u8]) -> Result<(), FileFault> {
+    fn write_all(&mut self, path: &str, bytes: &[u8]) -> Result<(), FileFault> {
         fs::write(self.rt, path, bytes)?;
         Ok(())
     }

@@ -1,22 +1,29 @@
 //! What the program does for each of its commands, from its words to the status that it ends with: what it reads,
-//! prints and writes, and the fault of each that is refused.
+//! makes and prints, and the fault of each that is refused.
 #![tactic(auto)]
 
 mod answer;
 pub mod answers;
+mod blame;
 pub mod demo;
 mod fault;
 pub mod files;
 pub mod hex_text;
 pub mod loading;
+mod output;
 mod program;
+mod refusal;
 pub mod runs;
 mod status;
 mod system;
+mod telling;
 pub mod texts;
 
-pub use answer::{Answer, say};
-pub use fault::Fault;
-pub use program::{command, perform, print_fault, refuse, tell};
+pub use answer::{Answer, NewFile, deliver};
+pub use fault::{Fault, FaultLine};
+pub use output::Output;
+pub use program::{answer_to, command};
+pub use refusal::{Refusal, Why, complaint};
 pub use status::Status;
-pub use system::start;
+pub use system::{conclude, start};
+pub use telling::tell;

@@ -1,51 +1,109 @@
 //! Scenarios and traces, read from files.
-ghost use Rattle.std.specs.Prelude.{IfErr, IfOk};
+ghost use Rattle.std.specs.Prelude.{◌≡◌, IfErr, IfOk, Some, option_map};
+ghost use Rattle.bench_commands.specs.Fault.{IsReadingFault};
 ghost use Rattle.bench_commands.specs.Jobs.{IsImageFault, IsScenarioAt, IsTraceAt, IsTraceFault};
 ghost use Rattle.bench_commands.specs.Texts.{IsTextAt, IsTextFault};
 
+use crate::blame::blame;
 use crate::fault::Fault;
-use crate::files::{Files, read_file};
+use crate::files::{FileFault, Files};
+use crate::refusal::{Refusal, Why};
 use scenario_asm::assemble;
 use scenario_image::{Scenario, load};
 use std::alloc::Global;
 use std::str;
 use trace_file::{Entries, read_entries};
 
+/// All bytes of the file at this path.
+fn read_file<'a, F: Files>(alloc: Global, path: &'a str, files: &F) -> Result<Vec<u8>, Refusal<'a>>
+    ensures held { IfOk result (λ bytes. F.holds files.now path.entry.now bytes.items) }
+    ensures refused { IfErr result (λ r. IsReadingFault (F.fails files.now path.entry.now) r.fault) }
+    ensures named { IfErr result (λ r. option_map (λ p. p.now) r.about ≡ Some path.entry.now) }
+{
+    match files.read_all(alloc, path) {
+        Ok(bytes) => Ok(bytes),
+        Err(FileFault::Failed(why)) => Err(Refusal {
+            fault: Fault::Read,
+            about: Some(path),
+            why: Why::Known(why),
+        }),
+        Err(FileFault::Memory) => Err(refused_file(path, Fault::Memory)),
+    }
+}
+
+/// The refusal of a file for a fault whose name says why.
+fn refused_file<'a>(path: &'a str, fault: Fault) -> Refusal<'a>
+    ensures fault { result.fault ≡ fault }
+    ensures named { option_map (λ p. p.now) result.about ≡ Some path.entry.now }
+{
+    Refusal {
+        fault,
+        about: Some(path),
+        why: Why::Named,
+    }
+}
+
 /// The scenario whose image the file at this path is.
 #[tactic(auto, using(crate::proofs::Faults::reading_file, crate::proofs::Faults::broken_at, crate::proofs::Built::scenario_at))]
-pub fn load_scenario<F: Files>(alloc: Global, path: &str, files: &F) -> Result<Scenario, Fault>
-    ensures found { IfOk result (IsScenarioAt (F.holds files.now) path.now) }
-    ensures refused { IfErr result (IsImageFault (F.holds files.now) (F.fails files.now) path.now) }
+pub fn load_scenario<'a, F: Files>(
+    alloc: Global,
+    path: &'a str,
+    files: &F,
+) -> Result<Scenario, Refusal<'a>>
+    ensures found { IfOk result (IsScenarioAt (F.holds files.now) path.entry.now) }
+    ensures refused { IfErr result (λ r. IsImageFault (F.holds files.now) (F.fails files.now) path.entry.now r.fault) }
+    ensures named { IfErr result (λ r. option_map (λ p. p.now) r.about ≡ Some path.entry.now) }
 {
     let bytes = read_file(alloc, path, files)?;
     match load(alloc, bytes.as_slice()) {
         Ok(scenario) => Ok(scenario),
-        Err(fault) => Err(Fault::from(fault)),
+        Err(fault) => Err(refused_file(path, Fault::from(fault))),
     }
 }
 
 /// The scenario that the text in the file at this path denotes.
 #[tactic(auto, using(crate::proofs::Faults::reading_text, crate::proofs::Faults::no_text, crate::proofs::Faults::wrong_text, crate::proofs::Built::text_at))]
-pub fn load_text<F: Files>(alloc: Global, path: &str, files: &F) -> Result<Scenario, Fault>
-    ensures found { IfOk result (IsTextAt (F.holds files.now) path.now) }
-    ensures refused { IfErr result (IsTextFault (F.holds files.now) (F.fails files.now) path.now) }
+pub fn load_text<'a, F: Files>(
+    alloc: Global,
+    path: &'a str,
+    files: &F,
+) -> Result<Scenario, Refusal<'a>>
+    ensures found { IfOk result (IsTextAt (F.holds files.now) path.entry.now) }
+    ensures refused { IfErr result (λ r. IsTextFault (F.holds files.now) (F.fails files.now) path.entry.now r.fault) }
+    ensures named { IfErr result (λ r. option_map (λ p. p.now) r.about ≡ Some path.entry.now) }
 {
     let bytes = read_file(alloc, path, files)?;
-    match str::from_utf8(bytes.as_slice()) {
-        Ok(text) => Ok(assemble(alloc, text)?),
-        Err(_) => Err(Fault::Read),
+    let Ok(text) = str::from_utf8(bytes.as_slice()) else {
+        return Err(Refusal {
+            fault: Fault::Read,
+            about: Some(path),
+            why: Why::Known("it is not a text in UTF-8"),
+        });
+    };
+    match assemble(alloc, text) {
+        Ok(scenario) => Ok(scenario),
+        Err(fault) => Err(Refusal {
+            fault: Fault::from(fault),
+            about: Some(path),
+            why: blame(alloc, text, fault),
+        }),
     }
 }
 
 /// The entries whose trace file the file at this path is.
 #[tactic(auto, using(crate::proofs::Faults::reading_file, crate::proofs::Faults::broken_at, crate::proofs::Built::trace_at))]
-pub fn load_trace<F: Files>(alloc: Global, path: &str, files: &F) -> Result<Entries, Fault>
-    ensures found { IfOk result (IsTraceAt (F.holds files.now) path.now) }
-    ensures refused { IfErr result (IsTraceFault (F.holds files.now) (F.fails files.now) path.now) }
+pub fn load_trace<'a, F: Files>(
+    alloc: Global,
+    path: &'a str,
+    files: &F,
+) -> Result<Entries, Refusal<'a>>
+    ensures found { IfOk result (IsTraceAt (F.holds files.now) path.entry.now) }
+    ensures refused { IfErr result (λ r. IsTraceFault (F.holds files.now) (F.fails files.now) path.entry.now r.fault) }
+    ensures named { IfErr result (λ r. option_map (λ p. p.now) r.about ≡ Some path.entry.now) }
 {
     let bytes = read_file(alloc, path, files)?;
     match read_entries(alloc, bytes.as_slice()) {
         Ok(entries) => Ok(entries),
-        Err(broken) => Err(Fault::from(broken)),
+        Err(fault) => Err(refused_file(path, Fault::from(fault))),
     }
 }

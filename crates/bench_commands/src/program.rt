@@ -1,106 +1,87 @@
 //! One command: its words, its answer, and the status that the program ends with.
-ghost use Rattle.std.specs.Prelude.{◌≡◌, ◌⊎◌, IfErr, IfOk, OnOk, map};
-ghost use Rattle.std.specs.Io.KnownBytes.{Appends};
+ghost use Rattle.std.specs.Prelude.{◌≡◌, IfErr, IfOk, map};
 ghost use Rattle.std.specs.String.{string_bytes};
-ghost use Rattle.bench_commands.specs.FaultLine.{fault_line};
-ghost use Rattle.bench_commands.specs.Command.{Ends, IsCommandFault, IsDone, IsRefused};
+ghost use Rattle.bench_commands.specs.Answers.{files_of};
+ghost use Rattle.bench_commands.specs.Command.{Ends, IsAnswerTo, IsAnswered, IsDone, IsRefused, IsRefusedJob, IsUndone};
 
+use crate::answer::{Answer, deliver};
+use crate::answers;
 use crate::files::Files;
-use crate::{Fault, Status, answers};
-use bench_words::{Asked, Job, NO_TEXT, read};
+use crate::output::Output;
+use crate::refusal::Refusal;
+use crate::status::Status;
+use crate::telling::tell;
+use bench_words::{Asked, Job, read};
 use std::alloc::Global;
-use std::io::{self, BufRead, ErrorKind, Write};
 
-/// Does what the words ask for, of which the first is the program's name. Each line of the answer,
-/// a fault's and the text on how to use the program go to the writer.
-pub fn command<R, F: Files, B: BufRead, W: Write>(
-    _rt: &R,
+/// Does what the words ask for, of which the first is the program's name. The file of the answer is made, and then its
+/// lines go to `output`; or a fault's line does, and what it is about to `errors`.
+#[tactic(auto, using(crate::proofs::Ended::answered, crate::proofs::Ended::faulted))]
+pub fn command<F: Files, O: Output, E: Output>(
     alloc: Global,
     words: &[String],
-    files: &F,
-    _reader: &mut B,
-    writer: &mut W,
+    files: &mut F,
+    output: &mut O,
+    errors: &mut E,
 ) -> Status
-    ensures { Ends (F.holds files.now) (F.fails files.now) (F.wrote files.now)
-        (Appends (W.contents writer.old) (W.contents writer.new)) (map string_bytes words.now) result }
+    ensures { Ends (F.holds files.old) (F.fails files.old) F.refuses (F.made files.old) (F.made files.new)
+        O.refuses (O.taken output.old) (O.taken output.new) E.refuses (E.taken errors.old) (E.taken errors.new)
+        (map string_bytes words.now) result }
 {
-    match act(alloc, words, files, writer) {
+    match perform(alloc, words, files, output) {
         Ok(status) => status,
-        Err(fault) => tell(fault, writer),
+        Err(refusal) => tell(alloc, &refusal, output, errors),
     }
 }
 
-fn act<F: Files, W: Write>(
+#[tactic(auto, using(crate::proofs::Ended::answered_if, crate::proofs::Ended::no_memory, crate::proofs::Ended::refused_so, crate::proofs::Ended::undelivered_so))]
+fn perform<'a, F: Files, O: Output>(
     alloc: Global,
-    words: &[String],
-    files: &F,
-    writer: &mut W,
-) -> Result<Status, Fault>
-    ensures done { IfOk result (Ends (F.holds files.now) (F.fails files.now) (F.wrote files.now)
-        (Appends (W.contents writer.old) (W.contents writer.new)) (map string_bytes words.now)) }
-    ensures refused { IfErr result (IsCommandFault (F.holds files.now) (F.fails files.now) (map string_bytes words.now)) }
+    words: &'a [String],
+    files: &mut F,
+    output: &mut O,
+) -> Result<Status, Refusal<'a>>
+    ensures done { IfOk result (IsAnswered (F.holds files.old) (F.made files.old) (F.made files.new)
+        (O.taken output.old) (O.taken output.new) (map string_bytes words.entry.now)) }
+    ensures refused { IfErr result (λ r.
+        IsUndone (F.holds files.old) (F.fails files.old) F.refuses (F.made files.old) (F.made files.new)
+        O.refuses (O.taken output.old) (O.taken output.new) (map string_bytes words.entry.now) r.fault) }
 {
-    match read(alloc, words)? {
-        Asked::Job(job) => perform(alloc, job, files, writer),
-        Asked::Text { text, is_mistake } => {
-            writer.write_all(text.as_bytes())?;
-            writer.flush()?;
-            Ok(if is_mistake {
-                Status::Usage
-            } else {
-                Status::Done
-            })
-        }
+    let asked = read(alloc, words)?;
+    let answer = answer_to(alloc, asked, files)?;
+    deliver(&answer, files, output)
+}
+
+/// What the program answers to these words.
+pub fn answer_to<'a, F: Files>(
+    alloc: Global,
+    asked: Asked<'a>,
+    files: &F,
+) -> Result<Answer<'a>, Refusal<'a>>
+    ensures done { IfOk result (λ a.
+        IsAnswerTo (F.holds files.now) asked.entry a.status (string_bytes a.text) (files_of a.file)) }
+    ensures refused { IfErr result (λ r. IsRefused (F.holds files.now) (F.fails files.now) asked.entry r.fault) }
+{
+    match asked {
+        Asked::Job(job) => answer_to_job(alloc, job, files),
+        Asked::Text { text, is_mistake } => Ok(Answer::printed(Status::of_text(is_mistake), text)),
     }
 }
 
-/// Does one thing, and prints its answer.
-pub fn perform<F: Files, W: Write>(
+fn answer_to_job<'a, F: Files>(
     alloc: Global,
-    job: Job,
+    job: Job<'a>,
     files: &F,
-    writer: &mut W,
-) -> Result<Status, Fault>
-    ensures done { IfOk result (IsDone (F.holds files.now) (F.wrote files.now)
-        (Appends (W.contents writer.old) (W.contents writer.new)) job.entry) }
-    ensures refused { IfErr result (IsRefused (F.holds files.now) (F.fails files.now) job.entry) }
+) -> Result<Answer<'a>, Refusal<'a>>
+    ensures done { IfOk result (λ a.
+        IsDone (F.holds files.now) job.entry a.status (string_bytes a.text) (files_of a.file)) }
+    ensures refused { IfErr result (λ r. IsRefusedJob (F.holds files.now) (F.fails files.now) job.entry r.fault) }
 {
     match job {
-        Job::One { hex } => answers::one(alloc, hex, writer),
-        Job::Asm { input, output } => answers::asm(alloc, input, output, files, writer),
-        Job::Dis { input } => answers::dis(alloc, input, files, writer),
-        Job::Run { image, trace } => answers::run(alloc, image, trace, files, writer),
-        Job::Check { image, trace } => answers::check(alloc, image, trace, files, writer),
-    }
-}
-
-/// Prints the line of a fault. Where that fails too the status alone tells of it.
-pub fn tell<W: Write>(fault: Fault, writer: &mut W) -> Status
-    ensures { result ≡ Status.Fault }
-{
-    let _ = print_fault(fault, writer);
-    Status::Fault
-}
-
-/// Prints the line of a fault.
-pub fn print_fault<W: Write>(fault: Fault, writer: &mut W) -> io::Result<()>
-    ensures { OnOk result (Appends (W.contents writer.old) (W.contents writer.new) (fault_line fault)) }
-{
-    writeln!(writer, "fault: {fault}")?;
-    writer.flush()
-}
-
-/// Answers where the words could not be had at all: one of them is no text, or memory ran out.
-pub fn refuse<W: Write>(why: ErrorKind, writer: &mut W) -> Status
-    ensures ends { (result ≡ Status.Usage) ⊎ (result ≡ Status.Fault) }
-    ensures memory { why ≡ ErrorKind.OutOfMemory → result ≡ Status.Fault }
-    ensures printed { result ≡ Status.Usage → Appends (W.contents writer.old) (W.contents writer.new) NO_TEXT.now }
-{
-    match why {
-        ErrorKind::OutOfMemory => tell(Fault::Memory, writer),
-        _ => match writer.write_all(NO_TEXT.as_bytes()) {
-            Ok(()) => Status::Usage,
-            Err(error) => tell(Fault::from(error), writer),
-        },
+        Job::One { hex } => answers::one(alloc, hex),
+        Job::Asm { input, output } => answers::asm(alloc, input, output, files),
+        Job::Dis { input } => answers::dis(alloc, input, files),
+        Job::Run { image, trace } => answers::run(alloc, image, trace, files),
+        Job::Check { image, trace } => answers::check(alloc, image, trace, files),
     }
 }

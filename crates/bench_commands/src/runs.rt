@@ -1,76 +1,73 @@
 //! What the program answers to the words that are about runs: `run` and `check`.
-ghost use Rattle.std.specs.Prelude.{◌≡◌, length, option_map, IfErr, IfOk, IfSome, OnOk};
+ghost use Rattle.std.specs.Prelude.{◌≡◌, [], length, option_map, IfErr, IfOk};
 ghost use Rattle.std.specs.String.{string_bytes};
 ghost use Rattle.bench_commands.specs.Runs.{device_word, device_words, done_line, end_line, end_status, stalled_line, stalled_text, verdict_line, verdict_status};
 ghost use Rattle.fleet_core.specs.Waiting.{waiting};
-ghost use Rattle.bench_commands.specs.Serial.{IsJudged, IsRunFault, IsSavedAt, IsSavingFault, IsSerialRun};
+ghost use Rattle.bench_commands.specs.Answers.{files_of};
+ghost use Rattle.bench_commands.specs.Serial.{IsJudged, IsRunFault, IsSavedAs, IsSavingFault, IsSerialRun};
 
-use crate::answer::Answer;
+use crate::answer::{Answer, NewFile};
 use crate::fault::Fault;
-use crate::files::{Files, write_file};
 use crate::status::Status;
 use fleet_core::{Verdict, check, run_serial, unfinished};
 use scenario_image::Scenario;
 use std::alloc::{AllocError, Global};
 use trace_file::{Entry, write_entries};
 
-/// The serial run of a scenario, whose trace file is written to the path, if there is one; and what is said of it.
-#[tactic(auto, using(crate::proofs::Faults::unsaved_run, crate::proofs::Built::serial_run))]
-pub fn run_scenario<F: Files>(
+/// The serial run of a scenario: what is said of it, and its trace file for the path, if there is one.
+#[tactic(auto, using(crate::proofs::Built::serial_run, crate::proofs::Faults::unsaved_run))]
+pub fn run_scenario<'a>(
     alloc: Global,
     scenario: &Scenario,
-    trace: Option<&str>,
-    files: &F,
-) -> Result<Answer, Fault>
+    trace: Option<&'a str>,
+) -> Result<Answer<'a>, Fault>
     ensures done { IfOk result (λ a.
-        IsSerialRun (F.wrote files.now) scenario.now (option_map (λ p. p.now) trace.entry) a.status (string_bytes a.text)) }
+        IsSerialRun scenario.now (option_map (λ p. p.now) trace.entry) a.status (string_bytes a.text) (files_of a.file)) }
     ensures refused { IfErr result (IsRunFault scenario.now) }
 {
     let entries = run_serial(alloc, scenario)?;
-    let answer = end_of(alloc, scenario, entries.as_slice())?;
-    save_if_asked(alloc, trace, entries.as_slice(), files)?;
-    Ok(answer)
+    let ended = end_of(alloc, scenario, entries.as_slice())?;
+    let file = trace_file(alloc, trace, entries.as_slice())?;
+    Ok(Answer {
+        status: ended.status,
+        text: ended.text,
+        file,
+    })
 }
 
-/// Writes the trace file of the entries to the path, if there is one.
-fn save_if_asked<F: Files>(
+/// The trace file of the entries for the path, if there is one.
+#[tactic(auto, using(crate::proofs::Faults::unsaved, crate::proofs::Built::not_saved, crate::proofs::Built::saved_as))]
+fn trace_file<'a>(
     alloc: Global,
-    trace: Option<&str>,
+    trace: Option<&'a str>,
     entries: &[Entry],
-    files: &F,
-) -> Result<(), Fault>
-    ensures saved { OnOk result (IfSome (option_map (λ p. p.now) trace.entry) (λ path. IsSavedAt (F.wrote files.now) path entries.now)) }
+) -> Result<Option<NewFile<'a>>, Fault>
+    ensures saved { IfOk result (λ file. IsSavedAs (option_map (λ p. p.now) trace.entry) entries.now (files_of file)) }
     ensures refused { IfErr result (IsSavingFault entries.now) }
 {
     match trace {
-        Some(path) => save_trace(alloc, path, entries, files),
-        None => Ok(()),
+        Some(path) => {
+            let bytes = write_entries(alloc, entries)?;
+            Ok(Some(NewFile { path, bytes }))
+        }
+        None => Ok(None),
     }
 }
 
-/// Writes the trace file of the entries to the path.
-#[tactic(auto, using(crate::proofs::Faults::unsaved, crate::proofs::Faults::unwritten, crate::proofs::Built::saved_at))]
-fn save_trace<F: Files>(
-    alloc: Global,
-    path: &str,
-    entries: &[Entry],
-    files: &F,
-) -> Result<(), Fault>
-    ensures saved { OnOk result (IsSavedAt (F.wrote files.now) path.now entries.now) }
-    ensures refused { IfErr result (IsSavingFault entries.now) }
-{
-    let bytes = write_entries(alloc, entries)?;
-    write_file(path, bytes.as_slice(), files)?;
-    Ok(())
+/// How a run ended, or what a trace is.
+#[derive(Drop)]
+struct Ending {
+    status: Status,
+    text: String,
 }
 
 /// What is said of entries that end a run: how many there are, and the devices that are not at the end of their rows.
-fn end_of(alloc: Global, scenario: &Scenario, entries: &[Entry]) -> Result<Answer, AllocError>
+fn end_of(alloc: Global, scenario: &Scenario, entries: &[Entry]) -> Result<Ending, AllocError>
     ensures text { IfOk result (λ a. string_bytes a.text ≡ end_line (length entries.now) (waiting scenario.now entries.now)) }
     ensures status { IfOk result (λ a. a.status ≡ end_status (waiting scenario.now entries.now)) }
 {
     let waiting = unfinished(alloc, scenario, entries)?;
-    Ok(Answer {
+    Ok(Ending {
         status: end_status(waiting.as_slice()),
         text: end_line(alloc, entries.len(), waiting.as_slice())?,
     })
@@ -132,14 +129,17 @@ fn device_word(alloc: Global, device: u16) -> Result<String, AllocError>
 
 /// Whether the entries are a run of the scenario, and what is said of that.
 #[tactic(auto, using(crate::proofs::Built::judged_as))]
-pub fn judge(alloc: Global, scenario: &Scenario, entries: &[Entry]) -> Result<Answer, AllocError>
-    ensures { IfOk result (λ a. IsJudged scenario.now entries.now a.status (string_bytes a.text)) }
+pub fn judge<'a>(
+    alloc: Global,
+    scenario: &Scenario,
+    entries: &[Entry],
+) -> Result<Answer<'a>, AllocError>
+    ensures judged { IfOk result (λ a. IsJudged scenario.now entries.now a.status (string_bytes a.text)) }
+    ensures made { IfOk result (λ a. files_of a.file ≡ []) }
 {
     let verdict = check(alloc, scenario, entries)?;
-    Ok(Answer {
-        status: verdict_status(verdict),
-        text: verdict_line(alloc, verdict)?,
-    })
+    let text = verdict_line(alloc, verdict)?;
+    Ok(Answer::printed(verdict_status(verdict), text))
 }
 
 fn verdict_status(verdict: Verdict) -> Status

@@ -1,5 +1,5 @@
 ghost use Rattle.std.specs.Prelude.{◌≡◌};
-ghost use Rattle.bench_commands.specs.Status.{exit_code};
+ghost use Rattle.bench_commands.specs.Status.{exit_code, text_status};
 
 /// How the program ends.
 #[derive(Clone, Copy, Debug, PartialEq, Eq)]
@@ -15,6 +15,17 @@ pub enum Status {
 }
 
 impl Status {
+    /// How the program ends that prints a text on how to use it.
+    pub fn of_text(is_mistake: bool) -> Status
+        ensures { result ≡ text_status is_mistake }
+    {
+        if is_mistake {
+            Status::Usage
+        } else {
+            Status::Done
+        }
+    }
+
     /// The exit status of the program.
     pub fn code(self) -> u8
         ensures { result ≡ exit_code self }

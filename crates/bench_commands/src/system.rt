@@ -1,25 +1,87 @@
-//! The program, over the words, the files and the output of the system.
+//! The program, over the words, the files and the streams of the system.
+ghost use Rattle.std.specs.Prelude.{◌≡◌, IfErr, IfOk, map};
+ghost use Rattle.std.specs.Process.{exit_status};
+ghost use Rattle.std.specs.String.{string_bytes};
+ghost use Rattle.bench_commands.specs.Command.{Ends};
+ghost use Rattle.bench_commands.specs.Status.{exit_code};
+ghost use Rattle.bench_commands.specs.Unread.{EndsUnread};
+ghost use Rattle.bench_commands.specs.declared.status.Status.{Status as Ending};
+
+use crate::answer::unwritten;
 use crate::fault::Fault;
-use crate::files::SystemFiles;
-use crate::program::{command, refuse, tell};
+use crate::files::{Files, SystemFiles};
+use crate::output::Output;
+use crate::program::command;
+use crate::refusal::Refusal;
+use crate::status::Status;
+use crate::telling::tell;
+use bench_words::NO_TEXT;
+use std::alloc::Global;
+use std::io::ErrorKind;
 use std::process::ExitCode;
 use std::{env, io};
 
-/// Does what the words of the command line ask for, and returns the status that the program ends with.
+/// Does what the words of the command line ask for, over the system's files and streams.
 pub fn start(rt: &HostRuntime) -> ExitCode {
-    let alloc = rt.alloc();
-    let files = SystemFiles { rt };
-    let mut reader = rt.reader();
-    let mut writer = io::writer(rt);
-    let status = match env::args(rt) {
-        Ok(args) => match args.collect::<Vec<String>>(alloc) {
-            Ok(words) => {
-                let words = words.as_slice();
-                command(rt, alloc, words, &files, &mut reader, &mut writer)
-            }
-            Err(_) => tell(Fault::Memory, &mut writer),
+    let words = words_of(rt);
+    conclude(
+        rt.alloc(),
+        words,
+        &mut SystemFiles { rt },
+        &mut io::writer(rt),
+        &mut rt.stderr(),
+    )
+}
+
+fn words_of(rt: &HostRuntime) -> Result<Vec<String>, ErrorKind> {
+    match env::args(rt) {
+        Ok(args) => match args.collect::<Vec<String>>(rt.alloc()) {
+            Ok(words) => Ok(words),
+            Err(_) => Err(ErrorKind::OutOfMemory),
         },
-        Err(error) => refuse(error.kind(), &mut writer),
+        Err(error) => Err(error.kind()),
+    }
+}
+
+/// The whole program: from its words, or why they could not be had, to the status that its process ends with.
+pub fn conclude<F: Files, O: Output, E: Output>(
+    alloc: Global,
+    words: Result<Vec<String>, ErrorKind>,
+    files: &mut F,
+    output: &mut O,
+    errors: &mut E,
+) -> ExitCode
+    ensures ran { IfOk words (λ words. (status : Ending) × (exit_status result ≡ exit_code status)
+        × Ends (F.holds files.old) (F.fails files.old) F.refuses (F.made files.old) (F.made files.new)
+        O.refuses (O.taken output.old) (O.taken output.new) E.refuses (E.taken errors.old) (E.taken errors.new)
+        (map string_bytes words.items) status) }
+    ensures unread { IfErr words (λ why. (status : Ending) × (exit_status result ≡ exit_code status)
+        × EndsUnread O.refuses (O.taken output.old) (O.taken output.new) E.refuses (E.taken errors.old) (E.taken errors.new)
+        NO_TEXT.now why status) }
+{
+    let status = match words {
+        Ok(words) => command(alloc, words.as_slice(), files, output, errors),
+        Err(why) => refuse(alloc, why, output, errors),
     };
     ExitCode::from(status.code())
+}
+
+/// Answers where the words could not be had at all: one of them is not a text, or memory ran out.
+#[tactic(auto, using(crate::proofs::Unread::used, crate::proofs::Unread::no_memory, crate::proofs::Unread::lost, crate::proofs::Delivered::unwritten))]
+fn refuse<O: Output, E: Output>(
+    alloc: Global,
+    why: ErrorKind,
+    output: &mut O,
+    errors: &mut E,
+) -> Status
+    ensures { EndsUnread O.refuses (O.taken output.old) (O.taken output.new)
+        E.refuses (E.taken errors.old) (E.taken errors.new) NO_TEXT.now why result }
+{
+    if why == ErrorKind::OutOfMemory {
+        return tell(alloc, &Refusal::from(Fault::Memory), output, errors);
+    }
+    match output.print(NO_TEXT) {
+        Ok(()) => Status::Usage,
+        Err(fault) => tell(alloc, &unwritten("standard output", fault), output, errors),
+    }
 }

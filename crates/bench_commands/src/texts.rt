@@ -1,28 +1,25 @@
-//! What becomes of a scenario whose text was read: its image, written, and the line that counts what it has.
-ghost use Rattle.std.specs.Prelude.{◌≡◌, IfErr, IfOk, OnOk};
+//! What becomes of a scenario whose text was read: its image, and the line that counts what it has.
+ghost use Rattle.std.specs.Prelude.{◌≡◌, IfOk};
 ghost use Rattle.std.specs.String.{string_bytes};
-ghost use Rattle.bench_commands.specs.Fault.{IsWritingFault};
-ghost use Rattle.bench_commands.specs.Texts.{IsImageAt, count_line, ok_line};
+ghost use Rattle.scenario_image.specs.Image.{IsImage};
+ghost use Rattle.bench_commands.specs.Texts.{count_line, ok_line};
 
-use crate::fault::Fault;
-use crate::files::{Files, write_file};
+use crate::answer::NewFile;
+use octets::Bytes;
 use scenario_image::{Scenario, save};
 use std::alloc::{AllocError, Global};
 
-/// Writes the image of a scenario to the path.
-#[tactic(auto, using(crate::proofs::Built::image_at))]
-pub fn save_scenario<F: Files>(
+/// The image of a scenario, for the path.
+pub fn image_file<'a>(
     alloc: Global,
     scenario: &Scenario,
-    path: &str,
-    files: &F,
-) -> Result<(), Fault>
-    ensures saved { OnOk result (IsImageAt (F.wrote files.now) path.now scenario.now) }
-    ensures refused { IfErr result IsWritingFault }
+    path: &'a str,
+) -> Result<NewFile<'a>, AllocError>
+    ensures path { IfOk result (λ f. f.path.now ≡ path.entry.now) }
+    ensures image { IfOk result (λ f. IsImage f.bytes scenario.now) }
 {
-    let image = save(alloc, scenario)?;
-    write_file(path, image.as_slice(), files)?;
-    Ok(())
+    let bytes = Bytes::from_vec(save(alloc, scenario)?);
+    Ok(NewFile { path, bytes })
 }
 
 /// The line that says how many classes, devices and steps a scenario has.

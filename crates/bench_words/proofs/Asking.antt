@@ -1,9 +1,11 @@
 -- What the words ask for: a subcommand whose value is missing asks for nothing.
-use Rattle.std.proofs.Common.{◌≡◌, ◌⊎◌, Bool, true, false, not, ◌&&◌, List, None, codes, rules, refl, inl, inr, ap, ◌∙◌}
-use Rattle.clap.specs.Words.{App, Row, Text as Word, first_of, takes}
+use Rattle.std.proofs.Common.{◌≡◌, ◌≢◌, ◌⊎◌, ◌↔◌, IsTrue, Bool, true, false, not, ◌&&◌, List, [], None, codes, rules, refl, inl, inr, ap, subst}
+use Rattle.clap.specs.Words.{App, HasKind, IsAmong, Row, Text as Word, fault_of, first_of, is_simple_and_free, kind_of}
+use Rattle.clap.specs.declared.error.Error.{Error}
+use Rattle.clap.specs.declared.error.kind.ErrorKind.TheVariants as kind
 use Rattle.bench_words.specs.declared.words.Job.{Job}
 use Rattle.bench_words.specs.declared.words.Job.TheVariants as jobs
-use Rattle.bench_words.specs.Words.{AsksFor, AsksNothing, bench_app}
+use Rattle.bench_words.specs.Words.{AsksFor, IsRefusedAs, bench_app, refusals}
 
 pub no_one : (rows : List Row) (job : Job) → first_of (codes "HEX") rows ≡ None → AsksFor (codes "one", rows) job → ⊥
 no_one rows (jobs.One hex) none asks = search rules
@@ -42,6 +44,11 @@ no_check rows (jobs.Run image trace) none asks = search rules
 no_check rows (jobs.Check image trace) (inl none) asks = search rules
 no_check rows (jobs.Check image trace) (inr none) asks = search rules
 
+-- the second of two, where the first is not
+pub second_of : {A B : Type 0} → A ⊎ B → (A → ⊥) → B
+second_of (inl a) without = absurd (without a)
+second_of (inr b) without = b
+
 -- what is plain has no global argument
 pub is_local : (groups external globals rest : Bool) → (groups && (not external && (not globals && rest))) ≡ true → globals ≡ false
 is_local true false false rest plain = refl
@@ -49,6 +56,21 @@ is_local true false true rest plain = search rules
 is_local true true globals rest plain = search rules
 is_local false external globals rest plain = search rules
 
--- words that were refused, and not for want of memory, are not taken
-pub not_taken : {K : Type 0} → (app : App) (words : List Word) (kind out : K) → app ≡ bench_app → (takes app words ≡ true → kind ≡ out) → (kind ≡ out → ⊥) → AsksNothing words
-not_taken app words kind out same passes other taken job asked = absurd (other (passes (ap (λ (a : App). takes a words) same ∙ taken)))
+-- an error that is not want of memory is one of those that the words may have
+pub refused_as : (app : App) (words : List Word) (e : Error) (is_mistake : Bool) → app ≡ bench_app
+    → (is_simple_and_free app ≡ true → HasKind (fault_of app words) e) → (kind_of e ≢ kind.OutOfMemory)
+    → (IsTrue is_mistake ↔ ((kind_of e ≢ kind.DisplayHelp) × (kind_of e ≢ kind.DisplayVersion)))
+    → IsRefusedAs (refusals words) is_mistake
+unfolding refusals
+refused_as app words e is_mistake same kinds other mistake =
+    let simple : is_simple_and_free app ≡ true = ap is_simple_and_free same in
+    let among : IsAmong (kind_of e) (fault_of bench_app words) =
+    subst (λ a. IsAmong (kind_of e) (fault_of a words)) same (second_of (kinds simple) other) in
+    (kind_of e, among, mistake)
+
+-- words that were taken have no error
+pub taken_whole : (app : App) (words : List Word) → app ≡ bench_app → (is_simple_and_free app ≡ true → fault_of app words ≡ []) → refusals words ≡ []
+unfolding refusals
+taken_whole app words same kinds =
+    let simple : is_simple_and_free app ≡ true = ap is_simple_and_free same in
+    subst (λ a. fault_of a words ≡ []) same (kinds simple)

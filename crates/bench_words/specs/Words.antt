@@ -1,6 +1,8 @@
 -- The words of the command line: which `clap` takes, and what they then ask for.
-use Rattle.std.specs.Prelude.{◌≡◌, true, List, Some, option_map, codes}
-use Rattle.clap.specs.Words.{App, Row, Rule, Text as Word, first_of, new_app, new_rule, subcommand_of, takes, with_rule, with_subcommand}
+use Rattle.std.specs.Prelude.{◌≡◌, ◌≢◌, ◌↔◌, ◌⊎◌, Bool, true, IsTrue, List, [], Some, option_map, codes}
+use Rattle.clap.specs.Words.{App, IsAmong, Row, Rule, Text as Word, fault_of, first_of, new_app, new_rule, subcommand_of, with_rule, with_subcommand}
+use Rattle.clap.specs.declared.error.kind.ErrorKind.{ErrorKind}
+use Rattle.clap.specs.declared.error.kind.ErrorKind.TheVariants.{DisplayHelp, DisplayVersion}
 use Rattle.bench_words.specs.declared.words.Job.{Job}
 use Rattle.bench_words.specs.declared.words.Job.TheVariants as jobs
 use Rattle.bench_words.specs.declared.words.Asked.{Asked}
@@ -36,15 +38,15 @@ run_app = with_rule (with_rule (new_app (codes "run")) (needed (codes "IMAGE")))
 abbrev pub check_app : App
 check_app = with_rule (with_rule (new_app (codes "check")) (needed (codes "IMAGE"))) (needed (codes "TRACE"))
 
--- a subcommand has to be there
-abbrev pub with_need : App → App
-with_need a = record a { top = record a.top { subcommand_required = true } }
+-- a subcommand has to be there, and there is a version
+abbrev pub with_settings : App → App
+with_settings a = record a { top = record a.top { subcommand_required = true; has_version = true } }
 
 -- the program
 abbrev pub bench_app : App
 bench_app =
     with_subcommand
-    (with_subcommand (with_subcommand (with_subcommand (with_subcommand (with_need (new_app (codes "lwbench"))) one_app.top) asm_app.top) dis_app.top) run_app.top)
+    (with_subcommand (with_subcommand (with_subcommand (with_subcommand (with_settings (new_app (codes "lwbench"))) one_app.top) asm_app.top) dis_app.top) run_app.top)
     check_app.top
 
 -- ---- what is asked for
@@ -66,11 +68,22 @@ pub record IsAsked (words : List Word) (job : Job) : Type 0 where
   pub entered : subcommand_of bench_app words ≡ Some found
   pub asks : AsksFor found job
 
--- the words are not taken, or ask for nothing
-abbrev pub AsksNothing : List Word → Type 0
-AsksNothing words = takes bench_app words ≡ true → (job : Job) → IsAsked words job → ⊥
+-- the kinds of the errors that `clap` may have at these words: none where it takes them
+unfoldable pub refusals : List Word → List ErrorKind
+refusals words = fault_of bench_app words
 
--- what the words ask for, or a text where they ask for nothing
+-- an error of one of these kinds is a mistake in the words, or not: help and the version are none
+abbrev pub IsRefusedAs : List ErrorKind → Bool → Type 0
+IsRefusedAs kinds is_mistake =
+    (kind : ErrorKind) × IsAmong kind kinds
+    × (IsTrue is_mistake ↔ ((kind ≢ DisplayHelp) × (kind ≢ DisplayVersion)))
+
+-- the words ask for nothing
+abbrev pub AsksNothing : List Word → Type 0
+AsksNothing words = (job : Job) → IsAsked words job → ⊥
+
+-- what the words ask for; or a text, where `clap` refuses them or they ask for nothing
 abbrev pub IsReadAs : List Word → Asked → Type 0
-IsReadAs words (asked.Job job) = IsAsked words job
-IsReadAs words (asked.Text text is_mistake) = AsksNothing words
+IsReadAs words (asked.Job job) = (refusals words ≡ []) × IsAsked words job
+IsReadAs words (asked.Text text is_mistake) =
+    IsRefusedAs (refusals words) is_mistake ⊎ ((refusals words ≡ []) × (is_mistake ≡ true) × AsksNothing words)

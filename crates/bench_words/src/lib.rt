@@ -1,6 +1,7 @@
 //! The words of the command line, and what they ask the program to do. Nothing else of the project names `clap`.
 #![tactic(auto)]
 
+mod help;
 mod words;
 
 pub use words::{Asked, Job, NO_TEXT, read};

@@ -1,9 +1,10 @@
 ghost use Rattle.std.specs.Prelude.{◌≡◌, ◌≢◌, ◌⊎◌, List, None, Some, codes, map, option_map, false, IfNone, IfOk, IfSome};
 ghost use Rattle.std.specs.String.{string_bytes};
-ghost use Rattle.clap.specs.Words.{Row, Text as Word, app_of, first_of, found_of, kind_of, rows_of, rule_of, subcommand_rows_of};
+ghost use Rattle.clap.specs.Words.{Row, Text as Word, app_of, first_of, found_of, kind_of, new_app, rows_of, rule_of, subcommand_rows_of};
 ghost use Rattle.bench_words.specs.declared.words.Job.{Job as JobData};
 ghost use Rattle.bench_words.specs.Words.{AsksFor, IsReadAs, asm_app, bench_app, check_app, dis_app, file, needed, one_app, run_app};
 
+use crate::help;
 use clap::error::ErrorKind;
 use clap::{Arg, ArgMatches, Command, Error};
 use std::alloc::{AllocError, Global};
@@ -182,6 +183,8 @@ fn bench<'a>(alloc: Global) -> Result<Command<'a>, AllocError>
 {
     Command::new(alloc, "lwbench")
         .about("A bench of emulated OMA LwM2M devices over CoAP")
+        .version(help::VERSION)
+        .after_help(help::BENCH)
         .subcommand_required(true)
         .subcommand(one_command(alloc)?)?
         .subcommand(asm_command(alloc)?)?
@@ -190,19 +193,27 @@ fn bench<'a>(alloc: Global) -> Result<Command<'a>, AllocError>
         .subcommand(check_command(alloc)?)
 }
 
+/// A command with no argument yet, and what its help says above and below them.
+fn described<'a>(alloc: Global, name: &'a str, about: &'a str, behind: &'a str) -> Command<'a>
+    ensures { app_of result ≡ new_app name.entry.now }
+{
+    Command::new(alloc, name).about(about).after_help(behind)
+}
+
 fn one_command<'a>(alloc: Global) -> Result<Command<'a>, AllocError>
     ensures { IfOk result (λ c. app_of c ≡ one_app) }
 {
-    Command::new(alloc, "one")
-        .about("Gives the DEMO device one datagram from server 1")
-        .arg(needed(alloc, "HEX").help("The bytes of the datagram, in hex"))
+    let about = "Gives the DEMO device one datagram from server 1";
+    described(alloc, "one", about, help::ONE).arg(needed(alloc, "HEX").help(
+        "The bytes of the datagram, in hex",
+    ))
 }
 
 fn asm_command<'a>(alloc: Global) -> Result<Command<'a>, AllocError>
     ensures { IfOk result (λ c. app_of c ≡ asm_app) }
 {
-    Command::new(alloc, "asm")
-        .about("Makes a scenario's image from its text")
+    let about = "Makes a scenario's image from its text";
+    described(alloc, "asm", about, help::ASM)
         .arg(needed(alloc, "IN").help("The scenario, as text"))?
         .arg(needed(alloc, "OUT").help("Where the image goes"))
 }
@@ -210,16 +221,17 @@ fn asm_command<'a>(alloc: Global) -> Result<Command<'a>, AllocError>
 fn dis_command<'a>(alloc: Global) -> Result<Command<'a>, AllocError>
     ensures { IfOk result (λ c. app_of c ≡ dis_app) }
 {
-    Command::new(alloc, "dis")
-        .about("Prints a scenario's text")
-        .arg(needed(alloc, "IN").help("The scenario, as an image"))
+    let about = "Prints a scenario's text";
+    described(alloc, "dis", about, help::DIS).arg(needed(alloc, "IN").help(
+        "The scenario, as an image",
+    ))
 }
 
 fn run_command<'a>(alloc: Global) -> Result<Command<'a>, AllocError>
     ensures { IfOk result (λ c. app_of c ≡ run_app) }
 {
-    Command::new(alloc, "run")
-        .about("Runs a scenario, always the lowest device that can go")
+    let about = "Runs a scenario: always the lowest device that can step takes the next step";
+    described(alloc, "run", about, help::RUN)
         .arg(needed(alloc, "IMAGE").help("The scenario, as an image"))?
         .arg(file(alloc, "trace").help("Where the trace of the run goes"))
 }
@@ -227,8 +239,8 @@ fn run_command<'a>(alloc: Global) -> Result<Command<'a>, AllocError>
 fn check_command<'a>(alloc: Global) -> Result<Command<'a>, AllocError>
     ensures { IfOk result (λ c. app_of c ≡ check_app) }
 {
-    Command::new(alloc, "check")
-        .about("Says whether a trace is a run of a scenario")
+    let about = "Says whether a trace is a run of a scenario";
+    described(alloc, "check", about, help::CHECK)
         .arg(needed(alloc, "IMAGE").help("The scenario, as an image"))?
         .arg(needed(alloc, "TRACE").help("The trace file"))
 }

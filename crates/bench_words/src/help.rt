@@ -1,0 +1,63 @@
+//! What the help of the program and of each command says below their arguments.
+
+/// The version, and the line of the toolchain that proved it (`rt version`).
+pub const VERSION: &str = "0.1.0
+rattle-kit-13b logic dac8208d650f15bf";
+
+pub const BENCH: &str =
+    "An answer goes to standard output. A fault is the line `fault: NAME` there, and a line on standard
+error says which file or word it is about, and why.
+
+Status:
+  0  it was done
+  1  a fault
+  2  the words are not a command
+  3  the run stalled, or the trace is not a run";
+
+pub const ONE: &str =
+    "Reads no file. Prints a line for each output of the device, a datagram or another act, or `nothing`:
+  send SERVER HEX
+  act NAME
+Writes no file.
+
+Example:
+  lwbench one 40010001B13301300139
+  send 1 60450001C0FF313030";
+
+pub const ASM: &str =
+    "Reads IN, which is UTF-8. Writes OUT, which is replaced where it exists. Then prints
+  ok C classes D devices S steps
+
+Example:
+  lwbench asm reader.txt reader.image
+  ok 1 classes 1 devices 1 steps";
+
+pub const DIS: &str =
+    "Reads IN. Prints the text in its one canonical form, which `asm` reads again. Writes no file.
+
+Example:
+  lwbench dis reader.image
+  scenario 1
+  ..";
+
+pub const RUN: &str =
+    "Reads IMAGE. Writes the run's trace file to the FILE of `--trace`, which is replaced where it exists,
+and no file without it. Then prints, for a run of E steps, whether all devices came to their ends, or
+which of them wait for a post that never comes (status 3):
+  done E
+  stalled E waiting D ..
+
+Example:
+  lwbench run reader.image --trace reader.trace
+  done 1";
+
+pub const CHECK: &str =
+    "Reads IMAGE, and then TRACE. Prints whether the trace is a run of the scenario, or the least place,
+from 0, at which it is not (status 3):
+  run
+  not a run at N
+Writes no file.
+
+Example:
+  lwbench check reader.image reader.trace
+  run";
