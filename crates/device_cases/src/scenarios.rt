@@ -58,8 +58,8 @@ fn refused(
         return Err(AllocError);
     }
     let number = script.number_of(fault.line);
-    let number = decimal(alloc, number as u64)?;
-    let words = ["fault line ", number.as_str(), " ", cause_name(fault.cause)];
+    let line = decimal(alloc, u64::from(number))?;
+    let words = ["fault line ", line.as_str(), " ", cause_name(fault.cause)];
     let came = joined(alloc, &words)?;
     let mut is_stated = false;
     for item in script.items.iter() {
