@@ -1,5 +1,4 @@
-//! What no clause says: that threads, tickets and claims get anywhere at all. The clauses say what they get. Each helper
-//! compares plain values itself, so that the test has nothing to prove.
+//! What the program shows. Each function compares plain values itself, so that its caller has nothing to prove.
 ghost use Rattle.std.specs.Thread.{IsSync};
 
 use crate::board::Board;
@@ -7,8 +6,8 @@ use crate::claims::claim;
 use crate::items::Items;
 use crate::work::{add, two};
 use std::alloc::{AllocError, Global};
+use std::io;
 use std::sync::Wait;
-use std::test::Fail;
 use std::thread::Threads;
 use ticket_lock::TicketLock;
 
@@ -37,14 +36,24 @@ fn is_claimed_once<R: Wait>(rt: &R, alloc: Global) -> Result<bool, AllocError> {
     Ok(first == Some(0) && second.is_none())
 }
 
-fn do_all_succeed<R: Threads + Wait + Sync>(rt: &R, alloc: Global) -> Result<bool, AllocError>
-    requires { IsSync R.row }
-{
-    Ok(are_all_added(rt, alloc)? && is_last_drawn_once(rt, alloc)? && is_claimed_once(rt, alloc)?)
+fn say<R: Print>(rt: &R, what: &str, is_so: bool) -> io::Result<()> {
+    let word = if is_so { "yes" } else { "no" };
+    println!(rt; "{what}: {word}")
 }
 
-#[test]
-fn threads_tickets_and_claims_succeed(rt: HostRuntime) -> Result<(), Fail> {
-    assert!(rt; do_all_succeed(&rt, rt.alloc())?);
-    Ok(())
+/// Prints what came of each, a line each.
+pub fn show<R: Threads + Wait + Sync + Print>(rt: &R, alloc: Global) -> io::Result<()>
+    requires { IsSync R.row }
+{
+    say(
+        rt,
+        "two threads add all of their items",
+        are_all_added(rt, alloc)?,
+    )?;
+    say(
+        rt,
+        "the last ticket is drawn once",
+        is_last_drawn_once(rt, alloc)?,
+    )?;
+    say(rt, "a place is claimed once", is_claimed_once(rt, alloc)?)
 }
