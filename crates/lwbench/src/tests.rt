@@ -2,6 +2,8 @@
 //! is not tested once more: a call may by its contract always fail for want of memory, and what standard error says is
 //! free but for the file or word that it names. The functions that make the calls have no contract, so that what the
 //! calls promise is not carried along, and each test asserts on plain values alone.
+ghost use Rattle.std.specs.Prelude.{None};
+
 use bench_commands::files::{FileFault, Files, SystemFiles, most_bytes, read_at_most};
 use bench_commands::{Status, command};
 use std::alloc::{AllocError, Global};
@@ -14,7 +16,10 @@ type Words = &'static str;
 /// what is written to `out`, in hex.
 type Effects = (&'static str, &'static str, &'static str);
 
-const ROWS: [(Words, Status, Effects); 32] = [
+/// Words, how the program then ends, and what it did.
+type Row = (Words, Status, Effects);
+
+const ROWS: [Row; 32] = [
     (
         "one/40010001b13301300139",
         Status::Done,
@@ -283,12 +288,8 @@ fn words_of(alloc: Global, line: &str) -> Result<Vec<String>, AllocError> {
     Ok(words)
 }
 
-fn is_right(
-    alloc: Global,
-    line: &str,
-    status: Status,
-    effects: Effects,
-) -> Result<bool, AllocError> {
+fn is_right(alloc: Global, row: Row) -> Result<bool, AllocError> {
+    let (line, status, effects) = row;
     let words = words_of(alloc, line)?;
     let mut files = MemoryFiles {
         alloc,
@@ -313,10 +314,10 @@ fn is_right(
 }
 
 /// The words of the first row that is not so.
-fn first_wrong(alloc: Global) -> Result<Option<Words>, AllocError> {
-    for (line, status, effects) in ROWS {
-        if !is_right(alloc, line, status, effects)? {
-            return Ok(Some(line));
+fn first_wrong(alloc: Global, rows: &[Row]) -> Result<Option<Words>, AllocError> {
+    for row in rows {
+        if !is_right(alloc, *row)? {
+            return Ok(Some(row.0));
         }
     }
     Ok(None)
@@ -324,7 +325,7 @@ fn first_wrong(alloc: Global) -> Result<Option<Words>, AllocError> {
 
 #[test]
 fn answers_and_says_why_not(rt: HostRuntime) -> Result<(), Fail> {
-    assert_eq!(rt; first_wrong(rt.alloc())?, None);
+    assert_eq!(rt; first_wrong(rt.alloc(), &ROWS)?, None);
     Ok(())
 }
 
