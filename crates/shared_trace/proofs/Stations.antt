@@ -1,6 +1,7 @@
 -- What a trace keeps, and what contracts see of it.
-use Rattle.std.proofs.Common.{◌≡◌, ℕ, ◌<◌, ◌≤◌, ◌⊎◌, inl, inr, Bool, true, false, not, List, [], ◌∷◌, ◌++◌, length, map, set, None, Some, slice_get, slice_index, refl, sym, ap, subst, ◌∙◌, arith}
+use Rattle.std.proofs.Common.{◌≡◌, ℕ, ◌<◌, ◌≤◌, ◌⊎◌, inl, inr, Bool, true, false, not, List, [], ◌∷◌, ◌++◌, length, map, set, get_or, None, Some, slice_get, slice_index, refl, sym, ap, subst, ◌∙◌, arith}
 use Rattle.std.proofs.lemmas.List.{length-map, length-set, append-nil}
+use Rattle.std.proofs.lemmas.Option.{slice_get_read}
 use Rattle.std.proofs.lemmas.Bool.{cases_eq, cases_lt, false≢true, false_from_ne_true}
 use Rattle.device_machine.specs.State.{Shown}
 use Rattle.scenario_image.specs.Script.{Script}
@@ -173,3 +174,10 @@ any_out v s es stations counts stopped d l el view t found =
 
 pub idle_now : (v : Traced) → v.stopped ≡ false → ((d : ℕ) → IsReady v d → ⊥) → IsIdle v v
 idle_now v going none = record { going = going; same = refl; none = none }
+
+pub unfinished_is : (v : Traced) (s : Script) (es : List Entry) (stations : List Station) (counts : List ℕ) (stopped : Bool) (d i : ℕ) (l : List Station) (x : Station) (b : Bool) → l ≡ stations
+    → traced s es stations stopped ≡ v → IsTrace s es stations counts → i ≡ d → i < length l → x ≡ get_or l i x → b ≡ is_end x.next → not b ≡ is_waiting v.subject v.entries d
+unfinished_is v s es stations counts stopped d i l x b el view t from within read is =
+    let here : slice_get l d ≡ Some x = subst (λ j. slice_get l j ≡ Some x) from (slice_get_read l (length l) i x refl within read) in
+    ap not is
+    ∙ (sym (left_is s es l counts d x (trace_at s es stations l counts counts el refl t) here) ∙ ap (λ u. is_waiting u.subject u.entries d) view)

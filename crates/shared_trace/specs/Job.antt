@@ -7,8 +7,8 @@ use Rattle.trace_file.specs.declared.entry.Entry.{Entry}
 use Rattle.fleet_core.specs.Run.{made_by, posts_of, is_enabled, entry_of}
 use Rattle.shared_trace.specs.Trace.{Traced, open_by}
 
--- what contracts see of a job: the scenario, the worker, the device, the trace's entries at the claim, the entries made since, what the device shows,
--- and whether memory ran out in a step
+-- what contracts see of a job: the scenario, the worker, the device, the trace's entries at the claim, the entries made
+-- since, what the device shows, and whether memory ran out in a step
 pub record Task : Type 0 where
   pub subject : Script
   pub worker : ℕ
@@ -38,8 +38,8 @@ entry_next job = entry_of job.subject job.worker job.device (seen_by job)
 abbrev pub StandsIn : List (ℕ × ℕ) → Task → Type 0
 StandsIn work job = Contains work (job.device, made_by job.device job.front)
 
--- what a put asks of the trace: the scenario is the trace's; the device is out under the worker, with as many entries as at the claim; and the trace has
--- at least the posts that the job saw at its claim
+-- what a put asks of the trace: the scenario is the trace's; the device is out under the worker, with as many entries
+-- as at the claim; and the trace has at least the posts that the job saw at its claim
 pub record MayPut (t : Traced) (w : ℕ) (job : Task) : Type 0 where
   pub subject : job.subject ≡ t.subject
   pub worker : job.worker ≡ w

@@ -41,16 +41,18 @@ is_ready_in posts (Out worker) next = false
 abbrev pub is_ready : (ℕ → ℕ) → Station → Bool
 is_ready posts x = is_ready_in posts x.place x.next
 
--- none of the first n devices is parked with a step that may be made where each group has this many posts
-abbrev pub AreIdle : (ℕ → ℕ) → List Station → ℕ → Type 0
-AreIdle posts stations n = (i : ℕ) (x : Station) → i < n → slice_get stations i ≡ Some x → is_ready posts x ≡ false
-
--- what is kept of device d: its place, the count of its entries, what its next step asks for, and, while it is parked, a table for a job
+-- what is kept of device d: its place, the count of its entries, what its next step asks for, and, while it is parked,
+-- a table for a job
 pub record IsStation (s : Script) (es : List Entry) (d : ℕ) (x : Station) : Type 0 where
   pub placed : IsPlaced s es d x.place
   pub made : x.made ≡ made_by d es
   pub next : x.next ≡ next_of (step_at s d (made_by d es))
   pub known : is_parked x.place ≡ true → length x.known.items ≡ table_length s
+
+-- each device is parked at the start of its row
+pub record AreParked (s : Script) (stations : List Station) : Type 0 where
+  pub each : (d : ℕ) (x : Station) → slice_get stations d ≡ Some x → IsStation s [] d x
+  pub parked : (d : ℕ) (x : Station) → slice_get stations d ≡ Some x → is_parked x.place ≡ true
 
 -- what a trace keeps: a run, a station for each device, and the counts of the posts
 pub record IsTrace (s : Script) (es : List Entry) (stations : List Station) (counts : List ℕ) : Type 0 where
@@ -61,16 +63,19 @@ pub record IsTrace (s : Script) (es : List Entry) (stations : List Station) (cou
   pub posts : (g : ℕ) → slice_index counts g ≡ posts_of s g es
   pub table : length counts ≡ table_length s
 
--- what a job always keeps: after the entries at its claim its own are a run, all of the device and the worker; and the device could step at the claim
+-- what a job always keeps: after the entries at its claim its own are a run, all of the device and the worker; and the
+-- device could step at the claim
 pub record IsTask (s : Script) (worker d : ℕ) (front es : List Entry) : Type 0 where
   pub valid : IsValid s
   pub run : IsRun s (front ++ es)
   pub each : AllByRecursion (IsOf worker d) es
   pub began : is_enabled s front d ≡ true
 
--- what a job keeps until memory runs out, by the entries that it knows, those at its claim and its own: the device shows the state after its steps; the table
--- counts the posts; and the job has the groups of its own posts, the device's place in its row, and what the next step asks for
-pub record IsOnWay (s : Script) (d : ℕ) (seen es : List Entry) (x : Shown) (counts groups : List ℕ) (k : ℕ) (n : Next) : Type 0 where
+-- what a job keeps until memory runs out, by the entries that it knows, those at its claim and its own: the device
+-- shows the state after its steps; the table counts the posts; and the job has the groups of its own posts, the
+-- device's place in its row, and what the next step asks for
+pub record IsOnWay (s : Script) (d : ℕ) (seen es : List Entry) (x : Shown) (counts groups : List ℕ) (k : ℕ) (n : Next)
+    : Type 0 where
   pub shows : ShowsAfter s d (made_by d seen) x
   pub known : (g : ℕ) → slice_index counts g ≡ posts_of s g seen
   pub table : length counts ≡ table_length s
@@ -79,6 +84,7 @@ pub record IsOnWay (s : Script) (d : ℕ) (seen es : List Entry) (x : Shown) (co
   pub place : k ≡ made_by d seen
   pub next : n ≡ next_of (step_at s d (made_by d seen))
 
-pub record IsJob (s : Script) (worker d : ℕ) (front es : List Entry) (x : Shown) (spent : Bool) (known posted : List ℕ) (place : ℕ) (next : Next) : Type 0 where
+pub record IsJob (s : Script) (worker d : ℕ) (front es : List Entry) (x : Shown) (spent : Bool) (known posted : List ℕ)
+    (place : ℕ) (next : Next) : Type 0 where
   pub task : IsTask s worker d front es
   pub ready : spent ≡ false → IsOnWay s d (front ++ es) es x known posted place next

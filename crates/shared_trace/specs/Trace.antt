@@ -39,11 +39,17 @@ pub record IsReady (t : Traced) (d : ℕ) : Type 0 where
 
 -- the device is out under the worker
 abbrev pub with_out : Traced → ℕ → ℕ → Traced
-with_out t d worker = record { subject = t.subject; entries = t.entries; places = slice_set t.places d (Out worker); stopped = t.stopped }
+with_out t d worker =
+    record { subject = t.subject; entries = t.entries; places = slice_set t.places d (Out worker); stopped = t.stopped }
 
 -- the device is parked, after these entries more
 abbrev pub with_block : Traced → ℕ → Shown → List Entry → Traced
-with_block t d x block = record { subject = t.subject; entries = t.entries ++ block; places = slice_set t.places d (Parked x); stopped = t.stopped }
+with_block t d x block = record {
+  subject = t.subject;
+  entries = t.entries ++ block;
+  places = slice_set t.places d (Parked x);
+  stopped = t.stopped;
+}
 
 abbrev pub stopped_of : Traced → Traced
 stopped_of t = record { subject = t.subject; entries = t.entries; places = t.places; stopped = true }
@@ -54,7 +60,7 @@ abbrev pub is_out : ℕ → Place → Bool
 is_out worker (Parked x) = false
 is_out worker (Out w) = w == worker
 
--- the devices that are out under the worker, each with the count of its entries, where the first place is that of device i
+-- the devices that are out under the worker, each with the count of its entries; the first place is that of device i
 abbrev pub open_from : ℕ → List Place → List Entry → ℕ → List (ℕ × ℕ)
 open_from worker [] es i = []
 open_from worker (p ∷ ps) es i =

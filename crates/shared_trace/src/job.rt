@@ -1,20 +1,27 @@
 //! A job: a device that a worker has, and the steps that it makes.
 
-ghost use Rattle.std.specs.Prelude.{◌≡◌};
+ghost use Rattle.std.specs.Prelude.{◌≡◌, ◌<◌, ◌≤◌, [], true, false, length, Some, Ok, Err, IfOk, OnOk, OnErr, IsTrue, slice_index};
 ghost use Rattle.std.specs.List.{AllByRecursion};
-ghost use Rattle.fleet_core.specs.Run.{IsRun};
-ghost use Rattle.shared_trace.specs.Job.{IsOf, seen_by};
+ghost use Rattle.fleet_core.specs.Run.{IsRun, is_enabled, step_at};
+ghost use Rattle.ticket_lock.specs.Names.{pass_view, lowest_work};
+ghost use Rattle.shared_trace.specs.Job.{Task, IsOf, StandsIn, IsSameJob, Advances, Steps, seen_by};
+ghost use Rattle.shared_trace.specs.Kept.{IsJob, table_length};
 
-use crate::next::Next;
+use crate::next::{Next, can_go, next_of};
+use crate::tables::note;
 use crate::trace::Trace;
 use device_machine::Device;
-use std::alloc::Global;
+use fleet_core::{make_step, step_of};
+use scenario_image::Scenario;
+use std::alloc::{AllocError, Global};
 use std::marker::Model;
 use std::snapshot::Snapshot;
+use ticket_lock::Pass;
 use trace_file::Entry;
 
-/// A device that is out with a worker, and the entries that it has made since. It has to be put into its trace again, or given up.
-/// Contracts see the scenario, the worker, the device, the trace's entries at the claim, the job's own, and what the device shows.
+/// A device that is out with a worker, and the entries that it has made since. It has to be put into its trace again,
+/// or given up. Contracts see the scenario, the worker, the device, the trace's entries at the claim, the job's own,
+/// what the device shows, and whether memory ran out.
 pub struct Job {
     pub(crate) alloc: Global,
     pub(crate) claimed: Snapshot<Trace>,
@@ -50,7 +57,17 @@ impl Model for Job {
       spent = j.spent;
     } };
 
-    ghost invariant = { λ j. IsJob j.claimed.value.subject j.worker j.device j.claimed.value.entries j.entries.items j.machine j.spent j.known.items j.posted.items j.place j.next };
+    ghost invariant = { λ j. IsJob j.claimed.value.subject j.worker j.device j.claimed.value.entries j.entries.items
+        j.machine j.spent j.known.items j.posted.items j.place j.next };
+}
+
+/// Why a job makes no more steps.
+#[derive(Clone, Copy, Debug, PartialEq, Eq)]
+pub enum AdvanceFault {
+    /// No memory was left. The job can only be given up.
+    Memory,
+    /// Memory had run out before; nothing changed.
+    Spent,
 }
 
 impl Job {
@@ -82,5 +99,77 @@ impl Job {
         drop(posted);
         drop(entries);
         drop(machine);
+    }
+
+    /// Makes the device's next step, if it can step by the posts that the job knows. Without memory the job is spent.
+    fn step(&mut self, scenario: &Scenario) -> Result<bool, AllocError>
+        requires scenario { scenario.now ≡ self.old.subject }
+        requires ready { self.old.spent ≡ false }
+        ensures steps { IfOk result (λ made. Steps self.old self.new made) }
+        ensures same { IsSameJob self.old self.new }
+        ensures memory { OnErr result (IsTrue self.new.spent) }
+        ensures began { is_enabled self.old.subject self.old.front self.old.device ≡ true }
+    {
+        if !can_go(self.next, self.known.as_slice()) {
+            return Ok(false);
+        }
+        let Some(step) = step_of(scenario, self.device, self.place) else {
+            unreachable!()
+        };
+        self.spent = true;
+        let outputs = make_step(
+            self.alloc,
+            scenario,
+            &mut self.machine,
+            self.device,
+            self.place,
+            step,
+        )?;
+        note(&mut self.known, &mut self.posted, step)?;
+        self.entries.push(Entry {
+            worker: self.worker,
+            device: self.device,
+            step: self.place,
+            outputs,
+        })?;
+        self.place += 1;
+        self.next = next_of(step_of(scenario, self.device, self.place));
+        self.spent = false;
+        Ok(true)
+    }
+
+    /// Lets the device make steps, at most this many, until its row ends or a need isn't met by the posts that there
+    /// were at the claim and the job's own.
+    ///
+    /// The pass has seen the claim and is outside the lock. `Memory` leaves the job spent; then it can only be given
+    /// up.
+    #[tactic(auto, using(crate::proofs::Stepping::steps_made))]
+    pub fn advance(
+        &mut self,
+        pass: &Pass<Trace>,
+        scenario: &Scenario,
+        batch: u32,
+    ) -> Result<(), AdvanceFault>
+        requires stands { StandsIn (lowest_work (pass_view pass.now) []) self.old }
+        requires scenario { scenario.now ≡ self.old.subject }
+        requires batch { 1 ≤ batch }
+        ensures advances { OnOk result (Advances self.old self.new batch) }
+        ensures fresh { self.old.entries ≡ [] → OnOk result (1 ≤ length self.new.entries) }
+        ensures same { IsSameJob self.old self.new }
+        ensures memory { result ≡ Err AdvanceFault.Memory → IsTrue self.new.spent }
+        ensures spent { result ≡ Err AdvanceFault.Spent → (self.new ≡ self.old) × IsTrue self.old.spent }
+        ensures refuses { IsTrue self.old.spent → result ≡ Err AdvanceFault.Spent }
+    {
+        if self.spent {
+            return Err(AdvanceFault::Spent);
+        }
+        for _made in 0..batch {
+            match self.step(scenario) {
+                Ok(true) => {}
+                Ok(false) => return Ok(()),
+                Err(AllocError) => return Err(AdvanceFault::Memory),
+            }
+        }
+        Ok(())
     }
 }

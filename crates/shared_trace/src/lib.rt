@@ -6,11 +6,12 @@
 mod claims;
 mod job;
 mod next;
+mod start;
 mod station;
 mod tables;
 mod trace;
 
 pub use claims::Claim;
-pub use job::Job;
+pub use job::{AdvanceFault, Job};
 pub use station::Place;
 pub use trace::Trace;

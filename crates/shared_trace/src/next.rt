@@ -1,9 +1,11 @@
 //! What a device's next step asks for.
 
 ghost use Rattle.std.specs.Prelude.{◌≡◌, slice_index};
-ghost use Rattle.shared_trace.specs.Next.{can_go};
+ghost use Rattle.std.specs.Option.{option_copied};
+ghost use Rattle.shared_trace.specs.Next.{next_of, can_go};
 
 use crate::tables::posts_to;
+use scenario_image::Step;
 
 /// What a device's next step asks for.
 #[derive(Clone, Copy, Debug, PartialEq, Eq)]
@@ -14,6 +16,17 @@ pub(crate) enum Next {
     Free,
     /// A need: this many posts to the group.
     Waits(u8, u32),
+}
+
+/// What the step asks for.
+pub(crate) fn next_of(step: Option<&Step>) -> Next
+    ensures { result ≡ next_of (option_copied step.entry) }
+{
+    match step {
+        None => Next::End,
+        Some(Step::Event(_) | Step::Post(_)) => Next::Free,
+        Some(Step::Need(group, count)) => Next::Waits(*group, *count),
+    }
 }
 
 /// Whether the step may be made where each group has this many posts.

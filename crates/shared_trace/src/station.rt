@@ -29,7 +29,8 @@ pub(crate) struct Station {
     pub(crate) made: u32,
     /// What its next step asks for.
     pub(crate) next: Next,
-    /// A table as long as that of the trace, for the posts that the device's next job knows; the job has it while the device is out.
+    /// A table as long as that of the trace, for the posts that the device's next job knows; the job has it while the
+    /// device is out.
     pub(crate) known: Vec<u32>,
 }
 
@@ -81,9 +82,12 @@ impl Station {
 
 /// The lowest device that is ready.
 pub(crate) fn lowest_ready(stations: &[Station], posts: &[u32]) -> Option<usize>
-    ensures ready { IfSome result (λ d. (x : Station) × (slice_get stations.now d ≡ Some x) × (is_ready (λ g. slice_index posts.now g) x ≡ true)) }
-    ensures lowest { IfSome result (λ d. (i : ℕ) (x : Station) → i < d → slice_get stations.now i ≡ Some x → is_ready (λ g. slice_index posts.now g) x ≡ false) }
-    ensures none { IfNone result ((i : ℕ) (x : Station) → slice_get stations.now i ≡ Some x → is_ready (λ g. slice_index posts.now g) x ≡ false) }
+    ensures ready { IfSome result (λ d. (x : Station) × (slice_get stations.now d ≡ Some x)
+        × (is_ready (λ g. slice_index posts.now g) x ≡ true)) }
+    ensures lowest { IfSome result (λ d. (i : ℕ) (x : Station) → i < d → slice_get stations.now i ≡ Some x
+        → is_ready (λ g. slice_index posts.now g) x ≡ false) }
+    ensures none { IfNone result ((i : ℕ) (x : Station) → slice_get stations.now i ≡ Some x
+        → is_ready (λ g. slice_index posts.now g) x ≡ false) }
 {
     for (device, station) in stations.iter().enumerate() {
         if station.is_ready(posts) {
@@ -95,8 +99,10 @@ pub(crate) fn lowest_ready(stations: &[Station], posts: &[u32]) -> Option<usize>
 
 /// A device that is out, if there is one.
 pub(crate) fn first_out(stations: &[Station]) -> Option<usize>
-    ensures out { IfSome result (λ d. (x : Station) × (worker : ℕ) × (slice_get stations.now d ≡ Some x) × (x.place ≡ Out worker)) }
-    ensures none { IfNone result ((i : ℕ) (x : Station) → slice_get stations.now i ≡ Some x → is_parked x.place ≡ true) }
+    ensures out { IfSome result (λ d. (x : Station) × (worker : ℕ) × (slice_get stations.now d ≡ Some x)
+        × (x.place ≡ Out worker)) }
+    ensures none { IfNone result ((i : ℕ) (x : Station) → slice_get stations.now i ≡ Some x
+        → is_parked x.place ≡ true) }
 {
     for (device, station) in stations.iter().enumerate() {
         if station.is_out() {

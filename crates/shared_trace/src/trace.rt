@@ -9,20 +9,24 @@ ghost use Rattle.shared_trace.specs.declared.station.Place.TheVariants.{Parked, 
 ghost use Rattle.shared_trace.specs.Trace.{Traced, IsShared, IsReady, with_out, with_block, stopped_of, open_by, trace_log};
 ghost use Rattle.shared_trace.specs.Job.{Task, MayPut, StandsIn};
 ghost use Rattle.shared_trace.specs.Claims.{IsTaken, IsAnyOut, IsAnyLeft, AreAllAtEnd, Claims, ClaimStands};
-ghost use Rattle.shared_trace.specs.Kept.{IsTrace, IsStation, table_length};
+ghost use Rattle.shared_trace.specs.Kept.{IsTrace, IsStation, table_length, is_parked};
+ghost use Rattle.shared_trace.specs.declared.station.Place.{Place};
 
 use crate::claims::Claim;
 use crate::job::Job;
-use crate::station::{Station, first_left, first_out, lowest_ready};
+use crate::start::start_stations;
+use crate::station::{Place, Station, first_left, first_out, lowest_ready};
+use crate::tables::{TABLE, add_posts};
 use scenario_image::Scenario;
-use std::alloc::Global;
+use std::alloc::{AllocError, Global};
 use std::collections::LinkedList;
 use std::marker::Model;
 use std::snapshot::Snapshot;
 use ticket_lock::Logged;
 use trace_file::{Entries, Entry};
 
-/// A run of a scenario that workers make together. Contracts see its scenario, its entries, where each device is, and whether it was stopped.
+/// A run of a scenario that workers make together. Contracts see its scenario, its entries, where each device is, and
+/// whether it was stopped.
 #[derive(Drop)]
 pub struct Trace {
     alloc: Global,
@@ -67,6 +71,37 @@ impl Logged for Trace {
 }
 
 impl Trace {
+    /// The trace of a scenario: no entries, and each device parked at the start of its row.
+    pub fn new(alloc: Global, scenario: &Scenario) -> Result<Trace, AllocError>
+        ensures subject { IfOk result (λ t. t.subject ≡ scenario.now) }
+        ensures entries { IfOk result (λ t. t.entries ≡ []) }
+        ensures going { IfOk result (λ t. t.stopped ≡ false) }
+        ensures parked { IfOk result (λ t. (d : ℕ) (p : Place) → slice_get t.places d ≡ Some p → is_parked p ≡ true) }
+        ensures shared { IfOk result (λ t. IsShared t) }
+    {
+        let _rows = scenario.rows();
+        let stations = start_stations(alloc, scenario)?;
+        let posts = vec![in alloc; 0u32; TABLE]?;
+        Ok(Trace {
+            alloc,
+            subject: Snapshot::of(scenario),
+            entries: Vec::new(alloc),
+            stations,
+            posts,
+            stopped: false,
+        })
+    }
+
+    /// Whether the device's row is not at its end.
+    pub fn unfinished(&self, device: u16) -> bool
+        ensures { result ≡ is_waiting self.now.subject self.now.entries device }
+    {
+        match self.stations.get(usize::from(device)) {
+            None => false,
+            Some(station) => !station.is_at_end(),
+        }
+    }
+
     /// The entries so far, in order.
     pub fn entries(&self) -> &[Entry]
         ensures entries { result.now ≡ self.now.entries }
@@ -162,5 +197,56 @@ impl Trace {
             Some(device) => Claim::Got(self.hand_out(worker, device)),
             None => self.idle(),
         }
+    }
+
+    /// Appends the job's entries, and parks its device. Without memory the job comes back, and nothing changed.
+    pub fn put(&mut self, worker: u16, job: Job) -> Result<(), (Job, AllocError)>
+        requires { MayPut self.old worker job }
+        ensures put { OnOk result (self.new ≡ with_block self.old job.device job.shown job.entries) }
+        ensures adds { OnOk result (Adds trace_log worker self.old self.new) }
+        ensures back { IfErr result (λ e. e.0 ≡ job) }
+        ensures unchanged { OnErr result (self.new ≡ self.old) }
+        ensures shared { IsShared self.new }
+    {
+        let Job {
+            alloc,
+            claimed,
+            worker: by,
+            device,
+            place,
+            known,
+            posted,
+            mut entries,
+            machine,
+            next,
+            spent,
+        } = job;
+        match self.entries.append(&mut entries) {
+            Ok(()) => {}
+            Err(fault) => {
+                let job = Job {
+                    alloc,
+                    claimed,
+                    worker: by,
+                    device,
+                    place,
+                    known,
+                    posted,
+                    entries,
+                    machine,
+                    next,
+                    spent,
+                };
+                return Err((job, fault));
+            }
+        }
+        add_posts(&mut self.posts, posted.as_slice());
+        self.stations[usize::from(device)] = Station {
+            place: Place::Parked(machine),
+            made: place,
+            next,
+            known,
+        };
+        Ok(())
     }
 }
