@@ -1,0 +1,9 @@
+pub mod Lists
+pub mod Nexts
+pub mod Open
+pub mod Stations
+pub mod Handing
+pub mod Stepping
+pub mod Putting
+pub mod Counting
+pub mod Starting

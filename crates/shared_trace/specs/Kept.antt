@@ -1,0 +1,90 @@
+-- What a trace and a job keep beside what contracts see.
+use Rattle.std.specs.Prelude.{◌≡◌, ℕ, ◌<◌, ◌==◌, Bool, true, false, List, [], ◌∷◌, ◌++◌, length, map, count_by, Some, slice_get, slice_index}
+use Rattle.std.specs.List.{AllByRecursion}
+use Rattle.device_machine.specs.State.{Shown}
+use Rattle.scenario_image.specs.declared.step.Step.{Step}
+use Rattle.scenario_image.specs.declared.step.Step.TheVariants.{Event, Post, Need}
+use Rattle.scenario_image.specs.Script.{Script, IsValid}
+use Rattle.trace_file.specs.declared.entry.Entry.{Entry}
+use Rattle.fleet_core.specs.Run.{made_by, posts_of, step_at, is_enabled, IsRun}
+use Rattle.fleet_core.specs.Board.{ShowsAfter}
+use Rattle.shared_trace.specs.declared.next.Next.{Next}
+use Rattle.shared_trace.specs.declared.station.Place.{Place}
+use Rattle.shared_trace.specs.declared.station.Place.TheVariants.{Parked, Out}
+use Rattle.shared_trace.specs.declared.station.Station.{Station}
+use Rattle.shared_trace.specs.Next.{next_of, can_go}
+use Rattle.shared_trace.specs.Trace.{IsPlaced}
+use Rattle.shared_trace.specs.Job.{IsOf}
+
+-- how long the tables of posts are: there is a place for each group that is posted to
+abbrev pub table_length : Script → ℕ
+table_length s = 256
+
+-- the group of a post
+abbrev pub groups_in : Step → List ℕ
+groups_in (Event event) = []
+groups_in (Post group) = group ∷ []
+groups_in (Need group count) = []
+
+abbrev pub is_parked : Place → Bool
+is_parked (Parked x) = true
+is_parked (Out worker) = false
+
+abbrev pub places_of : List Station → List Place
+places_of stations = map (λ x. x.place) stations
+
+-- the device is parked, and its next step may be made where each group has this many posts
+abbrev pub is_ready_in : (ℕ → ℕ) → Place → Next → Bool
+is_ready_in posts (Parked x) next = can_go posts next
+is_ready_in posts (Out worker) next = false
+
+abbrev pub is_ready : (ℕ → ℕ) → Station → Bool
+is_ready posts x = is_ready_in posts x.place x.next
+
+-- what is kept of device d: its place, the count of its entries, what its next step asks for, and, while it is parked,
+-- a table for a job
+pub record IsStation (s : Script) (es : List Entry) (d : ℕ) (x : Station) : Type 0 where
+  pub placed : IsPlaced s es d x.place
+  pub made : x.made ≡ made_by d es
+  pub next : x.next ≡ next_of (step_at s d (made_by d es))
+  pub known : is_parked x.place ≡ true → length x.known.items ≡ table_length s
+
+-- each device is parked at the start of its row
+pub record AreParked (s : Script) (stations : List Station) : Type 0 where
+  pub each : (d : ℕ) (x : Station) → slice_get stations d ≡ Some x → IsStation s [] d x
+  pub parked : (d : ℕ) (x : Station) → slice_get stations d ≡ Some x → is_parked x.place ≡ true
+
+-- what a trace keeps: a run, a station for each device, and the counts of the posts
+pub record IsTrace (s : Script) (es : List Entry) (stations : List Station) (counts : List ℕ) : Type 0 where
+  pub valid : IsValid s
+  pub run : IsRun s es
+  pub count : length stations ≡ length s.rows
+  pub each : (d : ℕ) (x : Station) → slice_get stations d ≡ Some x → IsStation s es d x
+  pub posts : (g : ℕ) → slice_index counts g ≡ posts_of s g es
+  pub table : length counts ≡ table_length s
+
+-- what a job always keeps: after the entries at its claim its own are a run, all of the device and the worker; and the
+-- device could step at the claim
+pub record IsTask (s : Script) (worker d : ℕ) (front es : List Entry) : Type 0 where
+  pub valid : IsValid s
+  pub run : IsRun s (front ++ es)
+  pub each : AllByRecursion (IsOf worker d) es
+  pub began : is_enabled s front d ≡ true
+
+-- what a job keeps until memory runs out, by the entries that it knows, those at its claim and its own: the device
+-- shows the state after its steps; the table counts the posts; and the job has the groups of its own posts, the
+-- device's place in its row, and what the next step asks for
+pub record IsOnWay (s : Script) (d : ℕ) (seen es : List Entry) (x : Shown) (counts groups : List ℕ) (k : ℕ) (n : Next)
+    : Type 0 where
+  pub shows : ShowsAfter s d (made_by d seen) x
+  pub known : (g : ℕ) → slice_index counts g ≡ posts_of s g seen
+  pub table : length counts ≡ table_length s
+  pub posted : (g : ℕ) → count_by (λ h. h == g) groups ≡ posts_of s g es
+  pub within : AllByRecursion (λ h. h < table_length s) groups
+  pub place : k ≡ made_by d seen
+  pub next : n ≡ next_of (step_at s d (made_by d seen))
+
+pub record IsJob (s : Script) (worker d : ℕ) (front es : List Entry) (x : Shown) (spent : Bool) (known posted : List ℕ)
+    (place : ℕ) (next : Next) : Type 0 where
+  pub task : IsTask s worker d front es
+  pub ready : spent ≡ false → IsOnWay s d (front ++ es) es x known posted place next

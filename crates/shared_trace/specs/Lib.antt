@@ -1,0 +1,5 @@
+pub mod Next
+pub mod Trace
+pub mod Job
+pub mod Claims
+pub mod Kept

@@ -1,0 +1,75 @@
+-- What contracts see of a trace, and how a lock reads it.
+use Rattle.std.specs.Prelude.{◌≡◌, ℕ, ◌+◌, ◌==◌, Bool, true, false, if◌then◌else◌, List, [], ◌∷◌, ◌++◌, length, Some, slice_get, slice_set}
+use Rattle.device_machine.specs.State.{Shown}
+use Rattle.scenario_image.specs.Script.{Script, IsValid}
+use Rattle.trace_file.specs.declared.entry.Entry.{Entry}
+use Rattle.fleet_core.specs.Run.{made_by, is_enabled, IsRun}
+use Rattle.fleet_core.specs.Waiting.{is_waiting}
+use Rattle.fleet_core.specs.Board.{ShowsAfter}
+use Rattle.ticket_lock.specs.Log.{Reading}
+use Rattle.shared_trace.specs.declared.station.Place.{Place}
+use Rattle.shared_trace.specs.declared.station.Place.TheVariants.{Parked, Out}
+
+-- what contracts see of a trace: its scenario, its entries, where each device is, and whether it was stopped
+pub record Traced : Type 0 where
+  pub subject : Script
+  pub entries : List Entry
+  pub places : List Place
+  pub stopped : Bool
+
+-- a parked device shows the state after the steps that it has made; one that is out has a step left
+abbrev pub IsPlaced : Script → List Entry → ℕ → Place → Type 0
+IsPlaced s es d (Parked x) = ShowsAfter s d (made_by d es) x
+IsPlaced s es d (Out worker) = is_waiting s es d ≡ true
+
+-- the entries are a run of the scenario, and each device has its place
+pub record IsShared (t : Traced) : Type 0 where
+  pub valid : IsValid t.subject
+  pub run : IsRun t.subject t.entries
+  pub count : length t.places ≡ length t.subject.rows
+  pub placed : (d : ℕ) (p : Place) → slice_get t.places d ≡ Some p → IsPlaced t.subject t.entries d p
+
+-- the device is parked, and an entry of it may come next
+pub record IsReady (t : Traced) (d : ℕ) : Type 0 where
+  pub shown : Shown
+  pub parked : slice_get t.places d ≡ Some (Parked shown)
+  pub enabled : is_enabled t.subject t.entries d ≡ true
+
+-- ---- changes
+
+-- the device is out under the worker
+abbrev pub with_out : Traced → ℕ → ℕ → Traced
+with_out t d worker =
+    record { subject = t.subject; entries = t.entries; places = slice_set t.places d (Out worker); stopped = t.stopped }
+
+-- the device is parked, after these entries more
+abbrev pub with_block : Traced → ℕ → Shown → List Entry → Traced
+with_block t d x block = record {
+  subject = t.subject;
+  entries = t.entries ++ block;
+  places = slice_set t.places d (Parked x);
+  stopped = t.stopped;
+}
+
+abbrev pub stopped_of : Traced → Traced
+stopped_of t = record { subject = t.subject; entries = t.entries; places = t.places; stopped = true }
+
+-- ---- the open work
+
+abbrev pub is_out : ℕ → Place → Bool
+is_out worker (Parked x) = false
+is_out worker (Out w) = w == worker
+
+-- the devices that are out under the worker, each with the count of its entries; the first place is that of device i
+abbrev pub open_from : ℕ → List Place → List Entry → ℕ → List (ℕ × ℕ)
+open_from worker [] es i = []
+open_from worker (p ∷ ps) es i =
+    if is_out worker p then (i, made_by i es) ∷ open_from worker ps es (i + 1) else open_from worker ps es (i + 1)
+
+-- the worker's open work: the devices that are out under it, in ascending order, each with the count of its entries
+abbrev pub open_by : Traced → ℕ → List (ℕ × ℕ)
+open_by t worker = open_from worker t.places t.entries 0
+
+-- how a lock reads a trace
+abbrev pub trace_log : Reading Traced Entry Script (List (ℕ × ℕ))
+trace_log = record { entries = λ t. t.entries; worker = λ e. e.worker; subject = λ t. t.subject; work = open_by }

@@ -1,0 +1,17 @@
+//! A run that many workers make: a trace, which is shared, and the jobs of its workers.
+//!
+//! A worker claims a device under the trace's lock, lets it make steps outside the lock, and puts them into the trace.
+#![tactic(auto)]
+
+mod claims;
+mod job;
+mod next;
+mod start;
+mod station;
+mod tables;
+mod trace;
+
+pub use claims::Claim;
+pub use job::{AdvanceFault, Job};
+pub use station::Place;
+pub use trace::Trace;

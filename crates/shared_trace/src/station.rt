@@ -1,0 +1,126 @@
+//! What a trace keeps of each device.
+
+ghost use Rattle.std.specs.Prelude.{◌≡◌, ℕ, ◌<◌, true, false, [], Some, IfSome, IfNone, slice_get, slice_index};
+ghost use Rattle.shared_trace.specs.declared.station.Station.{Station};
+ghost use Rattle.shared_trace.specs.declared.station.Place.TheVariants.{Parked, Out};
+ghost use Rattle.shared_trace.specs.Next.{is_end};
+ghost use Rattle.shared_trace.specs.Kept.{is_parked, is_ready};
+
+use crate::next::{Next, can_go};
+use device_machine::Device;
+use std::alloc::Global;
+use std::mem;
+
+/// Where a device is.
+#[derive(Drop)]
+pub enum Place {
+    /// In the trace, until a worker claims it.
+    Parked(Device),
+    /// With the worker of this number.
+    Out(u16),
+}
+
+/// What a trace keeps of a device.
+#[derive(Drop)]
+pub(crate) struct Station {
+    /// Where the device is.
+    pub(crate) place: Place,
+    /// How many entries it has.
+    pub(crate) made: u32,
+    /// What its next step asks for.
+    pub(crate) next: Next,
+    /// A table as long as that of the trace, for the posts that the device's next job knows; the job has it while the
+    /// device is out.
+    pub(crate) known: Vec<u32>,
+}
+
+impl Station {
+    /// Whether the device is parked, and can step where each group has this many posts.
+    fn is_ready(&self, posts: &[u32]) -> bool
+        ensures { result ≡ is_ready (λ g. slice_index posts.now g) self.now }
+    {
+        match self.place {
+            Place::Parked(_) => can_go(self.next, posts),
+            Place::Out(_) => false,
+        }
+    }
+
+    fn is_out(&self) -> bool
+        ensures out { result ≡ true → (worker : ℕ) × (self.now.place ≡ Out worker) }
+        ensures parked { result ≡ false → is_parked self.now.place ≡ true }
+    {
+        match self.place {
+            Place::Parked(_) => false,
+            Place::Out(_) => true,
+        }
+    }
+
+    pub(crate) fn is_at_end(&self) -> bool
+        ensures { result ≡ is_end self.now.next }
+    {
+        match self.next {
+            Next::End => true,
+            Next::Free | Next::Waits(_, _) => false,
+        }
+    }
+
+    /// Hands out the device and the table. The device is then out under the worker.
+    pub(crate) fn hand_out(&mut self, alloc: Global, worker: u16) -> (Device, Vec<u32>)
+        requires { is_parked self.old.place ≡ true }
+        ensures device { self.old.place ≡ Parked result.0 }
+        ensures table { result.1.items ≡ self.old.known.items }
+        ensures place { self.new.place ≡ Out worker }
+        ensures kept { (self.new.made ≡ self.old.made) × (self.new.next ≡ self.old.next) }
+    {
+        let known = mem::replace(&mut self.known, Vec::new(alloc));
+        match mem::replace(&mut self.place, Place::Out(worker)) {
+            Place::Parked(device) => (device, known),
+            Place::Out(_) => unreachable!(),
+        }
+    }
+}
+
+/// The lowest device that is ready.
+pub(crate) fn lowest_ready(stations: &[Station], posts: &[u32]) -> Option<usize>
+    ensures ready { IfSome result (λ d. (x : Station) × (slice_get stations.now d ≡ Some x)
+        × (is_ready (λ g. slice_index posts.now g) x ≡ true)) }
+    ensures lowest { IfSome result (λ d. (i : ℕ) (x : Station) → i < d → slice_get stations.now i ≡ Some x
+        → is_ready (λ g. slice_index posts.now g) x ≡ false) }
+    ensures none { IfNone result ((i : ℕ) (x : Station) → slice_get stations.now i ≡ Some x
+        → is_ready (λ g. slice_index posts.now g) x ≡ false) }
+{
+    for (device, station) in stations.iter().enumerate() {
+        if station.is_ready(posts) {
+            return Some(device);
+        }
+    }
+    None
+}
+
+/// A device that is out, if there is one.
+pub(crate) fn first_out(stations: &[Station]) -> Option<usize>
+    ensures out { IfSome result (λ d. (x : Station) × (worker : ℕ) × (slice_get stations.now d ≡ Some x)
+        × (x.place ≡ Out worker)) }
+    ensures none { IfNone result ((i : ℕ) (x : Station) → slice_get stations.now i ≡ Some x
+        → is_parked x.place ≡ true) }
+{
+    for (device, station) in stations.iter().enumerate() {
+        if station.is_out() {
+            return Some(device);
+        }
+    }
+    None
+}
+
+/// A device that is not at the end of its row, if there is one.
+pub(crate) fn first_left(stations: &[Station]) -> Option<usize>
+    ensures left { IfSome result (λ d. (x : Station) × (slice_get stations.now d ≡ Some x) × (is_end x.next ≡ false)) }
+    ensures none { IfNone result ((i : ℕ) (x : Station) → slice_get stations.now i ≡ Some x → is_end x.next ≡ true) }
+{
+    for (device, station) in stations.iter().enumerate() {
+        if !station.is_at_end() {
+            return Some(device);
+        }
+    }
+    None
+}

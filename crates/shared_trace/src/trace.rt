@@ -1,0 +1,252 @@
+//! A trace.
+
+ghost use Rattle.std.specs.Prelude.{◌≡◌, ℕ, ◌<◌, ◌≤◌, [], true, false, length, Some, slice_get, IfOk, IfSome, IfNone, IfErr, OnOk, OnErr};
+ghost use Rattle.fleet_core.specs.Run.{IsRun, made_by, is_enabled};
+ghost use Rattle.fleet_core.specs.Waiting.{is_waiting};
+ghost use Rattle.fleet_core.specs.Board.{ShowsAfter, AreStarted};
+ghost use Rattle.ticket_lock.specs.Log.{Adds};
+ghost use Rattle.shared_trace.specs.declared.station.Place.TheVariants.{Parked, Out};
+ghost use Rattle.shared_trace.specs.Trace.{Traced, IsShared, IsReady, with_out, with_block, stopped_of, open_by, trace_log};
+ghost use Rattle.shared_trace.specs.Job.{Task, MayPut, StandsIn};
+ghost use Rattle.shared_trace.specs.Claims.{IsTaken, IsAnyOut, IsAnyLeft, AreAllAtEnd, Claims, ClaimStands};
+ghost use Rattle.shared_trace.specs.Kept.{IsTrace, IsStation, table_length, is_parked};
+ghost use Rattle.shared_trace.specs.declared.station.Place.{Place};
+
+use crate::claims::Claim;
+use crate::job::Job;
+use crate::start::start_stations;
+use crate::station::{Place, Station, first_left, first_out, lowest_ready};
+use crate::tables::{TABLE, add_posts};
+use scenario_image::Scenario;
+use std::alloc::{AllocError, Global};
+use std::collections::LinkedList;
+use std::marker::Model;
+use std::snapshot::Snapshot;
+use ticket_lock::Logged;
+use trace_file::{Entries, Entry};
+
+/// A run of a scenario that workers make together. Contracts see its scenario, its entries, where each device is, and
+/// whether it was stopped.
+#[derive(Drop)]
+pub struct Trace {
+    alloc: Global,
+    subject: Snapshot<Scenario>,
+    entries: Vec<Entry>,
+    stations: Vec<Station>,
+    posts: Vec<u32>,
+    stopped: bool,
+}
+
+impl Model for Trace {
+    ghost use Rattle.std.specs.Coded.{codes};
+    ghost use Rattle.instance_store.specs.Stored.{stored_code};
+    ghost use Rattle.device_requests.specs.Managed.{attributes_code};
+    ghost use Rattle.shared_trace.specs.Trace.{Traced};
+    ghost use Rattle.shared_trace.specs.Kept.{IsTrace, places_of};
+
+    ghost Value = { Traced };
+
+    ghost coded = { Prim.hlevel (codes, stored_code, attributes_code) };
+
+    ghost view = { λ t. record {
+      subject = t.subject.value;
+      entries = t.entries.items;
+      places = places_of t.stations.items;
+      stopped = t.stopped;
+    } };
+
+    ghost invariant = { λ t. IsTrace t.subject.value t.entries.items t.stations.items t.posts.items };
+}
+
+impl Logged for Trace {
+    ghost use Rattle.shared_trace.specs.Trace.{trace_log};
+
+    type Entry = Entry;
+
+    type Subject = Scenario;
+
+    type Work = LinkedList<(u16, u32)>;
+
+    ghost log = { trace_log };
+}
+
+impl Trace {
+    /// The trace of a scenario: no entries, and each device parked at the start of its row.
+    pub fn new(alloc: Global, scenario: &Scenario) -> Result<Trace, AllocError>
+        ensures subject { IfOk result (λ t. t.subject ≡ scenario.now) }
+        ensures entries { IfOk result (λ t. t.entries ≡ []) }
+        ensures going { IfOk result (λ t. t.stopped ≡ false) }
+        ensures parked { IfOk result (λ t. (d : ℕ) (p : Place) → slice_get t.places d ≡ Some p → is_parked p ≡ true) }
+        ensures shared { IfOk result (λ t. IsShared t) }
+    {
+        let _rows = scenario.rows();
+        let stations = start_stations(alloc, scenario)?;
+        let posts = vec![in alloc; 0u32; TABLE]?;
+        Ok(Trace {
+            alloc,
+            subject: Snapshot::of(scenario),
+            entries: Vec::new(alloc),
+            stations,
+            posts,
+            stopped: false,
+        })
+    }
+
+    /// Whether the device's row is not at its end.
+    pub fn unfinished(&self, device: u16) -> bool
+        ensures { result ≡ is_waiting self.now.subject self.now.entries device }
+    {
+        match self.stations.get(usize::from(device)) {
+            None => false,
+            Some(station) => !station.is_at_end(),
+        }
+    }
+
+    /// The entries so far, in order.
+    pub fn entries(&self) -> &[Entry]
+        ensures entries { result.now ≡ self.now.entries }
+        ensures shared { IsShared self.now }
+    {
+        self.entries.as_slice()
+    }
+
+    /// The entries, with their memory.
+    pub fn into_entries(self) -> Entries
+        ensures { result ≡ self.entries }
+    {
+        Entries::from_vec(self.entries)
+    }
+
+    /// Stops the trace: each later claim answers so.
+    pub fn stop(&mut self)
+        ensures stopped { self.new ≡ stopped_of self.old }
+        ensures adds { (worker : ℕ) → Adds trace_log worker self.old self.new }
+        ensures shared { IsShared self.new }
+    {
+        self.stopped = true;
+    }
+
+    fn lowest(&self) -> Option<u16>
+        ensures ready { IfSome result (λ d. IsReady self.now d × ((i : ℕ) → IsReady self.now i → d ≤ i)) }
+        ensures none { IfNone result ((i : ℕ) → IsReady self.now i → ⊥) }
+    {
+        match lowest_ready(self.stations.as_slice(), self.posts.as_slice()) {
+            Some(device) => Some(device as u16),
+            None => None,
+        }
+    }
+
+    /// What is answered where no device is ready.
+    fn idle(&self) -> Claim
+        requires going { self.now.stopped ≡ false }
+        requires none { (d : ℕ) → IsReady self.now d → ⊥ }
+        ensures claims { (worker : ℕ) → Claims self.now self.now worker result }
+        ensures stands { (worker : ℕ) → ClaimStands self.now worker result }
+    {
+        match first_out(self.stations.as_slice()) {
+            Some(_) => return Claim::Busy,
+            None => {}
+        }
+        match first_left(self.stations.as_slice()) {
+            Some(_) => Claim::Stalled,
+            None => Claim::Done,
+        }
+    }
+
+    /// Hands out a device that is ready.
+    fn hand_out(&mut self, worker: u16, device: u16) -> Job
+        requires ready { IsReady self.old device }
+        ensures taken { IsTaken self.old self.new worker result }
+        ensures device { result.device ≡ device }
+        ensures shared { IsShared self.new }
+        ensures adds { Adds trace_log worker self.old self.new }
+        ensures stands { StandsIn (open_by self.new worker) result }
+    {
+        let claimed = Snapshot::of(&*self);
+        let alloc = self.alloc;
+        let station = &mut self.stations[usize::from(device)];
+        let (place, next) = (station.made, station.next);
+        let (machine, mut known) = station.hand_out(alloc, worker);
+        known.copy_from_slice(self.posts.as_slice());
+        Job {
+            alloc,
+            claimed,
+            worker,
+            device,
+            place,
+            known,
+            posted: Vec::new(alloc),
+            entries: Vec::new(alloc),
+            machine,
+            next,
+            spent: false,
+        }
+    }
+
+    /// The lowest device that is parked and can step, as a job of the worker; else why there is none.
+    pub fn claim(&mut self, worker: u16) -> Claim
+        ensures claims { Claims self.old self.new worker result }
+        ensures stands { ClaimStands self.new worker result }
+        ensures adds { Adds trace_log worker self.old self.new }
+        ensures shared { IsShared self.new }
+    {
+        if self.stopped {
+            return Claim::Stopped;
+        }
+        match self.lowest() {
+            Some(device) => Claim::Got(self.hand_out(worker, device)),
+            None => self.idle(),
+        }
+    }
+
+    /// Appends the job's entries, and parks its device. Without memory the job comes back, and nothing changed.
+    pub fn put(&mut self, worker: u16, job: Job) -> Result<(), (Job, AllocError)>
+        requires { MayPut self.old worker job }
+        ensures put { OnOk result (self.new ≡ with_block self.old job.device job.shown job.entries) }
+        ensures adds { OnOk result (Adds trace_log worker self.old self.new) }
+        ensures back { IfErr result (λ e. e.0 ≡ job) }
+        ensures unchanged { OnErr result (self.new ≡ self.old) }
+        ensures shared { IsShared self.new }
+    {
+        let Job {
+            alloc,
+            claimed,
+            worker: by,
+            device,
+            place,
+            known,
+            posted,
+            mut entries,
+            machine,
+            next,
+            spent,
+        } = job;
+        match self.entries.append(&mut entries) {
+            Ok(()) => {}
+            Err(fault) => {
+                let job = Job {
+                    alloc,
+                    claimed,
+                    worker: by,
+                    device,
+                    place,
+                    known,
+                    posted,
+                    entries,
+                    machine,
+                    next,
+                    spent,
+                };
+                return Err((job, fault));
+            }
+        }
+        add_posts(&mut self.posts, posted.as_slice());
+        self.stations[usize::from(device)] = Station {
+            place: Place::Parked(machine),
+            made: place,
+            next,
+            known,
+        };
+        Ok(())
+    }
+}
