@@ -1,22 +1,20 @@
 -- A device that is handed out.
-use Rattle.std.proofs.Common.{◌≡◌, ℕ, ◌+◌, ◌<◌, ◌⊎◌, inl, inr, Bool, true, false, List, [], ◌∷◌, ◌++◌, length, map, set, get_or, None, Some, slice_get, slice_index, refl, sym, ap, subst, ◌∙◌, arith}
+use Rattle.std.proofs.Common.{◌≡◌, ℕ, ◌+◌, ◌<◌, ◌⊎◌, inl, inr, Bool, true, false, List, [], length, set, get_or, Some, slice_get, slice_index, refl, sym, ap, subst, ◌∙◌, arith}
 use Rattle.std.specs.Prelude.{◌==◌, count_by, Contains}
 use Rattle.std.specs.List.{AllByRecursion}
-use Rattle.std.proofs.lemmas.List.{length-map, length-set, append-nil}
+use Rattle.std.proofs.lemmas.List.{length-set, append-nil}
 use Rattle.std.proofs.lemmas.Option.{slice_get_read, slice_get_within}
 use Rattle.std.proofs.lemmas.Bool.{cases_eq, ne_eqb, false≢true}
 use Rattle.device_machine.specs.State.{Shown}
 use Rattle.scenario_image.specs.Script.{Script}
 use Rattle.trace_file.specs.declared.entry.Entry.{Entry}
-use Rattle.fleet_core.specs.Run.{made_by, posts_of, step_at, is_enabled, IsRun}
+use Rattle.fleet_core.specs.Run.{made_by, is_enabled, IsRun}
 use Rattle.fleet_core.specs.Board.{ShowsAfter}
 use Rattle.ticket_lock.specs.Log.{Adds}
-use Rattle.shared_trace.specs.declared.next.Next.{Next}
-use Rattle.shared_trace.specs.declared.station.Place.{Place}
 use Rattle.shared_trace.specs.declared.station.Place.TheVariants.{Parked, Out}
 use Rattle.shared_trace.specs.declared.station.Station.{Station}
-use Rattle.shared_trace.specs.Trace.{Traced, IsPlaced, IsShared, IsReady, with_out, open_by, trace_log}
-use Rattle.shared_trace.specs.Kept.{IsTrace, IsStation, IsTask, IsOnWay, IsJob, is_parked, places_of, table_length}
+use Rattle.shared_trace.specs.Trace.{Traced, IsPlaced, IsReady, with_out, open_by, trace_log}
+use Rattle.shared_trace.specs.Kept.{IsTrace, IsStation, IsOnWay, IsJob, is_parked, places_of, table_length}
 use Rattle.shared_trace.proofs.Lists.{set_gives, get-set_same, get-set_other, at_map, from_map, map-set, same_some}
 use Rattle.shared_trace.proofs.Nexts.{enabled_waits}
 use Rattle.shared_trace.proofs.Open.{open_same, open_has}

@@ -1,8 +1,8 @@
 -- A job that is put into its trace again.
-use Rattle.std.proofs.Common.{◌≡◌, ℕ, ◌+◌, ◌<◌, ◌≤◌, nat_lt, ◌⊎◌, inl, inr, Bool, true, false, List, [], ◌∷◌, ◌++◌, length, map, set, Some, slice_get, slice_index, refl, sym, ap, subst, ◌∙◌, arith}
+use Rattle.std.proofs.Common.{◌≡◌, ℕ, ◌+◌, ◌<◌, ◌≤◌, nat_lt, ◌⊎◌, inl, inr, Bool, true, false, List, ◌++◌, length, set, Some, slice_get, slice_index, refl, sym, ap, subst, ◌∙◌, arith}
 use Rattle.std.specs.Prelude.{◌==◌, count_by}
 use Rattle.std.specs.List.{AllByRecursion}
-use Rattle.std.proofs.lemmas.List.{length-map, length-set}
+use Rattle.std.proofs.lemmas.List.{length-set}
 use Rattle.std.proofs.lemmas.Option.{slice_get_within}
 use Rattle.std.proofs.lemmas.Bool.{cases_eq, ne_eqb}
 use Rattle.device_machine.specs.State.{Shown}
@@ -20,9 +20,9 @@ use Rattle.shared_trace.specs.declared.station.Place.{Place}
 use Rattle.shared_trace.specs.declared.station.Place.TheVariants.{Parked, Out}
 use Rattle.shared_trace.specs.declared.station.Station.{Station}
 use Rattle.shared_trace.specs.Next.{next_of}
-use Rattle.shared_trace.specs.Trace.{Traced, IsPlaced, with_block, open_by, trace_log}
+use Rattle.shared_trace.specs.Trace.{Traced, IsPlaced, with_block, trace_log}
 use Rattle.shared_trace.specs.Job.{Task, IsOf, MayPut}
-use Rattle.shared_trace.specs.Kept.{IsTrace, IsStation, IsTask, IsOnWay, IsJob, places_of, table_length}
+use Rattle.shared_trace.specs.Kept.{IsTrace, IsStation, IsTask, IsOnWay, IsJob, places_of}
 use Rattle.shared_trace.proofs.Lists.{set_gives, get-set_other, from_map, map-set, all_weaker}
 use Rattle.shared_trace.proofs.Open.{IsOpen, open_same, open_tells}
 use Rattle.shared_trace.proofs.Stations.{traced}

@@ -1,25 +1,24 @@
 -- What a trace keeps, and what contracts see of it.
-use Rattle.std.proofs.Common.{◌≡◌, ℕ, ◌<◌, ◌≤◌, ◌⊎◌, inl, inr, Bool, true, false, not, List, [], ◌∷◌, ◌++◌, length, map, set, get_or, None, Some, slice_get, slice_index, refl, sym, ap, subst, ◌∙◌, arith}
-use Rattle.std.proofs.lemmas.List.{length-map, length-set, append-nil}
+use Rattle.std.proofs.Common.{◌≡◌, ℕ, ◌<◌, ◌≤◌, ◌⊎◌, inl, inr, Bool, true, false, not, List, length, get_or, Some, slice_get, slice_index, refl, sym, ap, subst, ◌∙◌, arith}
+use Rattle.std.proofs.lemmas.List.{length-map}
 use Rattle.std.proofs.lemmas.Option.{slice_get_read}
-use Rattle.std.proofs.lemmas.Bool.{cases_eq, cases_lt, false≢true, false_from_ne_true}
+use Rattle.std.proofs.lemmas.Bool.{cases_lt, false≢true, false_from_ne_true}
 use Rattle.device_machine.specs.State.{Shown}
 use Rattle.scenario_image.specs.Script.{Script}
 use Rattle.trace_file.specs.declared.entry.Entry.{Entry}
-use Rattle.fleet_core.specs.Run.{made_by, posts_of, step_at, is_enabled, IsRun, IsComplete}
+use Rattle.fleet_core.specs.Run.{is_enabled, IsComplete}
 use Rattle.fleet_core.specs.Waiting.{is_waiting}
-use Rattle.fleet_core.specs.Board.{ShowsAfter}
 use Rattle.fleet_core.proofs.Ends.{no_more, past_rows}
 use Rattle.shared_trace.specs.declared.next.Next.{Next}
 use Rattle.shared_trace.specs.declared.station.Place.{Place}
 use Rattle.shared_trace.specs.declared.station.Place.TheVariants.{Parked, Out}
 use Rattle.shared_trace.specs.declared.station.Station.{Station}
-use Rattle.shared_trace.specs.Next.{next_of, can_go, is_end}
+use Rattle.shared_trace.specs.Next.{can_go, is_end}
 use Rattle.shared_trace.specs.Trace.{Traced, IsPlaced, IsShared, IsReady}
 use Rattle.shared_trace.specs.Claims.{IsAnyOut, IsAnyLeft, AreAllAtEnd, IsIdle}
-use Rattle.shared_trace.specs.Kept.{IsTrace, IsStation, is_parked, is_ready, is_ready_in, places_of, table_length}
-use Rattle.shared_trace.proofs.Lists.{set_gives, get-set_other, at_map, from_map, some_at}
-use Rattle.shared_trace.proofs.Nexts.{go_enabled, waiting_is, enabled_waits, past_waiting}
+use Rattle.shared_trace.specs.Kept.{IsTrace, is_parked, is_ready, is_ready_in, places_of}
+use Rattle.shared_trace.proofs.Lists.{at_map, from_map, some_at}
+use Rattle.shared_trace.proofs.Nexts.{go_enabled, waiting_is, past_waiting}
 
 abbrev pub traced : Script → List Entry → List Station → Bool → Traced
 traced s es stations stopped = record { subject = s; entries = es; places = places_of stations; stopped = stopped }

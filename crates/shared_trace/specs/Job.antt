@@ -1,6 +1,5 @@
 -- What contracts see of a job, and what may be done with it.
 use Rattle.std.specs.Prelude.{◌≡◌, ℕ, ◌<◌, ◌≤◌, Bool, true, false, List, ◌∷◌, ◌++◌, [], length, Contains}
-use Rattle.std.specs.List.{AllByRecursion}
 use Rattle.device_machine.specs.State.{Shown}
 use Rattle.scenario_image.specs.Script.{Script}
 use Rattle.trace_file.specs.declared.entry.Entry.{Entry}

@@ -80,6 +80,13 @@ impl Job {
         self.entries.as_slice()
     }
 
+    /// The device.
+    pub fn device(&self) -> u16
+        ensures { result ≡ self.now.device }
+    {
+        self.device
+    }
+
     /// Gives the job up. Its device stays out.
     pub fn abandon(self) {
         let Job {

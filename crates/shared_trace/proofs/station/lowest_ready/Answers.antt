@@ -1,4 +1,4 @@
-use Rattle.std.proofs.Common.{◌≡◌, length, true, false, refl, sym, ◌∙◌, slice_index}
+use Rattle.std.proofs.Common.{◌≡◌, length, false, refl, sym, ◌∙◌, slice_index}
 use Rattle.std.proofs.lemmas.Option.{slice_get_read}
 use Rattle.shared_trace.specs.Kept.{is_ready}
 use Rattle.shared_trace.proofs.Lists.{scan_more, scan_end}

@@ -1,7 +1,7 @@
 use Rattle.std.proofs.Common.{◌≡◌, true, false, refl, sym, ap, ◌∙◌, arith}
 use Rattle.fleet_core.specs.Run.{out_at, step_at}
 use Rattle.fleet_core.specs.Board.{ShowsAfter}
-use Rattle.std.proofs.Common.{Some, subst, ◌+◌}
+use Rattle.std.proofs.Common.{subst, ◌+◌}
 use Rattle.shared_trace.specs.Next.{next_of}
 use Rattle.shared_trace.proofs.Stepping.{IsGoing, IsMade, going, goes, able_here, shows_here, step_here, post_within, table_room, place_room, made_job, made_step}
 use Rattle.shared_trace.proofs.job.Job.step.Goals as goal

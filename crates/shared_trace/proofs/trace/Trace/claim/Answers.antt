@@ -1,4 +1,4 @@
-use Rattle.std.proofs.Common.{◌≡◌, ℕ, ◌≤◌, false, sym, ap, subst, ◌∙◌}
+use Rattle.std.proofs.Common.{ℕ, ◌≤◌, sym, ap, subst, ◌∙◌}
 use Rattle.shared_trace.specs.Trace.{IsReady}
 use Rattle.shared_trace.proofs.Stations.{shared_of}
 use Rattle.shared_trace.proofs.trace.Trace.claim.Goals as goal

@@ -1,5 +1,5 @@
-use Rattle.std.proofs.Common.{◌≡◌, sym, ap, refl, ◌∙◌, length, arith}
-use Rattle.shared_trace.proofs.Stations.{traced, shared_is}
+use Rattle.std.proofs.Common.{ap, refl, ◌∙◌, length, arith}
+use Rattle.shared_trace.proofs.Stations.{shared_is}
 use Rattle.shared_trace.proofs.Handing.{IsHanded, handed, table_is, out_trace, out_view, out_adds, out_stands, fresh_job, parked_now, shows_now}
 use Rattle.shared_trace.proofs.trace.Trace.hand_out.Goals as goal
 

@@ -1,7 +1,3 @@
-use Rattle.std.proofs.Common.{◌≡◌, ℕ, true, Some, slice_get, refl, subst}
-use Rattle.shared_trace.specs.declared.station.Station.{Station}
-use Rattle.shared_trace.specs.Kept.{is_parked}
-use Rattle.shared_trace.specs.Next.{is_end}
 use Rattle.shared_trace.proofs.Stations.{any_out, any_left, all_ended, complete_is, idle_now}
 use Rattle.shared_trace.proofs.trace.Trace.idle.Goals as goal
 

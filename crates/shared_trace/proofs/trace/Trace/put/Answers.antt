@@ -1,9 +1,8 @@
-use Rattle.std.proofs.Common.{◌≡◌, ℕ, ◌+◌, ◌<◌, ◌++◌, length, false, refl, sym, ap, subst, ◌∙◌, arith, slice_index}
+use Rattle.std.proofs.Common.{ℕ, ◌+◌, ◌<◌, length, refl, sym, ap, subst, ◌∙◌, arith, slice_index}
 use Rattle.std.specs.Prelude.{◌==◌, count_by}
 use Rattle.std.specs.List.{AllByRecursion}
-use Rattle.ticket_lock.specs.Log.{Adds}
 use Rattle.shared_trace.specs.declared.station.Place.TheVariants.{Parked}
-use Rattle.shared_trace.specs.Trace.{Traced, IsShared, with_block, trace_log}
+use Rattle.shared_trace.specs.Trace.{IsShared, with_block}
 use Rattle.shared_trace.proofs.Stations.{traced, shared_is}
 use Rattle.shared_trace.proofs.Putting.{IsFitting, fitting, put_within, put_room, put_place, put_trace, put_view, put_adds}
 use Rattle.shared_trace.proofs.trace.Trace.put.Goals as goal
