@@ -68,6 +68,10 @@ fn held(alloc: Global, store: &Store, number: u16) -> Result<String, Unanswered>
     }
 }
 
+fn taken_word(is_taken: bool) -> &'static str {
+    if is_taken { "taken" } else { "refused" }
+}
+
 /// `firmware STATE EVENT`: whether the event is taken, and the State, the Update Result and the Package URI after it.
 fn event_in_state(alloc: Global, rest: &str) -> Result<String, Unanswered> {
     let (state, rest) = word(rest)?;
@@ -78,11 +82,11 @@ fn event_in_state(alloc: Global, rest: &str) -> Result<String, Unanswered> {
     if can_be_taken != is_taken {
         return fixed(alloc, "takes and take differ");
     }
-    let word = if is_taken { "taken" } else { "refused" };
     let (state, result) = (held(alloc, &store, 3)?, held(alloc, &store, 5)?);
     let uri = held(alloc, &store, 1)?;
     let (state, result, uri) = (state.as_str(), result.as_str(), uri.as_str());
-    Ok(joined(alloc, &[word, " ", state, " ", result, " ", uri])?)
+    let words = [taken_word(is_taken), " ", state, " ", result, " ", uri];
+    Ok(joined(alloc, &words)?)
 }
 
 /// What writing the Package or the Package URI is.

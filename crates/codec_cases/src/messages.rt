@@ -61,8 +61,8 @@ fn options_of(alloc: Global, message: &Message) -> Result<String, AllocError> {
     for option in message.options().as_slice() {
         let number = forms::decimal(alloc, u64::from(option.number))?;
         let value = forms::hex_word(alloc, option.value.as_slice())?;
-        let space = if out.is_empty() { "" } else { " " };
-        forms::put_words(&mut out, &[space, number.as_str(), ":", value.as_str()])?;
+        crate::places::add(&mut out, " ", number.as_str())?;
+        forms::put_words(&mut out, &[":", value.as_str()])?;
     }
     Ok(out)
 }

@@ -61,8 +61,12 @@ fn copy(alloc: Global, rest: &str) -> Result<String, Unanswered> {
     let value = value_at(alloc, rest)?;
     let copy = value.copy()?;
     let words = value_words(alloc, &copy)?;
-    let same = if copy == value { "equal" } else { "unequal" };
-    Ok(forms::joined(alloc, &[same, " ", words.as_str()])?)
+    let words = [equality_word(copy == value), " ", words.as_str()];
+    Ok(forms::joined(alloc, &words)?)
+}
+
+fn equality_word(is_equal: bool) -> &'static str {
+    if is_equal { "equal" } else { "unequal" }
 }
 
 /// The words of what was read, or its fault.
