@@ -49,7 +49,7 @@ fn words_of(kind: ErrorKind) -> &'static str {
     }
 }
 
-/// Where files are: the system, or what a test has in memory. Only what has it by `&mut` can write.
+/// Where files are: the system, or memory. Only what has it by `&mut` can write.
 pub trait Files {
     /// That the file at a path had these bytes when it was read.
     ghost holds: { Self → List ℕ → List ℕ → Type 0 };

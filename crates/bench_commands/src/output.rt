@@ -5,7 +5,7 @@ use crate::files::FileFault;
 use std::fmt::Display;
 use std::io::Write;
 
-/// What texts are printed to: standard output, standard error, or what a test has in memory.
+/// What texts are printed to: standard output, standard error, or what is in memory.
 pub trait Output {
     /// The bytes that it got, where they are known.
     ghost taken: { Self → Option (List ℕ) };

@@ -3,9 +3,6 @@
 
 use std::process::ExitCode;
 
-#[cfg(test)]
-mod tests;
-
 fn main(rt: HostRuntime) -> ExitCode {
     bench_commands::start(&rt)
 }
