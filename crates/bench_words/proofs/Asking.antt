@@ -5,13 +5,13 @@ use Rattle.clap.specs.declared.error.Error.{Error}
 use Rattle.clap.specs.declared.error.kind.ErrorKind.TheVariants as kind
 use Rattle.bench_words.specs.declared.words.Job.{Job}
 use Rattle.bench_words.specs.declared.words.Job.TheVariants as jobs
-use Rattle.bench_words.specs.Words.{AsksFor, IsRefusedAs, bench_app, refusals}
+use Rattle.bench_words.specs.Words.{AsksFor, IsRefusedAs, LacksRun, bench_app, refusals}
 
 pub no_one : (rows : List Row) (job : Job) → first_of (codes "HEX") rows ≡ None → AsksFor (codes "one", rows) job → ⊥
 no_one rows (jobs.One hex) none asks = search rules
 no_one rows (jobs.Asm input output) none asks = search rules
 no_one rows (jobs.Dis input) none asks = search rules
-no_one rows (jobs.Run image trace) none asks = search rules
+no_one rows (jobs.Run image workers batch trace) none asks = search rules
 no_one rows (jobs.Check image trace) none asks = search rules
 
 pub no_asm : (rows : List Row) (job : Job) → (first_of (codes "IN") rows ≡ None) ⊎ (first_of (codes "OUT") rows ≡ None) → AsksFor (codes "asm", rows) job → ⊥
@@ -19,28 +19,30 @@ no_asm rows (jobs.One hex) none asks = search rules
 no_asm rows (jobs.Asm input output) (inl none) asks = search rules
 no_asm rows (jobs.Asm input output) (inr none) asks = search rules
 no_asm rows (jobs.Dis input) none asks = search rules
-no_asm rows (jobs.Run image trace) none asks = search rules
+no_asm rows (jobs.Run image workers batch trace) none asks = search rules
 no_asm rows (jobs.Check image trace) none asks = search rules
 
 pub no_dis : (rows : List Row) (job : Job) → first_of (codes "IN") rows ≡ None → AsksFor (codes "dis", rows) job → ⊥
 no_dis rows (jobs.One hex) none asks = search rules
 no_dis rows (jobs.Asm input output) none asks = search rules
 no_dis rows (jobs.Dis input) none asks = search rules
-no_dis rows (jobs.Run image trace) none asks = search rules
+no_dis rows (jobs.Run image workers batch trace) none asks = search rules
 no_dis rows (jobs.Check image trace) none asks = search rules
 
-pub no_run : (rows : List Row) (job : Job) → first_of (codes "IMAGE") rows ≡ None → AsksFor (codes "run", rows) job → ⊥
-no_run rows (jobs.One hex) none asks = search rules
-no_run rows (jobs.Asm input output) none asks = search rules
-no_run rows (jobs.Dis input) none asks = search rules
-no_run rows (jobs.Run image trace) none asks = search rules
-no_run rows (jobs.Check image trace) none asks = search rules
+pub no_run : (rows : List Row) (job : Job) → LacksRun rows → AsksFor (codes "run", rows) job → ⊥
+no_run rows (jobs.One hex) lacks asks = search rules
+no_run rows (jobs.Asm input output) lacks asks = search rules
+no_run rows (jobs.Dis input) lacks asks = search rules
+no_run rows (jobs.Run image workers batch trace) (inl none) asks = search rules
+no_run rows (jobs.Run image workers batch trace) (inr (inl none)) asks = none workers asks.2
+no_run rows (jobs.Run image workers batch trace) (inr (inr none)) asks = none batch asks.3
+no_run rows (jobs.Check image trace) lacks asks = search rules
 
 pub no_check : (rows : List Row) (job : Job) → (first_of (codes "IMAGE") rows ≡ None) ⊎ (first_of (codes "TRACE") rows ≡ None) → AsksFor (codes "check", rows) job → ⊥
 no_check rows (jobs.One hex) none asks = search rules
 no_check rows (jobs.Asm input output) none asks = search rules
 no_check rows (jobs.Dis input) none asks = search rules
-no_check rows (jobs.Run image trace) none asks = search rules
+no_check rows (jobs.Run image workers batch trace) none asks = search rules
 no_check rows (jobs.Check image trace) (inl none) asks = search rules
 no_check rows (jobs.Check image trace) (inr none) asks = search rules
 

@@ -1,6 +1,8 @@
 -- The words of the command line: which `clap` takes, and what they then ask for.
-use Rattle.std.specs.Prelude.{◌≡◌, ◌≢◌, ◌↔◌, ◌⊎◌, Bool, true, IsTrue, List, [], Some, option_map, codes}
-use Rattle.clap.specs.Words.{App, IsAmong, Row, Rule, Text as Word, fault_of, first_of, new_app, new_rule, subcommand_of, with_rule, with_subcommand}
+use Rattle.std.specs.Prelude.{◌≡◌, ◌≢◌, ◌↔◌, ◌⊎◌, ◌<◌, ◌^◌, ℕ, pos, Bool, true, IsTrue, List, [], ◌∷◌, Option, None, Some, option_map, codes}
+use Rattle.std.specs.Str.Parse.{IsNumeral, digits_value, without_leading_plus}
+use Rattle.clap.specs.Words.{App, IsAmong, Row, Rule, Text as Word, fault_of, first_of, new_app, new_rule, one_of, subcommand_of, with_rule, with_subcommand}
+use Rattle.clap.specs.declared.builder.value_parser.ValueParser.TheVariants as parsers
 use Rattle.clap.specs.declared.error.kind.ErrorKind.{ErrorKind}
 use Rattle.clap.specs.declared.error.kind.ErrorKind.TheVariants.{DisplayHelp, DisplayVersion}
 use Rattle.bench_words.specs.declared.words.Job.{Job}
@@ -30,9 +32,28 @@ asm_app = with_rule (with_rule (new_app (codes "asm")) (needed (codes "IN"))) (n
 abbrev pub dis_app : App
 dis_app = with_rule (new_app (codes "dis")) (needed (codes "IN"))
 
--- `run IMAGE [--trace FILE]`
+-- `--NAME N`, a number from 0 to `most`; where it is not given, `default`
+abbrev pub number : Word → ℕ → Word → Rule
+number name most default = record (new_rule name) {
+  long = Some name;
+  value_names = 1;
+  defaults = default ∷ [];
+  parser = Some (parsers.Signed (pos 0) (pos most));
+}
+
+-- `--workers N`
+abbrev pub workers : Rule
+workers = number (codes "workers") 65535 (codes "2")
+
+-- `--batch N`
+abbrev pub batch : Rule
+batch = number (codes "batch") 4294967295 (codes "16")
+
+-- `run IMAGE [--workers N] [--batch N] [--trace FILE]`
 abbrev pub run_app : App
-run_app = with_rule (with_rule (new_app (codes "run")) (needed (codes "IMAGE"))) (file (codes "trace"))
+run_app =
+    with_rule (with_rule (with_rule (with_rule (new_app (codes "run")) (needed (codes "IMAGE"))) workers) batch)
+    (file (codes "trace"))
 
 -- `check IMAGE TRACE`
 abbrev pub check_app : App
@@ -51,14 +72,39 @@ bench_app =
 
 -- ---- what is asked for
 
+-- the word is this number, in decimal and below 2 ^ bits
+pub record SpellsNumber (bits : ℕ) (word : Word) (n : ℕ) : Type 0 where
+  pub digits : IsNumeral 10 (without_leading_plus word)
+  pub value : n ≡ digits_value 10 (without_leading_plus word)
+  pub bound : n < 2 ^ bits
+
+-- there is a word, and it is this number
+abbrev pub IsNumber : ℕ → Option Word → ℕ → Type 0
+IsNumber bits None n = ⊥
+IsNumber bits (Some word) n = SpellsNumber bits word n
+
+-- there is no word, or it is not a number
+abbrev pub IsNoNumber : ℕ → Option Word → Type 0
+IsNoNumber bits word = (n : ℕ) → IsNumber bits word n → ⊥
+
+-- a value that a run needs is not there
+abbrev pub LacksRun : List Row → Type 0
+LacksRun rows =
+    (first_of (codes "IMAGE") rows ≡ None)
+    ⊎ (IsNoNumber 16 (one_of (codes "workers") rows) ⊎ IsNoNumber 32 (one_of (codes "batch") rows))
+
 -- a subcommand with its values asks for this
 abbrev pub AsksFor : Word × List Row → Job → Type 0
 AsksFor found (jobs.One hex) = (found.0 ≡ codes "one") × (first_of (codes "HEX") found.1 ≡ Some hex.now)
 AsksFor found (jobs.Asm input output) =
     (found.0 ≡ codes "asm") × (first_of (codes "IN") found.1 ≡ Some input.now) × (first_of (codes "OUT") found.1 ≡ Some output.now)
 AsksFor found (jobs.Dis input) = (found.0 ≡ codes "dis") × (first_of (codes "IN") found.1 ≡ Some input.now)
-AsksFor found (jobs.Run image trace) =
-    (found.0 ≡ codes "run") × (first_of (codes "IMAGE") found.1 ≡ Some image.now) × (first_of (codes "trace") found.1 ≡ option_map (λ p. p.now) trace)
+AsksFor found (jobs.Run image workers batch trace) =
+    (found.0 ≡ codes "run")
+    × (first_of (codes "IMAGE") found.1 ≡ Some image.now)
+    × IsNumber 16 (one_of (codes "workers") found.1) workers
+    × IsNumber 32 (one_of (codes "batch") found.1) batch
+    × (first_of (codes "trace") found.1 ≡ option_map (λ p. p.now) trace)
 AsksFor found (jobs.Check image trace) =
     (found.0 ≡ codes "check") × (first_of (codes "IMAGE") found.1 ≡ Some image.now) × (first_of (codes "TRACE") found.1 ≡ Some trace.now)
 

@@ -1,12 +1,12 @@
 ghost use Rattle.std.specs.Prelude.{◌≡◌, ◌≢◌, ◌⊎◌, List, None, Some, codes, map, option_map, false, IfNone, IfOk, IfSome};
 ghost use Rattle.std.specs.String.{string_bytes};
-ghost use Rattle.clap.specs.Words.{Row, Text as Word, app_of, first_of, found_of, kind_of, new_app, rows_of, rule_of, subcommand_rows_of};
+ghost use Rattle.clap.specs.Words.{Row, Text as Word, app_of, first_of, found_of, kind_of, new_app, one_of, rows_of, rule_of, subcommand_rows_of, with_rule};
 ghost use Rattle.bench_words.specs.declared.words.Job.{Job as JobData};
-ghost use Rattle.bench_words.specs.Words.{AsksFor, IsReadAs, asm_app, bench_app, check_app, dis_app, file, needed, one_app, run_app};
+ghost use Rattle.bench_words.specs.Words.{AsksFor, IsNoNumber, IsNumber, IsReadAs, LacksRun, asm_app, batch, bench_app, check_app, dis_app, file, needed, one_app, run_app, workers};
 
 use crate::help;
 use clap::error::ErrorKind;
-use clap::{Arg, ArgMatches, Command, Error};
+use clap::{Arg, ArgMatches, Command, Error, value_parser};
 use std::alloc::{AllocError, Global};
 
 /// What is said of an argument that is no text.
@@ -33,10 +33,14 @@ pub enum Job<'a> {
         /// The path of the scenario's image.
         input: &'a str,
     },
-    /// The serial run of a scenario.
+    /// A run of a scenario.
     Run {
         /// The path of the scenario's image.
         image: &'a str,
+        /// How many workers make it.
+        workers: u16,
+        /// The most steps of a device that a worker makes at a time.
+        batch: u32,
         /// Where the trace file goes, if anywhere.
         trace: Option<&'a str>,
     },
@@ -138,12 +142,28 @@ fn dis_job<'a>(found: &ArgMatches<'a>) -> Option<Job<'a>>
 
 fn run_job<'a>(found: &ArgMatches<'a>) -> Option<Job<'a>>
     ensures some { IfSome result (AsksFor (codes "run", rows_of (found_of found.now))) }
-    ensures none { IfNone result (first_of (codes "IMAGE") (rows_of (found_of found.now)) ≡ None) }
+    ensures none { IfNone result (LacksRun (rows_of (found_of found.now))) }
 {
     Some(Job::Run {
         image: value_of(found, "IMAGE")?,
+        workers: workers_of(found)?,
+        batch: batch_of(found)?,
         trace: value_of(found, "trace"),
     })
+}
+
+fn workers_of(found: &ArgMatches) -> Option<u16>
+    ensures some { IfSome result (IsNumber 16 (one_of (codes "workers") (rows_of (found_of found.now)))) }
+    ensures none { IfNone result (IsNoNumber 16 (one_of (codes "workers") (rows_of (found_of found.now)))) }
+{
+    found.get_one::<u16>("workers")
+}
+
+fn batch_of(found: &ArgMatches) -> Option<u32>
+    ensures some { IfSome result (IsNumber 32 (one_of (codes "batch") (rows_of (found_of found.now)))) }
+    ensures none { IfNone result (IsNoNumber 32 (one_of (codes "batch") (rows_of (found_of found.now)))) }
+{
+    found.get_one::<u32>("batch")
 }
 
 fn check_job<'a>(found: &ArgMatches<'a>) -> Option<Job<'a>>
@@ -230,10 +250,41 @@ fn dis_command<'a>(alloc: Global) -> Result<Command<'a>, AllocError>
 fn run_command<'a>(alloc: Global) -> Result<Command<'a>, AllocError>
     ensures { IfOk result (λ c. app_of c ≡ run_app) }
 {
-    let about = "Runs a scenario: always the lowest device that can step takes the next step";
-    described(alloc, "run", about, help::RUN)
-        .arg(needed(alloc, "IMAGE").help("The scenario, as an image"))?
-        .arg(file(alloc, "trace").help("Where the trace of the run goes"))
+    let about = "Runs a scenario: workers let its devices step until none can";
+    let image = described(alloc, "run", about, help::RUN).arg(needed(alloc, "IMAGE").help(
+        "The scenario, as an image",
+    ))?;
+    with_numbers(alloc, image)?.arg(file(alloc, "trace").help("Where the trace of the run goes"))
+}
+
+fn with_numbers<'a>(alloc: Global, command: Command<'a>) -> Result<Command<'a>, AllocError>
+    ensures { IfOk result (λ c. app_of c ≡ with_rule (with_rule (app_of command.entry) workers) batch) }
+{
+    command.arg(workers(alloc))?.arg(batch(alloc))
+}
+
+fn workers<'a>(alloc: Global) -> Arg<'a>
+    ensures rule { rule_of result ≡ workers }
+    ensures local { result.global ≡ false }
+{
+    Arg::new(alloc, "workers")
+        .long("workers")
+        .value_name("N")
+        .value_parser(value_parser!(u16))
+        .default_value("2")
+        .help("How many workers there are")
+}
+
+fn batch<'a>(alloc: Global) -> Arg<'a>
+    ensures rule { rule_of result ≡ batch }
+    ensures local { result.global ≡ false }
+{
+    Arg::new(alloc, "batch")
+        .long("batch")
+        .value_name("N")
+        .value_parser(value_parser!(u32))
+        .default_value("16")
+        .help("The most steps that a worker makes at a time")
 }
 
 fn check_command<'a>(alloc: Global) -> Result<Command<'a>, AllocError>
