@@ -10,14 +10,15 @@ use Rattle.scenario_asm.proofs.Denoting.{so_denotes}
 use Rattle.trace_file.specs.declared.entry.Entry.{Entry}
 use Rattle.trace_file.specs.Layout.{IsTraceFile}
 use Rattle.fleet_core.specs.declared.verdict.Verdict.{Verdict}
-use Rattle.fleet_core.specs.Run.{IsSerial}
 use Rattle.fleet_core.specs.Verdict.{Judges}
 use Rattle.fleet_core.specs.Waiting.{waiting}
+use Rattle.fleet_workers.specs.declared.fleet.FleetRun.{FleetRun}
+use Rattle.fleet_workers.specs.Fleet.{IsFleetRun}
 use Rattle.bench_commands.specs.Demo.{demo_outputs}
 use Rattle.bench_commands.specs.Printed.{printed}
 use Rattle.bench_commands.specs.Runs.{end_line, end_status, verdict_line, verdict_status}
 use Rattle.bench_commands.specs.Files.{Made}
-use Rattle.bench_commands.specs.Serial.{IsSavedAs, IsSerialRun, IsJudged, IsRunFault}
+use Rattle.bench_commands.specs.RunAnswer.{IsSavedAs, IsRunAnswer, IsJudged, IsRunFault}
 use Rattle.bench_commands.specs.Jobs.{IsScenarioAt, IsTraceAt, IsImageFault, IsTraceFault, IsOneDone, IsAsmDone, IsDisDone, IsRunDone, IsCheckDone, IsRunRefused, IsCheckRefused}
 use Rattle.bench_commands.specs.Texts.{IsTextAt, count_line}
 use Rattle.bench_commands.specs.declared.fault.Fault.{Fault}
@@ -39,11 +40,11 @@ not_saved es made same = same
 pub saved_as : (path bytes : List ℕ) (es : List Entry) (made : List Made) → IsTraceFile bytes es → made ≡ (path, bytes) ∷ [] → IsSavedAs (Some path) es made
 saved_as path bytes es made file same = (bytes, file, same)
 
-pub serial_run : (s : Script) (trace : Option (List ℕ)) (es : List Entry) (status : Status) (text : List ℕ) (made : List Made) → IsSerial s es
-    → IsSavedAs trace es made → text ≡ end_line (length es) (waiting s es) → status ≡ end_status (waiting s es)
-    → IsSerialRun s trace status text made
-serial_run s trace es status text made serial saved said ended =
-    record { entries = es; serial = serial; saved = saved; text_is = said; status_is = ended }
+pub run_answer : (s : Script) (trace : Option (List ℕ)) (r : FleetRun) (status : Status) (text : List ℕ) (made : List Made) → IsFleetRun s r
+    → IsSavedAs trace r.entries made → text ≡ end_line (length r.entries) (waiting s r.entries) → status ≡ end_status (waiting s r.entries)
+    → IsRunAnswer s trace status text made
+run_answer s trace r status text made right saved said ended =
+    record { run = r; right = right; saved = saved; text_is = said; status_is = ended }
 
 pub judged_as : (s : Script) (es : List Entry) (verdict : Verdict) (status : Status) (text : List ℕ) → Judges s es verdict → text ≡ verdict_line verdict
     → status ≡ verdict_status verdict → IsJudged s es status text
@@ -63,7 +64,7 @@ pub dis_done : (holds : List ℕ → List ℕ → Type 0) (input : List ℕ) (s 
 dis_done holds input s status text made found said ended none = record { scenario = s; found = found; text_is = said; status_is = ended; made_is = none }
 
 pub run_done : (holds : List ℕ → List ℕ → Type 0) (image : List ℕ) (trace : Option (List ℕ)) (status : Status) (s : Script) (text : List ℕ) (made : List Made)
-    → IsScenarioAt holds image s → IsSerialRun s trace status text made → IsRunDone holds image trace status text made
+    → IsScenarioAt holds image s → IsRunAnswer s trace status text made → IsRunDone holds image trace status text made
 run_done holds image trace status s text made found ran = record { scenario = s; found = found; run = ran }
 
 pub check_done : (holds : List ℕ → List ℕ → Type 0) (image trace : List ℕ) (status : Status) (s : Script) (es : List Entry) (text : List ℕ) (made : List Made)
@@ -71,12 +72,13 @@ pub check_done : (holds : List ℕ → List ℕ → Type 0) (image trace : List 
 check_done holds image trace status s es text made found read right none =
     record { scenario = s; found = found; entries = es; read = read; judged = right; made_is = none }
 
-pub run_image : (holds : List ℕ → List ℕ → Type 0) (fails : List ℕ → Type 0) (image : List ℕ) (f : Fault) → IsImageFault holds fails image f → IsRunRefused holds fails image f
-run_image holds fails image f h = inl h
+pub run_image : (holds : List ℕ → List ℕ → Type 0) (fails : List ℕ → Type 0) (image : List ℕ) (workers batch : ℕ) (f : Fault)
+    → IsImageFault holds fails image f → IsRunRefused holds fails image workers batch f
+run_image holds fails image workers batch f h = inl h
 
-pub run_work : (holds : List ℕ → List ℕ → Type 0) (fails : List ℕ → Type 0) (image : List ℕ) (f : Fault) (s : Script) → IsScenarioAt holds image s → IsRunFault s f
-    → IsRunRefused holds fails image f
-run_work holds fails image f s found h = inr (record { scenario = s; found = found; fault = h })
+pub run_work : (holds : List ℕ → List ℕ → Type 0) (fails : List ℕ → Type 0) (image : List ℕ) (workers batch : ℕ) (f : Fault) (s : Script)
+    → IsScenarioAt holds image s → IsRunFault s workers batch f → IsRunRefused holds fails image workers batch f
+run_work holds fails image workers batch f s found h = inr (record { scenario = s; found = found; fault = h })
 
 pub check_image : (holds : List ℕ → List ℕ → Type 0) (fails : List ℕ → Type 0) (image trace : List ℕ) (f : Fault) → IsImageFault holds fails image f
     → IsCheckRefused holds fails image trace f

@@ -14,11 +14,14 @@ use Rattle.trace_file.specs.declared.entry.Entry.{Entry}
 use Rattle.trace_file.specs.declared.fault.WriteFault.{WriteFault}
 use Rattle.trace_file.specs.declared.fault.WriteFault.TheVariants as trace
 use Rattle.trace_file.specs.Layout.{IsTraceFile}
-use Rattle.fleet_core.specs.Run.{IsSerial}
+use Rattle.fleet_workers.specs.declared.fleet.FleetRun.{FleetRun}
+use Rattle.fleet_workers.specs.declared.fleet.RunFault.{RunFault}
+use Rattle.fleet_workers.specs.declared.fleet.RunFault.TheVariants as runs
+use Rattle.fleet_workers.specs.Fleet.{IsFleetRun}
 use Rattle.bench_commands.specs.declared.fault.Fault.{Fault}
 use Rattle.bench_commands.specs.declared.fault.Fault.TheVariants as faults
-use Rattle.bench_commands.specs.Fault.{IsReadingFault, IsTemplateFault, layout_fault, refused_text, text_fault, trace_fault}
-use Rattle.bench_commands.specs.Serial.{IsRunFault, IsSavingFault}
+use Rattle.bench_commands.specs.Fault.{IsReadingFault, IsTemplateFault, layout_fault, refused_text, run_fault, text_fault, trace_fault}
+use Rattle.bench_commands.specs.RunAnswer.{IsRunFault, IsSavingFault, IsWrongBatch}
 use Rattle.bench_commands.specs.Texts.{IsTextFault}
 use Rattle.bench_commands.specs.Jobs.{IsFileFault, IsOneFault}
 
@@ -33,6 +36,9 @@ reading_file holds fails broken path (faults.Layout fault) h = absurd h
 reading_file holds fails broken path (faults.Text fault) h = absurd h
 reading_file holds fails broken path faults.TooLarge h = absurd h
 reading_file holds fails broken path (faults.Template fault) h = absurd h
+reading_file holds fails broken path faults.Workers h = absurd h
+reading_file holds fails broken path faults.Batch h = absurd h
+reading_file holds fails broken path faults.Spent h = absurd h
 
 -- a file whose bytes break off
 pub broken_at : (holds : List ℕ → List ℕ → Type 0) (fails : List ℕ → Type 0) (broken : List ℕ → LayoutFault → Type 0) (path bytes : List ℕ) → holds path bytes
@@ -55,6 +61,9 @@ reading_text holds fails path (faults.Layout fault) h = absurd h
 reading_text holds fails path (faults.Text fault) h = absurd h
 reading_text holds fails path faults.TooLarge h = absurd h
 reading_text holds fails path (faults.Template fault) h = absurd h
+reading_text holds fails path faults.Workers h = absurd h
+reading_text holds fails path faults.Batch h = absurd h
+reading_text holds fails path faults.Spent h = absurd h
 
 -- bytes that are no text
 pub no_text : (holds : List ℕ → List ℕ → Type 0) (fails : List ℕ → Type 0) (path bytes : List ℕ) → holds path bytes → ¬ (IsUtf8 bytes) → IsTextFault holds fails path faults.Read
@@ -80,16 +89,28 @@ pub unsaved : (es : List Entry) (e : WriteFault) → ((e ≡ trace.TooLarge) ↔
 unsaved es trace.TooLarge h = h.0 refl
 unsaved es trace.Memory h = tt
 
--- a serial run that was not saved
-pub unsaved_run : (s : Script) (es : List Entry) → IsSerial s es → (f : Fault) → IsSavingFault es f → IsRunFault s f
-unsaved_run s es serial faults.Memory h = tt
-unsaved_run s es serial faults.Write h = absurd h
-unsaved_run s es serial faults.TooLarge h = (es, serial, h)
-unsaved_run s es serial faults.Hex h = absurd h
-unsaved_run s es serial faults.Read h = absurd h
-unsaved_run s es serial (faults.Layout fault) h = absurd h
-unsaved_run s es serial (faults.Text fault) h = absurd h
-unsaved_run s es serial (faults.Template fault) h = absurd h
+-- a run that was not saved
+pub unsaved_run : (s : Script) (workers batch : ℕ) (r : FleetRun) → IsFleetRun s r → (f : Fault) → IsSavingFault r.entries f
+    → IsRunFault s workers batch f
+unsaved_run s workers batch r right faults.Memory h = tt
+unsaved_run s workers batch r right faults.TooLarge h = (r, right, h)
+unsaved_run s workers batch r right faults.Write h = absurd h
+unsaved_run s workers batch r right faults.Hex h = absurd h
+unsaved_run s workers batch r right faults.Read h = absurd h
+unsaved_run s workers batch r right (faults.Layout fault) h = absurd h
+unsaved_run s workers batch r right (faults.Text fault) h = absurd h
+unsaved_run s workers batch r right (faults.Template fault) h = absurd h
+unsaved_run s workers batch r right faults.Workers h = absurd h
+unsaved_run s workers batch r right faults.Batch h = absurd h
+unsaved_run s workers batch r right faults.Spent h = absurd h
+
+-- a run that was refused, or not ended
+pub run_fault_is : (s : Script) (workers batch : ℕ) (f : RunFault) → (f ≡ runs.Workers → workers ≢ 2)
+    → (f ≡ runs.Batch → IsWrongBatch workers batch) → IsRunFault s workers batch (run_fault f)
+run_fault_is s workers batch (runs.Memory es) others batches = tt
+run_fault_is s workers batch (runs.Spent es) others batches = tt
+run_fault_is s workers batch runs.Workers others batches = others refl
+run_fault_is s workers batch runs.Batch others batches = batches refl
 
 -- the demonstration device's faults
 pub no_hex : (hex : List ℕ) (f : Fault) → (f ≡ faults.Memory) ⊎ ((f ≡ faults.Hex) × IsErr (decode_of hex)) → IsOneFault hex f
@@ -105,6 +126,9 @@ no_demo hex (faults.Layout fault) h = absurd h
 no_demo hex (faults.Text fault) h = absurd h
 no_demo hex faults.TooLarge h = absurd h
 no_demo hex (faults.Template fault) h = tt
+no_demo hex faults.Workers h = absurd h
+no_demo hex faults.Batch h = absurd h
+no_demo hex faults.Spent h = absurd h
 
 -- no memory is left
 pub text_memory : (holds : List ℕ → List ℕ → Type 0) (fails : List ℕ → Type 0) (path : List ℕ) (f : Fault) → f ≡ faults.Memory → IsTextFault holds fails path f

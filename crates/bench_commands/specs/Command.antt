@@ -30,7 +30,7 @@ abbrev pub IsDone : (List ℕ → List ℕ → Type 0) → Job → Status → Li
 IsDone holds (jobs.One hex) status text made = IsOneDone hex.now status text made
 IsDone holds (jobs.Asm input output) status text made = IsAsmDone holds input.now output.now status text made
 IsDone holds (jobs.Dis input) status text made = IsDisDone holds input.now status text made
-IsDone holds (jobs.Run image trace) status text made = IsRunDone holds image.now (option_map (λ p. p.now) trace) status text made
+IsDone holds (jobs.Run image workers batch trace) status text made = IsRunDone holds image.now (option_map (λ p. p.now) trace) status text made
 IsDone holds (jobs.Check image trace) status text made = IsCheckDone holds image.now trace.now status text made
 
 -- a job is refused for this fault
@@ -38,7 +38,7 @@ abbrev pub IsRefusedJob : (List ℕ → List ℕ → Type 0) → (List ℕ → T
 IsRefusedJob holds fails (jobs.One hex) fault = IsOneFault hex.now fault
 IsRefusedJob holds fails (jobs.Asm input output) fault = IsTextFault holds fails input.now fault
 IsRefusedJob holds fails (jobs.Dis input) fault = IsImageFault holds fails input.now fault
-IsRefusedJob holds fails (jobs.Run image trace) fault = IsRunRefused holds fails image.now fault
+IsRefusedJob holds fails (jobs.Run image workers batch trace) fault = IsRunRefused holds fails image.now workers batch fault
 IsRefusedJob holds fails (jobs.Check image trace) fault = IsCheckRefused holds fails image.now trace.now fault
 
 -- what words are answered with; a text on how to use the program is printed as it is

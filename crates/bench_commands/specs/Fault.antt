@@ -11,8 +11,10 @@ use Rattle.trace_file.specs.declared.fault.WriteFault.{WriteFault}
 use Rattle.trace_file.specs.declared.fault.WriteFault.TheVariants as trace
 use Rattle.device_template.specs.declared.fault.TemplateFault.{TemplateFault}
 use Rattle.device_template.specs.declared.fault.TemplateFault.TheVariants as template
+use Rattle.fleet_workers.specs.declared.fleet.RunFault.{RunFault}
+use Rattle.fleet_workers.specs.declared.fleet.RunFault.TheVariants as runs
 use Rattle.bench_commands.specs.declared.fault.Fault.{Fault}
-use Rattle.bench_commands.specs.declared.fault.Fault.TheVariants.{Hex, Memory, Read, Write, Layout, Text, TooLarge, Template}
+use Rattle.bench_commands.specs.declared.fault.Fault.TheVariants.{Hex, Memory, Read, Write, Layout, Text, TooLarge, Template, Workers, Batch, Spent}
 
 -- the fault of a text that could not be read as hex: want of memory is not the text's fault
 abbrev pub hex_fault : FromHexError → Fault
@@ -51,6 +53,13 @@ template_fault template.Missing = Template template.Missing
 template_fault template.Duplicate = Template template.Duplicate
 template_fault template.Full = Template template.Full
 template_fault template.Memory = Memory
+
+-- the fault of a run that the workers did not end
+abbrev pub run_fault : RunFault → Fault
+run_fault (runs.Memory entries) = Memory
+run_fault (runs.Spent entries) = Spent
+run_fault runs.Workers = Workers
+run_fault runs.Batch = Batch
 
 -- what may befall a text that is printed, or a file that is made: want of memory, or that it was not taken
 abbrev pub IsWritingFault : Type 0 → Fault → Type 0

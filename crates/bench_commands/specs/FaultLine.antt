@@ -50,6 +50,9 @@ fault_word faults.TooLarge = codes "too large"
 fault_word (faults.Layout fault) = layout_word fault
 fault_word (faults.Text fault) = cause_words fault.cause
 fault_word (faults.Template fault) = template_word fault
+fault_word faults.Workers = codes "workers"
+fault_word faults.Batch = codes "batch"
+fault_word faults.Spent = codes "spent"
 
 -- the place of a fault of bytes, in bytes from 0
 abbrev pub place_of : Fault → Option ℕ

@@ -15,7 +15,7 @@ use Rattle.trace_file.specs.Layout.{trace_file, IsTraceFile}
 use Rattle.bench_commands.specs.Demo.{demo_outputs}
 use Rattle.bench_commands.specs.Printed.{printed}
 use Rattle.bench_commands.specs.Files.{Made}
-use Rattle.bench_commands.specs.Serial.{IsJudged, IsRunFault, IsSerialRun}
+use Rattle.bench_commands.specs.RunAnswer.{IsJudged, IsRunFault, IsRunAnswer}
 use Rattle.bench_commands.specs.declared.fault.Fault.{Fault}
 use Rattle.bench_commands.specs.declared.fault.Fault.TheVariants as faults
 use Rattle.bench_commands.specs.declared.status.Status.{Status}
@@ -81,11 +81,11 @@ pub record IsDisDone (holds : List ℕ → List ℕ → Type 0) (input : List �
   pub status_is : status ≡ Done
   pub made_is : made ≡ []
 
--- `run IMAGE [--trace FILE]`: the serial run of the scenario
+-- `run IMAGE [--workers N] [--batch N] [--trace FILE]`: a run of the scenario that workers make
 pub record IsRunDone (holds : List ℕ → List ℕ → Type 0) (image : List ℕ) (trace : Option (List ℕ)) (status : Status) (text : List ℕ) (made : List Made) : Type 0 where
   pub scenario : Script
   pub found : IsScenarioAt holds image scenario
-  pub run : IsSerialRun scenario trace status text made
+  pub run : IsRunAnswer scenario trace status text made
 
 -- `check IMAGE TRACE`: the verdict on the entries
 pub record IsCheckDone (holds : List ℕ → List ℕ → Type 0) (image trace : List ℕ) (status : Status) (text : List ℕ) (made : List Made) : Type 0 where
@@ -111,9 +111,10 @@ pub record IsWorkFault (holds : List ℕ → List ℕ → Type 0) (image : List 
   pub found : IsScenarioAt holds image scenario
   pub fault : faulty scenario
 
--- first the image is to blame, and then its serial run
-abbrev pub IsRunRefused : (List ℕ → List ℕ → Type 0) → (List ℕ → Type 0) → List ℕ → Fault → Type 0
-IsRunRefused holds fails image fault = IsImageFault holds fails image fault ⊎ IsWorkFault holds image (λ s. IsRunFault s fault)
+-- first the image is to blame, and then its run
+abbrev pub IsRunRefused : (List ℕ → List ℕ → Type 0) → (List ℕ → Type 0) → List ℕ → ℕ → ℕ → Fault → Type 0
+IsRunRefused holds fails image workers batch fault =
+    IsImageFault holds fails image fault ⊎ IsWorkFault holds image (λ s. IsRunFault s workers batch fault)
 
 -- first the image is to blame, and then the trace file
 abbrev pub IsCheckRefused : (List ℕ → List ℕ → Type 0) → (List ℕ → Type 0) → List ℕ → List ℕ → Fault → Type 0

@@ -8,7 +8,7 @@ pub mod Jobs
 pub mod Printed
 pub mod Refusals
 pub mod Runs
-pub mod Serial
+pub mod RunAnswer
 pub mod Status
 pub mod Texts
 pub mod Unread

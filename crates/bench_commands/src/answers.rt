@@ -21,6 +21,8 @@ use crate::texts::{count_line, image_file};
 use device_machine::{Act, Output};
 use scenario_asm::disassemble;
 use std::alloc::{AllocError, Global};
+use std::sync::Wait;
+use std::thread::Threads;
 
 /// `one HEX`: what the DEMO device outputs for a datagram from its server, a line for each output, or `nothing`.
 #[tactic(auto, using(crate::proofs::Built::one_done, crate::proofs::Faults::no_hex, crate::proofs::Faults::no_demo, crate::proofs::Faults::one_memory))]
@@ -81,20 +83,24 @@ pub fn dis<'a, F: Files>(
     Ok(Answer::printed(Status::Done, text))
 }
 
-/// `run IMAGE [--trace FILE]`: the serial run of the scenario, whose trace file goes to FILE.
+/// `run IMAGE [--workers N] [--batch N] [--trace FILE]`: a run of the scenario, whose trace file goes to FILE.
 #[tactic(auto, using(crate::proofs::Built::run_done, crate::proofs::Built::run_image, crate::proofs::Built::run_work))]
-pub fn run<'a, F: Files>(
+pub fn run<'a, R: Threads + Wait + Sync, F: Files>(
+    rt: &R,
     alloc: Global,
     image: &'a str,
+    workers: u16,
+    batch: u32,
     trace: Option<&'a str>,
     files: &F,
 ) -> Result<Answer<'a>, Refusal<'a>>
     ensures done { IfOk result (λ a. IsRunDone (F.holds files.now) image.entry.now
         (option_map (λ p. p.now) trace.entry) a.status (string_bytes a.text) (files_of a.file)) }
-    ensures refused { IfErr result (λ r. IsRunRefused (F.holds files.now) (F.fails files.now) image.entry.now r.fault) }
+    ensures refused { IfErr result (λ r.
+        IsRunRefused (F.holds files.now) (F.fails files.now) image.entry.now workers batch r.fault) }
 {
     let scenario = load_scenario(alloc, image, files)?;
-    Ok(run_scenario(alloc, &scenario, trace)?)
+    Ok(run_scenario(rt, alloc, &scenario, workers, batch, trace)?)
 }
 
 /// `check IMAGE TRACE`: whether the trace is a run of the scenario, else the least place at which it is not.

@@ -3,6 +3,7 @@ ghost use Rattle.bench_commands.specs.FaultLine.{cause_words, fault_word, layout
 
 use byte_layout::LayoutFault;
 use device_machine::TemplateFault;
+use fleet_workers::RunFault;
 use hex::FromHexError;
 use scenario_asm::AsmFault;
 use scenario_words::Cause;
@@ -29,6 +30,12 @@ pub enum Fault {
     TooLarge,
     /// A template refused one of its parts.
     Template(TemplateFault),
+    /// A run has not 2 workers.
+    Workers,
+    /// A batch is not one of 1 to 64 steps.
+    Batch,
+    /// A run ended since the lock had no ticket left.
+    Spent,
 }
 
 impl fmt::Display for Fault {
@@ -82,6 +89,9 @@ fn word_of(fault: Fault) -> &'static str
         Fault::Layout(fault) => layout_word(fault),
         Fault::Text(fault) => cause_words(fault.cause),
         Fault::Template(fault) => template_word(fault),
+        Fault::Workers => "workers",
+        Fault::Batch => "batch",
+        Fault::Spent => "spent",
     }
 }
 
@@ -213,6 +223,22 @@ impl From<WriteFault> for Fault {
         match fault {
             WriteFault::TooLarge => Fault::TooLarge,
             WriteFault::Memory => Fault::Memory,
+        }
+    }
+}
+
+impl From<RunFault> for Fault {
+    ghost use Rattle.std.specs.Prelude.{◌≡◌};
+    ghost use Rattle.bench_commands.specs.Fault.{run_fault};
+
+    ghost from_gives = { λ fault e. e ≡ run_fault fault };
+
+    fn from(fault: RunFault) -> Fault {
+        match fault {
+            RunFault::Memory(_) => Fault::Memory,
+            RunFault::Spent(_) => Fault::Spent,
+            RunFault::Workers => Fault::Workers,
+            RunFault::Batch => Fault::Batch,
         }
     }
 }

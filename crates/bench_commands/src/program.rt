@@ -13,11 +13,14 @@ use crate::status::Status;
 use crate::telling::tell;
 use bench_words::{Asked, Job, read};
 use std::alloc::Global;
+use std::sync::Wait;
+use std::thread::Threads;
 
 /// Does what the words ask for, of which the first is the program's name. The file of the answer is made, and then its
 /// lines go to `output`; or a fault's line does, and what it is about to `errors`.
 #[tactic(auto, using(crate::proofs::Ended::answered, crate::proofs::Ended::faulted))]
-pub fn command<F: Files, O: Output, E: Output>(
+pub fn command<R: Threads + Wait + Sync, F: Files, O: Output, E: Output>(
+    rt: &R,
     alloc: Global,
     words: &[String],
     files: &mut F,
@@ -28,14 +31,15 @@ pub fn command<F: Files, O: Output, E: Output>(
         O.refuses (O.taken output.old) (O.taken output.new) E.refuses (E.taken errors.old) (E.taken errors.new)
         (map string_bytes words.now) result }
 {
-    match perform(alloc, words, files, output) {
+    match perform(rt, alloc, words, files, output) {
         Ok(status) => status,
         Err(refusal) => tell(alloc, &refusal, output, errors),
     }
 }
 
 #[tactic(auto, using(crate::proofs::Ended::answered_if, crate::proofs::Ended::no_memory, crate::proofs::Ended::refused_so, crate::proofs::Ended::undelivered_so))]
-fn perform<'a, F: Files, O: Output>(
+fn perform<'a, R: Threads + Wait + Sync, F: Files, O: Output>(
+    rt: &R,
     alloc: Global,
     words: &'a [String],
     files: &mut F,
@@ -48,12 +52,13 @@ fn perform<'a, F: Files, O: Output>(
         O.refuses (O.taken output.old) (O.taken output.new) (map string_bytes words.entry.now) r.fault) }
 {
     let asked = read(alloc, words)?;
-    let answer = answer_to(alloc, asked, files)?;
+    let answer = answer_to(rt, alloc, asked, files)?;
     deliver(&answer, files, output)
 }
 
 /// What the program answers to these words.
-pub fn answer_to<'a, F: Files>(
+pub fn answer_to<'a, R: Threads + Wait + Sync, F: Files>(
+    rt: &R,
     alloc: Global,
     asked: Asked<'a>,
     files: &F,
@@ -63,12 +68,13 @@ pub fn answer_to<'a, F: Files>(
     ensures refused { IfErr result (λ r. IsRefused (F.holds files.now) (F.fails files.now) asked.entry r.fault) }
 {
     match asked {
-        Asked::Job(job) => answer_to_job(alloc, job, files),
+        Asked::Job(job) => answer_to_job(rt, alloc, job, files),
         Asked::Text { text, is_mistake } => Ok(Answer::printed(Status::of_text(is_mistake), text)),
     }
 }
 
-fn answer_to_job<'a, F: Files>(
+fn answer_to_job<'a, R: Threads + Wait + Sync, F: Files>(
+    rt: &R,
     alloc: Global,
     job: Job<'a>,
     files: &F,
@@ -81,7 +87,12 @@ fn answer_to_job<'a, F: Files>(
         Job::One { hex } => answers::one(alloc, hex),
         Job::Asm { input, output } => answers::asm(alloc, input, output, files),
         Job::Dis { input } => answers::dis(alloc, input, files),
-        Job::Run { image, trace } => answers::run(alloc, image, trace, files),
+        Job::Run {
+            image,
+            workers,
+            batch,
+            trace,
+        } => answers::run(rt, alloc, image, workers, batch, trace, files),
         Job::Check { image, trace } => answers::check(alloc, image, trace, files),
     }
 }

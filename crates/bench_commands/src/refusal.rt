@@ -77,6 +77,9 @@ fn words_of(alloc: Global, refusal: &Refusal) -> Result<String, AllocError> {
 fn named(alloc: Global, fault: Fault) -> Result<String, AllocError> {
     match fault {
         Fault::Memory => String::from_str(alloc, "no memory is left"),
+        Fault::Workers => String::from_str(alloc, "the number of workers is not 2"),
+        Fault::Batch => String::from_str(alloc, "the batch is not from 1 to 64"),
+        Fault::Spent => String::from_str(alloc, "no ticket is left"),
         _ => format!(in alloc; "{fault}"),
     }
 }

@@ -3,36 +3,60 @@ ghost use Rattle.std.specs.Prelude.{◌≡◌, [], length, option_map, IfErr, If
 ghost use Rattle.std.specs.String.{string_bytes};
 ghost use Rattle.bench_commands.specs.Runs.{device_word, device_words, done_line, end_line, end_status, stalled_line, stalled_text, verdict_line, verdict_status};
 ghost use Rattle.fleet_core.specs.Waiting.{waiting};
+ghost use Rattle.fleet_workers.specs.Fleet.{IsFleetRun};
 ghost use Rattle.bench_commands.specs.Answers.{files_of};
-ghost use Rattle.bench_commands.specs.Serial.{IsJudged, IsRunFault, IsSavedAs, IsSavingFault, IsSerialRun};
+ghost use Rattle.bench_commands.specs.RunAnswer.{IsJudged, IsRunFault, IsSavedAs, IsSavingFault, IsRunAnswer};
 
 use crate::answer::{Answer, NewFile};
 use crate::fault::Fault;
 use crate::status::Status;
-use fleet_core::{Verdict, check, run_serial, unfinished};
+use fleet_core::{Verdict, check, unfinished};
+use fleet_workers::{FleetRun, OpenGate, run_fleet};
 use scenario_image::Scenario;
 use std::alloc::{AllocError, Global};
+use std::sync::Wait;
+use std::thread::Threads;
 use trace_file::{Entry, write_entries};
 
-/// The serial run of a scenario: what is said of it, and its trace file for the path, if there is one.
-#[tactic(auto, using(crate::proofs::Built::serial_run, crate::proofs::Faults::unsaved_run))]
-pub fn run_scenario<'a>(
+/// A run of a scenario by workers: what is said of it, and its trace file for the path, if there is one.
+#[tactic(auto, using(crate::proofs::Built::run_answer, crate::proofs::Faults::unsaved_run))]
+pub fn run_scenario<'a, R: Threads + Wait + Sync>(
+    rt: &R,
     alloc: Global,
     scenario: &Scenario,
+    workers: u16,
+    batch: u32,
     trace: Option<&'a str>,
 ) -> Result<Answer<'a>, Fault>
     ensures done { IfOk result (λ a.
-        IsSerialRun scenario.now (option_map (λ p. p.now) trace.entry) a.status (string_bytes a.text) (files_of a.file)) }
-    ensures refused { IfErr result (IsRunFault scenario.now) }
+        IsRunAnswer scenario.now (option_map (λ p. p.now) trace.entry) a.status (string_bytes a.text) (files_of a.file)) }
+    ensures refused { IfErr result (IsRunFault scenario.now workers batch) }
 {
-    let entries = run_serial(alloc, scenario)?;
-    let ended = end_of(alloc, scenario, entries.as_slice())?;
-    let file = trace_file(alloc, trace, entries.as_slice())?;
+    let run = made_by_workers(rt, alloc, scenario, workers, batch)?;
+    let ended = end_of(alloc, scenario, run.entries.as_slice())?;
+    let file = trace_file(alloc, trace, run.entries.as_slice())?;
     Ok(Answer {
         status: ended.status,
         text: ended.text,
         file,
     })
+}
+
+#[tactic(auto, using(crate::proofs::Faults::run_fault_is))]
+fn made_by_workers<R: Threads + Wait + Sync>(
+    rt: &R,
+    alloc: Global,
+    scenario: &Scenario,
+    workers: u16,
+    batch: u32,
+) -> Result<FleetRun, Fault>
+    ensures run { IfOk result (IsFleetRun scenario.now) }
+    ensures refused { IfErr result (IsRunFault scenario.now workers batch) }
+{
+    match run_fleet(rt, alloc, scenario, workers, batch, &OpenGate) {
+        Ok(run) => Ok(run),
+        Err(fault) => Err(Fault::from(fault)),
+    }
 }
 
 /// The trace file of the entries for the path, if there is one.

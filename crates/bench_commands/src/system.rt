@@ -19,21 +19,29 @@ use bench_words::NO_TEXT;
 use std::alloc::Global;
 use std::io::ErrorKind;
 use std::process::ExitCode;
+use std::rt::Env;
+use std::sync::Wait;
+use std::thread::Threads;
 use std::{env, io};
 
-/// Does what the words of the command line ask for, over the system's files and streams.
-pub fn start(rt: &HostRuntime) -> ExitCode {
+/// Does what the words of the command line ask for, over the system's files and standard output. Complaints go to
+/// `errors`.
+pub fn start<R: Threads + Wait + Sync + Env + std::rt::Files + Print + AllocGlobal, E: Output>(
+    rt: &R,
+    errors: &mut E,
+) -> ExitCode {
     let words = words_of(rt);
     conclude(
+        rt,
         rt.alloc(),
         words,
         &mut SystemFiles { rt },
         &mut io::writer(rt),
-        &mut rt.stderr(),
+        errors,
     )
 }
 
-fn words_of(rt: &HostRuntime) -> Result<Vec<String>, ErrorKind> {
+fn words_of<R: Env + AllocGlobal>(rt: &R) -> Result<Vec<String>, ErrorKind> {
     match env::args(rt) {
         Ok(args) => match args.collect::<Vec<String>>(rt.alloc()) {
             Ok(words) => Ok(words),
@@ -44,7 +52,8 @@ fn words_of(rt: &HostRuntime) -> Result<Vec<String>, ErrorKind> {
 }
 
 /// The whole program: from its words, or why they could not be had, to the status that its process ends with.
-pub fn conclude<F: Files, O: Output, E: Output>(
+pub fn conclude<R: Threads + Wait + Sync, F: Files, O: Output, E: Output>(
+    rt: &R,
     alloc: Global,
     words: Result<Vec<String>, ErrorKind>,
     files: &mut F,
@@ -60,7 +69,7 @@ pub fn conclude<F: Files, O: Output, E: Output>(
         NO_TEXT.now why status) }
 {
     let status = match words {
-        Ok(words) => command(alloc, words.as_slice(), files, output, errors),
+        Ok(words) => command(rt, alloc, words.as_slice(), files, output, errors),
         Err(why) => refuse(alloc, why, output, errors),
     };
     ExitCode::from(status.code())

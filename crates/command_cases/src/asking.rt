@@ -4,10 +4,17 @@ use crate::table::GivenFile;
 use bench_commands::command;
 use std::alloc::{AllocError, Global};
 use std::str;
+use std::sync::Wait;
+use std::thread::Threads;
 
 /// What the program does at these words over these files, as a case states it: a line `out` for each line of standard
 /// output, `err` for each of standard error, `file` for each file that is made, and `status`.
-pub fn answer_to(alloc: Global, line: &str, given: &[GivenFile]) -> Result<String, AllocError> {
+pub fn answer_to<R: Threads + Wait + Sync>(
+    rt: &R,
+    alloc: Global,
+    line: &str,
+    given: &[GivenFile],
+) -> Result<String, AllocError> {
     let words = words_of(alloc, line)?;
     let mut files = MemoryFiles {
         alloc,
@@ -17,6 +24,7 @@ pub fn answer_to(alloc: Global, line: &str, given: &[GivenFile]) -> Result<Strin
     let mut output: Vec<u8> = Vec::new(alloc);
     let mut errors: Vec<u8> = Vec::new(alloc);
     let status = command(
+        rt,
         alloc,
         words.as_slice(),
         &mut files,

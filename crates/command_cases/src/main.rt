@@ -10,13 +10,15 @@ mod table;
 use std::alloc::{AllocError, Global};
 use std::io;
 use std::process::ExitCode;
+use std::sync::Wait;
+use std::thread::Threads;
 use table::{Case, GivenFile, Table};
 
 fn main(rt: HostRuntime) -> io::Result<ExitCode> {
     let alloc = rt.alloc();
     let text = io::read_to_string(alloc, rt.reader())?;
     let mut report = String::new(alloc);
-    let status = report_on(alloc, text.as_str(), &mut report)?;
+    let status = report_on(&rt, alloc, text.as_str(), &mut report)?;
     rt.print(report.as_str())?;
     rt.print(system::line(&rt, alloc))?;
     Ok(ExitCode::from(status))
@@ -24,12 +26,17 @@ fn main(rt: HostRuntime) -> io::Result<ExitCode> {
 
 /// Writes what is to be said of the cases of a text. Status 0: none differs; 1: one differs; 2: a line can't be read, or
 /// there is no case.
-fn report_on(alloc: Global, text: &str, report: &mut String) -> Result<u8, AllocError> {
+fn report_on<R: Threads + Wait + Sync>(
+    rt: &R,
+    alloc: Global,
+    text: &str,
+    report: &mut String,
+) -> Result<u8, AllocError> {
     let mut table = Table::new(alloc);
     let is_read = table.read(text, report)?;
     let mut differing: u32 = 0;
     for case in table.cases.as_slice() {
-        if !is_right(alloc, case, table.files.as_slice(), report)? {
+        if !is_right(rt, alloc, case, table.files.as_slice(), report)? {
             differing = differing.saturating_add(1);
         }
     }
@@ -42,13 +49,14 @@ fn report_on(alloc: Global, text: &str, report: &mut String) -> Result<u8, Alloc
 }
 
 /// Whether what came is what a case states; else the report gets what came, as a case would state it.
-fn is_right(
+fn is_right<R: Threads + Wait + Sync>(
+    rt: &R,
     alloc: Global,
     case: &Case,
     files: &[GivenFile],
     report: &mut String,
 ) -> Result<bool, AllocError> {
-    let came = asking::answer_to(alloc, case.words, files)?;
+    let came = asking::answer_to(rt, alloc, case.words, files)?;
     if is_stated(case.stated.as_str(), came.as_str()) == case.is_same {
         return Ok(true);
     }

@@ -1,0 +1,55 @@
+-- When the run that workers made of a scenario and its trace file are an answer, and what the checker's answer is.
+use Rattle.std.specs.Prelude.{◌≡◌, ◌≢◌, ◌≤◌, ℕ, ⊤, List, [], ◌∷◌, length, Option, None, Some}
+use Rattle.scenario_image.specs.Script.{Script}
+use Rattle.trace_file.specs.declared.entry.Entry.{Entry}
+use Rattle.trace_file.specs.Layout.{IsTraceFile}
+use Rattle.fleet_core.specs.declared.verdict.Verdict.{Verdict}
+use Rattle.fleet_core.specs.Verdict.{Judges}
+use Rattle.fleet_core.specs.Waiting.{waiting}
+use Rattle.fleet_workers.specs.declared.fleet.FleetRun.{FleetRun}
+use Rattle.fleet_workers.specs.Fleet.{IsFleetRun}
+use Rattle.bench_commands.specs.Files.{Made}
+use Rattle.bench_commands.specs.Runs.{end_line, end_status, verdict_line, verdict_status}
+use Rattle.bench_commands.specs.declared.fault.Fault.{Fault}
+use Rattle.bench_commands.specs.declared.fault.Fault.TheVariants.{Batch, Memory, Spent, TooLarge, Workers}
+use Rattle.bench_commands.specs.declared.status.Status.{Status}
+
+-- the trace file of these entries is made at the path, if there is one, and no other file
+abbrev pub IsSavedAs : Option (List ℕ) → List Entry → List Made → Type 0
+IsSavedAs None es made = made ≡ []
+IsSavedAs (Some path) es made = (bytes : List ℕ) × IsTraceFile bytes es × (made ≡ (path, bytes) ∷ [])
+
+-- no memory was left, or these entries have no trace file
+abbrev pub IsSavingFault : List Entry → Fault → Type 0
+IsSavingFault es Memory = ⊤
+IsSavingFault es TooLarge = (bytes : List ℕ) → IsTraceFile bytes es → ⊥
+IsSavingFault es _ = ⊥
+
+-- a run that workers made, its trace file where one is asked for, the line of its end, and the status
+pub record IsRunAnswer (s : Script) (trace : Option (List ℕ)) (status : Status) (text : List ℕ) (made : List Made) : Type 0 where
+  pub run : FleetRun
+  pub right : IsFleetRun s run
+  pub saved : IsSavedAs trace run.entries made
+  pub text_is : text ≡ end_line (length run.entries) (waiting s run.entries)
+  pub status_is : status ≡ end_status (waiting s run.entries)
+
+-- there are not 2 workers; or else the batch is not one of 1 to 64 steps
+abbrev pub IsWrongBatch : ℕ → ℕ → Type 0
+IsWrongBatch workers batch = (workers ≡ 2) × ((1 ≤ batch) × (batch ≤ 64) → ⊥)
+
+-- the workers or the batch are refused; or no memory or no ticket was left; or the run has no trace file
+abbrev pub IsRunFault : Script → ℕ → ℕ → Fault → Type 0
+IsRunFault s workers batch Memory = ⊤
+IsRunFault s workers batch Spent = ⊤
+IsRunFault s workers batch Workers = workers ≢ 2
+IsRunFault s workers batch Batch = IsWrongBatch workers batch
+IsRunFault s workers batch TooLarge =
+    (run : FleetRun) × IsFleetRun s run × ((bytes : List ℕ) → IsTraceFile bytes run.entries → ⊥)
+IsRunFault s workers batch _ = ⊥
+
+-- the verdict on the entries, its line, and the status
+pub record IsJudged (s : Script) (es : List Entry) (status : Status) (text : List ℕ) : Type 0 where
+  pub verdict : Verdict
+  pub judged : Judges s es verdict
+  pub text_is : text ≡ verdict_line verdict
+  pub status_is : status ≡ verdict_status verdict
