@@ -1,0 +1,136 @@
+-- That what the workers share may cross threads.
+use denote.Enum.Declared as E
+use denote.Enum.Enum.{Enum}
+use denote.Param.Send.{IsSend, IsSync, EachSync, enum_sync, recorded_sync, sendable}
+use denote.Param.SendFields.{declared_send}
+use Rattle.std.proofs.Crossing as std
+use Rattle.std.proofs.MapsCrossing as maps
+use Rattle.octets.specs.contracts.bytes.Bytes as Bytes
+use Rattle.lwm2m_values.specs.contracts.value.Value as Value
+use Rattle.object_defs.specs.contracts.path.FullPath as FullPath
+use Rattle.object_defs.specs.contracts.path.Path as Path
+use Rattle.object_defs.specs.contracts.catalog.Catalog as Catalog
+use Rattle.instance_store.specs.contracts.store.Store as Store
+use Rattle.notifier.specs.contracts.observation.Report as Report
+use Rattle.notifier.specs.contracts.observation.Observation as Observation
+use Rattle.notifier.specs.contracts.observations.Observations as Observations
+use Rattle.notifier.specs.contracts.attributes.Attributes as Attributes
+use Rattle.device_requests.specs.contracts.client.Client as Client
+use Rattle.device_machine.specs.contracts.recorded.Recorded as Recorded
+use Rattle.device_machine.specs.contracts.output.Output as Output
+use Rattle.device_machine.specs.contracts.device.Device as Device
+use Rattle.device_machine.specs.contracts.event.Event as Event
+use Rattle.device_template.specs.contracts.template.Template as Template
+use Rattle.scenario_image.specs.contracts.step.Step as Step
+use Rattle.scenario_image.specs.contracts.row.Row as Row
+use Rattle.scenario_image.specs.contracts.scenario.Scenario as Scenario
+use Rattle.trace_file.specs.contracts.entry.Entry as Entry
+use Rattle.shared_trace.specs.contracts.next.Next as Next
+use Rattle.shared_trace.specs.contracts.station.Place as Place
+use Rattle.shared_trace.specs.contracts.station.Station as Station
+use Rattle.shared_trace.specs.contracts.trace.Trace as Trace
+use Rattle.fleet_workers.specs.contracts.loops.LoopEnd as LoopEnd
+
+bytes_send : IsSend Bytes.the_row
+bytes_send = search (sendable, std.crosses) depth 20
+
+value_send : IsSend Value.the_row
+value_send = search (sendable, std.crosses, bytes_send) depth 30
+
+full_path_send : IsSend FullPath.the_row
+full_path_send = search sendable depth 30
+
+path_send : IsSend Path.the_row
+path_send = search sendable depth 30
+
+store_send : IsSend Store.the_row
+store_send = search (sendable, std.crosses, maps.crosses, value_send, full_path_send) depth 30
+
+catalog_send : IsSend Catalog.the_row
+catalog_send = search (sendable, std.crosses) depth 30 parts 12
+
+attributes_send : IsSend Attributes.the_row
+attributes_send = search (sendable, std.crosses, maps.crosses) depth 30
+
+output_send : IsSend Output.the_row
+output_send = search (sendable, bytes_send) depth 30
+
+entry_send : IsSend Entry.the_row
+entry_send = search (sendable, std.Vec-send, output_send) depth 30
+
+report_send : IsSend Report.the_row
+report_send = search (sendable, bytes_send) depth 30
+
+recorded_send : IsSend Recorded.the_row
+recorded_send = search (sendable, std.crosses, bytes_send) depth 30
+
+observation_send : IsSend Observation.the_row
+observation_send = declared_send Observation.the_type (search sendable, (bytes_send, (path_send, (search sendable depth 20, (report_send, (search sendable, (search sendable, (search sendable, (search sendable, tt)))))))))
+
+observations_send : IsSend Observations.the_row
+observations_send = search (sendable, std.crosses, maps.crosses, observation_send) depth 30 parts 12
+
+client_send : IsSend Client.the_row
+client_send = search (sendable, std.crosses, catalog_send, store_send, attributes_send) depth 30 parts 12
+
+pub device_send : IsSend Device.the_row
+device_send = search (sendable, std.crosses, client_send, observations_send, recorded_send) depth 30 parts 12
+
+place_send : IsSend Place.the_row
+place_send = search (sendable, device_send) depth 30 parts 12
+
+next_send : IsSend Next.the_row
+next_send = search sendable depth 30
+
+station_send : IsSend Station.the_row
+station_send = declared_send Station.the_type (place_send, (search sendable depth 20, (next_send, (search (sendable, std.crosses) depth 20, tt))))
+
+pub trace_send : IsSend Trace.the_row
+trace_send = search (sendable, std.crosses, entry_send, station_send) depth 30 parts 12
+
+pub end_send : IsSend LoopEnd.the_row
+end_send = search sendable depth 30
+
+-- ---- sync
+
+bytes_sync : IsSync Bytes.the_row
+bytes_sync = search (sendable, std.crosses) depth 20
+
+full_path_sync : IsSync FullPath.the_row
+full_path_sync = search sendable depth 30
+
+value_sync : IsSync Value.the_row
+value_sync = search (sendable, std.crosses, bytes_sync) depth 30
+
+store_sync : IsSync Store.the_row
+store_sync = search (sendable, std.crosses, maps.crosses, value_sync, full_path_sync) depth 30
+
+catalog_sync : IsSync Catalog.the_row
+catalog_sync = search (sendable, std.crosses) depth 30 parts 12
+
+template_sync : IsSync Template.the_row
+template_sync = search (sendable, std.crosses, catalog_sync, store_sync) depth 30 parts 12
+
+path_field_sync : IsSync (Path.the_field).row
+path_field_sync = search sendable depth 20
+
+value_field_sync : IsSync (Value.the_field).row
+value_field_sync = search (sendable, std.crosses, bytes_sync) depth 30
+
+event_parts : EachSync (E.shape Event.the_type).variants
+event_parts = ((search sendable depth 20, (bytes_sync, tt)), ((path_field_sync, (value_field_sync, tt)), ((search sendable depth 20, tt), ((search sendable depth 20, tt), tt))))
+
+event_sync : IsSync (Event.the_field).row
+event_sync = enum_sync (E.shape Event.the_type) event_parts
+
+step_parts : EachSync (E.shape Step.the_type).variants
+step_parts = ((event_sync, tt), ((search sendable depth 20, tt), ((search sendable depth 20, (search sendable depth 20, tt)), tt)))
+
+step_sync : IsSync Step.the_row
+step_sync = recorded_sync (Enum (E.shape Step.the_type)) (Step.the_type).D (Step.the_type).to (Step.the_type).to_one (enum_sync (E.shape Step.the_type) step_parts)
+
+row_sync : IsSync Row.the_row
+row_sync = search (sendable, std.crosses, step_sync) depth 30 parts 12
+
+pub scenario_sync : IsSync Scenario.the_row
+scenario_sync = search (sendable, std.crosses, template_sync, row_sync) depth 30 parts 12

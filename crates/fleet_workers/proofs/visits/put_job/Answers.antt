@@ -1,0 +1,36 @@
+use Rattle.std.proofs.Common.{[], sym, ap, subst, ◌∙◌, arith}
+use Rattle.ticket_lock.specs.Log.{Adds}
+use Rattle.shared_trace.specs.Trace.{with_block, trace_log}
+use Rattle.shared_trace.specs.Job.{MayPut}
+use Rattle.fleet_workers.proofs.Following.{follows, follows_ended, may_put, is_put}
+use Rattle.fleet_workers.proofs.visits.put_job.Goals as goal
+use Rattle.fleet_workers.proofs.visits.put_job.Goals.{then-put, else-put}
+
+pub put_or_stop-put-requires : goal.put_or_stop-put-requires
+put_or_stop-put-requires g c =
+    let v = c.args.pass.seat.me.0 in let h = c.in-Ok.held in
+    subst (λ n. MayPut c.value_mut.result.now n c.args.job) (sym c.number-worker.ensures)
+    (subst (λ x. MayPut x v.low c.args.job) (sym c.value_mut.ensures.value)
+    (may_put v h.value c.args.job c.in-Ok.ensures.value c.requires.knows (c.in-Ok.ensures.work []) c.requires.ready))
+
+pub returns-after-put-clause-follows : goal.returns-after-put-clause-follows
+returns-after-put-clause-follows g c =
+    let v = c.args.pass.seat.me.0 in let h = c.in-Ok.held in let new = c.put_or_stop-put.new.trace in
+    follows v c.give.result.seat.me.0 h.seat.me.0 c.in-Ok.ensures.view.0 h.value new c.in-Ok.ensures.value c.in-Ok.ensures.view.1 c.give.ensures.given
+    (omega (arith, c.args.pass.within.1, c.args.pass.numbers.0)) (omega (arith, c.args.pass.within.0, c.args.pass.within.2, c.args.pass.numbers.0))
+    (subst (λ x. Adds trace_log v.low x new) c.value_mut.ensures.value
+    (subst (λ n. Adds trace_log n c.value_mut.result.now new) c.number-worker.ensures c.put_or_stop-put.ensures.adds))
+    c.put_or_stop-put.ensures.shared
+
+pub returns-after-put-clause-put : goal.returns-after-put-clause-put
+returns-after-put-clause-put g c made =
+    let v = c.args.pass.seat.me.0 in let h = c.in-Ok.held in let new = c.put_or_stop-put.new.trace in let job = c.args.job in
+    elim c.if-put.branch [
+      | then-put w ↦
+          is_put v c.give.result.seat.me.0 h.seat.me.0 c.in-Ok.ensures.view.0 h.value new job c.in-Ok.ensures.value c.in-Ok.ensures.view.1 c.give.ensures.given
+          (c.put_or_stop-put.ensures.put w.if-put.true ∙ ap (λ x. with_block x job.device job.shown job.entries) c.value_mut.ensures.value)
+      | else-put w ↦ (let e = sym made ∙ w.result-is in absurd cc)
+    ]
+
+pub returns-in-Err-clause-follows : goal.returns-in-Err-clause-follows
+returns-in-Err-clause-follows g c = follows_ended c.args.pass.seat.me.0 c.in-Err.pass.seat.me.0 c.in-Err.ensures.spent.1

@@ -1,0 +1,84 @@
+-- What a worker knows by its pass, which has seen the log of a trace.
+use Rattle.std.specs.Prelude.{◌≡◌, ℕ, ◌+◌, ◌<◌, ◌≤◌, true, false, List, [], ◌++◌, length, Some}
+use Rattle.std.specs.List.{AllByRecursion}
+use Rattle.scenario_image.specs.Script.{Script}
+use Rattle.trace_file.specs.declared.entry.Entry.{Entry}
+use Rattle.fleet_core.specs.Run.{IsRun, IsComplete}
+use Rattle.fleet_core.specs.Waiting.{is_waiting}
+use Rattle.ticket_lock.specs.declared.rule.TheConstants.{NUMBERS}
+use Rattle.ticket_lock.specs.declared.rule.View.{View}
+use Rattle.ticket_lock.specs.Log.{Begins}
+use Rattle.ticket_lock.specs.Lock.{HasNumber}
+use Rattle.ticket_lock.specs.Names.{lowest_work}
+use Rattle.shared_trace.specs.declared.claims.Claim.{Claim}
+use Rattle.shared_trace.specs.declared.claims.Claim.TheVariants as claims
+use Rattle.shared_trace.specs.Trace.{Traced}
+use Rattle.shared_trace.specs.Job.{Task, StandsIn}
+use Rattle.fleet_workers.specs.declared.loops.LoopEnd.{LoopEnd}
+use Rattle.fleet_workers.specs.declared.loops.LoopEnd.TheVariants as ends
+
+-- what a pass knows of a trace
+abbrev pub Seen : Type 0
+Seen = View Traced Entry Script (List (ℕ × ℕ))
+
+-- the entry is under a number of the lock; of the pass's own, it is the lowest
+abbrev pub IsByOne : Seen → Entry → Type 0
+IsByOne v e = (1 ≤ e.worker) × (e.worker < NUMBERS + 1) × (HasNumber v e.worker → e.worker ≡ v.low)
+
+-- the pass is the same, and has seen more of the log: other workers' entries, and those under its lowest number. If it
+-- had seen a run, it has seen a run
+pub record Follows (v w : Seen) : Type 0 where
+  pub low : w.low ≡ v.low
+  pub count : w.count ≡ v.count
+  pub subject : w.subject ≡ v.subject
+  pub added : List Entry
+  pub front : w.front ≡ v.front ++ added
+  pub workers : AllByRecursion (IsByOne v) added
+  pub run : (s : Script) → v.subject ≡ Some s → IsRun s v.front → IsRun s w.front
+
+-- the job was claimed under the pass's lowest number, and the pass has left the lock since
+pub record Knows (v : Seen) (job : Task) : Type 0 where
+  pub front : Begins job.front v.front
+  pub subject : v.subject ≡ Some job.subject
+  pub worker : job.worker ≡ v.low
+  pub stands : StandsIn (lowest_work v []) job
+
+-- the run is complete, and each row is at its end
+pub record IsDone (s : Script) (es : List Entry) : Type 0 where
+  pub complete : IsComplete s es
+  pub ended : (d : ℕ) → is_waiting s es d ≡ false
+
+-- the run is complete, and a row is not at its end
+pub record IsStalled (s : Script) (es : List Entry) : Type 0 where
+  pub complete : IsComplete s es
+  pub device : ℕ
+  pub waits : is_waiting s es device ≡ true
+
+-- what a pass knows after a claim
+abbrev pub HasClaimed : Seen → Claim → Type 0
+HasClaimed v (claims.Got job) = Knows v job × (job.entries ≡ []) × (job.spent ≡ false)
+HasClaimed v claims.Busy = Unit {0}
+HasClaimed v claims.Done = (s : Script) → v.subject ≡ Some s → IsDone s v.front
+HasClaimed v claims.Stalled = (s : Script) → v.subject ≡ Some s → IsStalled s v.front
+HasClaimed v claims.Stopped = Unit {0}
+
+-- the block stands at the end of the new log, after all that was in the old one
+pub record IsPut (old block new : List Entry) : Type 0 where
+  pub before : List Entry
+  pub begins : Begins old before
+  pub ends : new ≡ before ++ block
+
+-- the log has grown by a block of at least one entry and at most so many, which stands at its end
+pub record HasMade (old new : List Entry) (batch : ℕ) : Type 0 where
+  pub block : List Entry
+  pub put : IsPut old block new
+  pub least : 1 ≤ length block
+  pub most : length block ≤ batch
+
+-- what a pass knows at the end of its worker's loop
+abbrev pub EndsAs : Seen → LoopEnd → Type 0
+EndsAs v ends.Done = (s : Script) → v.subject ≡ Some s → IsDone s v.front
+EndsAs v ends.Stalled = (s : Script) → v.subject ≡ Some s → IsStalled s v.front
+EndsAs v ends.Stopped = Unit {0}
+EndsAs v ends.Memory = Unit {0}
+EndsAs v ends.Spent = v.end ≡ true

@@ -1,0 +1,109 @@
+//! What a worker does with the trace while it has the lock: it claims, it puts, it stops.
+
+ghost use Rattle.std.specs.Prelude.{◌≡◌, true, false, [], IfSome, IfNone};
+ghost use Rattle.ticket_lock.specs.Log.{Adds};
+ghost use Rattle.ticket_lock.specs.Names.{lock_id, pass_view, IsPass};
+ghost use Rattle.shared_trace.specs.Trace.{IsShared, with_block, stopped_of, trace_log};
+ghost use Rattle.shared_trace.specs.Job.{MayPut};
+ghost use Rattle.fleet_workers.specs.Knowing.{Follows, Knows, HasClaimed, IsPut};
+
+use shared_trace::{Claim, Job, Trace};
+use std::sync::Wait;
+use ticket_lock::{Pass, TicketLock};
+
+/// Claims under the lowest number of the pass. There is no answer if no ticket is left.
+pub(crate) fn claim_job<R: Wait>(
+    rt: &R,
+    lock: &TicketLock<Trace>,
+    pass: Pass<Trace>,
+) -> (Pass<Trace>, Option<Claim>)
+    requires { IsPass (lock_id lock.now) pass }
+    ensures pass { IsPass (lock_id lock.now) result.0 }
+    ensures follows { Follows (pass_view pass) (pass_view result.0) }
+    ensures claimed { IfSome result.1 (λ claim. HasClaimed (pass_view result.0) claim) }
+    ensures spent { IfNone result.1 ((pass_view result.0).end ≡ true) }
+{
+    let worker = pass.number();
+    match lock.take(rt, pass) {
+        Ok(mut held) => {
+            let claim = held.value_mut().claim(worker);
+            (held.give(), Some(claim))
+        }
+        Err((pass, _)) => (pass, None),
+    }
+}
+
+/// Puts the job, or stops the trace if memory runs out. The answer says whether it was put.
+fn put_or_stop(trace: &mut Trace, worker: u16, job: Job) -> bool
+    requires { MayPut trace.old worker job }
+    ensures put { result ≡ true → trace.new ≡ with_block trace.old job.device job.shown job.entries }
+    ensures stopped { result ≡ false → trace.new ≡ stopped_of trace.old }
+    ensures adds { Adds trace_log worker trace.old trace.new }
+    ensures shared { IsShared trace.new }
+{
+    match trace.put(worker, job) {
+        Ok(()) => true,
+        Err((job, _)) => {
+            trace.stop();
+            job.abandon();
+            false
+        }
+    }
+}
+
+/// What became of a job that was to be put.
+pub(crate) enum Put {
+    /// Its entries stand in the trace.
+    Made,
+    /// Memory ran out; the trace was stopped.
+    Memory,
+    /// No ticket was left.
+    Spent,
+}
+
+/// Puts the job under the lowest number of the pass.
+pub(crate) fn put_job<R: Wait>(
+    rt: &R,
+    lock: &TicketLock<Trace>,
+    pass: Pass<Trace>,
+    job: Job,
+) -> (Pass<Trace>, Put)
+    requires pass { IsPass (lock_id lock.now) pass }
+    requires knows { Knows (pass_view pass) job }
+    requires ready { job.spent ≡ false }
+    ensures pass { IsPass (lock_id lock.now) result.0 }
+    ensures follows { Follows (pass_view pass) (pass_view result.0) }
+    ensures put { result.1 ≡ Put.Made → IsPut (pass_view pass).front job.entries (pass_view result.0).front }
+    ensures spent { result.1 ≡ Put.Spent → (pass_view result.0).end ≡ true }
+{
+    let worker = pass.number();
+    match lock.take(rt, pass) {
+        Ok(mut held) => {
+            let put = put_or_stop(held.value_mut(), worker, job);
+            (held.give(), if put { Put::Made } else { Put::Memory })
+        }
+        Err((pass, _)) => {
+            job.abandon();
+            (pass, Put::Spent)
+        }
+    }
+}
+
+/// Stops the trace, if a ticket is left for it.
+pub(crate) fn stop_trace<R: Wait>(
+    rt: &R,
+    lock: &TicketLock<Trace>,
+    pass: Pass<Trace>,
+) -> Pass<Trace>
+    requires { IsPass (lock_id lock.now) pass }
+    ensures pass { IsPass (lock_id lock.now) result }
+    ensures follows { Follows (pass_view pass) (pass_view result) }
+{
+    match lock.take(rt, pass) {
+        Ok(mut held) => {
+            held.value_mut().stop();
+            held.give()
+        }
+        Err((pass, _)) => pass,
+    }
+}
