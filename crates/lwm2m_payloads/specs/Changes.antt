@@ -1,5 +1,5 @@
 -- What a Write changes (OMA LwM2M 1.1 Core, Write: Replace and Partial Update).
-use Rattle.std.specs.Prelude.{ℕ, ◌+◌, ◌==◌, nat_lt, Bool, false, not, ◌&&◌, List, [], ◌∷◌, length, Option, None, Some, if◌then◌else◌}
+use Rattle.std.specs.Prelude.{◌≡◌, ℕ, ◌+◌, ◌==◌, nat_lt, Bool, false, not, ◌&&◌, List, [], ◌∷◌, length, Option, None, Some, if◌then◌else◌}
 use Rattle.std.specs.List.{filter, list_any}
 use Rattle.object_defs.specs.Catalogue.{resource_in}
 use Rattle.object_defs.specs.Operations.{can_read, can_write}
@@ -65,6 +65,11 @@ is_other parts n = not (list_any (λ e. e.0 == n) parts)
 abbrev pub parts_behind : Mode → Stored → ResourcePath → PartList → ℕ
 parts_behind Replace stored p parts = length parts
 parts_behind Update stored p parts = length parts + length (filter (is_other parts) (parts_of stored p))
+
+-- parts are given to a resource that keeps its others
+abbrev pub KeepsParts : Mode → Given → Type 0
+KeepsParts mode (Single value) = ⊥
+KeepsParts mode (Parts parts) = mode ≡ Update
 
 -- a resource has 32 parts at most (this profile)
 abbrev pub is_too_many : Mode → Stored → ResourcePath → Given → Bool

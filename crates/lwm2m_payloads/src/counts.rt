@@ -1,7 +1,8 @@
-ghost use Rattle.std.specs.Prelude.{◌≡◌, ◌&&◌, ◌^◌, ◌-◌, length, min, IfOk};
-ghost use Rattle.std.specs.List.{filter};
+ghost use Rattle.std.specs.Prelude.{◌≡◌, ◌&&◌, ◌^◌, ◌-◌, length, min, IfOk, OnErr, IsTrue};
+ghost use Rattle.std.specs.List.{filter, list_any};
 ghost use Rattle.instance_store.specs.Stored.{parts_of};
-ghost use Rattle.lwm2m_payloads.specs.Changes.{is_kept, is_other, parts_behind, is_too_many, has_too_many, resource_of};
+ghost use Rattle.lwm2m_payloads.specs.Changes.{KeepsParts, is_kept, is_other, parts_behind, is_too_many, has_too_many, resource_of};
+ghost use Rattle.lwm2m_payloads.specs.declared.given.Mode.TheVariants.{Update};
 
 use crate::definitions::{is_kept, path_to};
 use crate::given::{Assignment, Assignments, Given, Mode, Parts};
@@ -24,7 +25,8 @@ fn count_behind(
     path: ResourcePath,
     parts: &Parts,
 ) -> Result<usize, AllocError>
-    ensures { IfOk result (λ n. n ≡ min (parts_behind mode store.now path parts.now) (2 ^ 64 - 1)) }
+    ensures count { IfOk result (λ n. n ≡ min (parts_behind mode store.now path parts.now) (2 ^ 64 - 1)) }
+    ensures counts { OnErr result (mode ≡ Update) }
 {
     let given = parts.as_slice().len();
     match mode {
@@ -33,14 +35,16 @@ fn count_behind(
     }
 }
 
-/// Whether a resource would have more than 32 parts (this profile's limit) behind a change.
+/// Whether a resource would have more than 32 parts (this profile's limit) behind a change. Only the parts that it has,
+/// and keeps under Update, are counted in memory.
 pub fn is_too_many(
     mode: Mode,
     store: &Store,
     path: ResourcePath,
     given: &Given,
 ) -> Result<bool, AllocError>
-    ensures { IfOk result (λ b. b ≡ is_too_many mode store.now path given.now) }
+    ensures test { IfOk result (λ b. b ≡ is_too_many mode store.now path given.now) }
+    ensures counts { OnErr result (KeepsParts mode given.now) }
 {
     match given {
         Given::Single(_) => Ok(false),
@@ -55,7 +59,9 @@ fn exceeds(
     place: InstancePath,
     assignment: &Assignment,
 ) -> Result<bool, AllocError>
-    ensures { IfOk result (λ b. b ≡ (is_kept resources.now assignment.now && is_too_many mode store.now (resource_of place assignment.now.resource) assignment.now.given)) }
+    ensures test { IfOk result (λ b. b ≡ (is_kept resources.now assignment.now
+        && is_too_many mode store.now (resource_of place assignment.now.resource) assignment.now.given)) }
+    ensures counts { OnErr result ((mode ≡ Update) × IsTrue (is_kept resources.now assignment.now)) }
 {
     if !is_kept(resources, assignment.resource) {
         return Ok(false);
@@ -72,7 +78,8 @@ pub fn has_too_many(
     place: InstancePath,
     given: &Assignments,
 ) -> Result<bool, AllocError>
-    ensures { IfOk result (λ b. b ≡ has_too_many mode resources.now store.now place given.now) }
+    ensures test { IfOk result (λ b. b ≡ has_too_many mode resources.now store.now place given.now) }
+    ensures counts { OnErr result ((mode ≡ Update) × IsTrue (list_any (is_kept resources.now) given.now)) }
 {
     for assignment in given.as_slice() {
         if exceeds(mode, resources, store, place, assignment)? {
