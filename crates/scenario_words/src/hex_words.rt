@@ -43,7 +43,8 @@ pub(crate) fn bytes_of(alloc: Global, word: &[u8]) -> Result<Bytes, Cause>
 pub fn hex_bytes(alloc: Global, line: &[u8]) -> Result<(Bytes, &[u8]), Cause>
     ensures read { Gives (λ x. (x.0, words x.1.now)) result (word_by bytes_of (words line.now)) }
     ensures missing { words line.now ≡ [] → result ≡ Err Missing }
-    ensures odd { (w : List ℕ) (ws : List (List ℕ)) → words line.now ≡ w ∷ ws → bytes_eq w (codes "-") ≡ false → length w % 2 ≡ 1
+    ensures odd { (w : List ℕ) (ws : List (List ℕ))
+        → words line.now ≡ w ∷ ws → bytes_eq w (codes "-") ≡ false → length w % 2 ≡ 1
         → result ≡ Err Token }
 {
     let (word, line) = first_word(line)?;

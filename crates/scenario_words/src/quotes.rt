@@ -96,7 +96,8 @@ pub(crate) fn text_of(alloc: Global, word: &[u8]) -> Result<Text, Cause>
 pub fn quoted(alloc: Global, line: &[u8]) -> Result<(Text, &[u8]), Cause>
     ensures read { Gives (λ x. (x.0, words x.1.now)) result (word_by text_of (words line.now)) }
     ensures missing { words line.now ≡ [] → result ≡ Err Missing }
-    ensures bare { (w : List ℕ) (ws : List (List ℕ)) → words line.now ≡ w ∷ ws → slice_index w 0 ≢ 34 → result ≡ Err Token }
+    ensures bare { (w : List ℕ) (ws : List (List ℕ))
+        → words line.now ≡ w ∷ ws → slice_index w 0 ≢ 34 → result ≡ Err Token }
 {
     let (word, line) = first_word(line)?;
     let text = text_of(alloc, word)?;

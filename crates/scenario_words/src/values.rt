@@ -102,7 +102,8 @@ fn value_of(alloc: Global, kind: ValueKind, word: &[u8]) -> Result<Value, Cause>
 pub fn value(alloc: Global, line: &[u8]) -> Result<(Value, &[u8]), Cause>
     ensures read { Gives (λ x. (x.0, words x.1.now)) result (value_at (words line.now)) }
     ensures missing { words line.now ≡ [] → result ≡ Err Missing }
-    ensures fixed { (k : ValueKind) (ws : List (List ℕ)) → word_by kind_named (words line.now) ≡ Ok (k, ws) → holds_bytes k ≡ false
+    ensures fixed { (k : ValueKind) (ws : List (List ℕ))
+        → word_by kind_named (words line.now) ≡ Ok (k, ws) → holds_bytes k ≡ false
         → Reads (λ x. (x.0, words x.1.now)) result (value_at (words line.now)) }
 {
     let (kind, line) = kind(alloc, line)?;
