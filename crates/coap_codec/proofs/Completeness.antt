@@ -1,5 +1,5 @@
 -- what bytes spell, or where they break off, is what reading them finds
-use Rattle.std.proofs.Common.{◌≡◌, ℕ, ◌+◌, ◌-◌, ◌*◌, ◌/◌, ◌%◌, ◌<◌, ◌≤◌, zero, suc, List, [], ◌∷◌, ◌++◌, length, take, drop, refl, ap, sym, ◌∙◌, append_assoc, arith, Some, None, Result, Ok, Err, length-append}
+use Rattle.std.proofs.Common.{◌≡◌, ℕ, ◌+◌, ◌-◌, ◌*◌, ◌/◌, ◌%◌, ◌<◌, ◌≤◌, zero, suc, List, [], ◌∷◌, ◌++◌, length, take, drop, refl, ap, sym, subst, ◌∙◌, append_assoc, arith, Some, None, Result, Ok, Err, length-append}
 use Rattle.std.proofs.Math.Seq.{take-append_seam, drop-append_seam}
 use Rattle.std.proofs.lemmas.Bool.{le-ltb, ne_eqb}
 use Rattle.coap_codec.specs.declared.option.Opt.{Opt}
@@ -21,6 +21,19 @@ pub record Stands (number first : ℕ) (rest : List ℕ) : Type 0 where
 pub stands_no_fault : (number first : ℕ) (rest : List ℕ) → Stands number first rest → option_fault number first rest ≡ None
 stands_no_fault number first rest s =
     rw (ne_eqb (first / 16) 15 s.delta, ne_eqb (first % 16) 15 s.size, le-ltb (length rest) (width (first / 16)) s.wide, le-ltb 65535 (number + amount (first / 16) rest) s.in_range, le-ltb (length (drop (width (first / 16)) rest)) (width (first % 16)) s.long, le-ltb (length (drop (width (first % 16)) (drop (width (first / 16)) rest))) (amount (first % 16) (drop (width (first / 16)) rest)) s.whole) refl
+
+-- an option that was taken apart fits each case: its delta, its length, and what stands behind each of them
+pub taken_apart : (number first delta size : ℕ) (bytes rest behind : List ℕ) → (first / 16 ≡ 15 → ⊥) → (first % 16 ≡ 15 → ⊥) → width (first / 16) ≤ length bytes → delta ≡ amount (first / 16) bytes → rest ≡ drop (width (first / 16)) bytes → number + delta ≤ 65535 → width (first % 16) ≤ length rest → size ≡ amount (first % 16) rest → behind ≡ drop (width (first % 16)) rest → size ≤ length behind → option_fault number first bytes ≡ None
+taken_apart number first delta size bytes rest behind high low wide delta_is rest_is in_range long size_is behind_is whole =
+    let enough : amount (first % 16) rest ≤ length (drop (width (first % 16)) rest) = subst (λ b. amount (first % 16) rest ≤ length b) behind_is (subst (λ n. n ≤ length behind) size_is whole) in
+    stands_no_fault number first bytes (record {
+      delta = high;
+      size = low;
+      wide = wide;
+      in_range = subst (λ d. number + d ≤ 65535) delta_is in_range;
+      long = subst (λ (r : List ℕ). width (first % 16) ≤ length r) rest_is long;
+      whole = subst (λ (r : List ℕ). amount (first % 16) r ≤ length (drop (width (first % 16)) r)) rest_is enough;
+    })
 
 high_nibble : (a b : ℕ) → b < 15 → (16 * a + b) / 16 ≡ a
 high_nibble a b h = omega arith

@@ -63,3 +63,8 @@ pub record BreaksOff (number : ℕ) (bytes : List ℕ) (fault : CoapFault) : Typ
 abbrev pub HasFault : List ℕ → CoapFault → Type 0
 HasFault bytes fault =
     MatchOption (header_fault bytes) (BreaksOff 0 (drop (4 + token_length bytes) bytes) fault) (λ f. f ≡ fault)
+
+-- the fault of the header, or else of what stands first behind the token: an option, or the payload marker
+abbrev pub HasEarlyFault : List ℕ → CoapFault → Type 0
+HasEarlyFault bytes fault =
+    MatchOption (header_fault bytes) (place_fault 0 (drop (4 + token_length bytes) bytes) ≡ Some fault) (λ f. f ≡ fault)

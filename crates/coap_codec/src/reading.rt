@@ -1,6 +1,6 @@
 ghost use Rattle.std.specs.Prelude.{◌≡◌, ◌≢◌, ◌≤◌, ◌<◌, ◌+◌, ◌*◌, ◌++◌, ◌∷◌, [], length, drop, IfOk, IfErr, IfSome, IfNone, IsErrAnd, MatchResult, Some, None, Ok, Err};
 ghost use Rattle.coap_codec.specs.Message.{Parts, MayFollow, IsOptionList, Spells, kind_number, two_bytes, nibble_of, extension_of, option_bytes, options_bytes, payload_bytes};
-ghost use Rattle.coap_codec.specs.Fault.{token_length, header_fault, width, amount, option_fault, BreaksOff, HasFault};
+ghost use Rattle.coap_codec.specs.Fault.{token_length, header_fault, width, amount, option_fault, place_fault, BreaksOff, HasFault, HasEarlyFault};
 ghost use Rattle.coap_codec.specs.Reading.{reading_of};
 
 use crate::front::kind_of;
@@ -86,6 +86,7 @@ fn option_at(alloc: Global, number: u16, first: u8, bytes: &[u8]) -> Result<(Opt
     ensures follows { IfOk result (λ x. MayFollow number x.0) }
     ensures parts { IfOk result (λ x. first ∷ bytes.now ≡ option_bytes number x.0 ++ x.1.now) }
     ensures fault { IfErr result (λ f. f ≢ CoapFault.Memory → option_fault number first bytes.now ≡ Some f) }
+    ensures refused { (f : CoapFault) → option_fault number first bytes.now ≡ Some f → result ≡ Err f }
 {
     let high = first / 16;
     let low = first % 16;
@@ -117,6 +118,7 @@ fn options_at(alloc: Global, bytes: &[u8]) -> Result<(Vec<Opt>, &[u8]), CoapFaul
     ensures follow { IfOk result (λ x. IsOptionList 0 x.0.items) }
     ensures parts { IfOk result (λ x. bytes.now ≡ options_bytes 0 x.0.items ++ payload_bytes x.1.now) }
     ensures fault { IfErr result (λ f. f ≢ CoapFault.Memory → BreaksOff 0 bytes.now f) }
+    ensures early { (f : CoapFault) → place_fault 0 bytes.now ≡ Some f → result ≡ Err f }
 {
     let mut found = Vec::new(alloc);
     let mut number: u16 = 0;
@@ -143,6 +145,8 @@ pub fn decode(alloc: Global, bytes: &[u8]) -> Result<Message, CoapFault>
     ensures only { (m : Parts) → Spells bytes.now m → MatchResult result (λ x. x ≡ m) (λ f. f ≡ CoapFault.Memory) }
     ensures fault { IfErr result (λ f. f ≢ CoapFault.Memory → HasFault bytes.now f) }
     ensures refused { (f : CoapFault) → HasFault bytes.now f → IsErrAnd result (λ g. g ≢ CoapFault.Memory → g ≡ f) }
+    // The faults of a header, and those right behind the token, are found before memory is taken.
+    ensures early { (f : CoapFault) → HasEarlyFault bytes.now f → result ≡ Err f }
     ensures reading { MatchResult result
         (λ m. reading_of bytes.now ≡ Ok m)
         (λ f. f ≢ CoapFault.Memory → reading_of bytes.now ≡ Err f) }
@@ -154,6 +158,7 @@ pub fn decode(alloc: Global, bytes: &[u8]) -> Result<Message, CoapFault>
 fn read(alloc: Global, bytes: &[u8]) -> Result<Message, CoapFault>
     ensures found { IfOk result (λ m. Spells bytes.now m) }
     ensures fault { IfErr result (λ f. f ≢ CoapFault.Memory → HasFault bytes.now f) }
+    ensures early { (f : CoapFault) → HasEarlyFault bytes.now f → result ≡ Err f }
 {
     let start = start_of(bytes)?;
     let (options, payload) = options_at(alloc, start.rest)?;

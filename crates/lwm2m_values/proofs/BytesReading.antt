@@ -1,20 +1,21 @@
 -- The value that is read of bytes is the good one whose bytes they are.
-use Rattle.std.proofs.Common.{◌≡◌, ℕ, zero, suc, ◌%◌, ◌^◌, ◌<◌, List, [], ◌∷◌, ◌++◌, length, get_or, take, drop, ℤ, Bool, true, false, ◌&&◌, if◌then◌else◌, ◌==◌, Option, Some, None, Result, Ok, Err, ◌≢◌, option_map, inl, inr, refl, sym, ap, subst, ◌∙◌, ◌↔◌, arith, lt-ltb, eqb-true, FitsSigned}
+use Rattle.std.proofs.Common.{◌≡◌, ℕ, zero, suc, ◌%◌, ◌^◌, ◌<◌, ◌≤◌, List, [], ◌∷◌, ◌++◌, length, get_or, take, drop, ℤ, Bool, true, false, ◌&&◌, if◌then◌else◌, ◌==◌, Option, Some, None, Result, Ok, Err, ◌≢◌, option_map, inl, inr, refl, sym, ap, subst, ◌∙◌, ◌↔◌, arith, lt-ltb, eqb-true, FitsSigned}
 use mir.Val.{bits}
 use Rattle.std.specs.Int.{Width, w8, w16, w32, w64, to_be_bytes, from_be_bytes, cast_unsigned, cast_signed, byte_at, bytes_high_first}
 use Rattle.std.proofs.lemmas.Int.{to_z-of_z, of_z-to_z}
 use Rattle.std.proofs.Math.Facts.{sfits_to_z}
 use Rattle.std.proofs.lemmas.Nat.{be_bytes_2, be_bytes_4, be_bytes_8, from_be_bytes-to_be_bytes_2, from_be_bytes-to_be_bytes_4, from_be_bytes-to_be_bytes_8}
+use Rattle.std.specs.Str.{IsUtf8}
 use Rattle.base64.specs.GeneralPurpose.{IsBytes}
 use Rattle.std.specs.Result.{IfOk, IfErr, MatchResult}
 use Rattle.lwm2m_values.specs.declared.fault.ValueFault.{ValueFault}
-use Rattle.lwm2m_values.specs.declared.fault.ValueFault.TheVariants.{Memory}
+use Rattle.lwm2m_values.specs.declared.fault.ValueFault.TheVariants.{BadValue, Memory}
 use Rattle.lwm2m_values.specs.declared.value.Value.{Value}
 use Rattle.lwm2m_values.specs.declared.value.Value.TheVariants as value
 use Rattle.lwm2m_values.specs.declared.value.Value.TheVariants.{Text, Whole, Flag, Opaque, Moment, Link}
 use Rattle.lwm2m_values.specs.declared.kind.ValueKind.{ValueKind}
 use Rattle.lwm2m_values.specs.declared.kind.ValueKind.TheVariants as kind
-use Rattle.lwm2m_values.specs.Value.{kind_of, IsGood, IsIntegerOf, IsInteger, IsBytesOf, bytes_of}
+use Rattle.lwm2m_values.specs.Value.{kind_of, holds_bytes, IsGood, IsIntegerOf, IsInteger, IsBytesOf, bytes_of}
 use Rattle.lwm2m_values.specs.Reading.{are_bytes, flag_by, width_of, integer_of_bytes, pair_of_bytes, spelled_by_bytes, value_of_bytes}
 use Rattle.lwm2m_values.proofs.Choices.{both, both_back, chosen, kept_if, mapped}
 use Rattle.lwm2m_values.proofs.GoodValue.{bytes_from, good_kept, good_back}
@@ -197,3 +198,14 @@ none_case k t (Some v) q h = let p = value_from k v t q in absurd (h v p.0 p.1 p
 pub is_reading : (k : ValueKind) (t : List ℕ) (r : Result Value ValueFault) → IfOk r (λ v. IsGood v × (kind_of v ≡ k) × IsBytesOf v t) → IfErr r (λ f. f ≢ Memory → (v : Value) → IsGood v → kind_of v ≡ k → ¬ (IsBytesOf v t)) → MatchResult r (λ v. value_of_bytes k t ≡ Some v) (λ f. f ≢ Memory → value_of_bytes k t ≡ None)
 is_reading k t (Ok v) p q = value_to k v t p
 is_reading k t (Err f) p q = λ other. none_case k t (value_of_bytes k t) refl (q other)
+
+-- what is not a value is no reason to run out of memory
+pub is_bad : (k : ValueKind) (t : List ℕ) (r : Result Value ValueFault) → IsBytes t → IfOk r (λ v. IsGood v × (kind_of v ≡ k) × IsBytesOf v t) → (holds_bytes k ≡ false → IfErr r (λ f. f ≡ BadValue)) → (k ≡ kind.Text → IfErr r (λ f. f ≡ Memory → IsUtf8 t × (length t ≤ 255))) → (k ≡ kind.Opaque → IfErr r (λ f. f ≡ Memory → length t ≤ 1024)) → value_of_bytes k t ≡ None → r ≡ Err BadValue
+is_bad k t (Ok v) fits found fixed text opaque none = let e = value_to k v t found in absurd (cc (e, none))
+is_bad k t (Err BadValue) fits found fixed text opaque none = refl
+is_bad kind.Text t (Err Memory) fits found fixed text opaque none = let e = value_to kind.Text (value.Text t) t (text refl refl, refl, refl) in absurd (cc (e, none))
+is_bad kind.Whole t (Err Memory) fits found fixed text opaque none = ap (λ f. Err f) (fixed refl)
+is_bad kind.Flag t (Err Memory) fits found fixed text opaque none = ap (λ f. Err f) (fixed refl)
+is_bad kind.Opaque t (Err Memory) fits found fixed text opaque none = let e = value_to kind.Opaque (value.Opaque t) t ((fits, opaque refl refl), refl, refl) in absurd (cc (e, none))
+is_bad kind.Moment t (Err Memory) fits found fixed text opaque none = ap (λ f. Err f) (fixed refl)
+is_bad kind.Link t (Err Memory) fits found fixed text opaque none = ap (λ f. Err f) (fixed refl)

@@ -1,24 +1,25 @@
 -- The value that is read of a plain text is the good one that the text spells.
-use Rattle.std.proofs.Common.{◌≡◌, ◌≢◌, ℕ, ◌+◌, ◌<◌, nat_lt, List, [], ◌∷◌, ◌++◌, length, get_or, take, drop, ℤ, pos, neg_ℤ, Bool, true, false, if◌then◌else◌, ◌==◌, Option, Some, None, Result, Ok, Err, option_map, inl, inr, refl, sym, ap, subst, ◌∙◌, ◌↔◌, arith, ltb-true, lt-ltb, eqb-true, ne_eqb, length-drop}
+use Rattle.std.proofs.Common.{◌≡◌, ◌≢◌, ℕ, ◌+◌, ◌<◌, ◌≤◌, nat_lt, List, [], ◌∷◌, ◌++◌, length, get_or, take, drop, ℤ, pos, neg_ℤ, Bool, true, false, if◌then◌else◌, ◌==◌, Option, Some, None, Result, Ok, Err, option_map, inl, inr, refl, sym, ap, subst, ◌∙◌, ◌↔◌, arith, ltb-true, lt-ltb, eqb-true, ne_eqb, length-drop}
 use Rattle.std.proofs.Math.Seq.{take-append_seam, drop-append-add}
 use Rattle.std.proofs.lemmas.List.Sums.{split_at_first, passes_at_first}
 use Rattle.std.proofs.lemmas.Str.Parse.{digit_from_value}
 use Rattle.std.specs.List.{list_all, position_or_len, before_first, after_first}
 use Rattle.std.specs.Result.{result_ok}
 use Rattle.std.specs.Char.{digit_value}
+use Rattle.std.specs.Str.{IsUtf8}
 use Rattle.std.specs.Str.Parse.{AllDigits, digits_value}
 use Rattle.base64.specs.GeneralPurpose.{encode_of, decode_of, IsBytes}
 use Rattle.base64.specs.Engines.{standard}
 use Rattle.base64.proofs.EngineFacts.{decode_of-encode_of, decode_of_strict, IsAscii-encode_of}
 use Rattle.std.specs.Result.{IfOk, IfErr, MatchResult}
 use Rattle.lwm2m_values.specs.declared.fault.ValueFault.{ValueFault}
-use Rattle.lwm2m_values.specs.declared.fault.ValueFault.TheVariants.{Memory}
+use Rattle.lwm2m_values.specs.declared.fault.ValueFault.TheVariants.{BadValue, Memory}
 use Rattle.lwm2m_values.specs.declared.value.Value.{Value}
 use Rattle.lwm2m_values.specs.declared.value.Value.TheVariants as value
 use Rattle.lwm2m_values.specs.declared.value.Value.TheVariants.{Text, Whole, Flag, Opaque, Moment, Link}
 use Rattle.lwm2m_values.specs.declared.kind.ValueKind.{ValueKind}
 use Rattle.lwm2m_values.specs.declared.kind.ValueKind.TheVariants as kind
-use Rattle.lwm2m_values.specs.Value.{kind_of, IsGood, IsDecimal, IsSigned, IsPair, IsText, flag_text, text_of}
+use Rattle.lwm2m_values.specs.Value.{kind_of, holds_bytes, IsGood, IsDecimal, IsSigned, IsPair, IsText, flag_text, text_of}
 use Rattle.lwm2m_values.specs.Reading.{are_bytes, number_of_text, signed_of_text, flag_by, pair_of_text, opaque_of_text, spelled_by_text, value_of_text}
 use Rattle.lwm2m_values.proofs.Choices.{both, both_back, chosen, kept_if, mapped, zipped}
 use Rattle.lwm2m_values.proofs.GoodValue.{bytes_from, bytes_to, good_kept, good_back}
@@ -199,3 +200,14 @@ none_case k t (Some v) q h = let p = value_from k v t q in absurd (h v p.0 p.1 p
 pub is_reading : (k : ValueKind) (t : List ℕ) (r : Result Value ValueFault) → IfOk r (λ v. IsGood v × (kind_of v ≡ k) × IsText v t) → IfErr r (λ f. f ≢ Memory → (v : Value) → IsGood v → kind_of v ≡ k → ¬ (IsText v t)) → MatchResult r (λ v. value_of_text k t ≡ Some v) (λ f. f ≢ Memory → value_of_text k t ≡ None)
 is_reading k t (Ok v) p q = value_to k v t p
 is_reading k t (Err f) p q = λ other. none_case k t (value_of_text k t) refl (q other)
+
+-- what is not a value is no reason to run out of memory
+pub is_bad : (k : ValueKind) (t : List ℕ) (r : Result Value ValueFault) → IfOk r (λ v. IsGood v × (kind_of v ≡ k) × IsText v t) → (holds_bytes k ≡ false → IfErr r (λ f. f ≡ BadValue)) → (k ≡ kind.Text → IfErr r (λ f. f ≡ Memory → IsUtf8 t × (length t ≤ 255))) → k ≢ kind.Opaque → value_of_text k t ≡ None → r ≡ Err BadValue
+is_bad k t (Ok v) found fixed text other none = let e = value_to k v t found in absurd (cc (e, none))
+is_bad k t (Err BadValue) found fixed text other none = refl
+is_bad kind.Text t (Err Memory) found fixed text other none = let e = value_to kind.Text (value.Text t) t (text refl refl, refl, refl) in absurd (cc (e, none))
+is_bad kind.Whole t (Err Memory) found fixed text other none = ap (λ f. Err f) (fixed refl)
+is_bad kind.Flag t (Err Memory) found fixed text other none = ap (λ f. Err f) (fixed refl)
+is_bad kind.Opaque t (Err Memory) found fixed text other none = absurd (other refl)
+is_bad kind.Moment t (Err Memory) found fixed text other none = ap (λ f. Err f) (fixed refl)
+is_bad kind.Link t (Err Memory) found fixed text other none = ap (λ f. Err f) (fixed refl)

@@ -1,5 +1,5 @@
 -- Values: their kinds, which are good, their plain text, their bytes, and their code, by which a finite map can hold them.
-use Rattle.std.specs.Prelude.{◌≡◌, ℕ, ◌<◌, ◌≤◌, ℤ, pos, negsuc, nat_lt, List, [], ◌∷◌, ◌++◌, length, Bool, if◌then◌else◌, ◌⊎◌, refl}
+use Rattle.std.specs.Prelude.{◌≡◌, ℕ, ◌<◌, ◌≤◌, ℤ, pos, negsuc, nat_lt, List, [], ◌∷◌, ◌++◌, length, Bool, true, false, if◌then◌else◌, ◌⊎◌, refl}
 use Rattle.std.specs.Prelude.{neg_ℤ, FitsSigned}
 use Rattle.std.specs.Int.{Width, w8, w16, w32, w64, to_be_bytes, cast_unsigned}
 use Rattle.std.specs.Str.{IsUtf8}
@@ -23,6 +23,15 @@ kind_of (Flag _) = kind.Flag
 kind_of (Opaque _) = kind.Opaque
 kind_of (Moment _) = kind.Moment
 kind_of (Link _ _) = kind.Link
+
+-- whether a value of this kind holds a list of bytes, for which memory is taken
+abbrev pub holds_bytes : ValueKind → Bool
+holds_bytes kind.Text = true
+holds_bytes kind.Whole = false
+holds_bytes kind.Flag = false
+holds_bytes kind.Opaque = true
+holds_bytes kind.Moment = false
+holds_bytes kind.Link = false
 
 -- a good value: one within the limits of its kind (OMA LwM2M 1.1 Core, data types; the two lengths are this profile's)
 abbrev pub IsGood : Value → Type 0

@@ -1,10 +1,11 @@
-ghost use Rattle.std.specs.Prelude.{◌≡◌, ◌≢◌, ℕ, ◌≤◌, List, Err, length, Some, None, IfSome, IfOk, IfErr, IsErr, MatchResult, Bool};
+ghost use Rattle.std.specs.Prelude.{◌≡◌, ◌≢◌, ℕ, ◌≤◌, List, Err, length, Some, None, IfSome, IfOk, IfErr, IsErr, MatchResult, Bool, false};
 ghost use Rattle.std.specs.Str.{IsUtf8};
 ghost use Rattle.base64.specs.GeneralPurpose.{encode_of, IsBytes};
 ghost use Rattle.base64.specs.Engines.{standard};
 ghost use Rattle.lwm2m_values.specs.declared.fault.ValueFault.TheVariants.{BadValue, Memory};
+ghost use Rattle.lwm2m_values.specs.declared.kind.ValueKind.TheVariants as kinds;
 ghost use Rattle.lwm2m_values.specs.declared.value.Value.{Value};
-ghost use Rattle.lwm2m_values.specs.Value.{kind_of, IsGood, IsText, flag_text, text_of};
+ghost use Rattle.lwm2m_values.specs.Value.{kind_of, holds_bytes, IsGood, IsText, flag_text, text_of};
 ghost use Rattle.lwm2m_values.specs.Reading.{value_of_text};
 
 use crate::fault::ValueFault;
@@ -21,6 +22,7 @@ use std::alloc::{AllocError, Global};
 pub(crate) fn string_of(alloc: Global, bytes: &[u8]) -> Result<Text, ValueFault>
     ensures found { IfOk result (λ t. (t ≡ bytes.now) × IsUtf8 bytes.now × (length bytes.now ≤ 255)) }
     ensures only { IsUtf8 bytes.now → length bytes.now ≤ 255 → IfErr result (λ f. f ≡ Memory) }
+    ensures memory { IfErr result (λ f. f ≡ Memory → IsUtf8 bytes.now × (length bytes.now ≤ 255)) }
 {
     if bytes.len() > 255 {
         return Err(ValueFault::BadValue);
@@ -66,6 +68,8 @@ fn good_of(alloc: Global, kind: ValueKind, text: &[u8]) -> Result<Value, ValueFa
     ensures only { (v : Value) → IsGood v → kind_of v ≡ kind → IsText v text.now
         → MatchResult result (λ x. x ≡ v) (λ f. f ≡ Memory) }
     ensures refused { IfErr result (λ f. f ≢ Memory → (v : Value) → IsGood v → kind_of v ≡ kind → ¬ (IsText v text.now)) }
+    ensures fixed { holds_bytes kind ≡ false → IfErr result (λ f. f ≡ BadValue) }
+    ensures memory { kind ≡ kinds.Text → IfErr result (λ f. f ≡ Memory → IsUtf8 text.now × (length text.now ≤ 255)) }
 {
     match kind {
         ValueKind::Text => Ok(Value::Text(string_of(alloc, text)?)),
@@ -92,6 +96,9 @@ pub fn read_text(alloc: Global, kind: ValueKind, text: &[u8]) -> Result<Value, V
         → MatchResult result (λ x. x ≡ v) (λ f. f ≡ Memory) }
     ensures refused { IfErr result (λ f. f ≢ Memory → (v : Value) → IsGood v → kind_of v ≡ kind → ¬ (IsText v text.now)) }
     ensures reading { MatchResult result (λ v. value_of_text kind text.now ≡ Some v) (λ f. f ≢ Memory → value_of_text kind text.now ≡ None) }
+    // Memory runs out for a Text or an Opaque alone, and for no Text that is too long or not UTF-8.
+    ensures fixed { holds_bytes kind ≡ false → IfErr result (λ f. f ≡ BadValue) }
+    ensures bad { kind ≢ kinds.Opaque → value_of_text kind text.now ≡ None → result ≡ Err BadValue }
 {
     good_of(alloc, kind, text)
 }

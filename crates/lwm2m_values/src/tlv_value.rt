@@ -1,8 +1,10 @@
-ghost use Rattle.std.specs.Prelude.{◌≡◌, ◌≢◌, ℕ, ◌≤◌, ◌<◌, List, [], ◌∷◌, ◌++◌, length, Some, None, IfSome, IfOk, IfErr, MatchResult, Bool, if◌then◌else◌};
+ghost use Rattle.std.specs.Prelude.{◌≡◌, ◌≢◌, ℕ, ◌≤◌, ◌<◌, List, [], ◌∷◌, ◌++◌, length, Some, None, IfSome, IfOk, IfErr, MatchResult, Bool, false, Err, if◌then◌else◌};
 ghost use Rattle.std.specs.Int.{w16, to_be_bytes};
-ghost use Rattle.lwm2m_values.specs.declared.fault.ValueFault.TheVariants.{Memory};
+ghost use Rattle.lwm2m_values.specs.declared.fault.ValueFault.TheVariants.{BadValue, Memory};
+ghost use Rattle.std.specs.Str.{IsUtf8};
+ghost use Rattle.lwm2m_values.specs.declared.kind.ValueKind.TheVariants as kinds;
 ghost use Rattle.lwm2m_values.specs.declared.value.Value.{Value};
-ghost use Rattle.lwm2m_values.specs.Value.{kind_of, IsGood, IsBytesOf, bytes_of as shortest_bytes_of};
+ghost use Rattle.lwm2m_values.specs.Value.{kind_of, holds_bytes, IsGood, IsBytesOf, bytes_of as shortest_bytes_of};
 ghost use Rattle.lwm2m_values.specs.Reading.{value_of_bytes};
 
 use crate::fault::ValueFault;
@@ -42,6 +44,9 @@ fn good_of(alloc: Global, kind: ValueKind, bytes: &[u8]) -> Result<Value, ValueF
     ensures only { (v : Value) → IsGood v → kind_of v ≡ kind → IsBytesOf v bytes.now
         → MatchResult result (λ x. x ≡ v) (λ f. f ≡ Memory) }
     ensures refused { IfErr result (λ f. f ≢ Memory → (v : Value) → IsGood v → kind_of v ≡ kind → ¬ (IsBytesOf v bytes.now)) }
+    ensures fixed { holds_bytes kind ≡ false → IfErr result (λ f. f ≡ BadValue) }
+    ensures text { kind ≡ kinds.Text → IfErr result (λ f. f ≡ Memory → IsUtf8 bytes.now × (length bytes.now ≤ 255)) }
+    ensures opaque { kind ≡ kinds.Opaque → IfErr result (λ f. f ≡ Memory → length bytes.now ≤ 1024) }
 {
     match kind {
         ValueKind::Text => Ok(Value::Text(string_of(alloc, bytes)?)),
@@ -73,6 +78,9 @@ pub fn value_of(alloc: Global, kind: ValueKind, bytes: &[u8]) -> Result<Value, V
         → MatchResult result (λ x. x ≡ v) (λ f. f ≡ Memory) }
     ensures refused { IfErr result (λ f. f ≢ Memory → (v : Value) → IsGood v → kind_of v ≡ kind → ¬ (IsBytesOf v bytes.now)) }
     ensures reading { MatchResult result (λ v. value_of_bytes kind bytes.now ≡ Some v) (λ f. f ≢ Memory → value_of_bytes kind bytes.now ≡ None) }
+    // Memory runs out for a Text or an Opaque alone, whose bytes are those of a good value.
+    ensures fixed { holds_bytes kind ≡ false → IfErr result (λ f. f ≡ BadValue) }
+    ensures bad { value_of_bytes kind bytes.now ≡ None → result ≡ Err BadValue }
 {
     good_of(alloc, kind, bytes)
 }

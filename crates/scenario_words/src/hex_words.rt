@@ -1,7 +1,8 @@
-ghost use Rattle.std.specs.Prelude.{◌≡◌, ◌≢◌, ◌++◌, ◌<◌, ◌+◌, IfOk, OnOk};
+ghost use Rattle.std.specs.Prelude.{◌≡◌, ◌≢◌, ◌++◌, ◌∷◌, [], ℕ, List, ◌<◌, ◌+◌, ◌%◌, true, false, codes, length, Ok, Err, IfOk, OnOk};
+ghost use Rattle.std.specs.Str.{bytes_eq};
 ghost use Rattle.std.specs.String.{string_bytes};
 ghost use Rattle.hex.specs.declared.error.FromHexError.TheVariants.{OutOfMemory};
-ghost use Rattle.scenario_words.specs.declared.cause.Cause.TheVariants.{Token, Memory};
+ghost use Rattle.scenario_words.specs.declared.cause.Cause.TheVariants.{Token, Missing, Memory};
 ghost use Rattle.scenario_words.specs.Words.{words};
 ghost use Rattle.scenario_words.specs.Reading.{Gives, word_by};
 ghost use Rattle.scenario_words.specs.HexWord.{bytes_of, digit_of, hex_byte, hex_word};
@@ -25,7 +26,9 @@ fn hex_cause(error: FromHexError) -> Cause
 
 /// The bytes of a hex word.
 pub(crate) fn bytes_of(alloc: Global, word: &[u8]) -> Result<Bytes, Cause>
-    ensures { Gives (λ b. b) result (bytes_of word.now) }
+    ensures read { Gives (λ b. b) result (bytes_of word.now) }
+    ensures none { bytes_eq word.now (codes "-") ≡ true → result ≡ Ok [] }
+    ensures odd { bytes_eq word.now (codes "-") ≡ false → length word.now % 2 ≡ 1 → result ≡ Err Token }
 {
     if is_name(word, "-") {
         return Ok(Bytes::new(alloc));
@@ -38,7 +41,11 @@ pub(crate) fn bytes_of(alloc: Global, word: &[u8]) -> Result<Bytes, Cause>
 
 /// The first word of the line as bytes in hex, in either case, with `-` for none, and the line behind it.
 pub fn hex_bytes(alloc: Global, line: &[u8]) -> Result<(Bytes, &[u8]), Cause>
-    ensures { Gives (λ x. (x.0, words x.1.now)) result (word_by bytes_of (words line.now)) }
+    ensures read { Gives (λ x. (x.0, words x.1.now)) result (word_by bytes_of (words line.now)) }
+    ensures missing { words line.now ≡ [] → result ≡ Err Missing }
+    ensures odd { (w : List ℕ) (ws : List (List ℕ))
+        → words line.now ≡ w ∷ ws → bytes_eq w (codes "-") ≡ false → length w % 2 ≡ 1
+        → result ≡ Err Token }
 {
     let (word, line) = first_word(line)?;
     let bytes = bytes_of(alloc, word)?;

@@ -1,7 +1,8 @@
-ghost use Rattle.std.specs.Prelude.{◌≡◌, ◌++◌, ◌∷◌, [], ◌<◌, ◌+◌, length, Some, None, true, false, IfOk, OnOk, MatchOption, if◌then◌else◌};
+ghost use Rattle.std.specs.Prelude.{◌≡◌, ◌≢◌, ℕ, List, slice_index, Err, ◌++◌, ◌∷◌, [], ◌<◌, ◌+◌, length, Some, None, true, false, IfOk, OnOk, MatchOption, if◌then◌else◌};
 ghost use Rattle.std.specs.String.{string_bytes};
 ghost use Rattle.std.specs.Str.{is_utf8, bytes_eq};
 ghost use Rattle.hex.specs.Hex.{hex_digit_value};
+ghost use Rattle.scenario_words.specs.declared.cause.Cause.TheVariants.{Token, Missing};
 ghost use Rattle.scenario_words.specs.Words.{words};
 ghost use Rattle.scenario_words.specs.Reading.{Gives, word_by};
 ghost use Rattle.scenario_words.specs.HexWord.{before, or_token};
@@ -78,7 +79,8 @@ fn checked(bytes: &[u8]) -> Option<&str>
 
 /// The text of a quoted word.
 pub(crate) fn text_of(alloc: Global, word: &[u8]) -> Result<Text, Cause>
-    ensures { Gives (λ t. t) result (text_of word.now) }
+    ensures read { Gives (λ t. t) result (text_of word.now) }
+    ensures bare { slice_index word.now 0 ≢ 34 → result ≡ Err Token }
 {
     let [b'"', body @ ..] = word else {
         return Err(Cause::Token);
@@ -92,7 +94,10 @@ pub(crate) fn text_of(alloc: Global, word: &[u8]) -> Result<Text, Cause>
 
 /// The first word of the line as a text in quotes, and the line behind it.
 pub fn quoted(alloc: Global, line: &[u8]) -> Result<(Text, &[u8]), Cause>
-    ensures { Gives (λ x. (x.0, words x.1.now)) result (word_by text_of (words line.now)) }
+    ensures read { Gives (λ x. (x.0, words x.1.now)) result (word_by text_of (words line.now)) }
+    ensures missing { words line.now ≡ [] → result ≡ Err Missing }
+    ensures bare { (w : List ℕ) (ws : List (List ℕ))
+        → words line.now ≡ w ∷ ws → slice_index w 0 ≢ 34 → result ≡ Err Token }
 {
     let (word, line) = first_word(line)?;
     let text = text_of(alloc, word)?;

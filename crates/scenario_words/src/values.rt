@@ -1,10 +1,13 @@
-ghost use Rattle.std.specs.Prelude.{◌≡◌, ◌≢◌, ◌↔◌, [], Ok, IfOk, IsTrue};
+ghost use Rattle.std.specs.Prelude.{◌≡◌, ◌≢◌, ◌↔◌, ℕ, List, [], ◌∷◌, slice_index, false, Ok, Err, IfOk, IsTrue};
+ghost use Rattle.std.specs.Result.{IsOk};
 ghost use Rattle.std.specs.String.{string_bytes};
 ghost use Rattle.std.specs.List.{list_all};
 ghost use Rattle.std.specs.Char.{is_ascii_graphic};
-ghost use Rattle.scenario_words.specs.declared.cause.Cause.TheVariants.{Memory};
+ghost use Rattle.lwm2m_values.specs.declared.kind.ValueKind.{ValueKind};
+ghost use Rattle.lwm2m_values.specs.Value.{holds_bytes};
+ghost use Rattle.scenario_words.specs.declared.cause.Cause.TheVariants.{Missing, Memory};
 ghost use Rattle.scenario_words.specs.Words.{words};
-ghost use Rattle.scenario_words.specs.Reading.{Gives, word_by};
+ghost use Rattle.scenario_words.specs.Reading.{Gives, Reads, word_by};
 ghost use Rattle.scenario_words.specs.ValueWords.{name_fault, kind_word, kind_named, value_of, value_at, IsTooLong, IsValue, value_word, spelled};
 
 use crate::cause::Cause;
@@ -25,7 +28,8 @@ fn is_graphic(word: &[u8]) -> bool
 /// Why a word is refused where one of some names may stand and it is none of them: `UnknownWord`, or
 /// `Token` where it has the wrong form, or `Memory`.
 pub fn name_fault(alloc: Global, word: &[u8]) -> Cause
-    ensures { result ≢ Memory → result ≡ name_fault word.now }
+    ensures fault { result ≢ Memory → result ≡ name_fault word.now }
+    ensures bare { slice_index word.now 0 ≢ 34 → result ≡ name_fault word.now }
 {
     let [b'"', ..] = word else {
         return if is_graphic(word) {
@@ -42,7 +46,9 @@ pub fn name_fault(alloc: Global, word: &[u8]) -> Cause
 
 /// The kind that a word names.
 fn kind_named(alloc: Global, word: &[u8]) -> Result<ValueKind, Cause>
-    ensures { Gives (λ k. k) result (kind_named word.now) }
+    ensures read { Gives (λ k. k) result (kind_named word.now) }
+    ensures found { (k : ValueKind) → kind_named word.now ≡ Ok k → result ≡ Ok k }
+    ensures bare { slice_index word.now 0 ≢ 34 → Reads (λ k. k) result (kind_named word.now) }
 {
     if is_name(word, "text") {
         Ok(ValueKind::Text)
@@ -63,7 +69,11 @@ fn kind_named(alloc: Global, word: &[u8]) -> Result<ValueKind, Cause>
 
 /// The first word of the line as the name of a kind, and the line behind it.
 pub fn kind(alloc: Global, line: &[u8]) -> Result<(ValueKind, &[u8]), Cause>
-    ensures { Gives (λ x. (x.0, words x.1.now)) result (word_by kind_named (words line.now)) }
+    ensures read { Gives (λ x. (x.0, words x.1.now)) result (word_by kind_named (words line.now)) }
+    ensures missing { words line.now ≡ [] → result ≡ Err Missing }
+    ensures found { (x : ValueKind × List (List ℕ)) → word_by kind_named (words line.now) ≡ Ok x → IsOk result }
+    ensures bare { (w : List ℕ) (ws : List (List ℕ)) → words line.now ≡ w ∷ ws → slice_index w 0 ≢ 34
+        → Reads (λ x. (x.0, words x.1.now)) result (word_by kind_named (words line.now)) }
 {
     let (word, line) = first_word(line)?;
     let kind = kind_named(alloc, word)?;
@@ -72,7 +82,8 @@ pub fn kind(alloc: Global, line: &[u8]) -> Result<(ValueKind, &[u8]), Cause>
 
 /// The value of a kind that a word is.
 fn value_of(alloc: Global, kind: ValueKind, word: &[u8]) -> Result<Value, Cause>
-    ensures { Gives (λ v. v) result (value_of kind word.now) }
+    ensures read { Gives (λ v. v) result (value_of kind word.now) }
+    ensures fixed { holds_bytes kind ≡ false → Reads (λ v. v) result (value_of kind word.now) }
 {
     match kind {
         ValueKind::Text => Ok(Value::Text(text_of(alloc, word)?)),
@@ -89,7 +100,11 @@ fn value_of(alloc: Global, kind: ValueKind, word: &[u8]) -> Result<Value, Cause>
 
 /// The first two words of the line as a kind and a value of it, of whatever length, and the line behind them.
 pub fn value(alloc: Global, line: &[u8]) -> Result<(Value, &[u8]), Cause>
-    ensures { Gives (λ x. (x.0, words x.1.now)) result (value_at (words line.now)) }
+    ensures read { Gives (λ x. (x.0, words x.1.now)) result (value_at (words line.now)) }
+    ensures missing { words line.now ≡ [] → result ≡ Err Missing }
+    ensures fixed { (k : ValueKind) (ws : List (List ℕ))
+        → word_by kind_named (words line.now) ≡ Ok (k, ws) → holds_bytes k ≡ false
+        → Reads (λ x. (x.0, words x.1.now)) result (value_at (words line.now)) }
 {
     let (kind, line) = kind(alloc, line)?;
     let (word, line) = first_word(line)?;
