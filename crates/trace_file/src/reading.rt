@@ -205,7 +205,7 @@ pub fn read_entries(alloc: Global, bytes: &[u8]) -> Result<Entries, LayoutFault>
     ensures refused { (f : LayoutFault) → HasFault trace_file bytes.now f → IsErrAnd result (λ g. g ≢ Memory → g ≡ f) }
     ensures front { (b : Break) → front.Breaks bytes.now b → result ≡ Err (placed (length bytes.now) b) }
 {
-    // Another file than a trace file, and one that ends in its first entry, is refused by its front, before memory is taken.
+    // Another file, and one that ends in its first entry, is refused by its front, before memory is taken.
     match front_at(bytes) {
         Err(error) => Err(fault_at(bytes.len(), error)),
         Ok(_) => load::<TraceFile>(alloc, bytes),
