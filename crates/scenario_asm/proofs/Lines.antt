@@ -76,3 +76,6 @@ reached_here text first left more n d so_far cut = record {
 pub if_none : {P : Type 0} (o : Option (List ℕ)) → P → MatchOption o P (λ _. Unit {0})
 if_none None p = p
 if_none (Some x) p = tt
+
+-- what a text's lines are taken by, one after another
+pub ruleset line_by_line = (goes_on, stops, ends, taken_line, reached_here, if_none)

@@ -94,7 +94,8 @@ effect (says.Firmware code) d = needs d.begun (device_step (step.Event (event.Fi
 effect (says.Post group) d = needs d.begun (device_step (step.Post group) d)
 effect (says.Need group count) d = needs d.begun (device_step (step.Need group count) d)
 
--- a statement that takes memory only once nothing refuses it: not one that closes a class, encodes a message or has a value
+-- a statement that takes memory only once nothing refuses it: not one that closes a class, encodes a message or has a
+-- value
 abbrev pub is_refused_first : Statement → Bool
 is_refused_first says.Scenario = true
 is_refused_first says.Class = false

@@ -122,8 +122,11 @@ impl Draft {
     }
 
     fn account(&mut self, server: u16) -> Result<(), Cause>
-        ensures made { Makes result self.new (in_class self.old (account_added server) (reopened self.old) self.old.open_class) }
-        ensures refused { (c : Cause) → in_class self.old (account_added server) (reopened self.old) self.old.open_class ≡ Err c → result ≡ Err c }
+        ensures made { Makes result self.new
+            (in_class self.old (account_added server) (reopened self.old) self.old.open_class) }
+        ensures refused { (c : Cause)
+            → in_class self.old (account_added server) (reopened self.old) self.old.open_class ≡ Err c
+            → result ≡ Err c }
     {
         match &mut self.open_class {
             None => Err(Cause::Missing),
@@ -132,8 +135,11 @@ impl Draft {
     }
 
     fn object(&mut self, id: u16) -> Result<(), Cause>
-        ensures made { Makes result self.new (in_class self.old (object_added id) (reopened_with id self.old) self.old.open_class) }
-        ensures refused { (c : Cause) → in_class self.old (object_added id) (reopened_with id self.old) self.old.open_class ≡ Err c → result ≡ Err c }
+        ensures made { Makes result self.new
+            (in_class self.old (object_added id) (reopened_with id self.old) self.old.open_class) }
+        ensures refused { (c : Cause)
+            → in_class self.old (object_added id) (reopened_with id self.old) self.old.open_class ≡ Err c
+            → result ≡ Err c }
     {
         self.object = Some(id);
         match &mut self.open_class {
@@ -146,7 +152,8 @@ impl Draft {
         ensures made { Makes result self.new
             (in_class self.old (in_object self.old.object (λ object. definition_added object definition)) (reopened self.old) self.old.open_class) }
         ensures refused { (c : Cause)
-            → in_class self.old (in_object self.old.object (λ object. definition_added object definition)) (reopened self.old) self.old.open_class ≡ Err c
+            → in_class self.old (in_object self.old.object (λ object. definition_added object definition))
+            (reopened self.old) self.old.open_class ≡ Err c
             → result ≡ Err c }
     {
         let object = self.object;
@@ -157,8 +164,11 @@ impl Draft {
     }
 
     fn instance(&mut self, place: InstancePath) -> Result<(), Cause>
-        ensures made { Makes result self.new (in_class self.old (instance_added place) (reopened self.old) self.old.open_class) }
-        ensures refused { (c : Cause) → in_class self.old (instance_added place) (reopened self.old) self.old.open_class ≡ Err c → result ≡ Err c }
+        ensures made { Makes result self.new
+            (in_class self.old (instance_added place) (reopened self.old) self.old.open_class) }
+        ensures refused { (c : Cause)
+            → in_class self.old (instance_added place) (reopened self.old) self.old.open_class ≡ Err c
+            → result ≡ Err c }
     {
         match &mut self.open_class {
             None => Err(Cause::Missing),
@@ -234,8 +244,11 @@ impl Draft {
     }
 
     fn datagram(&mut self, server: u16, bytes: Bytes) -> Result<(), Cause>
-        ensures made { Makes result self.new (needs (has_server self.old server) (step_added (step.Event (event.Recv server bytes)) self.old)) }
-        ensures refused { (c : Cause) → needs (has_server self.old server) (step_added (step.Event (event.Recv server bytes)) self.old) ≡ Err c → result ≡ Err c }
+        ensures made { Makes result self.new
+            (needs (has_server self.old server) (step_added (step.Event (event.Recv server bytes)) self.old)) }
+        ensures refused { (c : Cause)
+            → needs (has_server self.old server) (step_added (step.Event (event.Recv server bytes)) self.old) ≡ Err c
+            → result ≡ Err c }
     {
         if !self.has_server(server) {
             return Err(Cause::Missing);
@@ -246,7 +259,8 @@ impl Draft {
     fn request(&mut self, alloc: Global, server: u16, mnemonic: &Mnemonic) -> Result<(), Cause>
         ensures made { Makes result self.new
             (needs (has_server self.old server) (fitting mnemonic.now (step_added (step.Event (event.Recv server (datagram_of mnemonic.now))) self.old))) }
-        ensures refused { (c : Cause) → needs (has_server self.old server) (fitting mnemonic.now (Ok self.old)) ≡ Err c → result ≡ Err c }
+        ensures refused { (c : Cause)
+            → needs (has_server self.old server) (fitting mnemonic.now (Ok self.old)) ≡ Err c → result ≡ Err c }
     {
         if !self.has_server(server) {
             return Err(Cause::Missing);
@@ -262,7 +276,8 @@ impl Draft {
     fn apply(&mut self, alloc: Global, statement: Statement) -> Result<(), Cause>
         ensures made { Makes result self.new (effect statement self.old) }
         ensures unbegun { self.old.begun ≡ false → statement ≢ says.Scenario → result ≡ Err Missing }
-        ensures refused { (c : Cause) → is_refused_first statement ≡ true → effect statement self.old ≡ Err c → result ≡ Err c }
+        ensures refused { (c : Cause)
+            → is_refused_first statement ≡ true → effect statement self.old ≡ Err c → result ≡ Err c }
     {
         match statement {
             Statement::Scenario => self.begin(),
