@@ -2,10 +2,11 @@
 
 ghost use Rattle.std.specs.Prelude.{◌≡◌, ℕ, ◌+◌, ◌^◌, ◌<◌, List, false, Some, length, slice_get, slice_index, IfOk, OnOk, IfSome};
 ghost use Rattle.std.specs.Option.{option_copied};
+ghost use Rattle.std.specs.Result.{IsOk};
 ghost use Rattle.device_template.specs.Class.{Class};
 ghost use Rattle.device_machine.specs.State.{Flat, Shows};
 ghost use Rattle.scenario_image.specs.Script.{Script};
-ghost use Rattle.scenario_image.specs.Play.{start, step_outputs, step_after, is_step_refused, IsRowOf};
+ghost use Rattle.scenario_image.specs.Play.{start, step_outputs, step_after, is_event, is_step_refused, IsRowOf};
 ghost use Rattle.fleet_core.specs.Run.{step_at, out_at};
 ghost use Rattle.fleet_core.specs.Board.{AreStarted, ShowsAfter, posts_after};
 ghost use Rattle.scenario_image.specs.declared.step.Step.{Step};
@@ -61,6 +62,7 @@ pub(crate) fn perform(
     requires { is_step_refused device.old step.now ≡ false }
     ensures outputs { (f : Flat) → Shows device.old f → IfOk result (λ o. o ≡ step_outputs f step.now) }
     ensures shows { (f : Flat) → Shows device.old f → OnOk result (Shows device.new (step_after f step.now)) }
+    ensures silent { is_event step.now ≡ false → IsOk result }
 {
     match take_step(device, step) {
         Ok(None) => Ok(OutputList::from_vec(Vec::new(alloc))),
@@ -84,6 +86,8 @@ pub fn make_step(
     requires shows { ShowsAfter scenario.now device place machine.old }
     ensures outputs { IfOk result (λ o. o ≡ out_at scenario.now device place) }
     ensures shows { OnOk result (ShowsAfter scenario.now device (place + 1) machine.new) }
+    // A post and a need take no memory.
+    ensures silent { is_event step.now ≡ false → IsOk result }
 {
     let _rows = scenario.rows();
     perform(alloc, machine, step)

@@ -13,3 +13,4 @@ pub mod ReadAgain
 pub mod Round
 pub mod RowRuns
 pub mod Sayable
+mod Refusals

@@ -93,3 +93,22 @@ effect (says.Put p value) d = needs d.begun (device_step (step.Event (event.Put 
 effect (says.Firmware code) d = needs d.begun (device_step (step.Event (event.Firmware code)) d)
 effect (says.Post group) d = needs d.begun (device_step (step.Post group) d)
 effect (says.Need group count) d = needs d.begun (device_step (step.Need group count) d)
+
+-- a statement that takes memory only once nothing refuses it: not one that closes a class, encodes a message or has a
+-- value
+abbrev pub is_refused_first : Statement → Bool
+is_refused_first says.Scenario = true
+is_refused_first says.Class = false
+is_refused_first (says.Account server) = true
+is_refused_first (says.Object id) = true
+is_refused_first (says.Def r) = true
+is_refused_first (says.Instance place) = true
+is_refused_first (says.Value p value) = false
+is_refused_first (says.Device class) = false
+is_refused_first (says.Recv server bytes) = true
+is_refused_first (says.Request server m) = false
+is_refused_first (says.Tick seconds) = true
+is_refused_first (says.Put p value) = true
+is_refused_first (says.Firmware code) = true
+is_refused_first (says.Post group) = true
+is_refused_first (says.Need group count) = true

@@ -1,5 +1,5 @@
 -- What a text denotes: the statements of its lines, one after another.
-use Rattle.std.specs.Prelude.{ℕ, ◌+◌, List, [], ◌∷◌, Option, None, Some, Result, Ok, Err, if◌then◌else◌}
+use Rattle.std.specs.Prelude.{◌≡◌, ℕ, ◌+◌, List, [], ◌∷◌, ◌++◌, length, Option, None, Some, Result, Ok, Err, if◌then◌else◌}
 use Rattle.scenario_image.specs.Script.{Script}
 use Rattle.scenario_words.specs.declared.cause.Cause.{Cause}
 use Rattle.scenario_words.specs.declared.cause.Cause.TheVariants.{Missing}
@@ -44,3 +44,13 @@ whole_of (Err fault) = Err fault
 -- the scenario of a text, or its first fault
 abbrev pub assembled : List ℕ → Result Script AsmFault
 assembled text = whole_of (lines_after (lines text) 0 nothing)
+
+-- a line of the text, by its number: those before it are taken
+pub record IsReached (text : List ℕ) (line : ℕ) : Type 0 where
+  pub before : List (List ℕ)
+  pub here : List ℕ
+  pub behind : List (List ℕ)
+  pub cut : lines text ≡ before ++ here ∷ behind
+  pub count : line ≡ length before + 1
+  pub draft : Draft
+  pub taken : lines_after before 0 nothing ≡ Ok draft

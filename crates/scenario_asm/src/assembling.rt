@@ -1,6 +1,6 @@
-ghost use Rattle.std.specs.Prelude.{◌≡◌, ◌≢◌, Ok, Err, MatchResult};
+ghost use Rattle.std.specs.Prelude.{◌≡◌, ◌≢◌, Ok, Err, IfErr, MatchResult};
 ghost use Rattle.scenario_words.specs.declared.cause.Cause.TheVariants.{Memory};
-ghost use Rattle.scenario_asm.specs.Text.{assembled};
+ghost use Rattle.scenario_asm.specs.Text.{IsReached, assembled};
 
 use crate::draft::Draft;
 use crate::fault::AsmFault;
@@ -14,9 +14,10 @@ use std::alloc::Global;
 /// from the left (`Missing`, `Token`, `UnknownWord`, `Range`), and no word may be left (`Token`). Then `Missing` (it
 /// needs what was not stated before, `scenario 1` in the first place), `Range` (it does not fit), `Duplicate` (it was stated before),
 /// `Limit` (a count or a length). A text that states nothing is `Missing` in line 1.
-#[tactic(auto, using(crate::proofs::Lines::goes_on, crate::proofs::Lines::stops, crate::proofs::Lines::ends))]
+#[tactic(auto, using(crate::proofs::Lines::line_by_line))]
 pub fn assemble(alloc: Global, text: &str) -> Result<Scenario, AsmFault>
-    ensures { MatchResult result (λ s. assembled text.now ≡ Ok s) (λ f. f.cause ≢ Memory → assembled text.now ≡ Err f) }
+    ensures assembled { MatchResult result (λ s. assembled text.now ≡ Ok s) (λ f. f.cause ≢ Memory → assembled text.now ≡ Err f) }
+    ensures memory { IfErr result (λ f. f.cause ≡ Memory → IsReached text.now f.line) }
 {
     let mut draft = Draft::nothing(alloc);
     let mut line = 0;

@@ -1,6 +1,7 @@
 //! What a line adds to the open class.
 
-ghost use Rattle.std.specs.Prelude.{◌≡◌};
+ghost use Rattle.std.specs.Prelude.{◌≡◌, Err};
+ghost use Rattle.scenario_words.specs.declared.cause.Cause.{Cause};
 ghost use Rattle.scenario_asm.specs.Causes.{Makes};
 ghost use Rattle.scenario_asm.specs.ClassLines.{account_added, definition_added, has_object, has_place, instance_added, is_stated, object_added, value_added};
 ghost use Rattle.lwm2m_values.specs.Value.{kind_of};
@@ -15,13 +16,15 @@ use scenario_words::{Cause, is_too_long};
 use std::alloc::Global;
 
 pub(crate) fn add_account(class: &mut Template, server: u16) -> Result<(), Cause>
-    ensures { Makes result class.new (account_added server class.old) }
+    ensures made { Makes result class.new (account_added server class.old) }
+    ensures refused { (c : Cause) → account_added server class.old ≡ Err c → result ≡ Err c }
 {
     of_class(class.add_account(server))
 }
 
 pub(crate) fn add_object(class: &mut Template, id: u16) -> Result<(), Cause>
-    ensures { Makes result class.new (object_added id class.old) }
+    ensures made { Makes result class.new (object_added id class.old) }
+    ensures refused { (c : Cause) → object_added id class.old ≡ Err c → result ≡ Err c }
 {
     of_class(class.add_object(id))
 }
@@ -31,7 +34,8 @@ pub(crate) fn add_definition(
     object: u16,
     definition: ResourceDef,
 ) -> Result<(), Cause>
-    ensures { Makes result class.new (definition_added object definition class.old) }
+    ensures made { Makes result class.new (definition_added object definition class.old) }
+    ensures refused { (c : Cause) → definition_added object definition class.old ≡ Err c → result ≡ Err c }
 {
     of_class(class.add_resource(object, definition))
 }
@@ -43,7 +47,8 @@ fn has_object(class: &Template, object: u16) -> bool
 }
 
 pub(crate) fn add_instance(class: &mut Template, place: InstancePath) -> Result<(), Cause>
-    ensures { Makes result class.new (instance_added place class.old) }
+    ensures made { Makes result class.new (instance_added place class.old) }
+    ensures refused { (c : Cause) → instance_added place class.old ≡ Err c → result ≡ Err c }
 {
     if !has_object(class, place.object) {
         return Err(Cause::Missing);

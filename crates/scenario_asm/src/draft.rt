@@ -1,7 +1,8 @@
 //! What the lines of a text have stated so far.
 
-ghost use Rattle.std.specs.Prelude.{◌≡◌, ◌≢◌, ◌==◌, nat_le, length, None, Ok, Err, MatchResult, IfErr, OnOk};
-ghost use Rattle.scenario_words.specs.declared.cause.Cause.TheVariants.{Memory};
+ghost use Rattle.std.specs.Prelude.{◌≡◌, ◌≢◌, ◌==◌, nat_le, true, false, length, None, Ok, Err, MatchResult, IfErr, OnOk};
+ghost use Rattle.scenario_words.specs.declared.cause.Cause.{Cause};
+ghost use Rattle.scenario_words.specs.declared.cause.Cause.TheVariants.{Memory, Missing};
 ghost use Rattle.device_machine.specs.declared.event.Event.TheVariants as event;
 ghost use Rattle.std.specs.List.{list_any};
 ghost use Rattle.scenario_image.specs.Script.{accounts_of};
@@ -11,8 +12,9 @@ ghost use Rattle.scenario_mnemonics.specs.Messages.{datagram_of};
 ghost use Rattle.scenario_asm.specs.Causes.{Makes, needs};
 ghost use Rattle.scenario_asm.specs.ClassLines.{account_added, definition_added, instance_added, object_added, value_added};
 ghost use Rattle.scenario_asm.specs.Draft.{closed, nothing};
-ghost use Rattle.scenario_asm.specs.Effect.{class_begun, device_begun, device_step, effect, fitting, has_device, has_server, in_class, in_object, last_class, reopened, reopened_with, step_added};
+ghost use Rattle.scenario_asm.specs.Effect.{class_begun, device_begun, device_step, effect, fitting, has_device, has_server, in_class, in_object, is_refused_first, last_class, reopened, reopened_with, step_added};
 ghost use Rattle.scenario_asm.specs.Text.{line_after, whole};
+ghost use Rattle.scenario_asm.specs.declared.fault.AsmFault.{AsmFault};
 
 use crate::causes::of_scenario;
 use crate::class::{add_account, add_definition, add_instance, add_object, add_value};
@@ -72,7 +74,8 @@ impl Draft {
     }
 
     fn begin(&mut self) -> Result<(), Cause>
-        ensures { Makes result self.new (effect says.Scenario self.old) }
+        ensures made { Makes result self.new (effect says.Scenario self.old) }
+        ensures no_memory { IfErr result (λ c. c ≢ Memory) }
     {
         if self.begun {
             return Err(Cause::Duplicate);
@@ -119,7 +122,11 @@ impl Draft {
     }
 
     fn account(&mut self, server: u16) -> Result<(), Cause>
-        ensures { Makes result self.new (in_class self.old (account_added server) (reopened self.old) self.old.open_class) }
+        ensures made { Makes result self.new
+            (in_class self.old (account_added server) (reopened self.old) self.old.open_class) }
+        ensures refused { (c : Cause)
+            → in_class self.old (account_added server) (reopened self.old) self.old.open_class ≡ Err c
+            → result ≡ Err c }
     {
         match &mut self.open_class {
             None => Err(Cause::Missing),
@@ -128,7 +135,11 @@ impl Draft {
     }
 
     fn object(&mut self, id: u16) -> Result<(), Cause>
-        ensures { Makes result self.new (in_class self.old (object_added id) (reopened_with id self.old) self.old.open_class) }
+        ensures made { Makes result self.new
+            (in_class self.old (object_added id) (reopened_with id self.old) self.old.open_class) }
+        ensures refused { (c : Cause)
+            → in_class self.old (object_added id) (reopened_with id self.old) self.old.open_class ≡ Err c
+            → result ≡ Err c }
     {
         self.object = Some(id);
         match &mut self.open_class {
@@ -138,8 +149,12 @@ impl Draft {
     }
 
     fn definition(&mut self, definition: ResourceDef) -> Result<(), Cause>
-        ensures { Makes result self.new
+        ensures made { Makes result self.new
             (in_class self.old (in_object self.old.object (λ object. definition_added object definition)) (reopened self.old) self.old.open_class) }
+        ensures refused { (c : Cause)
+            → in_class self.old (in_object self.old.object (λ object. definition_added object definition))
+            (reopened self.old) self.old.open_class ≡ Err c
+            → result ≡ Err c }
     {
         let object = self.object;
         match (&mut self.open_class, object) {
@@ -149,7 +164,11 @@ impl Draft {
     }
 
     fn instance(&mut self, place: InstancePath) -> Result<(), Cause>
-        ensures { Makes result self.new (in_class self.old (instance_added place) (reopened self.old) self.old.open_class) }
+        ensures made { Makes result self.new
+            (in_class self.old (instance_added place) (reopened self.old) self.old.open_class) }
+        ensures refused { (c : Cause)
+            → in_class self.old (instance_added place) (reopened self.old) self.old.open_class ≡ Err c
+            → result ≡ Err c }
     {
         match &mut self.open_class {
             None => Err(Cause::Missing),
@@ -207,14 +226,16 @@ impl Draft {
     }
 
     fn add_step(&mut self, step: Step) -> Result<(), Cause>
-        ensures { Makes result self.new (step_added step self.old) }
+        ensures made { Makes result self.new (step_added step self.old) }
+        ensures refused { (c : Cause) → step_added step self.old ≡ Err c → result ≡ Err c }
     {
         of_scenario(self.scenario.add_step(step))
     }
 
     /// A step of the device that was stated last.
     fn device_step(&mut self, step: Step) -> Result<(), Cause>
-        ensures { Makes result self.new (device_step step self.old) }
+        ensures made { Makes result self.new (device_step step self.old) }
+        ensures refused { (c : Cause) → device_step step self.old ≡ Err c → result ≡ Err c }
     {
         if !self.has_device() {
             return Err(Cause::Missing);
@@ -223,7 +244,11 @@ impl Draft {
     }
 
     fn datagram(&mut self, server: u16, bytes: Bytes) -> Result<(), Cause>
-        ensures { Makes result self.new (needs (has_server self.old server) (step_added (step.Event (event.Recv server bytes)) self.old)) }
+        ensures made { Makes result self.new
+            (needs (has_server self.old server) (step_added (step.Event (event.Recv server bytes)) self.old)) }
+        ensures refused { (c : Cause)
+            → needs (has_server self.old server) (step_added (step.Event (event.Recv server bytes)) self.old) ≡ Err c
+            → result ≡ Err c }
     {
         if !self.has_server(server) {
             return Err(Cause::Missing);
@@ -232,8 +257,10 @@ impl Draft {
     }
 
     fn request(&mut self, alloc: Global, server: u16, mnemonic: &Mnemonic) -> Result<(), Cause>
-        ensures { Makes result self.new
+        ensures made { Makes result self.new
             (needs (has_server self.old server) (fitting mnemonic.now (step_added (step.Event (event.Recv server (datagram_of mnemonic.now))) self.old))) }
+        ensures refused { (c : Cause)
+            → needs (has_server self.old server) (fitting mnemonic.now (Ok self.old)) ≡ Err c → result ≡ Err c }
     {
         if !self.has_server(server) {
             return Err(Cause::Missing);
@@ -247,7 +274,10 @@ impl Draft {
 
     /// Takes what a line says.
     fn apply(&mut self, alloc: Global, statement: Statement) -> Result<(), Cause>
-        ensures { Makes result self.new (effect statement self.old) }
+        ensures made { Makes result self.new (effect statement self.old) }
+        ensures unbegun { self.old.begun ≡ false → statement ≢ says.Scenario → result ≡ Err Missing }
+        ensures refused { (c : Cause)
+            → is_refused_first statement ≡ true → effect statement self.old ≡ Err c → result ≡ Err c }
     {
         match statement {
             Statement::Scenario => self.begin(),
@@ -283,7 +313,9 @@ impl Draft {
 
     /// The scenario that was stated, behind so many lines.
     pub(crate) fn finish(mut self, lines: usize) -> Result<Scenario, AsmFault>
-        ensures { MatchResult result (λ s. whole self ≡ Ok s) (λ f. f.cause ≢ Memory → whole self ≡ Err f) }
+        ensures made { MatchResult result (λ s. whole self ≡ Ok s) (λ f. f.cause ≢ Memory → whole self ≡ Err f) }
+        ensures refused { (f : AsmFault) → whole self ≡ Err f → result ≡ Err f }
+        ensures memory { IfErr result (λ f. f.cause ≡ Memory → f.line ≡ lines) }
     {
         if !self.begun {
             return Err(AsmFault {

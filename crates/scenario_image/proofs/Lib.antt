@@ -4,5 +4,6 @@ mod Exact
 mod Fits
 mod Adding
 pub mod Counting
+mod Fronts
 pub mod Imaged
 pub mod Saving

@@ -6,13 +6,14 @@ use Rattle.std.proofs.lemmas.List.Folds.{list_any-append}
 use Rattle.std.proofs.lemmas.Option.{slice_get_within, get_or_from_slice_get}
 use Rattle.std.specs.Bool.{IsTrue}
 use Rattle.std.specs.List.{list_any}
-use Rattle.device_machine.specs.declared.fault.StepFault.TheVariants.{Spent}
+use Rattle.device_machine.specs.declared.fault.StepFault.{StepFault}
+use Rattle.device_machine.specs.declared.fault.StepFault.TheVariants.{Memory, Spent}
 use Rattle.device_machine.specs.declared.output.Output.{Output}
 use Rattle.device_machine.specs.State.{Flat, Shown, Shows}
 use Rattle.device_machine.specs.Reactions.{passes_end}
 use Rattle.scenario_image.specs.declared.step.Step.{Step}
 use Rattle.scenario_image.specs.declared.step.Step.TheVariants.{Event, Post, Need}
-use Rattle.scenario_image.specs.Play.{step_after, step_outputs, state_after, PutsOut, is_step_refused, shown, IsStopped, is_event, outputs_in}
+use Rattle.scenario_image.specs.Play.{step_after, step_outputs, state_after, PutsOut, is_step_refused, shown, IsStopped, IsLeft, is_event, outputs_in}
 
 -- so many of the steps are not refused behind those before them
 abbrev pub AreTaken : Flat → List Step → ℕ → Type 0
@@ -164,3 +165,20 @@ finished old new steps n all played past within =
 pub all_unheard : (old new : Shown) (steps : List Step) (n : ℕ) (all : List (Option (List Output)))
     → IsPlayed old new steps n all → length steps ≤ n → old.spent ≡ true → list_any is_event steps ≡ false
 all_unheard old new steps n all played past spent = ap (list_any is_event) (sym (take_all n steps past)) ∙ (played.deaf spent).1
+
+-- after the steps so far the device was left
+pub left_after : (old new : Shown) (steps : List Step) (n : ℕ) (all : List (Option (List Output))) → IsPlayed old new steps n all → n ≤ length steps → (f : Flat) → Shows old f → IsLeft new f steps
+left_after old new steps n all played within f h = inr (n, within, played.shows f h)
+
+-- after one step more
+pub left_behind : (old new newer : Shown) (steps : List Step) (n : ℕ) (all : List (Option (List Output))) (step : Step)
+    → IsPlayed old new steps n all → slice_get steps n ≡ Some step → ((f : Flat) → Shows new f → Shows newer (step_after f step)) → (f : Flat) → Shows old f → IsLeft newer f steps
+left_behind old new newer steps n all step played at shows f h =
+    let within = slice_get_within steps n step at in
+    inr (n + 1, omega (arith, within), subst (Shows newer) (sym (next_state f steps n step at)) (shows (state_after f (take n steps)) (played.shows f h)))
+
+-- a step that was not taken: the device is as it was, or spent
+pub left_there : (old new newer : Shown) (steps : List Step) (n : ℕ) (all : List (Option (List Output))) (fault : StepFault)
+    → IsPlayed old new steps n all → n ≤ length steps → (fault ≡ Spent → newer ≡ new) → (fault ≡ Memory → IsTrue newer.spent) → (f : Flat) → Shows old f → IsLeft newer f steps
+left_there old new newer steps n all Spent played within unchanged memory f h = inr (n, within, subst (λ x. Shows x (state_after f (take n steps))) (sym (unchanged refl)) (played.shows f h))
+left_there old new newer steps n all Memory played within unchanged memory f h = inl (memory refl)

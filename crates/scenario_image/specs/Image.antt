@@ -3,7 +3,7 @@ use Rattle.std.specs.Prelude.{ℕ, List}
 use Rattle.std.specs.Int.{w8, w16, w32}
 use Rattle.byte_layout.specs.declared.fault.Break.TheVariants.{Magic, Version}
 use Rattle.byte_layout.specs.declared.fault.LayoutFault.{LayoutFault}
-use Rattle.byte_layout.specs.Part.{Part, number, at_most, split, last, marked, counted}
+use Rattle.byte_layout.specs.Part.{Part, number, at_most, split, last, marked, done, counted}
 use Rattle.byte_layout.specs.Whole.{IsAll, HasFault}
 use Rattle.device_template.specs.Class.{Class}
 use Rattle.scenario_layout.specs.Class.{class}
@@ -25,9 +25,21 @@ behind_classes known = last (λ s. s.rows) (script_of known) (rows known)
 unfoldable pub lists : Part Script
 lists = split (λ s. s.classes) classes behind_classes
 
+-- the image's mark and version, and this
+abbrev pub headed : {A : Type 0} → Part A → Part A
+headed part = marked Magic 0x4C575343 (number w32) (marked Version 1 (number w8) part)
+
+-- the mark and the version alone
+abbrev pub header : Part (Unit {0})
+header = headed (done tt)
+
 -- the image's mark and version, the classes, and the rows
 unfoldable pub image : Part Script
-image = marked Magic 0x4C575343 (number w32) (marked Version 1 (number w8) lists)
+image = headed lists
+
+-- its front: the mark, the version, and how many classes there are
+unfoldable pub front : Part ℕ
+front = headed (at_most 256 (number w16))
 
 -- the bytes are the image of this scenario
 abbrev pub IsImage : List ℕ → Script → Type 0

@@ -1,5 +1,5 @@
 -- Steps and rows as bytes, in this profile's image of a scenario.
-use Rattle.std.specs.Prelude.{ℕ, ◌==◌, nat_le, nat_lt, ◌&&◌, ◌||◌, List, [], length, Option, None, Some, unwrap_or, if◌then◌else◌}
+use Rattle.std.specs.Prelude.{ℕ, ◌==◌, nat_le, nat_lt, Bool, true, false, ◌&&◌, ◌||◌, List, [], length, Option, None, Some, unwrap_or, if◌then◌else◌}
 use Rattle.std.specs.Int.{w8, w16, w32}
 use Rattle.std.specs.List.{list_any}
 use Rattle.byte_layout.specs.declared.fault.Break.TheVariants.{BadField}
@@ -43,6 +43,15 @@ kind_numbered n = if n == 1 then kinds.Recv else (if n == 2 then kinds.Tick else
 
 unfoldable pub kind : Part StepKind
 kind = last number_of kind_numbered (judged BadField (λ n. n == 1 || (n == 2 || (n == 3 || (n == 4 || (n == 5 || n == 6))))) (number w8))
+
+-- whether a step of this kind holds bytes or a value, for which memory is taken
+abbrev pub takes_memory : StepKind → Bool
+takes_memory kinds.Recv = true
+takes_memory kinds.Tick = false
+takes_memory kinds.Put = true
+takes_memory kinds.Firmware = false
+takes_memory kinds.Post = false
+takes_memory kinds.Need = false
 
 -- ---- what a step of a kind holds; of another kind, anything
 

@@ -1,9 +1,9 @@
 -- The states of a row's device, and what each of its steps puts out.
-use Rattle.std.specs.Prelude.{◌≡◌, ℕ, Bool, true, false, List, [], ◌∷◌, take, Option, None, Some, slice_get}
+use Rattle.std.specs.Prelude.{◌≡◌, ◌≤◌, ◌⊎◌, ℕ, Bool, IsTrue, true, false, List, [], ◌∷◌, length, take, Option, None, Some, slice_get}
 use Rattle.device_template.specs.Class.{Class}
 use Rattle.device_machine.specs.declared.output.Output.{Output}
 use Rattle.device_machine.specs.Class.{start_of}
-use Rattle.device_machine.specs.State.{Flat, Shown, living}
+use Rattle.device_machine.specs.State.{Flat, Shown, Shows, living}
 use Rattle.device_machine.specs.Reactions.{outputs_of, flat_after, is_refused}
 use Rattle.scenario_image.specs.declared.step.Step.{Step}
 use Rattle.scenario_image.specs.declared.step.Step.TheVariants.{Event, Post, Need}
@@ -73,3 +73,7 @@ is_event (Need group count) = false
 abbrev pub outputs_in : Option (List Output) → List Output
 outputs_in None = []
 outputs_in (Some outputs) = outputs
+
+-- a device that was in this flat state is spent now, or was left after some of the steps
+abbrev pub IsLeft : Shown → Flat → List Step → Type 0
+IsLeft device f steps = IsTrue device.spent ⊎ ((k : ℕ) × (k ≤ length steps) × Shows device (state_after f (take k steps)))

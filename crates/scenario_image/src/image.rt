@@ -1,20 +1,22 @@
 //! Scenarios, read from this profile's image of them and written as it.
 
-ghost use Rattle.std.specs.Prelude.{◌≡◌, ◌≢◌, ◌≤◌, ◌++◌, [], length, Ok, OnOk, IfOk, IfErr, IsErrAnd, MatchResult};
+ghost use Rattle.std.specs.Prelude.{◌≡◌, ◌≢◌, ◌≤◌, ◌++◌, [], length, Ok, Err, OnOk, IfOk, IfErr, IsErrAnd, MatchResult};
+ghost use Rattle.byte_layout.specs.declared.fault.Break.{Break};
 ghost use Rattle.byte_layout.specs.declared.fault.LayoutFault.{LayoutFault};
 ghost use Rattle.byte_layout.specs.declared.fault.LayoutFault.TheVariants.{Memory};
+ghost use Rattle.byte_layout.specs.declared.fault.ReadError.TheVariants as errors;
 ghost use Rattle.byte_layout.specs.Outcome.{Gives};
 ghost use Rattle.byte_layout.specs.Part.{each};
-ghost use Rattle.byte_layout.specs.Whole.{read_all};
+ghost use Rattle.byte_layout.specs.Whole.{placed, read_all};
 ghost use Rattle.scenario_layout.specs.Class.{class};
 ghost use Rattle.scenario_image.specs.Script.{Script};
-ghost use Rattle.scenario_image.specs.Image.{classes, lists, image, IsImage, HasImageFault};
+ghost use Rattle.scenario_image.specs.Image.{classes, lists, header, image, front, IsImage, HasImageFault};
 
 use crate::rows::{put_rows, rows_at};
 use crate::scenario::Scenario;
 use byte_layout::{
-    Break, Format, Items, LayoutFault, ReadError, items_at, load as load_all, put_u8, put_u16,
-    put_u32, u8_at, u16_at_most, u32_at,
+    Break, Format, Items, LayoutFault, ReadError, fault_at, items_at, load as load_all, put_u8,
+    put_u16, put_u32, u8_at, u16_at_most, u32_at,
 };
 use device_machine::Template;
 use scenario_layout::{class_at, put_class};
@@ -59,6 +61,32 @@ fn lists_at(alloc: Global, bytes: &[u8]) -> Result<(Scenario, &[u8]), ReadError>
     Ok((Scenario::of_parts(alloc, classes, rows), rest))
 }
 
+/// The bytes behind the mark and the version.
+fn header_at(bytes: &[u8]) -> Result<&[u8], ReadError>
+    ensures read { Gives (λ rest. (tt, rest.now)) result (header.read bytes.now) }
+    ensures no_memory { IfErr result (λ e. e ≢ errors.Memory) }
+{
+    let (mark, rest) = u32_at(bytes)?;
+    if mark != 0x4C57_5343 {
+        return Err(ReadError::Fault(Break::Magic));
+    }
+    let (version, rest) = u8_at(rest)?;
+    if version != 1 {
+        return Err(ReadError::Fault(Break::Version));
+    }
+    Ok(rest)
+}
+
+/// How many classes there are, behind the mark and the version, and the bytes behind it.
+#[tactic(auto, unfolding(crate::specs::Image::front))]
+fn front_at(bytes: &[u8]) -> Result<(u16, &[u8]), ReadError>
+    ensures read { Gives (λ x. (x.0, x.1.now)) result (front.read bytes.now) }
+    ensures no_memory { IfErr result (λ e. e ≢ errors.Memory) }
+{
+    let rest = header_at(bytes)?;
+    u16_at_most(256, rest)
+}
+
 /// The image of a scenario.
 struct Image;
 
@@ -76,14 +104,7 @@ impl Format for Image {
 
     #[tactic(auto, unfolding(crate::specs::Image::image))]
     fn read(alloc: Global, bytes: &[u8]) -> Result<(Scenario, &[u8]), ReadError> {
-        let (mark, rest) = u32_at(bytes)?;
-        if mark != 0x4C57_5343 {
-            return Err(ReadError::Fault(Break::Magic));
-        }
-        let (version, rest) = u8_at(rest)?;
-        if version != 1 {
-            return Err(ReadError::Fault(Break::Version));
-        }
+        let rest = header_at(bytes)?;
         lists_at(alloc, rest)
     }
 }
@@ -98,8 +119,13 @@ pub fn load(alloc: Global, bytes: &[u8]) -> Result<Scenario, LayoutFault>
     ensures only { (s : Script) → IsImage bytes.now s → MatchResult result (λ x. x ≡ s) (λ f. f ≡ Memory) }
     ensures fault { IfErr result (λ f. f ≢ Memory → HasImageFault bytes.now f) }
     ensures refused { (f : LayoutFault) → HasImageFault bytes.now f → IsErrAnd result (λ g. g ≢ Memory → g ≡ f) }
+    ensures front { (b : Break) → front.Breaks bytes.now b → result ≡ Err (placed (length bytes.now) b) }
 {
-    load_all::<Image>(alloc, bytes)
+    // Another file than an image is refused by its front, before memory is taken.
+    match front_at(bytes) {
+        Err(error) => Err(fault_at(bytes.len(), error)),
+        Ok(_) => load_all::<Image>(alloc, bytes),
+    }
 }
 
 /// Writes classes, one after another. Each of them has bytes.

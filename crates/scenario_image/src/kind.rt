@@ -1,4 +1,5 @@
-ghost use Rattle.std.specs.Prelude.{◌≡◌, ◌++◌, OnOk};
+ghost use Rattle.std.specs.Prelude.{◌≡◌, ◌≢◌, ◌++◌, IfErr, OnOk};
+ghost use Rattle.byte_layout.specs.declared.fault.ReadError.TheVariants.{Memory};
 ghost use Rattle.byte_layout.specs.Outcome.{Gives};
 ghost use Rattle.scenario_image.specs.Layout.{kind, kind_of};
 
@@ -27,7 +28,8 @@ pub(crate) enum StepKind {
 /// The number of a kind: 1 a datagram, 2 seconds, 3 a put, 4 an end of the firmware's work, 5 a post, 6 a need.
 #[tactic(auto, unfolding(crate::specs::Layout::kind))]
 pub(crate) fn kind_at(bytes: &[u8]) -> Result<(StepKind, &[u8]), ReadError>
-    ensures { Gives (λ x. (x.0, x.1.now)) result (kind.read bytes.now) }
+    ensures read { Gives (λ x. (x.0, x.1.now)) result (kind.read bytes.now) }
+    ensures no_memory { IfErr result (λ e. e ≢ Memory) }
 {
     let (number, rest) = u8_at(bytes)?;
     match number {

@@ -1,9 +1,9 @@
-ghost use Rattle.std.specs.Prelude.{◌≡◌, ℕ, ◌↔◌, ◌++◌, ◌∷◌, [], List, Option, Some, Err, false, is_some, length, map, slice_get, IfOk, OnOk, IsTrue};
+ghost use Rattle.std.specs.Prelude.{◌≡◌, ℕ, ◌↔◌, ◌++◌, ◌∷◌, [], List, Option, Some, Err, false, is_some, length, map, slice_get, Ok, None, IfOk, OnOk, OnErr, IsTrue};
 ghost use Rattle.std.specs.List.{list_any};
 ghost use Rattle.std.specs.Result.{IsErr};
 ghost use Rattle.device_machine.specs.declared.output.Output.{Output};
 ghost use Rattle.device_machine.specs.State.{Flat, Shows};
-ghost use Rattle.scenario_image.specs.Play.{start, state_at, step_outputs, step_after, state_after, PutsOut, is_step_refused, is_event, outputs_in, IsStopped};
+ghost use Rattle.scenario_image.specs.Play.{start, state_at, step_outputs, step_after, state_after, PutsOut, is_step_refused, is_event, outputs_in, IsStopped, IsLeft};
 
 use crate::step::Step;
 use device_machine::{Device, Outputs, StepFault, Template};
@@ -20,6 +20,8 @@ pub fn take_step(device: &mut Device, step: &Step) -> Result<Option<Outputs>, St
     ensures unheard { is_event step.now ≡ false → device.new ≡ device.old }
     ensures asked { IfOk result (λ o. is_some o ≡ is_event step.now) }
     ensures memory { result ≡ Err StepFault.Memory → IsTrue device.new.spent }
+    // Nor does a spent device keep a post or a need from being taken.
+    ensures silent { is_event step.now ≡ false → result ≡ Ok None }
 {
     match step {
         Step::Event(event) => {
@@ -41,7 +43,7 @@ fn keep(all: &mut Vec<Option<Outputs>>, outputs: Option<Outputs>) -> Result<(), 
 /// Lets a device take steps, one after another, and gives what each puts out.
 ///
 /// `Spent` says that the device refuses one of them behind those before it: a spent one refuses each event. After an `Err` the
-/// device may have taken some of them.
+/// device has taken some of them, or is spent.
 pub fn take_steps(
     alloc: Global,
     device: &mut Device,
@@ -55,6 +57,7 @@ pub fn take_steps(
     ensures spent { (f : Flat) → Shows device.old f → result ≡ Err StepFault.Spent → IsStopped f steps.now }
     ensures stopped { (f : Flat) → Shows device.old f → IsStopped f steps.now → IsErr result }
     ensures deaf { IsTrue device.old.spent → OnOk result (list_any is_event steps.now ≡ false) }
+    ensures left { (f : Flat) → Shows device.old f → OnErr result (IsLeft device.new f steps.now) }
 {
     let mut all = Vec::with_capacity(alloc, steps.len())?;
     for step in steps {

@@ -1,8 +1,11 @@
 //! Steps, read from the front of bytes.
 
-ghost use Rattle.std.specs.Prelude.{◌≡◌};
+ghost use Rattle.std.specs.Prelude.{◌≡◌, ◌≢◌, ℕ, List, false, Ok, Err, IfErr};
+ghost use Rattle.byte_layout.specs.declared.fault.Break.{Break};
+ghost use Rattle.byte_layout.specs.declared.fault.ReadError.TheVariants.{Fault, Memory};
 ghost use Rattle.byte_layout.specs.Outcome.{Gives};
-ghost use Rattle.scenario_image.specs.Layout.{datagram, recv, tick, put, firmware, post, need, of_kind, step, steps, path_to};
+ghost use Rattle.scenario_image.specs.declared.kind.StepKind.{StepKind};
+ghost use Rattle.scenario_image.specs.Layout.{kind, takes_memory, datagram, recv, tick, put, firmware, post, need, of_kind, step, steps, path_to};
 
 use crate::kind::{StepKind, kind_at};
 use crate::scenario::MOST_STEPS;
@@ -28,7 +31,8 @@ fn path_to(full: FullPath) -> Path
 
 #[tactic(auto, unfolding(crate::specs::Layout::datagram))]
 fn datagram_at(alloc: Global, bytes: &[u8]) -> Result<(Bytes, &[u8]), ReadError>
-    ensures { Gives (λ x. (x.0, x.1.now)) result (datagram.read bytes.now) }
+    ensures read { Gives (λ x. (x.0, x.1.now)) result (datagram.read bytes.now) }
+    ensures broken { (b : Break) → datagram.read bytes.now ≡ Err b → result ≡ Err (Fault b) }
 {
     let (len, rest) = u16_at_most(1500, bytes)?;
     let (field, rest) = bytes_at(usize::from(len), rest)?;
@@ -41,7 +45,8 @@ fn recv_at<'a>(
     accounts: &[u16],
     bytes: &'a [u8],
 ) -> Result<(Step, &'a [u8]), ReadError>
-    ensures { Gives (λ x. (x.0, x.1.now)) result ((recv accounts.now).read bytes.now) }
+    ensures read { Gives (λ x. (x.0, x.1.now)) result ((recv accounts.now).read bytes.now) }
+    ensures broken { (b : Break) → (recv accounts.now).read bytes.now ≡ Err b → result ≡ Err (Fault b) }
 {
     let (server, rest) = u16_at(bytes)?;
     if !is_account(accounts, server) {
@@ -53,7 +58,8 @@ fn recv_at<'a>(
 
 #[tactic(auto, unfolding(crate::specs::Layout::tick))]
 fn tick_at(bytes: &[u8]) -> Result<(Step, &[u8]), ReadError>
-    ensures { Gives (λ x. (x.0, x.1.now)) result (tick.read bytes.now) }
+    ensures read { Gives (λ x. (x.0, x.1.now)) result (tick.read bytes.now) }
+    ensures no_memory { IfErr result (λ e. e ≢ Memory) }
 {
     let (seconds, rest) = u32_at(bytes)?;
     if seconds < 1 || seconds > 86_400 {
@@ -74,7 +80,8 @@ fn put_at(alloc: Global, bytes: &[u8]) -> Result<(Step, &[u8]), ReadError>
 
 #[tactic(auto, unfolding(crate::specs::Layout::firmware))]
 fn firmware_at(bytes: &[u8]) -> Result<(Step, &[u8]), ReadError>
-    ensures { Gives (λ x. (x.0, x.1.now)) result (firmware.read bytes.now) }
+    ensures read { Gives (λ x. (x.0, x.1.now)) result (firmware.read bytes.now) }
+    ensures no_memory { IfErr result (λ e. e ≢ Memory) }
 {
     let (code, rest) = u8_at(bytes)?;
     if code > 9 {
@@ -85,7 +92,8 @@ fn firmware_at(bytes: &[u8]) -> Result<(Step, &[u8]), ReadError>
 
 #[tactic(auto, unfolding(crate::specs::Layout::post))]
 fn post_at(bytes: &[u8]) -> Result<(Step, &[u8]), ReadError>
-    ensures { Gives (λ x. (x.0, x.1.now)) result (post.read bytes.now) }
+    ensures read { Gives (λ x. (x.0, x.1.now)) result (post.read bytes.now) }
+    ensures no_memory { IfErr result (λ e. e ≢ Memory) }
 {
     let (group, rest) = u8_at(bytes)?;
     Ok((Step::Post(group), rest))
@@ -93,7 +101,8 @@ fn post_at(bytes: &[u8]) -> Result<(Step, &[u8]), ReadError>
 
 #[tactic(auto, unfolding(crate::specs::Layout::need))]
 fn need_at(bytes: &[u8]) -> Result<(Step, &[u8]), ReadError>
-    ensures { Gives (λ x. (x.0, x.1.now)) result (need.read bytes.now) }
+    ensures read { Gives (λ x. (x.0, x.1.now)) result (need.read bytes.now) }
+    ensures no_memory { IfErr result (λ e. e ≢ Memory) }
 {
     let (group, rest) = u8_at(bytes)?;
     let (count, behind) = u32_at(rest)?;
@@ -110,7 +119,8 @@ fn held_at<'a>(
     kind: StepKind,
     bytes: &'a [u8],
 ) -> Result<(Step, &'a [u8]), ReadError>
-    ensures { Gives (λ x. (x.0, x.1.now)) result ((of_kind accounts.now kind).read bytes.now) }
+    ensures read { Gives (λ x. (x.0, x.1.now)) result ((of_kind accounts.now kind).read bytes.now) }
+    ensures no_memory { takes_memory kind ≡ false → IfErr result (λ e. e ≢ Memory) }
 {
     match kind {
         StepKind::Recv => recv_at(alloc, accounts, bytes),
@@ -129,7 +139,11 @@ pub fn step_at<'a>(
     accounts: &[u16],
     bytes: &'a [u8],
 ) -> Result<(Step, &'a [u8]), ReadError>
-    ensures { Gives (λ x. (x.0, x.1.now)) result ((step accounts.now).read bytes.now) }
+    ensures read { Gives (λ x. (x.0, x.1.now)) result ((step accounts.now).read bytes.now) }
+    // Only for a datagram and a value memory may run out.
+    ensures kind { (b : Break) → kind.read bytes.now ≡ Err b → result ≡ Err (Fault b) }
+    ensures no_memory { (k : StepKind) (rest : List ℕ) → kind.read bytes.now ≡ Ok (k, rest) → takes_memory k ≡ false
+        → IfErr result (λ e. e ≢ Memory) }
 {
     let (kind, rest) = kind_at(bytes)?;
     held_at(alloc, accounts, kind, rest)

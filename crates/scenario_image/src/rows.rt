@@ -1,8 +1,9 @@
 //! Rows, read from the front of bytes and written.
 
-ghost use Rattle.std.specs.Prelude.{◌≡◌, ◌++◌, nat_lt, length, OnOk};
+ghost use Rattle.std.specs.Prelude.{◌≡◌, ◌≢◌, ◌++◌, nat_lt, length, IfErr, OnOk};
 ghost use Rattle.std.specs.Int.{w16};
 ghost use Rattle.byte_layout.specs.declared.fault.Break.TheVariants.{BadField};
+ghost use Rattle.byte_layout.specs.declared.fault.ReadError.TheVariants.{Memory};
 ghost use Rattle.byte_layout.specs.Outcome.{Gives};
 ghost use Rattle.byte_layout.specs.Part.{number, judged};
 ghost use Rattle.scenario_image.specs.Layout.{row, rows};
@@ -30,7 +31,8 @@ fn accounts_of(classes: &[Template], class: u16) -> &[u16]
 
 /// The place of a class that is there.
 fn class_number_at<'a>(classes: &[Template], bytes: &'a [u8]) -> Result<(u16, &'a [u8]), ReadError>
-    ensures { Gives (λ x. (x.0, x.1.now)) result ((judged BadField (λ class. nat_lt class (length classes.now)) (number w16)).read bytes.now) }
+    ensures read { Gives (λ x. (x.0, x.1.now)) result ((judged BadField (λ class. nat_lt class (length classes.now)) (number w16)).read bytes.now) }
+    ensures no_memory { IfErr result (λ e. e ≢ Memory) }
 {
     let (class, rest) = u16_at(bytes)?;
     if usize::from(class) >= classes.len() {

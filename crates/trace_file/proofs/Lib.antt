@@ -3,3 +3,4 @@ pub mod Good
 pub mod Counted
 pub mod Fitting
 pub mod NoLimit
+mod Fronts

@@ -2,7 +2,7 @@
 use Rattle.std.specs.Prelude.{ℕ, zero, suc, ◌==◌, ◌||◌, List, [], nat_lt, if◌then◌else◌}
 use Rattle.std.specs.Int.{w8, w16, w32}
 use Rattle.byte_layout.specs.declared.fault.Break.TheVariants.{Magic, Version, BadField}
-use Rattle.byte_layout.specs.Part.{Part, number, judged, split, last, marked, sized, counted}
+use Rattle.byte_layout.specs.Part.{Part, raw, number, judged, split, last, marked, done, sized, counted}
 use Rattle.byte_layout.specs.Whole.{IsAll}
 use Rattle.device_requests.specs.declared.answer.Act.{Act}
 use Rattle.device_requests.specs.declared.answer.Act.TheVariants as acts
@@ -83,9 +83,29 @@ entry = split (λ e. e.worker) (number w16) (λ w. split (λ e. e.device) (numbe
 unfoldable pub entry_list : Part (List Entry)
 entry_list = counted (number w32) (λ before. entry)
 
+-- the file's mark and version, and this
+abbrev pub headed : {A : Type 0} → Part A → Part A
+headed part = marked Magic 0x4C575452 (number w32) (marked Version 1 (number w8) part)
+
+-- the mark and the version alone
+abbrev pub header : Part (Unit {0})
+header = headed (done tt)
+
 -- the file's mark and version, and the entries
 unfoldable pub trace_file : Part (List Entry)
-trace_file = marked Magic 0x4C575452 (number w32) (marked Version 1 (number w8) entry_list)
+trace_file = headed entry_list
+
+-- the bytes of an entry before its outputs: two each for worker and device, four each for the step and the count
+abbrev pub numbers_of : ℕ → Part (List ℕ)
+numbers_of entries = raw (if entries == 0 then 0 else 12)
+
+-- how many entries there are, and the numbers of the first of them
+abbrev pub first_numbers : Part (ℕ × List ℕ)
+first_numbers = split (λ x. x.0) (number w32) (λ count. last (λ x. x.1) (λ bytes. (count, bytes)) (numbers_of count))
+
+-- the file's front: the mark, the version, how many entries there are, and the numbers of the first of them
+unfoldable pub front : Part (ℕ × List ℕ)
+front = headed first_numbers
 
 -- the bytes are a trace file of these entries
 abbrev pub IsTraceFile : List ℕ → List Entry → Type 0

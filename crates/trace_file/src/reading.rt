@@ -1,18 +1,21 @@
 //! Entries, read from the front of bytes, and trace files.
 
-ghost use Rattle.std.specs.Prelude.{◌≡◌, ◌≢◌, List, IfOk, IfErr, IsErrAnd, MatchResult};
+ghost use Rattle.std.specs.Prelude.{◌≡◌, ◌≢◌, List, length, Err, IfOk, IfErr, IsErrAnd, MatchResult};
+ghost use Rattle.byte_layout.specs.declared.fault.Break.{Break};
 ghost use Rattle.byte_layout.specs.declared.fault.LayoutFault.{LayoutFault};
 ghost use Rattle.byte_layout.specs.declared.fault.LayoutFault.TheVariants.{Memory};
+ghost use Rattle.byte_layout.specs.declared.fault.ReadError.TheVariants as errors;
 ghost use Rattle.byte_layout.specs.Outcome.{Gives};
-ghost use Rattle.byte_layout.specs.Whole.{HasFault};
+ghost use Rattle.byte_layout.specs.Whole.{HasFault, placed};
 ghost use Rattle.trace_file.specs.declared.entry.Entry.{Entry as EntryData};
-ghost use Rattle.trace_file.specs.Layout.{act, datagram, output, output_list, entry, entry_list, trace_file, IsTraceFile};
+ghost use Rattle.trace_file.specs.Layout.{act, datagram, output, output_list, entry, entry_list, header, trace_file, front, IsTraceFile};
 
 use crate::entries::Entries;
 use crate::entry::Entry;
 use crate::outputs::OutputList;
 use byte_layout::{
-    Break, Format, Items, LayoutFault, ReadError, bytes_at, items_at, load, u8_at, u16_at, u32_at,
+    Break, Format, Items, LayoutFault, ReadError, bytes_at, fault_at, items_at, load, u8_at,
+    u16_at, u32_at,
 };
 use device_machine::{Act, Output};
 use octets::Bytes;
@@ -21,7 +24,8 @@ use std::alloc::Global;
 /// The number of an act: 0 Reboot, 1 FactoryReset, 2 RegUpdate, 3 Disable, 4 Missed.
 #[tactic(auto, unfolding(crate::specs::Layout::act))]
 fn act_at(bytes: &[u8]) -> Result<(Act, &[u8]), ReadError>
-    ensures { Gives (λ x. (x.0, x.1.now)) result (act.read bytes.now) }
+    ensures read { Gives (λ x. (x.0, x.1.now)) result (act.read bytes.now) }
+    ensures no_memory { IfErr result (λ e. e ≢ errors.Memory) }
 {
     let (number, rest) = u8_at(bytes)?;
     match number {
@@ -36,7 +40,8 @@ fn act_at(bytes: &[u8]) -> Result<(Act, &[u8]), ReadError>
 
 #[tactic(auto, unfolding(crate::specs::Layout::datagram))]
 fn datagram_at(alloc: Global, bytes: &[u8]) -> Result<(Output, &[u8]), ReadError>
-    ensures { Gives (λ x. (x.0, x.1.now)) result (datagram.read bytes.now) }
+    ensures read { Gives (λ x. (x.0, x.1.now)) result (datagram.read bytes.now) }
+    ensures broken { (b : Break) → datagram.read bytes.now ≡ Err b → result ≡ Err (errors.Fault b) }
 {
     let (server, rest) = u16_at(bytes)?;
     let (len, rest) = u16_at(rest)?;
@@ -48,7 +53,8 @@ fn datagram_at(alloc: Global, bytes: &[u8]) -> Result<(Output, &[u8]), ReadError
 /// The number of its kind, 1 a datagram, 2 an act, and what an output of that kind holds.
 #[tactic(auto, unfolding(crate::specs::Layout::output))]
 fn output_at(alloc: Global, bytes: &[u8]) -> Result<(Output, &[u8]), ReadError>
-    ensures { Gives (λ x. (x.0, x.1.now)) result (output.read bytes.now) }
+    ensures read { Gives (λ x. (x.0, x.1.now)) result (output.read bytes.now) }
+    ensures broken { (b : Break) → output.read bytes.now ≡ Err b → result ≡ Err (errors.Fault b) }
 {
     let (kind, rest) = u8_at(bytes)?;
     match kind {
@@ -136,6 +142,35 @@ fn entries_at(alloc: Global, bytes: &[u8]) -> Result<(Entries, &[u8]), ReadError
     Ok((Entries::from_vec(items), rest))
 }
 
+/// The bytes behind the mark and the version.
+fn header_at(bytes: &[u8]) -> Result<&[u8], ReadError>
+    ensures read { Gives (λ rest. (tt, rest.now)) result (header.read bytes.now) }
+    ensures no_memory { IfErr result (λ e. e ≢ errors.Memory) }
+{
+    let (mark, rest) = u32_at(bytes)?;
+    if mark != 0x4C57_5452 {
+        return Err(ReadError::Fault(Break::Magic));
+    }
+    let (version, rest) = u8_at(rest)?;
+    if version != 1 {
+        return Err(ReadError::Fault(Break::Version));
+    }
+    Ok(rest)
+}
+
+/// How many entries there are, and the numbers of the first of them, behind the mark and the version.
+#[tactic(auto, unfolding(crate::specs::Layout::front))]
+fn front_at(bytes: &[u8]) -> Result<((u32, &[u8]), &[u8]), ReadError>
+    ensures read { Gives (λ x. ((x.0.0, x.0.1.now), x.1.now)) result (front.read bytes.now) }
+    ensures no_memory { IfErr result (λ e. e ≢ errors.Memory) }
+{
+    let rest = header_at(bytes)?;
+    let (count, rest) = u32_at(rest)?;
+    let size = if count == 0 { 0 } else { 12 };
+    let (numbers, rest) = bytes_at(size, rest)?;
+    Ok(((count, numbers), rest))
+}
+
 /// The trace file.
 pub(crate) struct TraceFile;
 
@@ -154,14 +189,7 @@ impl Format for TraceFile {
 
     #[tactic(auto, unfolding(crate::specs::Layout::trace_file))]
     fn read(alloc: Global, bytes: &[u8]) -> Result<(Entries, &[u8]), ReadError> {
-        let (mark, rest) = u32_at(bytes)?;
-        if mark != 0x4C57_5452 {
-            return Err(ReadError::Fault(Break::Magic));
-        }
-        let (version, rest) = u8_at(rest)?;
-        if version != 1 {
-            return Err(ReadError::Fault(Break::Version));
-        }
+        let rest = header_at(bytes)?;
         entries_at(alloc, rest)
     }
 }
@@ -175,6 +203,11 @@ pub fn read_entries(alloc: Global, bytes: &[u8]) -> Result<Entries, LayoutFault>
     ensures only { (es : List EntryData) → IsTraceFile bytes.now es → MatchResult result (λ x. x ≡ es) (λ f. f ≡ Memory) }
     ensures fault { IfErr result (λ f. f ≢ Memory → HasFault trace_file bytes.now f) }
     ensures refused { (f : LayoutFault) → HasFault trace_file bytes.now f → IsErrAnd result (λ g. g ≢ Memory → g ≡ f) }
+    ensures front { (b : Break) → front.Breaks bytes.now b → result ≡ Err (placed (length bytes.now) b) }
 {
-    load::<TraceFile>(alloc, bytes)
+    // Another file, and one that ends in its first entry, is refused by its front, before memory is taken.
+    match front_at(bytes) {
+        Err(error) => Err(fault_at(bytes.len(), error)),
+        Ok(_) => load::<TraceFile>(alloc, bytes),
+    }
 }

@@ -1,0 +1,63 @@
+-- The front of an image: what breaks off there breaks off the image.
+use Rattle.std.proofs.Common.{◌≡◌, ◌≢◌, ℕ, List, [], length, Result, Ok, Err, refl, sym, ap, ◌∙◌, eqb, inl, inr, if◌then◌else◌}
+use Rattle.std.specs.Int.{w8, w16, w32}
+use Rattle.byte_layout.specs.declared.fault.Break.{Break}
+use Rattle.byte_layout.specs.declared.fault.Break.TheVariants.{Magic, Version, Trailing}
+use Rattle.byte_layout.specs.declared.fault.ReadError.{ReadError}
+use Rattle.byte_layout.specs.declared.fault.ReadError.TheVariants as errors
+use Rattle.byte_layout.specs.Part.{Part, ◌>>=◌, number, at_most, mark, marked, each}
+use Rattle.byte_layout.specs.Outcome.{Fails}
+use Rattle.byte_layout.specs.Exact.{IsExact}
+use Rattle.byte_layout.specs.Whole.{placed, fault_of, read_all}
+use Rattle.byte_layout.proofs.Steps.{went_well, bind_err}
+use Rattle.byte_layout.proofs.Fields.{number_exact, wide32}
+use Rattle.byte_layout.proofs.Parts.{at_most_exact, marked_exact}
+use Rattle.scenario_layout.proofs.ExactValue.{short_exact, byte_exact}
+use Rattle.scenario_layout.specs.Class.{class}
+use Rattle.scenario_image.specs.Script.{Script}
+use Rattle.scenario_image.specs.Image.{classes, lists, behind_classes, headed, image, front}
+
+-- a break of the mark, of the version or of the part is one of each part that has its breaks
+headed_off : {A B : Type 0} (p : Part A) (q : Part B) (bytes : List ℕ) (b : Break) → ((rest : List ℕ) → p.read rest ≡ Err b → q.read rest ≡ Err b) → (headed p).read bytes ≡ Err b → (headed q).read bytes ≡ Err b
+headed_off p q bytes b within e =
+    let first = mark Magic 0x4C575343 (number w32) in
+    let second = mark Version 1 (number w8) in
+    let other = λ (x : ℕ × List ℕ). second.read x.1 >>= (λ y. q.read y.1) in
+    elim (bind_err (first.read bytes) (λ x. second.read x.1 >>= (λ y. p.read y.1)) b e) [
+      | inl h ↦ ap (λ r. r >>= other) h
+      | inr s ↦
+          elim (bind_err (second.read s.0.1) (λ y. p.read y.1) b s.2) [
+            | inl h ↦ ap (λ r. r >>= other) s.1 ∙ ap (λ r. r >>= (λ y. q.read y.1)) h
+            | inr t ↦ ap (λ r. r >>= other) s.1 ∙ ap (λ r. r >>= (λ y. q.read y.1)) t.1 ∙ within t.0.1 t.2
+          ]
+    ]
+
+lists_off : (rest : List ℕ) (b : Break) → (at_most 256 (number w16)).read rest ≡ Err b → lists.read rest ≡ Err b
+unfolding lists classes
+lists_off rest b e = ap (λ r. r >>= (λ x. (each (λ before. class) x.0 []).read x.1) >>= (λ x. (behind_classes x.0).read x.1)) e
+
+image_off : (bytes : List ℕ) (b : Break) → front.read bytes ≡ Err b → image.read bytes ≡ Err b
+unfolding image front
+image_off bytes b e = headed_off (at_most 256 (number w16)) lists bytes b (λ rest h. lists_off rest b h) e
+
+front_exact : IsExact front
+unfolding front
+front_exact =
+    marked_exact Magic refl 0x4C575343 (number w32) (marked Version 1 (number w8) (at_most 256 (number w16))) (number_exact w32 wide32)
+    (marked_exact Version refl 1 (number w8) (at_most 256 (number w16)) byte_exact (at_most_exact 256 (number w16) short_exact))
+
+-- what ends the reading of the front ends that of the image
+pub front_fails : (bytes : List ℕ) (e : ReadError) → Fails e (front.read bytes) → Fails e (read_all image bytes)
+front_fails bytes errors.Memory h = tt
+front_fails bytes (errors.Fault b) h =
+    let ended : Script × List ℕ → Result Script Break = λ x. if eqb (length x.1) 0 then Ok x.0 else Err Trailing in
+    ap (λ r. r >>= ended) (image_off bytes b h)
+
+-- it is the break of the front, unless memory ran out
+pub front_broke : (bytes : List ℕ) (total : ℕ) (e : ReadError) (b : Break) → e ≢ errors.Memory → Fails e (front.read bytes) → front.Breaks bytes b → fault_of total e ≡ placed total b
+front_broke bytes total errors.Memory b other h k = absurd (other refl)
+front_broke bytes total (errors.Fault c) b other h k = let e = front_exact.refused bytes b k in ap (placed total) cc
+
+-- a front that is read does not break off
+pub front_whole : (bytes rest : List ℕ) (count : ℕ) (b : Break) → front.read bytes ≡ Ok (count, rest) → front.Breaks bytes b → ⊥
+front_whole bytes rest count b e k = went_well (count, rest) b (sym e ∙ front_exact.refused bytes b k)
