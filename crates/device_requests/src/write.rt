@@ -4,7 +4,7 @@ ghost use Rattle.std.specs.Prelude.{◌≡◌, ◌==◌, ◌∷◌, [], true, fa
 ghost use Rattle.std.specs.Option.{is_some, unwrap_or};
 ghost use Rattle.device_firmware.specs.Firmware.{firmware_after, is_ready};
 ghost use Rattle.instance_store.specs.Stored.{has_instance, instance_of};
-ghost use Rattle.lwm2m_payloads.specs.Changes.{has_too_many, instance_written};
+ghost use Rattle.lwm2m_payloads.specs.Changes.{has_too_many, instance_written, is_kept_as};
 ghost use Rattle.object_defs.specs.Lines.{first_line};
 ghost use Rattle.device_requests.specs.Answer.{Leaves, takes_memory};
 ghost use Rattle.device_requests.specs.Managed.{with_stored};
@@ -97,7 +97,8 @@ fn package_in(given: &Given) -> Option<FirmwareEvent>
 
 /// What writing this as the Package URI is to the firmware.
 fn uri_in(given: &Given) -> Result<Option<FirmwareEvent>, AllocError>
-    ensures { IfOk result (λ e. e ≡ uri_in given.now) }
+    ensures event { IfOk result (λ e. e ≡ uri_in given.now) }
+    ensures grows { OnErr result (is_some (uri_in given.now) ≡ true) }
 {
     match given {
         Given::Single(value) => match value {
@@ -113,7 +114,8 @@ fn uri_in(given: &Given) -> Result<Option<FirmwareEvent>, AllocError>
 
 /// What writing this to a resource is to the firmware.
 fn event_at(object: u16, resource: u16, given: &Given) -> Result<Option<FirmwareEvent>, AllocError>
-    ensures { IfOk result (λ e. e ≡ event_at object resource given.now) }
+    ensures event { IfOk result (λ e. e ≡ event_at object resource given.now) }
+    ensures grows { OnErr result (is_some (event_at object resource given.now) ≡ true) }
 {
     if object == FIRMWARE_UPDATE && resource == PACKAGE {
         return Ok(package_in(given));
@@ -126,7 +128,8 @@ fn event_at(object: u16, resource: u16, given: &Given) -> Result<Option<Firmware
 
 /// What a Write is to the firmware.
 fn event_in(path: Path, values: &NewValues) -> Result<Option<FirmwareEvent>, AllocError>
-    ensures { IfOk result (λ e. e ≡ event_in path values.now) }
+    ensures event { IfOk result (λ e. e ≡ event_in path values.now) }
+    ensures grows { OnErr result (is_some (event_in path values.now) ≡ true) }
 {
     match path {
         Path::Resource(object, _, resource) => match values {
@@ -144,7 +147,8 @@ fn given_to_resource(
     format: Format,
     payload: &[u8],
 ) -> Result<Option<Given>, AllocError>
-    ensures { IfOk result (λ g. g ≡ given_to_resource definition format payload.now) }
+    ensures given { IfOk result (λ g. g ≡ given_to_resource definition format payload.now) }
+    ensures defined { OnErr result (is_some definition ≡ true) }
 {
     match definition {
         None => Ok(None),
@@ -160,7 +164,8 @@ fn given_to_part(
     format: Format,
     payload: &[u8],
 ) -> Result<Option<Given>, AllocError>
-    ensures { IfOk result (λ g. g ≡ given_to_part definition part format payload.now) }
+    ensures given { IfOk result (λ g. g ≡ given_to_part definition part format payload.now) }
+    ensures defined { OnErr result (is_some definition ≡ true) }
 {
     match definition {
         None => Ok(None),
@@ -214,7 +219,8 @@ fn resource_exceeds(
     place: ResourcePath,
     given: &Given,
 ) -> Result<bool, AllocError>
-    ensures { IfOk result (λ b. b ≡ resource_exceeds mode definition store.now place given.now) }
+    ensures exceeds { IfOk result (λ b. b ≡ resource_exceeds mode definition store.now place given.now) }
+    ensures kept { OnErr result (is_kept_as definition ≡ true) }
 {
     if !is_readable(definition) {
         return Ok(false);
@@ -263,7 +269,8 @@ fn write_resource(
 ) -> Result<(), AllocError>
     requires there { has_instance store.old (instance_of place) ≡ true }
     requires room { resource_exceeds mode definition store.old place given ≡ false }
-    ensures { OnOk result (store.new ≡ resource_written mode definition store.old place given) }
+    ensures written { OnOk result (store.new ≡ resource_written mode definition store.old place given) }
+    ensures kept { OnErr result (is_kept_as definition ≡ true) }
 {
     if !is_readable(definition) {
         return Ok(());
