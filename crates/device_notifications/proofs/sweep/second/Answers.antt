@@ -17,14 +17,14 @@ loop-place-preserved c =
     c.loop-place.place c.in_ok-place.place c.loop-place.outbox c.take_turn.new.outbox here.0 here.1 (c.in_ok-place.ensures.passes here.0 here.1) c.loop-place.invariant.0,
     λ none. absurd (some_there c.loop-place.observations c.loop-place.place inside (c.loop-place.invariant.1 none)))
 
-pub returns-in_err-take_turn-clause-some : goal.returns-in_err-take_turn-clause-some
-returns-in_err-take_turn-clause-some c =
+pub returns-in_err-place-clause-some : goal.returns-in_err-place-clause-some
+returns-in_err-place-clause-some c =
     let inside : c.loop-place.place < length c.loop-place.observations = omega (arith, c.loop-place-test.true, c.len.ensures.len) in
     on_error c.from_residual.result _ (λ none. some_there c.loop-place.observations c.loop-place.place inside (c.loop-place.invariant.1 none))
 
-pub returns-in_err-take_turn-clause-stops : goal.returns-in_err-take_turn-clause-stops
-returns-in_err-take_turn-clause-stops c =
+pub returns-in_err-place-clause-stops : goal.returns-in_err-place-clause-stops
+returns-in_err-place-clause-stops c =
     let inside : c.loop-place.place < length c.loop-place.observations = omega (arith, c.loop-place-test.true, c.len.ensures.len) in
     on_error c.from_residual.result _
     (stopped c.args.client.now c.args.clock c.args.observations.now c.args.outbox.now c.loop-place.observations c.take_turn.new.observations c.loop-place.place
-    c.loop-place.outbox c.take_turn.new.outbox inside c.in_err-take_turn.ensures.unchanged c.in_err-take_turn.ensures.unposted c.loop-place.invariant.0)
+    c.loop-place.outbox c.take_turn.new.outbox inside c.in_err-place.ensures.unchanged c.in_err-place.ensures.unposted c.loop-place.invariant.0)
