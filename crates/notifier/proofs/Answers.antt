@@ -24,7 +24,7 @@ same_fault (Err g) s e f h came is = let same : g ≡ f = cc in came ∙ ap Err 
 pub one_found : {X Y : Type 0} (found : List Y) (f : X → Y) (test : X → Bool) (left rest : List X) (x : X) → left ≡ x ∷ rest → test x ≡ true → found ++ map f (filter test left) ≡ [] → ⊥
 one_found [] f test left rest x is passes none =
     let first : f x ∷ map f (filter test rest) ≡ [] =
-        sym (ap (λ xs. map f (filter test xs)) is ∙ ap (λ b. map f (cond b (x ∷ filter test rest) (filter test rest))) passes) ∙ none
+    sym (ap (λ xs. map f (filter test xs)) is ∙ ap (λ b. map f (cond b (x ∷ filter test rest) (filter test rest))) passes) ∙ none
     in
     cc
 one_found (y ∷ ys) f test left rest x is passes none = cc

@@ -68,8 +68,8 @@ pub none_left : (es : List (AttributeKey × ℤ)) → map.from_entries {R = key_
 none_left [] h = refl
 none_left (e ∷ es) h =
     let there : map.get (map.from_entries {R = key_cmp} (e ∷ es)) e.0 ≡ Some e.1 =
-        map.get-from_entries key_total (e ∷ es) e.0
-        ∙ ap (λ b. cond b (Some e.1) (map.find key_cmp e.0 es)) ((eq_by_cmp_equiv key_total).refl e.0)
+    map.get-from_entries key_total (e ∷ es) e.0
+    ∙ ap (λ b. cond b (Some e.1) (map.find key_cmp e.0 es)) ((eq_by_cmp_equiv key_total).refl e.0)
     in
     let gone : Some e.1 ≡ None = sym there ∙ ap (λ m. map.get m e.0) h ∙ map.get-empty key_cmp e.0 in
     cc

@@ -50,7 +50,7 @@ first_spelled level qs i d before inside (inr begun) spelled = begun
 first_spelled level [] i d before inside (inl none) spelled = omega arith
 first_spelled level (q ∷ qs) i d before inside (inl none) spelled =
     let first : IsOk (reading_of [] level (get_or (q ∷ qs) 0 d).now) =
-        subst (λ n. IsOk (reading_of [] level (get_or (q ∷ qs) n d).now)) none.0 (subst (λ b. IsOk (reading_of b level (get_or (q ∷ qs) i d).now)) none.1 spelled)
+    subst (λ n. IsOk (reading_of [] level (get_or (q ∷ qs) n d).now)) none.0 (subst (λ b. IsOk (reading_of b level (get_or (q ∷ qs) i d).now)) none.1 spelled)
     in
     first
 

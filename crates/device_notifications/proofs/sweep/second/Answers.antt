@@ -12,10 +12,11 @@ loop-place-smaller c =
 pub loop-place-preserved : goal.loop-place-preserved
 loop-place-preserved c =
     let inside : c.loop-place.place < length c.loop-place.observations = omega (arith, c.loop-place-test.true, c.len.ensures.len) in
-    let here = there c.loop-place.observations c.loop-place.place inside in
-    (continued c.args.client.now c.args.clock c.args.observations.now c.args.outbox.now c.loop-place.observations c.take_turn.new.observations
-    c.loop-place.place c.in_ok-place.place c.loop-place.outbox c.take_turn.new.outbox here.0 here.1 (c.in_ok-place.ensures.passes here.0 here.1) c.loop-place.invariant.0,
-    λ none. absurd (some_there c.loop-place.observations c.loop-place.place inside (c.loop-place.invariant.1 none)))
+    let here = there c.loop-place.observations c.loop-place.place inside in (
+      continued c.args.client.now c.args.clock c.args.observations.now c.args.outbox.now c.loop-place.observations c.take_turn.new.observations
+          c.loop-place.place c.in_ok-place.place c.loop-place.outbox c.take_turn.new.outbox here.0 here.1 (c.in_ok-place.ensures.passes here.0 here.1) c.loop-place.invariant.0,
+      λ none. absurd (some_there c.loop-place.observations c.loop-place.place inside (c.loop-place.invariant.1 none)),
+    )
 
 pub returns-in_err-place-clause-some : goal.returns-in_err-place-clause-some
 returns-in_err-place-clause-some c =

@@ -16,7 +16,7 @@ pub returns-in_err-push-clause-grows : goal.returns-in_err-push-clause-grows
 returns-in_err-push-clause-grows c =
     on_error c.from_residual.result _
     (λ none. one_found c.loop-key.found.items (λ e. (path_of e.0, e.0.name, e.1)) (λ e. e.0.server == c.args.server) c.loop-key.key-iterator
-      c.next.new.self (c.in-Some.key.now, c.in-Some.number.now) c.in-Some.ensures.steps (eq-eqb c.in-Some.key.now.server c.args.server c.if-key-server.true)
-      (c.loop-key.invariant
-      ∙ sym (ap (λ es. map (λ e. (path_of e.0, e.0.name, e.1)) (filter (λ e. e.0.server == c.args.server) es)) (entries-from_entries key_total key_exact c.args.numbers.now.entries c.into_iter-key-iterator.ensures.into_iter_gives.5))
-      ∙ none))
+    c.next.new.self (c.in-Some.key.now, c.in-Some.number.now) c.in-Some.ensures.steps (eq-eqb c.in-Some.key.now.server c.args.server c.if-key-server.true)
+    (c.loop-key.invariant
+    ∙ sym (ap (λ es. map (λ e. (path_of e.0, e.0.name, e.1)) (filter (λ e. e.0.server == c.args.server) es)) (entries-from_entries key_total key_exact c.args.numbers.now.entries c.into_iter-key-iterator.ensures.into_iter_gives.5))
+    ∙ none))

@@ -17,9 +17,10 @@ returns-in_err-add_query-clause-grows c =
     (c.add_query.ensures.grows (same_fault c.from_residual.result c.add_query.result c.in_err-add_query.field-0.0 Memory c.from_residual.ensures.1 c.in_err-add_query.was grew))
 
 pub loop-query-preserved : goal.loop-query-preserved
-loop-query-preserved c =
-    (one_read c.loop-query.changes c.add_query.new.self c.args.level c.args.queries.now c.loop-query.query-index _ c.loop-query-test.true c.in_ok-add_query.ensures.ok
-    ∙ c.loop-query.invariant.0,
-    inr (let no_query : Bor (List ℕ) = record { ref_ptr = (0, 0); now = [] } in
-    first_spelled c.args.level c.args.queries.now c.loop-query.query-index no_query c.loop-query.changes c.loop-query-test.true c.loop-query.invariant.1
-    (one_spelled c.loop-query.changes c.add_query.new.self c.args.level (get_or c.args.queries.now c.loop-query.query-index no_query).now c.in_ok-add_query.ensures.ok)))
+loop-query-preserved c = (
+  one_read c.loop-query.changes c.add_query.new.self c.args.level c.args.queries.now c.loop-query.query-index _ c.loop-query-test.true c.in_ok-add_query.ensures.ok
+      ∙ c.loop-query.invariant.0,
+  inr (let no_query : Bor (List ℕ) = record { ref_ptr = (0, 0); now = [] } in
+      first_spelled c.args.level c.args.queries.now c.loop-query.query-index no_query c.loop-query.changes c.loop-query-test.true c.loop-query.invariant.1
+      (one_spelled c.loop-query.changes c.add_query.new.self c.args.level (get_or c.args.queries.now c.loop-query.query-index no_query).now c.in_ok-add_query.ensures.ok)),
+)
