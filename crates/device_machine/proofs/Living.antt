@@ -24,6 +24,7 @@ use Rattle.object_defs.specs.declared.path.FullPath.{FullPath}
 use Rattle.notifier.specs.Observed.{without_reset}
 use Rattle.notifier.specs.declared.observation.Observation.{Observation}
 use Rattle.device_machine.specs.Observing.{Noted, noted}
+use Rattle.device_machine.specs.Memory.{remembered}
 use Rattle.device_machine.specs.State.{Kept, Flat, lifetime, is_live, living, with_client, with_observations}
 use Rattle.device_requests.specs.Managed.{Managed, has_account, with_stored}
 use Rattle.device_requests.specs.Answer.{Outcome}
@@ -68,6 +69,13 @@ pub forgotten : (k : Kept) (kept all : List Recorded) → kept ≡ filter (λ r.
 forgotten k kept all h =
     ap (λ rs. flat_of k (filter (λ r. is_live k.clock r) rs)) h
     ∙ ap (λ rs. flat_of k rs) (filter-filter (λ r. is_live k.clock r) (λ r. is_live k.clock r) (λ r e. e) all)
+
+-- what is remembered behind an event lives
+pub living_remembered : (f : Flat) (event : Event) → living (remembered f event) ≡ living f
+living_remembered f (Recv server bytes) = refl
+living_remembered f (Put path value) = refl
+living_remembered f (Firmware code) = refl
+living_remembered f (Tick seconds) = forgotten f.kept _ f.recorded refl
 
 abbrev put_in : Kept → Option FullPath → Value → Kept
 put_in k place value =

@@ -1,11 +1,12 @@
 -- What holds of seconds holds of ticks.
-use Rattle.std.proofs.Common.{◌≡◌, ◌+◌, ◌++◌, map, refl, sym, ap, subst, ◌∙◌, arith}
+use Rattle.std.proofs.Common.{◌≡◌, ℕ, zero, suc, [], ◌+◌, ◌++◌, map, refl, sym, ap, subst, ◌∙◌, arith}
 use Rattle.std.proofs.lemmas.List.{map-append}
 use Rattle.device_notifications.specs.Laws.{RisesByOne}
 use Rattle.device_notifications.specs.Second.{seconds}
 use Rattle.device_notifications.proofs.Numbers.{seconds_count}
 use Rattle.device_notifications.proofs.Spans.{seconds_add, seconds_send_after_pmin}
 use Rattle.device_notifications.proofs.Turns.{seconds_send_before_pmax}
+use Rattle.device_requests.specs.Managed.{Managed}
 use Rattle.device_machine.specs.Laws.{TicksAdd, TicksCount, TicksSendAfterPmin, TicksSendBeforePmax}
 use Rattle.device_machine.specs.Reactions.{later, send_of, turn_in}
 
@@ -40,3 +41,8 @@ count f n before after o is =
       rises = subst (λ os. RisesByOne o (before ++ after) (seconds f.kept.client f.kept.clock n f.kept.next_id os).sent (seconds f.kept.client f.kept.clock n f.kept.next_id os).left)
           (sym is) (seconds_count f.kept.client f.kept.clock n f.kept.next_id before after o);
     }
+
+-- without observations nothing is sent
+pub none_sent : (client : Managed) (clock n next_id : ℕ) → (seconds client clock n next_id []).sent ≡ []
+none_sent client clock zero next_id = refl
+none_sent client clock (suc n) next_id = none_sent client (clock + 1) n next_id

@@ -1,5 +1,6 @@
 pub mod Class
 pub mod Laws
+pub mod Memory
 pub mod Observing
 pub mod Reactions
 pub mod State

@@ -2,6 +2,7 @@ ghost use Rattle.std.specs.Prelude.{◌≡◌, ◌↔◌, [], IfOk, OnOk, IsTrue
 ghost use Rattle.std.specs.Option.{option_copied};
 ghost use Rattle.object_defs.specs.Path.{full_path};
 ghost use Rattle.device_machine.specs.Class.{start_of};
+ghost use Rattle.device_machine.specs.Memory.{KeepsRecords, event_grows};
 ghost use Rattle.device_machine.specs.State.{Flat, Shows, value_in};
 ghost use Rattle.device_machine.specs.Reactions.{outputs_of, flat_after, is_refused, passes_end};
 
@@ -93,6 +94,11 @@ impl Device {
         ensures spent { (result ≡ Err StepFault.Spent) ↔ IsTrue (is_refused self.old event.now) }
         ensures unchanged { result ≡ Err StepFault.Spent → self.new ≡ self.old }
         ensures memory { result ≡ Err StepFault.Memory → IsTrue self.new.spent }
+
+        // Some events take no memory, so they never end a device: each datagram of a server without an account, and each
+        // second without an observation.
+        ensures grows { result ≡ Err StepFault.Memory → IsTrue (event_grows self.old.flat.kept event.now) }
+        ensures left { result ≡ Err StepFault.Memory → KeepsRecords self.old.flat self.new.flat }
     {
         if self.spent || passes_end(self.machine.clock(), event) {
             return Err(StepFault::Spent);

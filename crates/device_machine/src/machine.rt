@@ -1,11 +1,13 @@
 //! All that a device keeps, and what it does on an event.
 
-ghost use Rattle.std.specs.Prelude.{◌≡◌, ◌+◌, ◌<◌, ◌^◌, [], true, false, Some, IfOk, OnOk, IsFalse};
+ghost use Rattle.std.specs.Prelude.{◌≡◌, ◌≢◌, ◌+◌, ◌<◌, ◌^◌, [], true, false, Some, IfOk, OnErr, OnOk, IsFalse};
 ghost use Rattle.instance_store.specs.Stored.{has_instance};
 ghost use Rattle.device_template.specs.Values.{instance_at, is_one_too_many, with_value_at};
 ghost use Rattle.device_requests.specs.Managed.{with_stored};
 ghost use Rattle.object_defs.specs.Path.{full_path};
 ghost use Rattle.device_machine.specs.Class.{start_of};
+ghost use Rattle.device_machine.specs.Memory.{KeepsRecords, event_grows};
+ghost use Rattle.device_machine.specs.declared.event.Event.TheVariants.{Firmware};
 ghost use Rattle.device_machine.specs.Reactions.{Gives, on_firmware, on_put, on_tick, passes_end, reaction_to};
 ghost use Rattle.device_firmware.specs.Firmware.{firmware_after};
 ghost use Rattle.device_firmware.specs.declared.event.FirmwareEvent.TheVariants.{Ended};
@@ -59,7 +61,8 @@ impl Model for Machine {
 fn put_fitting(client: &mut Client, path: FullPath, value: Value) -> Result<(), AllocError>
     requires there { has_instance client.old.store (instance_at path) ≡ true }
     requires room { is_one_too_many client.old.store path ≡ false }
-    ensures { OnOk result (client.new ≡ with_stored client.old (with_value_at client.old.store (Some path) value)) }
+    ensures put { OnOk result (client.new ≡ with_stored client.old (with_value_at client.old.store (Some path) value)) }
+    ensures unchanged { OnErr result (client.new ≡ client.old) }
 {
     match client.put(path, value) {
         Ok(()) => Ok(()),
@@ -132,7 +135,11 @@ impl Machine {
     /// Lets seconds pass, in each of which the observations have their turns.
     fn tick(&mut self, count: u32) -> Result<Outputs, AllocError>
         requires { self.old.kept.clock + count < 2 ^ 63 }
-        ensures { IfOk result (λ o. Gives o self.new (on_tick self.old count)) }
+        ensures gives { IfOk result (λ o. Gives o self.new (on_tick self.old count)) }
+
+        // Only observations take memory.
+        ensures grows { OnErr result (self.old.kept.observations ≢ []) }
+        ensures left { OnErr result (KeepsRecords self.old self.new) }
     {
         let mut outbox = Outbox::new(self.alloc, self.next_id);
         let observations = &mut self.observations;
@@ -144,15 +151,18 @@ impl Machine {
             count,
             &mut outbox,
         )?;
+        let next_id = outbox.next_id();
+        let outputs = Outputs::of_datagrams(self.alloc, outbox.into_vec())?;
         self.clock += u64::from(count);
-        self.next_id = outbox.next_id();
-        Outputs::of_datagrams(self.alloc, outbox.into_vec())
+        self.next_id = next_id;
+        Ok(outputs)
     }
 
     /// Sets a value where it fits.
     #[tactic(auto, using(crate::proofs::Putting::has_its_instance, crate::proofs::Putting::has_room))]
     fn put(&mut self, path: Path, value: &Value) -> Result<Outputs, AllocError>
-        ensures { IfOk result (λ o. Gives o self.new (on_put self.old (full_path path) value.now)) }
+        ensures gives { IfOk result (λ o. Gives o self.new (on_put self.old (full_path path) value.now)) }
+        ensures unchanged { OnErr result (self.new ≡ self.old) }
     {
         let Some(full) = path.full() else {
             return Outputs::one(self.alloc, Output::Act(Act::Missed));
@@ -167,7 +177,9 @@ impl Machine {
 
     /// Ends a download or an update of the firmware, where there is one.
     fn end_firmware(&mut self, code: u8) -> Result<Outputs, AllocError>
-        ensures { IfOk result (λ o. Gives o self.new (on_firmware self.old (firmware_after self.old.kept.client.store (Ended code)))) }
+        ensures gives { IfOk result (λ o. Gives o self.new (on_firmware self.old (firmware_after self.old.kept.client.store (Ended code)))) }
+        ensures grows { OnErr result (event_grows self.old.kept (Firmware code) ≡ true) }
+        ensures unchanged { OnErr result (self.new ≡ self.old) }
     {
         if self.client.end_firmware(code)? {
             return Ok(Outputs::none(self.alloc));
@@ -178,7 +190,9 @@ impl Machine {
     /// Takes an event.
     pub(crate) fn react(&mut self, event: &Event) -> Result<Outputs, AllocError>
         requires { IsFalse (passes_end self.old.kept.clock event.now) }
-        ensures { IfOk result (λ o. Gives o self.new (reaction_to self.old event.now)) }
+        ensures gives { IfOk result (λ o. Gives o self.new (reaction_to self.old event.now)) }
+        ensures grows { OnErr result (event_grows self.old.kept event.now ≡ true) }
+        ensures left { OnErr result (KeepsRecords self.old self.new) }
     {
         match event {
             Event::Recv { server, bytes } => self.receive(*server, bytes.as_slice()),

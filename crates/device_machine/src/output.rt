@@ -1,4 +1,4 @@
-ghost use Rattle.std.specs.Prelude.{◌≡◌, ◌∷◌, ◌++◌, [], map, IfOk, OnOk};
+ghost use Rattle.std.specs.Prelude.{◌≡◌, ◌≢◌, ◌∷◌, ◌++◌, [], map, IfOk, OnErr, OnOk};
 ghost use Rattle.device_machine.specs.Reactions.{acted, send_of};
 
 use device_notifications::Datagram;
@@ -61,7 +61,8 @@ impl Outputs {
         alloc: Global,
         datagrams: Vec<Datagram>,
     ) -> Result<Outputs, AllocError>
-        ensures { IfOk result (λ o. o ≡ map send_of datagrams.items) }
+        ensures sends { IfOk result (λ o. o ≡ map send_of datagrams.items) }
+        ensures grows { OnErr result (datagrams.items ≢ []) }
     {
         let mut items = Vec::with_capacity(alloc, datagrams.len())?;
         for datagram in datagrams {
@@ -75,7 +76,9 @@ impl Outputs {
 
     /// Adds what the device does behind the others, if there is something.
     pub(crate) fn act(&mut self, act: Option<Act>) -> Result<(), AllocError>
-        ensures { OnOk result (self.new ≡ self.old ++ acted act) }
+        ensures acts { OnOk result (self.new ≡ self.old ++ acted act) }
+        ensures grows { OnErr result (acted act ≢ []) }
+        ensures unchanged { OnErr result (self.new ≡ self.old) }
     {
         match act {
             None => Ok(()),

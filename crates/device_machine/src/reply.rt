@@ -1,6 +1,6 @@
 //! The datagrams that a device sends.
 
-ghost use Rattle.std.specs.Prelude.{◌≡◌, ◌≤◌, ◌<◌, ◌∷◌, ◌++◌, [], length, IfOk, OnOk};
+ghost use Rattle.std.specs.Prelude.{◌≡◌, ◌≤◌, ◌<◌, ◌∷◌, ◌++◌, [], true, is_some, length, IfOk, OnErr, OnOk};
 ghost use Rattle.coap_codec.specs.Message.{IsOptionList, spelling};
 ghost use Rattle.device_machine.specs.declared.output.Output.TheVariants.{Send};
 ghost use Rattle.device_machine.specs.Reactions.{IsShort, answer_options, location_options, reset, response, sent_to};
@@ -39,6 +39,7 @@ fn push_location(
 ) -> Result<(), AllocError>
     ensures options { OnOk result (options.new ≡ options.old ++ location_options location) }
     ensures short { OnOk result (IsShort location) }
+    ensures grows { OnErr result (is_some location ≡ true) }
 {
     let Some(place) = location else {
         return Ok(());
@@ -57,7 +58,8 @@ fn push_number(
     option: u16,
     number: Option<u32>,
 ) -> Result<(), AllocError>
-    ensures { OnOk result (options.new ≡ options.old ++ number_option option number) }
+    ensures options { OnOk result (options.new ≡ options.old ++ number_option option number) }
+    ensures grows { OnErr result (is_some number ≡ true) }
 {
     let Some(number) = number else {
         return Ok(());
@@ -147,7 +149,8 @@ pub(crate) fn sent_to(
     server: u16,
     datagram: &Option<Bytes>,
 ) -> Result<Outputs, AllocError>
-    ensures { IfOk result (λ o. o ≡ sent_to server datagram.now) }
+    ensures sends { IfOk result (λ o. o ≡ sent_to server datagram.now) }
+    ensures grows { OnErr result (is_some datagram.now ≡ true) }
 {
     match datagram {
         None => Ok(Outputs::none(alloc)),

@@ -1,10 +1,10 @@
 -- How far a second has come, at a place of the list.
-use Rattle.std.proofs.Common.{◌≡◌, ℕ, zero, suc, ◌+◌, ◌-◌, ◌<◌, ◌≤◌, List, [], ◌∷◌, ◌++◌, length, take, drop, slice_get, slice_set, remove, Some, refl, sym, ap, ◌∙◌, arith}
+use Rattle.std.proofs.Common.{◌≡◌, ℕ, zero, suc, ◌+◌, ◌-◌, ◌<◌, ◌≤◌, List, [], ◌∷◌, ◌++◌, length, take, drop, slice_get, slice_set, remove, Some, refl, sym, ap, subst, ◌∙◌, arith}
 use Rattle.std.proofs.lemmas.List.{append-nil, append_assoc, drop_all, length-drop, take_all}
 use Rattle.notifier.specs.declared.observation.Observation.{Observation}
 use Rattle.device_requests.specs.Managed.{Managed}
 use Rattle.device_notifications.specs.Posted.{Posted}
-use Rattle.device_notifications.specs.Progress.{Leaves, Passes}
+use Rattle.device_notifications.specs.Progress.{Elapsed, Leaves, Passes, Progress, Stops, StopsIn}
 use Rattle.device_notifications.specs.Second.{Turn, quiet, beside, and_then, second, seconds, turn_of}
 
 -- ---- places of a list
@@ -68,12 +68,6 @@ dropped_removed xs i = drops_removed xs i ∙ ap (λ n. drop n xs) (next_is i)
 
 -- ---- a second, as far as it has come
 
--- with what has been sent, and what still will be, stands what a second sends; and so with what is left
-pub record Progress (client : Managed) (clock : ℕ) (all : List Observation) (before : Posted) (os : List Observation) (place : ℕ) (now : Posted) : Type 0 where
-  pub sent : now.sent ++ (second client clock now.next_id (drop place os)).sent ≡ before.sent ++ (second client clock before.next_id all).sent
-  pub left : take place os ++ (second client clock now.next_id (drop place os)).left ≡ (second client clock before.next_id all).left
-  pub next_id : (second client clock now.next_id (drop place os)).next_id ≡ (second client clock before.next_id all).next_id
-
 pub begun : (client : Managed) (clock : ℕ) (all : List Observation) (before : Posted) → Progress client clock all before all 0 before
 begun client clock all before = record { sent = refl; left = refl; next_id = refl }
 
@@ -121,6 +115,18 @@ ended client clock all before os place now past h =
       next_id = ap (λ xs. (second client clock now.next_id xs).next_id) (sym none) ∙ h.next_id;
     }
 
+-- where one of them has a place, there is one
+pub some_there : (os : List Observation) (place : ℕ) → place < length os → os ≡ [] → ⊥
+some_there os place within none = let empty : length os ≡ 0 = ap length none in omega (arith, within, empty)
+
+-- a turn that leaves all as it was stops the second
+pub stopped : (client : Managed) (clock : ℕ) (all : List Observation) (before : Posted) (os left : List Observation) (place : ℕ) (now after : Posted)
+    → place < length os → left ≡ os → after ≡ now → Progress client clock all before os place now → Stops client clock all before left after
+stopped client clock all before os left place now after within same unposted h =
+    let here : Stops client clock all before os now = record { place = place; inside = within; progress = h } in
+    let there_too = subst (λ x. Stops client clock all before x now) (sym same) here in
+    subst (λ x. Stops client clock all before left x) (sym unposted) there_too
+
 -- fewer are still to come
 pub fewer : (os left : List Observation) (place next : ℕ) → place < length os → drop next left ≡ drop (place + 1) os → length left - next < length os - place
 fewer os left place next within coming =
@@ -129,11 +135,6 @@ fewer os left place next within coming =
     omega (arith, a, b, within, ap length coming)
 
 -- ---- seconds, as far as they have come
-
-pub record Elapsed (client : Managed) (clock count : ℕ) (all : List Observation) (before : Posted) (passed : ℕ) (os : List Observation) (now : Posted) : Type 0 where
-  pub sent : now.sent ++ (seconds client (clock + passed) (count - passed) now.next_id os).sent ≡ before.sent ++ (seconds client clock count before.next_id all).sent
-  pub left : (seconds client (clock + passed) (count - passed) now.next_id os).left ≡ (seconds client clock count before.next_id all).left
-  pub next_id : (seconds client (clock + passed) (count - passed) now.next_id os).next_id ≡ (seconds client clock count before.next_id all).next_id
 
 pub started : (client : Managed) (clock count : ℕ) (all : List Observation) (before : Posted) → Elapsed client clock count all before 0 all before
 started client clock count all before =
@@ -181,4 +182,18 @@ over client clock count all before passed os now past h =
       sent = sym (append-nil now.sent) ∙ ap (λ r. now.sent ++ r.sent) empty ∙ h.sent;
       left_is = ap (λ r. r.left) empty ∙ h.left;
       next_id = ap (λ r. r.next_id) empty ∙ h.next_id;
+    }
+
+-- a second that stops, stops them all
+pub stopped_in : (client : Managed) (clock count : ℕ) (all : List Observation) (before : Posted) (passed : ℕ) (os left : List Observation) (now after : Posted) (second_now : ℕ)
+    → passed < count → second_now ≡ clock + (passed + 1) → Stops client second_now os now left after
+    → Elapsed client clock count all before passed os now → StopsIn client clock count all before left after
+stopped_in client clock count all before passed os left now after second_now within at stops h =
+    record {
+      passed = passed;
+      within = within;
+      reached = os;
+      posted = now;
+      elapsed = h;
+      stops = subst (λ n. Stops client n os now left after) at stops;
     }

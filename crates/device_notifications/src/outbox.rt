@@ -1,4 +1,4 @@
-ghost use Rattle.std.specs.Prelude.{◌≡◌, [], OnOk};
+ghost use Rattle.std.specs.Prelude.{◌≡◌, [], OnErr, OnOk};
 ghost use Rattle.device_notifications.specs.Posted.{posted};
 
 use crate::datagram::Datagram;
@@ -40,7 +40,8 @@ impl Outbox {
 
     /// Adds a datagram behind the others, and counts the message ID on, modulo 65,536.
     pub(crate) fn post(&mut self, datagram: Datagram) -> Result<(), AllocError>
-        ensures { OnOk result (self.new ≡ posted self.old datagram) }
+        ensures posted { OnOk result (self.new ≡ posted self.old datagram) }
+        ensures unchanged { OnErr result (self.new ≡ self.old) }
     {
         self.items.push(datagram)?;
         self.next_id = self.next_id.wrapping_add(1);

@@ -1,8 +1,8 @@
 //! A second, and seconds: the observations have their turns, in their order.
 
-ghost use Rattle.std.specs.Prelude.{◌≡◌, ◌+◌, ◌<◌, ◌^◌, length, slice_get, IfOk, OnOk, Some};
+ghost use Rattle.std.specs.Prelude.{◌≡◌, ◌≢◌, ◌+◌, ◌<◌, ◌^◌, [], length, slice_get, IfOk, OnErr, OnOk, Some};
 ghost use Rattle.notifier.specs.declared.observation.Observation.{Observation};
-ghost use Rattle.device_notifications.specs.Progress.{Leaves, Passes};
+ghost use Rattle.device_notifications.specs.Progress.{Leaves, Passes, Stops, StopsIn};
 ghost use Rattle.device_notifications.specs.Second.{second, seconds, turn_of};
 
 use crate::notification::datagram_of;
@@ -24,8 +24,10 @@ fn take_turn(
 ) -> Result<usize, AllocError>
     requires within { place < length observations.old }
     requires few { place < 32 }
-    ensures { IfOk result (λ next. (o : Observation) → slice_get observations.old place ≡ Some o
+    ensures passes { IfOk result (λ next. (o : Observation) → slice_get observations.old place ≡ Some o
         → Passes (turn_of client.now clock outbox.old.next_id o) observations.old observations.new place next outbox.old outbox.new) }
+    ensures unchanged { OnErr result (observations.new ≡ observations.old) }
+    ensures unposted { OnErr result (outbox.new ≡ outbox.old) }
 {
     let Some(observation) = observations.at(place) else {
         return Ok(place);
@@ -49,7 +51,8 @@ fn take_turn(
 }
 
 /// What the observations do in the second that the clock shows: each has its turn, in their order.
-/// Nothing else changes. Want of memory leaves it half done.
+/// Nothing else changes. Want of memory, which only an observation can have, leaves it half done: the
+/// others' turns are still to come.
 pub fn second(
     alloc: Global,
     client: &Client,
@@ -57,7 +60,9 @@ pub fn second(
     clock: u64,
     outbox: &mut Outbox,
 ) -> Result<(), AllocError>
-    ensures { OnOk result (Leaves outbox.old (second client.now clock outbox.old.next_id observations.old) observations.new outbox.new) }
+    ensures done { OnOk result (Leaves outbox.old (second client.now clock outbox.old.next_id observations.old) observations.new outbox.new) }
+    ensures some { OnErr result (observations.old ≢ []) }
+    ensures stops { OnErr result (Stops client.now clock observations.old outbox.old observations.new outbox.new) }
 {
     let mut place = 0;
     while place < observations.len() {
@@ -67,8 +72,8 @@ pub fn second(
 }
 
 /// What the observations do in so many seconds, where the clock shows `clock` before the first of
-/// them: it goes up by one, then each has its turn. Nothing else changes. Want of memory leaves it
-/// half done.
+/// them: it goes up by one, then each has its turn. Nothing else changes. Want of memory, which only an
+/// observation can have, leaves them half done: one second stops, and those behind it are still to come.
 pub fn seconds(
     alloc: Global,
     client: &Client,
@@ -78,7 +83,9 @@ pub fn seconds(
     outbox: &mut Outbox,
 ) -> Result<(), AllocError>
     requires { clock + count < 2 ^ 64 }
-    ensures { OnOk result (Leaves outbox.old (seconds client.now clock count outbox.old.next_id observations.old) observations.new outbox.new) }
+    ensures done { OnOk result (Leaves outbox.old (seconds client.now clock count outbox.old.next_id observations.old) observations.new outbox.new) }
+    ensures some { OnErr result (observations.old ≢ []) }
+    ensures stops { OnErr result (StopsIn client.now clock count observations.old outbox.old observations.new outbox.new) }
 {
     for passed in 0..count {
         let now = clock + 1 + u64::from(passed);

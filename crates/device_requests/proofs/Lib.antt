@@ -1,4 +1,5 @@
 mod Among
+mod Growing
 pub mod Answering
 pub mod Keeping
 mod Hiding

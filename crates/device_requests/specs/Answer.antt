@@ -1,5 +1,5 @@
 -- Answers, and what a request leaves of the store.
-use Rattle.std.specs.Prelude.{◌≡◌, ℕ, ◌+◌, ◌*◌, List, [], Option, None, Some}
+use Rattle.std.specs.Prelude.{◌≡◌, ℕ, ◌+◌, ◌*◌, Bool, true, false, List, [], Option, None, Some}
 use Rattle.object_defs.specs.declared.path.InstancePath.{InstancePath}
 use Rattle.device_requests.specs.declared.answer.Act.{Act}
 use Rattle.device_requests.specs.declared.answer.Answer.{Answer}
@@ -37,6 +37,21 @@ done act = record { code = Changed; location = None; format = None; payload = []
 -- Created, with the place of the new instance
 abbrev pub created : InstancePath → Answer
 created place = record { code = Created; location = Some place; format = None; payload = []; act = None }
+
+-- an answer of this code may take memory; what refuses a server, an option, a path or a format takes none
+abbrev pub takes_memory : Code → Bool
+takes_memory Created = true
+takes_memory Deleted = true
+takes_memory Changed = true
+takes_memory Content = true
+takes_memory BadRequest = true
+takes_memory Unauthorized = false
+takes_memory BadOption = false
+takes_memory NotFound = false
+takes_memory MethodNotAllowed = true
+takes_memory NotAcceptable = false
+takes_memory UnsupportedContentFormat = false
+takes_memory InternalServerError = true
 
 -- the answer to a request, and what is managed then
 pub record Outcome : Type 0 where

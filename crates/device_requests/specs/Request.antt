@@ -1,5 +1,5 @@
 -- What a request answers and changes: by its operation, at its path.
-use Rattle.std.specs.Prelude.{ℕ, Option, None, Some, if◌then◌else◌}
+use Rattle.std.specs.Prelude.{ℕ, Bool, Option, None, Some, is_some, option_and_then, if◌then◌else◌}
 use Rattle.coap_codec.specs.Message.{Parts}
 use Rattle.object_defs.specs.declared.path.Path.{Path}
 use Rattle.lwm2m_payloads.specs.declared.given.Mode.TheVariants.{Replace, Update}
@@ -39,6 +39,12 @@ abbrev pub outcome_on : Managed → ℕ → Parts → Option Path → Outcome
 outcome_on client server m None = answered client (bare NotFound)
 outcome_on client server m (Some path) =
     outcome_by client server m path (operation_of m.code (accept_of m.options) (has_query m.options) path)
+
+-- the segments are a path, and the method is an operation there
+abbrev pub has_operation : Parts → Bool
+has_operation m =
+    is_some (option_and_then (operation_of m.code (accept_of m.options) (has_query m.options))
+    (path_of (segments_of m.options)))
 
 -- what a request answers and changes; an option that must be understood and isn't is refused first
 abbrev pub outcome_of : Managed → ℕ → Parts → Outcome

@@ -1,12 +1,12 @@
 //! What of a device the requests of device management look at and change.
 
-ghost use Rattle.std.specs.Prelude.{◌≡◌, ◌≢◌, ◌↔◌, length, Err, IfOk, IsErrOf, IsFalse, IsTrue, OnOk, OnErr, Some};
+ghost use Rattle.std.specs.Prelude.{◌≡◌, ◌≢◌, ◌↔◌, false, length, Err, IfOk, IsErrOf, IsFalse, IsTrue, OnOk, OnErr, Some};
 ghost use Rattle.instance_store.specs.Stored.{has_instance};
 ghost use Rattle.device_requests.specs.Managed.{has_account, with_stored};
 ghost use Rattle.std.specs.FinMap as map;
 ghost use Rattle.std.specs.Option.{is_some, unwrap_or};
 ghost use Rattle.device_template.specs.Values.{instance_at, is_one_too_many, with_value_at};
-ghost use Rattle.device_firmware.specs.Firmware.{firmware_after};
+ghost use Rattle.device_firmware.specs.Firmware.{firmware_after, is_ready};
 ghost use Rattle.device_firmware.specs.declared.event.FirmwareEvent.TheVariants.{Ended};
 
 use device_firmware::{FirmwareEvent, take};
@@ -130,6 +130,10 @@ impl Client {
         ensures ended { IfOk result (λ b. b ≡ is_some (firmware_after self.old.store (Ended code))) }
         ensures change { OnOk result (self.new ≡ with_stored self.old
             (unwrap_or (firmware_after self.old.store (Ended code)) self.old.store)) }
+
+        // Only where Package URI, State and Update Result are not all held.
+        ensures memory { OnErr result (is_ready self.old.store ≡ false) }
+        ensures unchanged { OnErr result (self.new ≡ self.old) }
     {
         take(self.alloc, &mut self.store, FirmwareEvent::Ended(code))
     }

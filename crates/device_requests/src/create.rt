@@ -1,7 +1,7 @@
 //! A Create: its rules, and the instance that it makes.
 
-ghost use Rattle.std.specs.Prelude.{◌≡◌, ◌≢◌, ◌∷◌, [], false, length, IfOk, OnOk, Some};
-ghost use Rattle.device_requests.specs.Answer.{Leaves};
+ghost use Rattle.std.specs.Prelude.{◌≡◌, ◌≢◌, ◌∷◌, [], true, false, length, IfOk, OnErr, OnOk, Some};
+ghost use Rattle.device_requests.specs.Answer.{Leaves, takes_memory};
 ghost use Rattle.device_requests.specs.Create.{create_outcome, create_unless, is_tlv, lacks_room, newborn, newborn_lines};
 ghost use Rattle.device_requests.specs.Managed.{with_stored};
 ghost use Rattle.device_requests.specs.Options.{content_format_of};
@@ -53,9 +53,10 @@ impl Client {
         requires free { has_instance self.old.store place ≡ false }
         requires room { lacks_room self.old place.object (Some (record { number = place.instance; given = given }))
             ≡ false }
-        ensures { OnOk result (self.new ≡ with_stored self.old
+        ensures made { OnOk result (self.new ≡ with_stored self.old
             (with_created self.old.store (length self.old.accounts) server
             (defined self.old.catalogue place.object) (place_of place.object place.instance) given)) }
+        ensures unchanged { OnErr result (self.new ≡ self.old) }
     {
         let accounts = self.accounts.len();
         let resources = defined(&self.catalog, place.object);
@@ -75,10 +76,13 @@ impl Client {
     ) -> Result<Answer, AllocError>
         requires other { place.object ≢ 2 }
         requires free { has_instance self.old.store place ≡ false }
-        ensures { IfOk result (λ a. let new = Some (record { number = place.instance; given = given }) in
+        ensures outcome { IfOk result (λ a. let new = Some (record { number = place.instance; given = given }) in
             Leaves a self.new (create_unless (first_line
             ((lacks_room self.old place.object new, Code.InternalServerError) ∷ []))
             self.old server place.object new)) }
+        ensures room { OnErr result (lacks_room self.old place.object
+            (Some (record { number = place.instance; given = given })) ≡ false) }
+        ensures unchanged { OnErr result (self.new ≡ self.old) }
     {
         if self.lacks_room(place, &given) {
             return Ok(Answer::bare(self.alloc, Code::InternalServerError));
@@ -91,9 +95,10 @@ impl Client {
     #[tactic(auto, using(crate::proofs::Present::number_free))]
     fn create_in(&mut self, server: u16, object: u16, payload: &[u8]) -> Result<Answer, AllocError>
         requires { object ≢ 2 }
-        ensures { IfOk result (λ a. let new = newborn self.old object payload.now in
+        ensures outcome { IfOk result (λ a. let new = newborn self.old object payload.now in
             Leaves a self.new
             (create_unless (first_line (newborn_lines self.old object new)) self.old server object new)) }
+        ensures unchanged { OnErr result (self.new ≡ self.old) }
     {
         let Some(creation) = creation_given(self.alloc, defined(&self.catalog, object), payload)?
         else {
@@ -112,9 +117,18 @@ impl Client {
         path: Path,
         message: &Message,
     ) -> Result<Answer, AllocError>
-        ensures { IfOk result
+        ensures outcome { IfOk result
             (λ a. Leaves a self.new
             (create_outcome self.old server path (content_format_of message.now.options) message.now.payload)) }
+
+        // Only what the payload says takes memory.
+        ensures grows { OnErr result
+            (let number = content_format_of message.now.options in
+            takes_memory (create_outcome self.old server path number message.now.payload).answer.code ≡ true) }
+        ensures allowed { OnErr result
+            (let number = content_format_of message.now.options in
+            (create_outcome self.old server path number message.now.payload).answer.code ≢ Code.MethodNotAllowed) }
+        ensures unchanged { OnErr result (self.new ≡ self.old) }
     {
         if path.object() == SECURITY {
             return Ok(Answer::bare(self.alloc, Code::Unauthorized));

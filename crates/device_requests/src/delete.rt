@@ -1,6 +1,6 @@
 //! A Delete: its rules, and what it takes away.
 
-ghost use Rattle.std.specs.Prelude.{◌≡◌, true, filter, not, IfOk, OnOk};
+ghost use Rattle.std.specs.Prelude.{◌≡◌, true, filter, not, IfOk, None, OnErr, OnOk};
 ghost use Rattle.instance_store.specs.Stored.{has_instance};
 ghost use Rattle.notifier.specs.Attributes.{without_under};
 ghost use Rattle.object_defs.specs.Lines.{first_line};
@@ -62,6 +62,8 @@ fn delete_at(
     ensures store { OnOk result (store.new ≡ deleted store.old path) }
     ensures attributes { OnOk result (attributes.new
         ≡ without_controls (without_under attributes.old path) (taken_away store.old (deleted store.old path))) }
+    ensures store_left { OnErr result (store.new ≡ store.old) }
+    ensures attributes_left { OnErr result (attributes.new ≡ attributes.old) }
 {
     let controls = Vec::from_slice(alloc, store.instances(ACCESS_CONTROL))?;
     take_away(store, path);
@@ -93,7 +95,11 @@ impl Client {
     /// Deletes an instance, where no line refuses it.
     #[tactic(auto, using(crate::proofs::Present::delete_has))]
     pub(crate) fn delete(&mut self, server: u16, path: Path) -> Result<Answer, AllocError>
-        ensures { IfOk result (λ a. Leaves a self.new (delete_outcome self.old server path)) }
+        ensures outcome { IfOk result (λ a. Leaves a self.new (delete_outcome self.old server path)) }
+
+        // No refusal takes memory.
+        ensures grows { OnErr result (first_line (delete_lines self.old server path) ≡ None) }
+        ensures unchanged { OnErr result (self.new ≡ self.old) }
     {
         match self.delete_refusal(server, path) {
             Some(code) => Ok(Answer::bare(self.alloc, code)),

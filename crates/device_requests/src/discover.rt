@@ -1,7 +1,8 @@
 //! A Discover: its rules, and the links that it answers (RFC 6690).
 
-ghost use Rattle.std.specs.Prelude.{◌≡◌, ◌++◌, ◌∷◌, [], false, IfOk, OnOk, string_bytes};
+ghost use Rattle.std.specs.Prelude.{◌≡◌, ◌++◌, ◌∷◌, [], true, false, IfOk, OnErr, OnOk, string_bytes};
 ghost use Rattle.std.specs.List.{filter, flat_map};
+ghost use Rattle.device_requests.specs.Answer.{takes_memory};
 ghost use Rattle.device_requests.specs.Discover.{attribute_text, attributes_text, behind, dimension, dimension_text, discover_answer, existing, fraction_text, inherits_at, instance_paths, is_period, link, linked, links_text, more_links, name_text, number_text, path_text, paths_below, shown_attribute, shown_number, thousandths_text, unsigned_text};
 ghost use Rattle.device_requests.specs.Targets.{exists};
 
@@ -382,7 +383,8 @@ fn links(alloc: Global, client: &Client, server: u16, path: Path) -> Result<Byte
 impl Client {
     /// The answer to a Discover.
     pub(crate) fn discover(&self, server: u16, path: Path) -> Result<Answer, AllocError>
-        ensures { IfOk result (λ a. a ≡ discover_answer self.now server path) }
+        ensures answer { IfOk result (λ a. a ≡ discover_answer self.now server path) }
+        ensures grows { OnErr result (takes_memory (discover_answer self.now server path).code ≡ true) }
     {
         if path.object() == SECURITY {
             return Ok(Answer::bare(self.alloc, Code::Unauthorized));

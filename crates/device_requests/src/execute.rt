@@ -1,12 +1,13 @@
 //! An Execute: its rules, its arguments, what it changes, and what the device does after it.
 
-ghost use Rattle.std.specs.Prelude.{◌≡◌, true, false, pos, IfOk, OnOk};
+ghost use Rattle.std.specs.Prelude.{◌≡◌, ◌||◌, true, false, pos, IfOk, None, OnErr, OnOk};
 ghost use Rattle.lwm2m_values.specs.declared.value.Value.TheVariants.{Whole};
 ghost use Rattle.object_defs.specs.Lines.{first_line};
 ghost use Rattle.object_defs.specs.Path.{part_of};
 ghost use Rattle.instance_store.specs.Stored.{has_instance, instance_of, is_full, resource_path, with_value, without_values};
 ghost use Rattle.device_requests.specs.Answer.{Leaves};
 ghost use Rattle.device_requests.specs.Execute.{act_of, argument_lines, execute_lines, execute_outcome, executed, is_executable, is_plain, is_resource, is_untimely, with_no_error};
+ghost use Rattle.device_requests.specs.Managed.{with_stored};
 ghost use Rattle.device_requests.specs.Options.{content_format_of};
 ghost use Rattle.device_requests.specs.Inside.{has_place};
 
@@ -124,7 +125,8 @@ fn reset_errors(store: &mut Store, path: Path) -> Result<(), AllocError>
 /// Does what an Execute asks for in an instance that is there. At `Err` the error codes may be gone.
 fn execute_at(alloc: Global, store: &mut Store, path: Path) -> Result<(), AllocError>
     requires { has_place store.old path ≡ true }
-    ensures { OnOk result (store.new ≡ executed store.old path) }
+    ensures done { OnOk result (store.new ≡ executed store.old path) }
+    ensures grows { OnErr result ((is_resource 5 2 path || is_resource 3 12 path) ≡ true) }
 {
     if is_resource(FIRMWARE_UPDATE, UPDATE, path) {
         take(alloc, store, FirmwareEvent::Update)?;
@@ -182,9 +184,16 @@ impl Client {
         path: Path,
         message: &Message,
     ) -> Result<Answer, AllocError>
-        ensures { IfOk result
+        ensures outcome { IfOk result
             (λ a. Leaves a self.new
             (execute_outcome self.old server path (content_format_of message.now.options) message.now.payload)) }
+
+        // Only Update and Reset Error Code take memory, where nothing refuses them. After an error the error codes may be
+        // gone.
+        ensures grows { OnErr result ((is_resource 5 2 path || is_resource 3 12 path) ≡ true) }
+        ensures unrefused { OnErr result (let number = content_format_of message.now.options in
+            first_line (execute_lines self.old server path number message.now.payload) ≡ None) }
+        ensures left { OnErr result (self.new ≡ with_stored self.old self.new.store) }
     {
         match self.execute_refusal(server, path, message) {
             Some(code) => Ok(Answer::bare(self.alloc, code)),

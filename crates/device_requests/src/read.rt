@@ -1,9 +1,10 @@
 //! A Read: its rules, and the payload that it answers.
 
-ghost use Rattle.std.specs.Prelude.{◌≡◌, IfOk, Some, length};
+ghost use Rattle.std.specs.Prelude.{◌≡◌, ◌≢◌, true, IfOk, OnErr, Some, length};
 ghost use Rattle.lwm2m_values.specs.Tree.{part, single};
 ghost use Rattle.object_defs.specs.Path.{object_in};
 ghost use Rattle.device_requests.specs.Access.{shown_instances};
+ghost use Rattle.device_requests.specs.Answer.{takes_memory};
 ghost use Rattle.device_requests.specs.Read.{can_be_read, one_payload, payload_in, read_answer, resource_payload};
 
 use crate::access::shown_instances;
@@ -105,7 +106,11 @@ impl Client {
 
     /// The answer to a Read of a server at a path, with the format that its Accept names.
     pub fn read(&self, server: u16, path: Path, accept: Option<u16>) -> Result<Answer, AllocError>
-        ensures { IfOk result (λ a. a ≡ read_answer self.now server path accept) }
+        ensures answer { IfOk result (λ a. a ≡ read_answer self.now server path accept) }
+
+        // Only a payload takes memory.
+        ensures grows { OnErr result (takes_memory (read_answer self.now server path accept).code ≡ true) }
+        ensures allowed { OnErr result ((read_answer self.now server path accept).code ≢ Code.MethodNotAllowed) }
     {
         if path.object() == SECURITY {
             return Ok(Answer::bare(self.alloc, Code::Unauthorized));

@@ -1,9 +1,10 @@
 //! What a request answers and changes, by its operation, at its path.
 
-ghost use Rattle.std.specs.Prelude.{◌≡◌, IfOk};
-ghost use Rattle.device_requests.specs.Answer.{Leaves};
-ghost use Rattle.device_requests.specs.Options.{path_of, segments_of};
-ghost use Rattle.device_requests.specs.Request.{outcome_at, outcome_of, outcome_on};
+ghost use Rattle.std.specs.Prelude.{◌≡◌, true, false, IfOk, OnErr};
+ghost use Rattle.device_requests.specs.Answer.{Leaves, takes_memory};
+ghost use Rattle.device_requests.specs.Managed.{with_stored};
+ghost use Rattle.device_requests.specs.Options.{has_unrecognized_critical, path_of, segments_of};
+ghost use Rattle.device_requests.specs.Request.{has_operation, outcome_at, outcome_of, outcome_on};
 
 use crate::answer::{Answer, Code};
 use crate::client::Client;
@@ -23,7 +24,10 @@ impl Client {
         path: Path,
         operation: Operation,
     ) -> Result<Answer, AllocError>
-        ensures { IfOk result (λ a. Leaves a self.new (outcome_at self.old server message.now path operation)) }
+        ensures outcome { IfOk result (λ a. Leaves a self.new (outcome_at self.old server message.now path operation)) }
+        ensures grows { OnErr result
+            (takes_memory (outcome_at self.old server message.now path operation).answer.code ≡ true) }
+        ensures left { OnErr result (self.new ≡ with_stored self.old self.new.store) }
     {
         match operation {
             Operation::Read => self.read(server, path, accept_of(message.options().as_slice())),
@@ -39,8 +43,12 @@ impl Client {
 
     /// Does what a request asks for whose options are all understood.
     fn serve(&mut self, server: u16, message: &Message) -> Result<Answer, AllocError>
-        ensures { IfOk result (λ a. Leaves a self.new
+        ensures outcome { IfOk result (λ a. Leaves a self.new
             (outcome_on self.old server message.now (path_of (segments_of message.now.options)))) }
+        ensures operation { OnErr result (has_operation message.now ≡ true) }
+        ensures grows { OnErr result (let path = path_of (segments_of message.now.options) in
+            takes_memory (outcome_on self.old server message.now path).answer.code ≡ true) }
+        ensures left { OnErr result (self.new ≡ with_stored self.old self.new.store) }
     {
         let options = message.options().as_slice();
         let Some(path) = path_of(options) else {
@@ -54,8 +62,16 @@ impl Client {
     }
 
     /// Does what a request asks for, and answers it.
+    ///
+    /// After an error some of the values that it asks for may be set; nothing else has changed.
     pub fn answer(&mut self, server: u16, message: &Message) -> Result<Answer, AllocError>
-        ensures { IfOk result (λ a. Leaves a self.new (outcome_of self.old server message.now)) }
+        ensures outcome { IfOk result (λ a. Leaves a self.new (outcome_of self.old server message.now)) }
+
+        // No refusal of an option, a path, a method, a server or a format takes memory.
+        ensures understood { OnErr result (has_unrecognized_critical message.now.options ≡ false) }
+        ensures operation { OnErr result (has_operation message.now ≡ true) }
+        ensures grows { OnErr result (takes_memory (outcome_of self.old server message.now).answer.code ≡ true) }
+        ensures left { OnErr result (self.new ≡ with_stored self.old self.new.store) }
     {
         if has_unrecognized_critical(message.options().as_slice()) {
             return Ok(Answer::bare(self.alloc, Code::BadOption));

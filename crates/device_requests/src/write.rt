@@ -1,13 +1,15 @@
 //! A Write: its rules, which targets it has, what its payload gives, and how that is set.
 
-ghost use Rattle.std.specs.Prelude.{◌≡◌, ◌==◌, ◌∷◌, [], true, false, not, IfOk, OnOk, Some, None};
+ghost use Rattle.std.specs.Prelude.{◌≡◌, ◌==◌, ◌∷◌, [], true, false, not, IfOk, OnErr, OnOk, Some, None};
 ghost use Rattle.std.specs.Option.{is_some, unwrap_or};
-ghost use Rattle.device_firmware.specs.Firmware.{firmware_after};
+ghost use Rattle.device_firmware.specs.Firmware.{firmware_after, is_ready};
 ghost use Rattle.instance_store.specs.Stored.{has_instance, instance_of};
-ghost use Rattle.lwm2m_payloads.specs.Changes.{has_too_many, instance_written};
+ghost use Rattle.lwm2m_payloads.specs.Changes.{has_too_many, instance_written, is_kept_as};
 ghost use Rattle.object_defs.specs.Lines.{first_line};
-ghost use Rattle.device_requests.specs.Answer.{Leaves};
+ghost use Rattle.device_requests.specs.Answer.{Leaves, takes_memory};
+ghost use Rattle.device_requests.specs.Managed.{with_stored};
 ghost use Rattle.device_requests.specs.Options.{content_format_of};
+ghost use Rattle.device_requests.specs.Read.{format_at};
 ghost use Rattle.device_requests.specs.Inside.{has_place};
 ghost use Rattle.device_requests.specs.Write.{can_be_written, event_at, event_in, give, given_to_part, given_to_resource, is_target, is_writable, mode_at, new_values, package_in, payload_lines, resource_exceeds, resource_written, uri_in, value_lines, values_exceed, values_given, values_written, write_outcome, write_unless};
 
@@ -95,7 +97,8 @@ fn package_in(given: &Given) -> Option<FirmwareEvent>
 
 /// What writing this as the Package URI is to the firmware.
 fn uri_in(given: &Given) -> Result<Option<FirmwareEvent>, AllocError>
-    ensures { IfOk result (λ e. e ≡ uri_in given.now) }
+    ensures event { IfOk result (λ e. e ≡ uri_in given.now) }
+    ensures grows { OnErr result (is_some (uri_in given.now) ≡ true) }
 {
     match given {
         Given::Single(value) => match value {
@@ -111,7 +114,8 @@ fn uri_in(given: &Given) -> Result<Option<FirmwareEvent>, AllocError>
 
 /// What writing this to a resource is to the firmware.
 fn event_at(object: u16, resource: u16, given: &Given) -> Result<Option<FirmwareEvent>, AllocError>
-    ensures { IfOk result (λ e. e ≡ event_at object resource given.now) }
+    ensures event { IfOk result (λ e. e ≡ event_at object resource given.now) }
+    ensures grows { OnErr result (is_some (event_at object resource given.now) ≡ true) }
 {
     if object == FIRMWARE_UPDATE && resource == PACKAGE {
         return Ok(package_in(given));
@@ -124,7 +128,8 @@ fn event_at(object: u16, resource: u16, given: &Given) -> Result<Option<Firmware
 
 /// What a Write is to the firmware.
 fn event_in(path: Path, values: &NewValues) -> Result<Option<FirmwareEvent>, AllocError>
-    ensures { IfOk result (λ e. e ≡ event_in path values.now) }
+    ensures event { IfOk result (λ e. e ≡ event_in path values.now) }
+    ensures grows { OnErr result (is_some (event_in path values.now) ≡ true) }
 {
     match path {
         Path::Resource(object, _, resource) => match values {
@@ -142,7 +147,8 @@ fn given_to_resource(
     format: Format,
     payload: &[u8],
 ) -> Result<Option<Given>, AllocError>
-    ensures { IfOk result (λ g. g ≡ given_to_resource definition format payload.now) }
+    ensures given { IfOk result (λ g. g ≡ given_to_resource definition format payload.now) }
+    ensures defined { OnErr result (is_some definition ≡ true) }
 {
     match definition {
         None => Ok(None),
@@ -158,7 +164,8 @@ fn given_to_part(
     format: Format,
     payload: &[u8],
 ) -> Result<Option<Given>, AllocError>
-    ensures { IfOk result (λ g. g ≡ given_to_part definition part format payload.now) }
+    ensures given { IfOk result (λ g. g ≡ given_to_part definition part format payload.now) }
+    ensures defined { OnErr result (is_some definition ≡ true) }
 {
     match definition {
         None => Ok(None),
@@ -212,7 +219,8 @@ fn resource_exceeds(
     place: ResourcePath,
     given: &Given,
 ) -> Result<bool, AllocError>
-    ensures { IfOk result (λ b. b ≡ resource_exceeds mode definition store.now place given.now) }
+    ensures exceeds { IfOk result (λ b. b ≡ resource_exceeds mode definition store.now place given.now) }
+    ensures kept { OnErr result (is_kept_as definition ≡ true) }
 {
     if !is_readable(definition) {
         return Ok(false);
@@ -261,7 +269,8 @@ fn write_resource(
 ) -> Result<(), AllocError>
     requires there { has_instance store.old (instance_of place) ≡ true }
     requires room { resource_exceeds mode definition store.old place given ≡ false }
-    ensures { OnOk result (store.new ≡ resource_written mode definition store.old place given) }
+    ensures written { OnOk result (store.new ≡ resource_written mode definition store.old place given) }
+    ensures kept { OnErr result (is_kept_as definition ≡ true) }
 {
     if !is_readable(definition) {
         return Ok(());
@@ -331,10 +340,11 @@ impl Client {
     /// than it may.
     fn set(&mut self, mode: Mode, path: Path, values: NewValues) -> Result<Answer, AllocError>
         requires { has_place self.old.store path ≡ true }
-        ensures { IfOk result (λ a. Leaves a self.new
+        ensures outcome { IfOk result (λ a. Leaves a self.new
             (write_unless (first_line
             ((values_exceed mode self.old.catalogue self.old.store path values, Code.InternalServerError) ∷ []))
             self.old (values_written mode self.old.catalogue self.old.store path values))) }
+        ensures left { OnErr result (self.new ≡ with_stored self.old self.new.store) }
     {
         if exceeds(mode, &self.catalog, &self.store, path, &values)? {
             return Ok(Answer::bare(self.alloc, Code::InternalServerError));
@@ -345,10 +355,14 @@ impl Client {
 
     /// Gives the firmware what was written, where it is in a state for it.
     fn turn(&mut self, event: FirmwareEvent) -> Result<Answer, AllocError>
-        ensures { IfOk result (λ a. Leaves a self.new
+        ensures outcome { IfOk result (λ a. Leaves a self.new
             (write_unless (first_line
             ((not (is_some (firmware_after self.old.store event)), Code.MethodNotAllowed) ∷ []))
             self.old (unwrap_or (firmware_after self.old.store event) self.old.store))) }
+
+        // Only where Package URI, State and Update Result are not all held.
+        ensures memory { OnErr result (is_ready self.old.store ≡ false) }
+        ensures unchanged { OnErr result (self.new ≡ self.old) }
     {
         if take(self.alloc, &mut self.store, event)? {
             return Ok(Answer::bare(self.alloc, Code::Changed));
@@ -365,8 +379,9 @@ impl Client {
         payload: &[u8],
     ) -> Result<Answer, AllocError>
         requires { has_place self.old.store path ≡ true }
-        ensures { IfOk result (λ a. let values = values_given self.old.catalogue path payload.now format in
+        ensures outcome { IfOk result (λ a. let values = values_given self.old.catalogue path payload.now format in
             Leaves a self.new (give (value_lines self.old mode path values) self.old mode path values)) }
+        ensures left { OnErr result (self.new ≡ with_stored self.old self.new.store) }
     {
         let Some(values) = values_given(self.alloc, &self.catalog, path, payload, format)? else {
             return Ok(Answer::bare(self.alloc, Code::BadRequest));
@@ -386,9 +401,12 @@ impl Client {
         message: &Message,
     ) -> Result<Answer, AllocError>
         requires { has_place self.old.store path ≡ true }
-        ensures { IfOk result (λ a. let number = content_format_of message.now.options in
+        ensures outcome { IfOk result (λ a. let number = content_format_of message.now.options in
             Leaves a self.new (give (payload_lines self.old mode path number message.now.payload) self.old mode path
             (new_values self.old path number message.now.payload))) }
+        ensures grows { OnErr result (let number = content_format_of message.now.options in
+            is_some (format_at self.old.catalogue path number) ≡ true) }
+        ensures left { OnErr result (self.new ≡ with_stored self.old self.new.store) }
     {
         let number = content_format_of(message.options().as_slice());
         let Some(format) = format_for(path, definition_at(&self.catalog, path), number) else {
@@ -406,9 +424,15 @@ impl Client {
         path: Path,
         message: &Message,
     ) -> Result<Answer, AllocError>
-        ensures { IfOk result
+        ensures outcome { IfOk result
             (λ a. Leaves a self.new
             (write_outcome self.old server mode path (content_format_of message.now.options) message.now.payload)) }
+
+        // Only what the payload says takes memory. After an error some of it may be set.
+        ensures grows { OnErr result
+            (let number = content_format_of message.now.options in
+            takes_memory (write_outcome self.old server mode path number message.now.payload).answer.code ≡ true) }
+        ensures left { OnErr result (self.new ≡ with_stored self.old self.new.store) }
     {
         if path.object() == SECURITY {
             return Ok(Answer::bare(self.alloc, Code::Unauthorized));

@@ -1,10 +1,10 @@
 //! A Write-Attributes: its rules, who may set attributes where, and what its queries change.
 
-ghost use Rattle.std.specs.Prelude.{◌≡◌, ◌∷◌, [], not, IfOk};
+ghost use Rattle.std.specs.Prelude.{◌≡◌, ◌≢◌, ◌∷◌, [], true, not, IfOk, OnErr};
 ghost use Rattle.std.specs.Option.{is_some};
 ghost use Rattle.notifier.specs.Query.{changes_of};
 ghost use Rattle.object_defs.specs.Lines.{first_line};
-ghost use Rattle.device_requests.specs.Answer.{Leaves};
+ghost use Rattle.device_requests.specs.Answer.{Leaves, takes_memory};
 ghost use Rattle.device_requests.specs.Options.{queries_of};
 ghost use Rattle.device_requests.specs.WriteAttributes.{agreed, annotate_unless, annotates, annotates_at, attributes_outcome, changes_given, is_number, is_number_kind, level_at, spelled};
 
@@ -133,9 +133,14 @@ impl Client {
         path: Path,
         changes: &[Change],
     ) -> Result<Answer, AllocError>
-        ensures { IfOk result (λ a. let given = agreed self.old.attributes server path changes.now in
+        ensures outcome { IfOk result (λ a. let given = agreed self.old.attributes server path changes.now in
             Leaves a self.new
             (annotate_unless (first_line ((not (is_some given), Code.BadRequest) ∷ [])) self.old given)) }
+
+        // Only changes after which the numbers agree take memory.
+        ensures grows { OnErr result (is_some (agreed self.old.attributes server path changes.now) ≡ true) }
+        ensures some { OnErr result (changes.now ≢ []) }
+        ensures unchanged { OnErr result (self.new ≡ self.old) }
     {
         match self.attributes.write(server, path, changes) {
             Ok(()) => Ok(Answer::bare(self.alloc, Code::Changed)),
@@ -151,8 +156,13 @@ impl Client {
         path: Path,
         message: &Message,
     ) -> Result<Answer, AllocError>
-        ensures { IfOk result (λ a. Leaves a self.new
+        ensures outcome { IfOk result (λ a. Leaves a self.new
             (attributes_outcome self.old server path (queries_of message.now.options))) }
+
+        // Only what the queries say takes memory.
+        ensures grows { OnErr result (takes_memory
+            (attributes_outcome self.old server path (queries_of message.now.options)).answer.code ≡ true) }
+        ensures unchanged { OnErr result (self.new ≡ self.old) }
     {
         if path.object() == SECURITY {
             return Ok(Answer::bare(self.alloc, Code::Unauthorized));

@@ -9,6 +9,7 @@ use Rattle.std.specs.FinMap as map
 use Rattle.object_defs.specs.declared.path.Path.{Path}
 use Rattle.notifier.specs.declared.attribute.Name.{Name}
 use Rattle.notifier.specs.declared.attribute.Change.{Change}
+use Rattle.notifier.specs.declared.attribute.AttributeKey.{AttributeKey}
 use Rattle.object_defs.specs.declared.path.Path.TheVariants.{Object, Instance, Resource, Part}
 use Rattle.notifier.specs.declared.attribute.Name.TheVariants.{Pmin, Pmax, Gt, Lt, St}
 use Rattle.notifier.specs.contracts.attribute.Name.{the_type}
@@ -61,3 +62,14 @@ after_written m s p [] n = refl
 after_written m s p (c ∷ cs) n =
     after_written (with_number m (key_of s p c.name) c.number) s p cs n
     ∙ ap (λ z. last_of z cs n) (changed_number m s p c.name c.number n)
+
+-- entries that make no map are none
+pub none_left : (es : List (AttributeKey × ℤ)) → map.from_entries {R = key_cmp} es ≡ map.empty → es ≡ []
+none_left [] h = refl
+none_left (e ∷ es) h =
+    let there : map.get (map.from_entries {R = key_cmp} (e ∷ es)) e.0 ≡ Some e.1 =
+    map.get-from_entries key_total (e ∷ es) e.0
+    ∙ ap (λ b. cond b (Some e.1) (map.find key_cmp e.0 es)) ((eq_by_cmp_equiv key_total).refl e.0)
+    in
+    let gone : Some e.1 ≡ None = sym there ∙ ap (λ m. map.get m e.0) h ∙ map.get-empty key_cmp e.0 in
+    cc

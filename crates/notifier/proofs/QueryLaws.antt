@@ -1,12 +1,12 @@
 -- Queries, read one after another.
-use Rattle.std.proofs.Common.{◌≡◌, ◌≢◌, ℕ, Bool, true, false, if◌then◌else◌, Option, None, Some, List, [], ◌∷◌, ◌++◌, Result, Ok, Err, map, drop, get_or, length, ◌+◌, ◌<◌, ℤ, sym, ap, ◌∙◌, add-one, drop-cons, Bor}
+use Rattle.std.proofs.Common.{◌≡◌, ◌≢◌, ℕ, Bool, true, false, if◌then◌else◌, Option, None, Some, List, [], ◌∷◌, ◌++◌, Result, Ok, Err, map, drop, get_or, length, ◌+◌, ◌<◌, ℤ, sym, ap, ◌∙◌, add-one, drop-cons, Bor, ◌⊎◌, inl, inr, IsOk, arith, refl, subst}
 use Rattle.std.specs.List.{list_any}
 use Rattle.notifier.specs.declared.attribute.Change.{Change}
 use Rattle.notifier.specs.declared.attribute.Level.{Level}
 use Rattle.notifier.specs.declared.fault.QueryFault.{QueryFault}
 use Rattle.notifier.specs.declared.attribute.Name.{Name}
 use Rattle.notifier.specs.declared.fault.QueryFault.TheVariants as fault
-use Rattle.notifier.specs.Query.{reading_of, change_of, change_to, changes_of, is_of, name_of, name_part, number_part, stands_at, target_of}
+use Rattle.notifier.specs.Query.{BeginsWithChange, reading_of, change_of, change_to, changes_of, is_of, name_of, name_part, number_part, stands_at, target_of}
 
 -- where the first query spells a change, the others follow it
 pub after_first : (before c : List Change) (level : Level) (q : List ℕ) (qs : List (List ℕ)) → changes_of before level (q ∷ []) ≡ Ok c → changes_of before level (q ∷ qs) ≡ changes_of c level qs
@@ -35,6 +35,24 @@ one_read before c level qs i d inside h =
 
 pub one_refused : (before : List Change) (level : Level) (qs : List (Bor (List ℕ))) (i : ℕ) (d : Bor (List ℕ)) (e : QueryFault) → i < length qs → changes_of before level ((get_or qs i d).now ∷ []) ≡ Err e → changes_of before level (map (λ q. q.now) (drop i qs)) ≡ Err e
 one_refused before level qs i d e inside h = ap (changes_of before level) (from_place qs i d inside) ∙ fault_first before level (get_or qs i d).now (map (λ q. q.now) (drop (i + 1) qs)) e h
+
+-- a query that is read spells a change
+pub one_spelled : (before c : List Change) (level : Level) (q : List ℕ) → changes_of before level (q ∷ []) ≡ Ok c → IsOk (reading_of before level q)
+one_spelled before c level q h =
+    elim (reading_of before level q) as (λ r. (elim r as (λ _. Result (List Change) QueryFault) [ Ok x ↦ Ok (before ++ x ∷ []) | Err e ↦ Err e ]) ≡ Ok c → IsOk r) [
+      | Ok x ↦ λ k. refl
+      | Err e ↦ λ k. cc
+    ] h
+
+-- so where one does, the first does
+pub first_spelled : (level : Level) (qs : List (Bor (List ℕ))) (i : ℕ) (d : Bor (List ℕ)) (before : List Change) → i < length qs → ((i ≡ 0) × (before ≡ [])) ⊎ BeginsWithChange level (map (λ q. q.now) qs) → IsOk (reading_of before level (get_or qs i d).now) → BeginsWithChange level (map (λ q. q.now) qs)
+first_spelled level qs i d before inside (inr begun) spelled = begun
+first_spelled level [] i d before inside (inl none) spelled = omega arith
+first_spelled level (q ∷ qs) i d before inside (inl none) spelled =
+    let first : IsOk (reading_of [] level (get_or (q ∷ qs) 0 d).now) =
+    subst (λ n. IsOk (reading_of [] level (get_or (q ∷ qs) n d).now)) none.0 (subst (λ b. IsOk (reading_of b level (get_or (q ∷ qs) i d).now)) none.1 spelled)
+    in
+    first
 
 -- ---- memory
 

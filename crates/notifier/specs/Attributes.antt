@@ -1,7 +1,7 @@
 -- The attributes that servers write, and how a call changes them (OMA LwM2M 1.1 Core, attributes).
 use Rattle.std.specs.Prelude.{◌≡◌, ℕ, zero, suc, ℤ, pos, ◌+ℤ◌, ◌*ℤ◌, int_lt, ◌==◌, Bool, true, false, not, ◌&&◌, List, [], ◌∷◌, map as map_list, filter, Option, None, Some, refl}
 use Rattle.std.specs.declared.cmp.Ordering.{Ordering}
-use Rattle.std.specs.Ordering.{nat_cmp, ordering_then}
+use Rattle.std.specs.Ordering.{nat_cmp, on, ordering_then}
 use Rattle.std.specs.Option.{option_cmp, option_or}
 use Rattle.std.specs.Coded.{Coded, code_by, coded×, coded_ℕ, coded_option}
 use Rattle.std.specs.FinMap as map
@@ -11,7 +11,6 @@ use Rattle.object_defs.specs.declared.path.Path.TheVariants as path
 use Rattle.notifier.specs.declared.attribute.Name.{Name}
 use Rattle.notifier.specs.declared.attribute.Name.TheVariants.{Pmin, Pmax, Gt, Lt, St}
 use Rattle.notifier.specs.declared.attribute.Name.TheVariants as name
-use Rattle.notifier.specs.contracts.attribute.NameOrd.TheImpl.{cmp-value}
 use Rattle.notifier.specs.declared.attribute.Change.{Change}
 use Rattle.notifier.specs.declared.attribute.AttributeKey.{AttributeKey}
 
@@ -39,7 +38,7 @@ name_at-rank St = refl
 
 -- the order of the names
 abbrev pub name_cmp : Name → Name → Ordering
-name_cmp = cmp-value.it
+name_cmp = on rank nat_cmp
 
 -- by server, then by the numbers of the path, a path before those below it, then by name
 abbrev pub key_cmp : AttributeKey → AttributeKey → Ordering

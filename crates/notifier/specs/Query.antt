@@ -1,6 +1,6 @@
 -- Changes of attributes as the Uri-Query options of a Write-Attributes request spell them: `name=number`, or `name` alone, which unsets it
 -- (OMA LwM2M 1.1 Core, attributes; the numbers' ranges are this profile's).
-use Rattle.std.specs.Prelude.{ℕ, ◌+◌, ◌-◌, ◌*◌, ◌^◌, ◌==◌, ℤ, pos, neg_ℤ, int_lt, nat_lt, nat_le, Bool, true, false, cond, ◌&&◌, if◌then◌else◌, List, [], ◌∷◌, ◌++◌, length, take, drop, position, slice_index, Option, None, Some, option_map, option_and_then, Result, Ok, Err, codes, bytes_eq}
+use Rattle.std.specs.Prelude.{ℕ, ◌+◌, ◌-◌, ◌*◌, ◌^◌, ◌==◌, ℤ, pos, neg_ℤ, int_lt, nat_lt, nat_le, Bool, true, false, cond, ◌&&◌, if◌then◌else◌, List, [], ◌∷◌, ◌++◌, length, take, drop, position, slice_index, Option, None, Some, option_map, option_and_then, Result, Ok, Err, IsOk, codes, bytes_eq}
 use Rattle.std.specs.List.{list_all, list_any}
 use Rattle.std.specs.Option.{option_map_or}
 use Rattle.std.specs.Map.{lookup}
@@ -119,3 +119,8 @@ reading_of before level query = change_of before level (name_of (name_part query
 abbrev pub changes_of : List Change → Level → List (List ℕ) → Result (List Change) QueryFault
 changes_of before level [] = Ok before
 changes_of before level (q ∷ qs) = elim (reading_of before level q) [ Ok c ↦ changes_of (before ++ c ∷ []) level qs | Err e ↦ Err e ]
+
+-- there is a first query, and it spells a change
+abbrev pub BeginsWithChange : Level → List (List ℕ) → Type 0
+BeginsWithChange level [] = ⊥
+BeginsWithChange level (q ∷ qs) = IsOk (reading_of [] level q)

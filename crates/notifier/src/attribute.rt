@@ -1,10 +1,15 @@
 ghost use Rattle.std.specs.Prelude.{◌≡◌};
-ghost use Rattle.notifier.specs.Attributes.{key_of, path_of};
+ghost use Rattle.notifier.specs.Attributes.{key_of, path_of, rank};
+ghost use Rattle.std.proofs.Common.{rules};
+ghost use Rattle.std.specs.Cmp.{partial_order_from_own_ties};
+ghost use Rattle.std.specs.Cmp.Rules.{comparing};
+ghost use Rattle.std.specs.Ordering.{as_partial_cmp, nat_cmp, on};
 
 use object_defs::Path;
+use std::cmp::Ordering;
 
 /// The name of an attribute (OMA LwM2M 1.1 Core, attributes), in this order.
-#[derive(Clone, Copy, Debug, PartialEq, Eq, PartialOrd, Ord)]
+#[derive(Clone, Copy, Debug, PartialEq, Eq)]
 pub enum Name {
     /// Minimum period, in seconds.
     Pmin,
@@ -16,6 +21,45 @@ pub enum Name {
     Lt,
     /// Step, in thousandths.
     St,
+}
+
+impl Name {
+    /// The place of the name among the names.
+    fn rank(self) -> u8
+        ensures { result ≡ rank self }
+    {
+        match self {
+            Name::Pmin => 0,
+            Name::Pmax => 1,
+            Name::Gt => 2,
+            Name::Lt => 3,
+            Name::St => 4,
+        }
+    }
+}
+
+impl Ord for Name {
+    ghost cmp = { on rank nat_cmp };
+
+    ghost total = { Prim.search (comparing, rules) };
+
+    ghost matches_partial_cmp = { Prim.search (comparing, rules) };
+
+    ghost matches_eq = { Prim.search (comparing, rules) };
+
+    fn cmp(&self, other: &Name) -> Ordering {
+        self.rank().cmp(&other.rank())
+    }
+}
+
+impl PartialOrd for Name {
+    ghost partial_cmp = { as_partial_cmp (on rank nat_cmp) };
+
+    ghost laws = { partial_order_from_own_ties (Prim.search (comparing, rules)) (Prim.search (comparing, rules)) };
+
+    fn partial_cmp(&self, other: &Name) -> Option<Ordering> {
+        Some(self.cmp(other))
+    }
 }
 
 /// A change of one attribute.

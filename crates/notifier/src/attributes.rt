@@ -1,4 +1,4 @@
-ghost use Rattle.std.specs.Prelude.{◌≡◌, ◌↔◌, pos, ◌+ℤ◌, ◌*ℤ◌, int_lt, ◌==◌, not, filter, map as map_list, Err, IfOk, OnOk, OnErr, IsErrOf, IsFalse};
+ghost use Rattle.std.specs.Prelude.{◌≡◌, ◌≢◌, ◌↔◌, [], pos, ◌+ℤ◌, ◌*ℤ◌, int_lt, ◌==◌, not, filter, map as map_list, Err, IfOk, OnOk, OnErr, IsErrOf, IsFalse};
 ghost use Rattle.std.specs.FinMap as map;
 ghost use Rattle.object_defs.specs.declared.path.Path.TheVariants as paths;
 ghost use Rattle.notifier.specs.Attributes.{key_cmp, key_of, path_of, assigned, effective, with_number, written, agree, is_consistent, is_number, lies_under, without_under, listed};
@@ -191,7 +191,8 @@ fn list_of(
     numbers: &BTreeMap<AttributeKey, i64>,
     server: u16,
 ) -> Result<Vec<(Path, Name, i64)>, AllocError>
-    ensures { IfOk result (λ v. v.items ≡ listed (map.from_entries numbers.now.entries) server) }
+    ensures listed { IfOk result (λ v. v.items ≡ listed (map.from_entries numbers.now.entries) server) }
+    ensures grows { OnErr result (listed (map.from_entries {R = key_cmp} numbers.now.entries) server ≢ []) }
 {
     let mut found = Vec::new(alloc);
     for (key, number) in numbers {
@@ -215,8 +216,12 @@ impl Attributes {
 
     /// A copy, which equals its source.
     pub fn copy(&self) -> Result<Attributes, AllocError>
-        ensures { IfOk result (λ a. a ≡ self.now) }
+        ensures same { IfOk result (λ a. a ≡ self.now) }
+        ensures grows { OnErr result (self.now ≢ map.empty) }
     {
+        if self.numbers.is_empty() {
+            return Ok(Attributes::new(self.alloc));
+        }
         Ok(Attributes {
             alloc: self.alloc,
             numbers: clone_of(&self.numbers)?,
@@ -297,10 +302,16 @@ impl Attributes {
     pub fn write(&mut self, server: u16, path: Path, changes: &[Change]) -> Result<(), WriteFault>
         ensures ok { OnOk result (self.new ≡ written self.old server path changes.now) }
         ensures inconsistent { IsErrOf result WriteFault.Inconsistent ↔ IsFalse (is_consistent (written self.old server path changes.now) server path) }
+
+        // Only a change takes memory.
+        ensures grows { IsErrOf result WriteFault.Memory → changes.now ≢ [] }
         ensures unchanged { OnErr result (self.new ≡ self.old) }
     {
         if !self.stays_consistent(server, path, changes) {
             return Err(WriteFault::Inconsistent);
+        }
+        if changes.is_empty() {
+            return Ok(());
         }
         self.numbers = changed(&self.numbers, server, path, changes)?;
         Ok(())
@@ -309,7 +320,10 @@ impl Attributes {
     /// The attributes of a server with their paths, by the numbers of the paths, a path before
     /// those below it, and then by name.
     pub fn list(&self, server: u16) -> Result<Vec<(Path, Name, i64)>, AllocError>
-        ensures { IfOk result (λ v. v.items ≡ listed self.now server) }
+        ensures listed { IfOk result (λ v. v.items ≡ listed self.now server) }
+
+        // Only attributes of the server take memory.
+        ensures grows { OnErr result (listed self.now server ≢ []) }
     {
         list_of(self.alloc, &self.numbers, server)
     }

@@ -211,8 +211,12 @@ impl Observations {
 
     /// A copy, which equals its source.
     pub fn copy(&self) -> Result<Observations, AllocError>
-        ensures { IfOk result (λ o. o ≡ self.now) }
+        ensures same { IfOk result (λ o. o ≡ self.now) }
+        ensures grows { OnErr result (self.now ≢ []) }
     {
+        if self.entries.is_empty() {
+            return Ok(Observations::new(self.alloc));
+        }
         Ok(Observations {
             alloc: self.alloc,
             entries: clone_of(&self.entries)?,

@@ -1,8 +1,10 @@
 //! What a request leaves of the observations.
 
-ghost use Rattle.std.specs.Prelude.{◌≡◌, ◌≤◌, length, IfOk, OnOk};
-ghost use Rattle.device_machine.specs.Observing.{Notes, begun, entered, noted, noted_read, replies_non, reply_mid};
+ghost use Rattle.std.specs.Prelude.{◌≡◌, ◌≤◌, true, false, is_some, length, IfOk, OnErr, OnOk};
+ghost use Rattle.device_machine.specs.Observing.{Notes, begun, entered, lacks_place, noted, noted_read, replies_non, reply_mid};
 ghost use Rattle.device_notifications.specs.Second.{is_content};
+ghost use Rattle.device_requests.specs.Observe.{interest_of};
+ghost use Rattle.notifier.specs.Observed.{has_name};
 
 use crate::machine::Machine;
 use coap_codec::{Kind, Message};
@@ -66,6 +68,11 @@ fn enter(
     requires { length token ≤ 8 }
     ensures number { IfOk result (λ n. n ≡ (entered observations.old (record { server = server; token = token; path = path; accept = accept; report = report; second = second; number = 0; non = non; mid = mid })).number) }
     ensures left { OnOk result (observations.new ≡ (entered observations.old (record { server = server; token = token; path = path; accept = accept; report = report; second = second; number = 0; non = non; mid = mid })).left) }
+
+    // Only a new name takes memory, where there is a place for it.
+    ensures grows { OnErr result (has_name observations.old server token ≡ false) }
+    ensures place { OnErr result (lacks_place observations.old server token ≡ false) }
+    ensures unchanged { OnErr result (observations.new ≡ observations.old) }
 {
     let number = match observations.register(
         server, token, path, accept, report, second, mid, non,
@@ -90,6 +97,7 @@ impl Machine {
         ensures kept { IfOk result (λ n. Notes n self.old.kept self.new.kept
             (entered self.old.kept.observations (begun self.old.kept server message.now path accept payload))) }
         ensures recorded { OnOk result (self.new.recorded ≡ self.old.recorded) }
+        ensures unchanged { OnErr result (self.new ≡ self.old) }
     {
         let token = token_of(message)?;
         let report = report_of(&self.client, path, payload);
@@ -121,6 +129,8 @@ impl Machine {
     ) -> Result<Option<u32>, AllocError>
         ensures kept { IfOk result (λ n. Notes n self.old.kept self.new.kept (noted_read self.old.kept server message.now path accept answer.now)) }
         ensures recorded { OnOk result (self.new.recorded ≡ self.old.recorded) }
+        ensures grows { OnErr result (is_content answer.now ≡ true) }
+        ensures unchanged { OnErr result (self.new ≡ self.old) }
     {
         if is_content(answer) {
             let payload = answer.payload.clone()?;
@@ -139,6 +149,11 @@ impl Machine {
     ) -> Result<Option<u32>, AllocError>
         ensures kept { IfOk result (λ n. Notes n self.old.kept self.new.kept (noted self.old.kept server message.now answer.now)) }
         ensures recorded { OnOk result (self.new.recorded ≡ self.old.recorded) }
+
+        // Only the content of a Read that registers takes memory.
+        ensures content { OnErr result (is_content answer.now ≡ true) }
+        ensures grows { OnErr result (is_some (interest_of message.now) ≡ true) }
+        ensures unchanged { OnErr result (self.new ≡ self.old) }
     {
         match interest_of(message) {
             None => Ok(None),

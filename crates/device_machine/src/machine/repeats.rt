@@ -1,9 +1,10 @@
 //! The requests that a device has recorded, and what those get that come again.
 
-ghost use Rattle.std.specs.Prelude.{◌≡◌, ◌==◌, ◌&&◌, filter, find, IfOk};
+ghost use Rattle.std.specs.Prelude.{◌≡◌, ◌≢◌, ◌==◌, ◌&&◌, [], true, filter, find, IfOk, OnErr};
 ghost use Rattle.std.specs.Option.{option_copied};
 ghost use Rattle.coap_codec.specs.Message.{kind_number};
-ghost use Rattle.device_machine.specs.State.{is_live, living};
+ghost use Rattle.device_machine.specs.State.{is_live};
+ghost use Rattle.device_machine.specs.Memory.{again_grows, remembered};
 ghost use Rattle.device_machine.specs.Reactions.{again, repeat_of};
 
 use crate::event::Event;
@@ -70,7 +71,8 @@ fn keep_living(recorded: &mut Vec<Recorded>, clock: u64)
 
 /// A copy of recorded requests.
 pub(super) fn copy_of(alloc: Global, recorded: &[Recorded]) -> Result<Vec<Recorded>, AllocError>
-    ensures { IfOk result (λ v. v.items ≡ recorded.now) }
+    ensures same { IfOk result (λ v. v.items ≡ recorded.now) }
+    ensures grows { OnErr result (recorded.now ≢ []) }
 {
     let mut copies = Vec::with_capacity(alloc, recorded.len())?;
     for request in recorded {
@@ -86,7 +88,8 @@ pub(super) fn again(
     kind: Kind,
     reply: &Option<Bytes>,
 ) -> Result<Outputs, AllocError>
-    ensures { IfOk result (λ o. o ≡ again server kind reply.now) }
+    ensures sends { IfOk result (λ o. o ≡ again server kind reply.now) }
+    ensures grows { OnErr result (again_grows kind reply.now ≡ true) }
 {
     match kind {
         Kind::Con => sent_to(alloc, server, reply),
@@ -98,7 +101,7 @@ impl Machine {
     /// Forgets, behind an event, the recorded requests that no longer live. Only a tick can end a
     /// request's life.
     pub(crate) fn forget(&mut self, event: &Event)
-        ensures { living self.new ≡ living self.old }
+        ensures { self.new ≡ remembered self.old event.now }
     {
         if let Event::Tick(_) = event {
             keep_living(&mut self.recorded, self.clock);

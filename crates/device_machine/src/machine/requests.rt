@@ -1,8 +1,10 @@
 //! What a device does with a datagram.
 
-ghost use Rattle.std.specs.Prelude.{◌≡◌, IfOk};
+ghost use Rattle.std.specs.Prelude.{◌≡◌, true, is_some, IfOk, OnErr};
 ghost use Rattle.device_machine.specs.declared.event.Event.TheVariants.{Recv};
-ghost use Rattle.device_machine.specs.Reactions.{Gives, is_request, on_fresh, on_message, on_noise, on_outcome, on_request, reaction_to, repeat_of, reply_to};
+ghost use Rattle.device_machine.specs.Reactions.{Gives, claims_confirmable, is_request, on_fresh, on_message, on_noise, on_outcome, on_request, reaction_to, repeat_of, reply_to};
+ghost use Rattle.device_machine.specs.Memory.{KeepsRecords, message_grows, request_grows};
+ghost use Rattle.device_requests.specs.Managed.{has_account};
 ghost use Rattle.device_requests.specs.Request.{outcome_of};
 
 use super::repeats::again;
@@ -29,7 +31,9 @@ impl Machine {
         number: Option<u32>,
         answer: Answer,
     ) -> Result<Option<Message>, AllocError>
-        ensures { IfOk result (λ r. r ≡ reply_to self.now.kept.next_id message.now message.now.kind number answer) }
+        ensures reply { IfOk result (λ r. r ≡ reply_to self.now.kept.next_id message.now message.now.kind number answer) }
+        ensures grows { OnErr result
+            (is_some (reply_to self.now.kept.next_id message.now message.now.kind number answer) ≡ true) }
     {
         let is_refused = has_unrecognized_critical(message.options().as_slice());
         let (kind, mid) = match message.kind() {
@@ -54,7 +58,8 @@ impl Machine {
         reply: Option<Message>,
         act: Option<Act>,
     ) -> Result<Outputs, AllocError>
-        ensures { IfOk result (λ o. Gives o self.new (on_fresh self.old server message.now self.old.kept reply act)) }
+        ensures gives { IfOk result (λ o. Gives o self.new (on_fresh self.old server message.now self.old.kept reply act)) }
+        ensures unchanged { OnErr result (self.new ≡ self.old) }
     {
         let kind = message.kind();
         let mid = message.mid();
@@ -81,8 +86,9 @@ impl Machine {
 
     /// Does what a request asks for that is no repeat, answers and records it.
     fn take_fresh(&mut self, server: u16, message: &Message) -> Result<Outputs, AllocError>
-        ensures { IfOk result
+        ensures gives { IfOk result
             (λ o. Gives o self.new (on_outcome self.old server message.now (outcome_of self.old.kept.client server message.now))) }
+        ensures left { OnErr result (KeepsRecords self.old self.new) }
     {
         let answer = self.client.answer(server, message)?;
         let number = self.note(server, message, &answer)?;
@@ -93,8 +99,10 @@ impl Machine {
 
     /// Takes a request.
     fn take_request(&mut self, server: u16, message: &Message) -> Result<Outputs, AllocError>
-        ensures { IfOk result
+        ensures gives { IfOk result
             (λ o. Gives o self.new (on_request self.old server message.now (repeat_of self.old server message.now))) }
+        ensures grows { OnErr result (request_grows message.now.kind (repeat_of self.old server message.now) ≡ true) }
+        ensures left { OnErr result (KeepsRecords self.old self.new) }
     {
         match self.repeat_of(server, message) {
             Some(first) => again(self.alloc, server, message.kind(), &first.reply),
@@ -104,7 +112,9 @@ impl Machine {
 
     /// Takes a message.
     fn take(&mut self, server: u16, message: &Message) -> Result<Outputs, AllocError>
-        ensures { IfOk result (λ o. Gives o self.new (on_message self.old server message.now message.now.kind)) }
+        ensures gives { IfOk result (λ o. Gives o self.new (on_message self.old server message.now message.now.kind)) }
+        ensures grows { OnErr result (message_grows self.old server message.now message.now.kind ≡ true) }
+        ensures left { OnErr result (KeepsRecords self.old self.new) }
     {
         match message.kind() {
             Kind::Con => {
@@ -133,7 +143,10 @@ impl Machine {
 
     /// Takes bytes that are no message.
     fn take_noise(&self, server: u16, bytes: &[u8]) -> Result<Outputs, AllocError>
-        ensures { IfOk result (λ o. Gives o self.now (on_noise self.now server bytes.now)) }
+        ensures gives { IfOk result (λ o. Gives o self.now (on_noise self.now server bytes.now)) }
+
+        // Only a Reset takes memory.
+        ensures grows { OnErr result (claims_confirmable bytes.now ≡ true) }
     {
         let Some((kind, mid)) = header(bytes) else {
             return Ok(Outputs::none(self.alloc));
@@ -146,7 +159,11 @@ impl Machine {
 
     /// Takes a datagram.
     pub(super) fn receive(&mut self, server: u16, bytes: &[u8]) -> Result<Outputs, AllocError>
-        ensures { IfOk result (λ o. Gives o self.new (reaction_to self.old (Recv server bytes.now))) }
+        ensures gives { IfOk result (λ o. Gives o self.new (reaction_to self.old (Recv server bytes.now))) }
+
+        // A datagram of a server without an account takes no memory.
+        ensures grows { OnErr result (has_account self.old.kept.client server ≡ true) }
+        ensures left { OnErr result (KeepsRecords self.old self.new) }
     {
         if !self.client.has_account(server) {
             return Ok(Outputs::none(self.alloc));

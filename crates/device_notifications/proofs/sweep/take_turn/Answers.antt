@@ -10,15 +10,15 @@ use Rattle.device_notifications.proofs.sweep.take_turn.Goals as goal
 some_same : (a b : Observation) → Some a ≡ Some b → a ≡ b
 some_same a b h = cc
 
-pub returns-in-Quiet : goal.returns-in-Quiet
-returns-in-Quiet c =
+pub returns-in-Quiet-clause-passes : goal.returns-in-Quiet-clause-passes
+returns-in-Quiet-clause-passes c =
     λ o at.
     let same = some_same c.in-Some.observation.now o (c.in-Some.ensures.value ∙ at) in
     passes_quiet c.args.client.now c.args.clock c.args.observations.now c.args.place o c.args.outbox.now at
     (sym c.in-Quiet.is ∙ c.in_ok-judge.ensures ∙ ap (λ x. verdict_of c.args.client.now c.args.clock x) same)
 
-pub returns-in_ok-post-in-Sends : goal.returns-in_ok-post-in-Sends
-returns-in_ok-post-in-Sends c =
+pub returns-in_ok-post-in-Sends-clause-passes : goal.returns-in_ok-post-in-Sends-clause-passes
+returns-in_ok-post-in-Sends-clause-passes c =
     λ o at.
     let same = some_same c.in-Some.observation.now o (c.in-Some.ensures.value ∙ at) in
     let number = c.next_number.ensures ∙ ap (λ (x : Observation). next_number x.number) same in
@@ -28,10 +28,10 @@ returns-in_ok-post-in-Sends c =
     (sym c.in-Sends.is ∙ c.in_ok-judge.ensures ∙ ap (λ x. verdict_of c.args.client.now c.args.clock x) same)
     (c.in_ok-datagram_of-in-Sends.ensures ∙ (λ j. datagram_of (same j) (c.next_id-mid.ensures j) (Some (number j)) c.in-Sends.answer))
     (c.sent.ensures.sent ∙ (λ j. with_sent c.args.observations.now c.args.place c.args.clock (c.next_id-mid.ensures j) (report j)))
-    c.in_ok-post-in-Sends.ensures
+    c.in_ok-post-in-Sends.ensures.posted
 
-pub returns-in_ok-post-in-Gone : goal.returns-in_ok-post-in-Gone
-returns-in_ok-post-in-Gone c =
+pub returns-in_ok-post-in-Gone-clause-passes : goal.returns-in_ok-post-in-Gone-clause-passes
+returns-in_ok-post-in-Gone-clause-passes c =
     λ o at.
     let same = some_same c.in-Some.observation.now o (c.in-Some.ensures.value ∙ at) in
     passes_gone c.args.client.now c.args.clock c.args.observations.now c.remove.new.self c.args.place o c.args.outbox.now c.post-in-Gone.new.self
@@ -39,4 +39,4 @@ returns-in_ok-post-in-Gone c =
     (sym c.in-Gone.is ∙ c.in_ok-judge.ensures ∙ ap (λ x. verdict_of c.args.client.now c.args.clock x) same)
     (c.in_ok-datagram_of-in-Gone.ensures ∙ (λ j. datagram_of (same j) (c.next_id-mid.ensures j) None c.in-Gone.answer))
     c.remove.ensures
-    c.in_ok-post-in-Gone.ensures
+    c.in_ok-post-in-Gone.ensures.posted

@@ -1,19 +1,20 @@
 -- The device's own requests and those of the flat state are alike: the same ones live.
 use Rattle.std.proofs.Common.{refl, ap, ◌∙◌}
 use Rattle.device_machine.specs.State.{living}
-use Rattle.device_machine.proofs.Living.{alike}
+use Rattle.device_machine.proofs.Living.{alike, living_remembered}
 use Rattle.device_machine.proofs.device.Device.step.Goals as goal
 
 pub returns-clause-outputs : goal.returns-clause-outputs
 returns-clause-outputs c =
-    λ f shows. c.in_ok-outputs.ensures.sent
+    λ f shows. c.in_ok-outputs.ensures.gives.sent
     ∙ (alike c.self.inside.machine f (ap (λ s. s.flat) c.self.view_is ∙ shows.holds) c.args.event.now).outputs
 
 pub returns-clause-shows : goal.returns-clause-shows
 returns-clause-shows c =
     λ f shows. record {
       ready = refl;
-      holds = c.forget.ensures
-          ∙ ap living c.in_ok-outputs.ensures.then_flat
+      holds = ap living c.forget.ensures
+          ∙ living_remembered c.react.new.self c.args.event.now
+          ∙ ap living c.in_ok-outputs.ensures.gives.then_flat
           ∙ (alike c.self.inside.machine f (ap (λ s. s.flat) c.self.view_is ∙ shows.holds) c.args.event.now).living_then;
     }

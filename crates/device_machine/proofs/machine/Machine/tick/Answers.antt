@@ -1,0 +1,16 @@
+-- Without observations nothing is sent.
+use Rattle.std.proofs.Common.{◌≡◌, ◌∙◌, ◌++◌, [], ap}
+use Rattle.notifier.proofs.Answers.{on_error}
+use Rattle.device_notifications.specs.Posted.{Posted}
+use Rattle.device_notifications.specs.Second.{seconds}
+use Rattle.device_machine.proofs.Ticks.{none_sent}
+use Rattle.device_machine.proofs.machine.Machine.tick.Goals as goal
+
+pub returns-in_err-outputs-clause-grows : goal.returns-in_err-outputs-clause-grows
+returns-in_err-outputs-clause-grows c =
+    on_error c.from_residual-in_err-outputs.result _
+    (λ none. c.in_err-outputs.ensures.grows
+    (c.into_vec.ensures ∙ c.in_ok-seconds.ensures.done.sent
+    ∙ ap (λ (box : Posted). box.sent ++ (seconds c.self.inside.client c.self.inside.clock c.args.count box.next_id c.self.inside.observations).sent) c.new-outbox.ensures
+    ∙ ap (λ os. (seconds c.self.inside.client c.self.inside.clock c.args.count c.self.inside.next_id os).sent) (ap (λ f. f.kept.observations) c.self.view_is ∙ none)
+    ∙ none_sent c.self.inside.client c.self.inside.clock c.args.count c.self.inside.next_id))
