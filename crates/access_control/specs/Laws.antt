@@ -6,13 +6,15 @@ use Rattle.access_control.specs.Rights.{speaks_of, right_of, control_of, entry_o
 -- a server that is alone has every right
 abbrev pub OneAccountHasAll : Type 0
 OneAccountHasAll =
-    (stored : Stored) (accounts server object instance : ℕ) → accounts ≤ 1 → right_of stored accounts server object instance ≡ every_right
+    (stored : Stored) (accounts server object instance : ℕ) → accounts ≤ 1
+    → right_of stored accounts server object instance ≡ every_right
 
 -- with more accounts nobody may create or delete an instance of object 2
 abbrev pub NobodyMakesControls : Type 0
 NobodyMakesControls =
     (stored : Stored) (accounts server instance : ℕ) → 2 ≤ accounts
-    → ((right_of stored accounts server 2 instance).create ≡ false) × ((right_of stored accounts server 2 instance).delete ≡ false)
+    → ((right_of stored accounts server 2 instance).create ≡ false)
+    × ((right_of stored accounts server 2 instance).delete ≡ false)
 
 -- with more accounts a server's own entry decides, whoever the owner is
 abbrev pub OwnEntryDecides : Type 0
@@ -39,10 +41,12 @@ pub record IsLowest (stored : Stored) (object instance j : ℕ) : Type 0 where
 
 -- it decides, whatever else speaks of them
 abbrev pub LowestDecides : Type 0
-LowestDecides = (stored : Stored) (object instance j : ℕ) → (control_of stored object instance ≡ Some j) ↔ IsLowest stored object instance j
+LowestDecides = (stored : Stored) (object instance j : ℕ) → (control_of stored object instance ≡ Some j)
+    ↔ IsLowest stored object instance j
 
 -- none decides where none speaks of them
 abbrev pub NoneDecides : Type 0
 NoneDecides =
     (stored : Stored) (object instance : ℕ)
-    → (control_of stored object instance ≡ None) ↔ ((k : ℕ) → is_there stored k ≡ true → speaks_of stored k object instance ≡ false)
+    → (control_of stored object instance ≡ None)
+    ↔ ((k : ℕ) → is_there stored k ≡ true → speaks_of stored k object instance ≡ false)

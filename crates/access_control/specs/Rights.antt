@@ -1,5 +1,6 @@
 -- What a server may do to an object instance (OMA LwM2M 1.1 Core, access control; the cases are this profile's).
-use Rattle.std.specs.Prelude.{ℕ, ◌==◌, nat_le, ℤ, pos, negsuc, bit_and, Bool, true, false, not, ◌&&◌, Option, None, Some, find, if◌then◌else◌}
+use Rattle.std.specs.Prelude.{ℕ, ◌==◌, nat_le, ℤ, pos, negsuc, bit_and, Bool, true, false, not, ◌&&◌, Option, None}
+use Rattle.std.specs.Prelude.{Some, find, if◌then◌else◌}
 use Rattle.std.specs.Int.{w64, cast_unsigned}
 use Rattle.lwm2m_values.specs.declared.value.Value.{Value}
 use Rattle.lwm2m_values.specs.declared.value.Value.TheVariants.{Text, Whole, Flag, Opaque, Moment, Link}
@@ -28,12 +29,20 @@ has_bit bits bit = not (bit_and bits bit == 0)
 -- the letters of an entry: the low five bits of its number in two's complement, from the lowest R, W, E, D, C
 abbrev pub letters_in : ℕ → Rights
 letters_in bits =
-    record { read = has_bit bits 1; write = has_bit bits 2; execute = has_bit bits 4; delete = has_bit bits 8; create = has_bit bits 16 }
+    record {
+      read = has_bit bits 1;
+      write = has_bit bits 2;
+      execute = has_bit bits 4;
+      delete = has_bit bits 8;
+      create =
+          has_bit bits 16;
+    }
 
 abbrev pub letters_of : ℤ → Rights
 letters_of number = letters_in (cast_unsigned w64 number)
 
--- a resource of an instance of object 2 Access Control: 0 Object ID, 1 Object Instance ID, 2 ACL, 3 Access Control Owner
+-- a resource of an instance of object 2 Access Control: 0 Object ID, 1 Object Instance ID, 2 ACL, 3 Access Control
+-- Owner
 abbrev pub control : ℕ → ℕ → ResourcePath
 control instance resource = record { object = 2; instance = instance; resource = resource }
 
@@ -81,7 +90,8 @@ right_by_default (Some number) = letters_of number
 -- by the server's own entry; without one every right for the owner; else by entry 0
 abbrev pub right_by_entry : Stored → ℕ → ℕ → Option ℤ → Rights
 right_by_entry stored j server (Some number) = letters_of number
-right_by_entry stored j server None = if owns stored j server then every_right else right_by_default (entry_of stored j 0)
+right_by_entry stored j server None =
+    if owns stored j server then every_right else right_by_default (entry_of stored j 0)
 
 abbrev pub right_by : Stored → ℕ → Option ℕ → Rights
 right_by stored server None = no_right
@@ -95,7 +105,8 @@ right_on_control stored server j = if owns stored j server then read_and_write e
 abbrev pub right_of : Stored → ℕ → ℕ → ℕ → ℕ → Rights
 right_of stored accounts server object instance =
     if nat_le accounts 1 then every_right
-    else (if object == 2 then right_on_control stored server instance else right_by stored server (control_of stored object instance))
+    else (if object == 2 then right_on_control stored server instance
+    else right_by stored server (control_of stored object instance))
 
 -- the instance number that no instance has, by which creating is allowed
 abbrev pub creation : ℕ

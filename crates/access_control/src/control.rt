@@ -1,7 +1,8 @@
 ghost use Rattle.std.specs.Prelude.{◌≡◌};
 ghost use Rattle.object_defs.specs.Path.{single_of};
 ghost use Rattle.instance_store.specs.Stored.{value_at, instances_of};
-ghost use Rattle.access_control.specs.Rights.{control, integer_in, is_number, names, speaks_of, entry_of, control_of, right_by, right_on_control, right_of, creation};
+ghost use Rattle.access_control.specs.Rights.{control, integer_in, is_number, names, speaks_of, entry_of, control_of};
+ghost use Rattle.access_control.specs.Rights.{right_by, right_on_control, right_of, creation};
 
 use crate::letters::{EVERY, NONE, READ, READ_WRITE, Rights, letters_of};
 use instance_store::Store;

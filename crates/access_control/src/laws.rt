@@ -1,6 +1,8 @@
-//! What follows from the cases of access control, for their readers. The calls do nothing; their contracts are the laws.
+//! What follows from the cases of access control, for their readers. The calls do nothing; their contracts are the
+//! laws.
 
-ghost use Rattle.access_control.specs.Laws.{OneAccountHasAll, NobodyMakesControls, OwnEntryDecides, UncontrolledIsClosed, LowestDecides, NoneDecides};
+ghost use Rattle.access_control.specs.Laws.{OneAccountHasAll, NobodyMakesControls, OwnEntryDecides};
+ghost use Rattle.access_control.specs.Laws.{UncontrolledIsClosed, LowestDecides, NoneDecides};
 
 /// A device with one account at most grants it every right.
 pub fn one_account()

@@ -1,5 +1,6 @@
 ghost use Rattle.std.specs.Prelude.{◌≡◌};
-ghost use Rattle.access_control.specs.Rights.{letters_in, letters_of, no_right, read_alone, read_and_write, every_right};
+ghost use Rattle.access_control.specs.Rights.{letters_in, letters_of, no_right, read_alone, read_and_write};
+ghost use Rattle.access_control.specs.Rights.{every_right};
 
 /// What a server may do to an object instance, letter by letter (OMA LwM2M 1.1 Core).
 #[derive(Clone, Copy, Debug, PartialEq, Eq)]

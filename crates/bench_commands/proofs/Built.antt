@@ -2,7 +2,7 @@
 use Rattle.std.proofs.Common.{◌≡◌, ℕ, List, [], ◌∷◌, Ok, Option, None, Some, length, inl, inr}
 use Rattle.std.specs.Result.{IsOkAnd}
 use Rattle.hex.specs.Hex.{decode_of}
-use Rattle.scenario_image.specs.Script.{Script}
+use Rattle.scenario_image.specs.Scenario.{Scenario}
 use Rattle.scenario_image.specs.Image.{IsImage}
 use Rattle.scenario_asm.specs.Canonical as canonical
 use Rattle.scenario_asm.specs.Text.{assembled}
@@ -19,71 +19,100 @@ use Rattle.bench_commands.specs.Printed.{printed}
 use Rattle.bench_commands.specs.Runs.{end_line, end_status, verdict_line, verdict_status}
 use Rattle.bench_commands.specs.Files.{Made}
 use Rattle.bench_commands.specs.RunAnswer.{IsSavedAs, IsRunAnswer, IsJudged, IsRunFault}
-use Rattle.bench_commands.specs.Jobs.{IsScenarioAt, IsTraceAt, IsImageFault, IsTraceFault, IsOneDone, IsAsmDone, IsDisDone, IsRunDone, IsCheckDone, IsRunRefused, IsCheckRefused}
+use Rattle.bench_commands.specs.Jobs.{IsScenarioAt, IsTraceAt, IsImageFault, IsTraceFault, IsOneDone, IsAsmDone}
+use Rattle.bench_commands.specs.Jobs.{IsDisDone, IsRunDone, IsCheckDone, IsRunRefused, IsCheckRefused}
 use Rattle.bench_commands.specs.Texts.{IsTextAt, count_line}
 use Rattle.bench_commands.specs.declared.fault.Fault.{Fault}
 use Rattle.bench_commands.specs.declared.status.Status.{Status}
 use Rattle.bench_commands.specs.declared.status.Status.TheVariants.{Done}
 
-pub scenario_at : (holds : List ℕ → List ℕ → Type 0) (path bytes : List ℕ) (s : Script) → holds path bytes → IsImage bytes s → IsScenarioAt holds path s
+pub scenario_at : (holds : List ℕ → List ℕ → Type 0) (path bytes : List ℕ) (s : Scenario) → holds path bytes
+    → IsImage bytes s → IsScenarioAt holds path s
 scenario_at holds path bytes s held image = record { bytes = bytes; held = held; image = image }
 
-pub text_at : (holds : List ℕ → List ℕ → Type 0) (path bytes : List ℕ) (s : Script) → holds path bytes → assembled bytes ≡ Ok s → IsTextAt holds path s
+pub text_at : (holds : List ℕ → List ℕ → Type 0) (path bytes : List ℕ) (s : Scenario) → holds path bytes
+    → assembled bytes ≡ Ok s → IsTextAt holds path s
 text_at holds path bytes s held same = record { bytes = bytes; held = held; denotes = so_denotes bytes s same }
 
-pub trace_at : (holds : List ℕ → List ℕ → Type 0) (path bytes : List ℕ) (es : List Entry) → holds path bytes → IsTraceFile bytes es → IsTraceAt holds path es
+pub trace_at : (holds : List ℕ → List ℕ → Type 0) (path bytes : List ℕ) (es : List Entry) → holds path bytes
+    → IsTraceFile bytes es → IsTraceAt holds path es
 trace_at holds path bytes es held file = record { bytes = bytes; held = held; file = file }
 
 pub not_saved : (es : List Entry) (made : List Made) → made ≡ [] → IsSavedAs None es made
 not_saved es made same = same
 
-pub saved_as : (path bytes : List ℕ) (es : List Entry) (made : List Made) → IsTraceFile bytes es → made ≡ (path, bytes) ∷ [] → IsSavedAs (Some path) es made
+pub saved_as : (path bytes : List ℕ) (es : List Entry) (made : List Made) → IsTraceFile bytes es
+    → made ≡ (path, bytes) ∷ [] → IsSavedAs (Some path) es made
 saved_as path bytes es made file same = (bytes, file, same)
 
-pub run_answer : (s : Script) (trace : Option (List ℕ)) (r : FleetRun) (status : Status) (text : List ℕ) (made : List Made) → IsFleetRun s r
-    → IsSavedAs trace r.entries made → text ≡ end_line (length r.entries) (waiting s r.entries) → status ≡ end_status (waiting s r.entries)
+pub run_answer : (s : Scenario) (trace : Option (List ℕ)) (r : FleetRun) (status : Status) (text : List ℕ)
+    (made : List Made) → IsFleetRun s r
+    → IsSavedAs trace r.entries made → text ≡ end_line (length r.entries) (waiting s r.entries)
+    → status ≡ end_status (waiting s r.entries)
     → IsRunAnswer s trace status text made
 run_answer s trace r status text made right saved said ended =
     record { run = r; right = right; saved = saved; text_is = said; status_is = ended }
 
-pub judged_as : (s : Script) (es : List Entry) (verdict : Verdict) (status : Status) (text : List ℕ) → Judges s es verdict → text ≡ verdict_line verdict
+pub judged_as : (s : Scenario) (es : List Entry) (verdict : Verdict) (status : Status) (text : List ℕ)
+    → Judges s es verdict → text ≡ verdict_line verdict
     → status ≡ verdict_status verdict → IsJudged s es status text
-judged_as s es verdict status text right said ended = record { verdict = verdict; judged = right; text_is = said; status_is = ended }
+judged_as s es verdict status text right said ended =
+    record { verdict = verdict; judged = right; text_is = said; status_is = ended }
 
 pub one_done : (hex : List ℕ) (status : Status) (text : List ℕ) (made : List Made) → status ≡ Done → made ≡ []
     → IsOkAnd (decode_of hex) (λ bytes. text ≡ printed (demo_outputs bytes)) → IsOneDone hex status text made
 one_done hex status text made ended none said = record { text_is = said; status_is = ended; made_is = none }
 
-pub asm_done : (holds : List ℕ → List ℕ → Type 0) (input output bytes : List ℕ) (s : Script) (status : Status) (text : List ℕ) (made : List Made)
-    → IsTextAt holds input s → IsImage bytes s → text ≡ count_line s → status ≡ Done → made ≡ (output, bytes) ∷ [] → IsAsmDone holds input output status text made
+pub asm_done : (holds : List ℕ → List ℕ → Type 0) (input output bytes : List ℕ) (s : Scenario) (status : Status)
+    (text : List ℕ) (made : List Made)
+    → IsTextAt holds input s → IsImage bytes s → text ≡ count_line s → status ≡ Done → made ≡ (output, bytes) ∷ []
+    → IsAsmDone holds input output status text made
 asm_done holds input output bytes s status text made found image said ended one =
-    record { scenario = s; found = found; bytes = bytes; image = image; text_is = said; status_is = ended; made_is = one }
+    record {
+      scenario = s;
+      found = found;
+      bytes = bytes;
+      image = image;
+      text_is = said;
+      status_is = ended;
+      made_is =
+          one;
+    }
 
-pub dis_done : (holds : List ℕ → List ℕ → Type 0) (input : List ℕ) (s : Script) (status : Status) (text : List ℕ) (made : List Made) → IsScenarioAt holds input s
+pub dis_done : (holds : List ℕ → List ℕ → Type 0) (input : List ℕ) (s : Scenario) (status : Status) (text : List ℕ)
+    (made : List Made) → IsScenarioAt holds input s
     → text ≡ canonical.printed s → status ≡ Done → made ≡ [] → IsDisDone holds input status text made
-dis_done holds input s status text made found said ended none = record { scenario = s; found = found; text_is = said; status_is = ended; made_is = none }
+dis_done holds input s status text made found said ended none =
+    record { scenario = s; found = found; text_is = said; status_is = ended; made_is = none }
 
-pub run_done : (holds : List ℕ → List ℕ → Type 0) (image : List ℕ) (trace : Option (List ℕ)) (status : Status) (s : Script) (text : List ℕ) (made : List Made)
+pub run_done : (holds : List ℕ → List ℕ → Type 0) (image : List ℕ) (trace : Option (List ℕ)) (status : Status)
+    (s : Scenario) (text : List ℕ) (made : List Made)
     → IsScenarioAt holds image s → IsRunAnswer s trace status text made → IsRunDone holds image trace status text made
 run_done holds image trace status s text made found ran = record { scenario = s; found = found; run = ran }
 
-pub check_done : (holds : List ℕ → List ℕ → Type 0) (image trace : List ℕ) (status : Status) (s : Script) (es : List Entry) (text : List ℕ) (made : List Made)
-    → IsScenarioAt holds image s → IsTraceAt holds trace es → IsJudged s es status text → made ≡ [] → IsCheckDone holds image trace status text made
+pub check_done : (holds : List ℕ → List ℕ → Type 0) (image trace : List ℕ) (status : Status) (s : Scenario)
+    (es : List Entry) (text : List ℕ) (made : List Made)
+    → IsScenarioAt holds image s → IsTraceAt holds trace es → IsJudged s es status text → made ≡ []
+    → IsCheckDone holds image trace status text made
 check_done holds image trace status s es text made found read right none =
     record { scenario = s; found = found; entries = es; read = read; judged = right; made_is = none }
 
-pub run_image : (holds : List ℕ → List ℕ → Type 0) (fails : List ℕ → Type 0) (image : List ℕ) (workers batch : ℕ) (f : Fault)
+pub run_image : (holds : List ℕ → List ℕ → Type 0) (fails : List ℕ → Type 0) (image : List ℕ) (workers batch : ℕ)
+    (f : Fault)
     → IsImageFault holds fails image f → IsRunRefused holds fails image workers batch f
 run_image holds fails image workers batch f h = inl h
 
-pub run_work : (holds : List ℕ → List ℕ → Type 0) (fails : List ℕ → Type 0) (image : List ℕ) (workers batch : ℕ) (f : Fault) (s : Script)
+pub run_work : (holds : List ℕ → List ℕ → Type 0) (fails : List ℕ → Type 0) (image : List ℕ) (workers batch : ℕ)
+    (f : Fault) (s : Scenario)
     → IsScenarioAt holds image s → IsRunFault s workers batch f → IsRunRefused holds fails image workers batch f
 run_work holds fails image workers batch f s found h = inr (record { scenario = s; found = found; fault = h })
 
-pub check_image : (holds : List ℕ → List ℕ → Type 0) (fails : List ℕ → Type 0) (image trace : List ℕ) (f : Fault) → IsImageFault holds fails image f
+pub check_image : (holds : List ℕ → List ℕ → Type 0) (fails : List ℕ → Type 0) (image trace : List ℕ) (f : Fault)
+    → IsImageFault holds fails image f
     → IsCheckRefused holds fails image trace f
 check_image holds fails image trace f h = inl h
 
-pub check_trace : (holds : List ℕ → List ℕ → Type 0) (fails : List ℕ → Type 0) (image trace : List ℕ) (f : Fault) (s : Script) → IsScenarioAt holds image s
+pub check_trace : (holds : List ℕ → List ℕ → Type 0) (fails : List ℕ → Type 0) (image trace : List ℕ) (f : Fault)
+    (s : Scenario) → IsScenarioAt holds image s
     → IsTraceFault holds fails trace f → IsCheckRefused holds fails image trace f
 check_trace holds fails image trace f s found h = inr (record { scenario = s; found = found; fault = h })

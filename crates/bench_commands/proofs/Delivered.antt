@@ -13,13 +13,18 @@ pub unwritten : (refused : Type 0) (e : FileFault) → IsFailure refused e → I
 unwritten refused file.Memory h = tt
 unwritten refused (file.Failed why) h = h
 
-pub unmade : (file_refuses : List ℕ → Type 0) (made_before made_after : Option (List Made)) (text_refuses : List ℕ → Type 0) (taken_before taken_after : Option (List ℕ))
-    (answer : Answer) (fault : Fault) → IsWritingFault (IfSome answer.file (λ f. file_refuses f.path.now)) fault → made_after ≡ made_before → taken_after ≡ taken_before
+pub unmade : (file_refuses : List ℕ → Type 0) (made_before made_after : Option (List Made))
+    (text_refuses : List ℕ → Type 0) (taken_before taken_after : Option (List ℕ))
+    (answer : Answer) (fault : Fault) → IsWritingFault (IfSome answer.file (λ f. file_refuses f.path.now)) fault
+    → made_after ≡ made_before → taken_after ≡ taken_before
     → IsUndelivered file_refuses made_before made_after text_refuses taken_before taken_after answer fault
 unmade file_refuses made_before made_after text_refuses taken_before taken_after answer fault failed none silent =
     inl (record { failed = failed; none = none; silent = silent })
 
-pub unprinted : (file_refuses : List ℕ → Type 0) (made_before made_after : Option (List Made)) (text_refuses : List ℕ → Type 0) (taken_before taken_after : Option (List ℕ))
-    (answer : Answer) (fault : Fault) → IsWritingFault (text_refuses (string_bytes answer.text)) fault → Grows made_before made_after (files_of answer.file)
+pub unprinted : (file_refuses : List ℕ → Type 0) (made_before made_after : Option (List Made))
+    (text_refuses : List ℕ → Type 0) (taken_before taken_after : Option (List ℕ))
+    (answer : Answer) (fault : Fault) → IsWritingFault (text_refuses (string_bytes answer.text)) fault
+    → Grows made_before made_after (files_of answer.file)
     → IsUndelivered file_refuses made_before made_after text_refuses taken_before taken_after answer fault
-unprinted file_refuses made_before made_after text_refuses taken_before taken_after answer fault failed made = inr (record { failed = failed; made = made })
+unprinted file_refuses made_before made_after text_refuses taken_before taken_after answer fault failed made =
+    inr (record { failed = failed; made = made })

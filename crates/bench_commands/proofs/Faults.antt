@@ -9,7 +9,7 @@ use Rattle.scenario_asm.specs.declared.fault.AsmFault.{AsmFault}
 use Rattle.scenario_asm.specs.Text.{assembled}
 use Rattle.byte_layout.specs.declared.fault.LayoutFault.{LayoutFault}
 use Rattle.byte_layout.specs.declared.fault.LayoutFault.TheVariants as layout
-use Rattle.scenario_image.specs.Script.{Script}
+use Rattle.scenario_image.specs.Scenario.{Scenario}
 use Rattle.trace_file.specs.declared.entry.Entry.{Entry}
 use Rattle.trace_file.specs.declared.fault.WriteFault.{WriteFault}
 use Rattle.trace_file.specs.declared.fault.WriteFault.TheVariants as trace
@@ -20,13 +20,15 @@ use Rattle.fleet_workers.specs.declared.fleet.RunFault.TheVariants as runs
 use Rattle.fleet_workers.specs.Fleet.{IsFleetRun}
 use Rattle.bench_commands.specs.declared.fault.Fault.{Fault}
 use Rattle.bench_commands.specs.declared.fault.Fault.TheVariants as faults
-use Rattle.bench_commands.specs.Fault.{IsReadingFault, IsTemplateFault, layout_fault, refused_text, run_fault, text_fault, trace_fault}
+use Rattle.bench_commands.specs.Fault.{IsReadingFault, IsTemplateFault, layout_fault, refused_text, run_fault}
+use Rattle.bench_commands.specs.Fault.{text_fault, trace_fault}
 use Rattle.bench_commands.specs.RunAnswer.{IsRunFault, IsSavingFault, IsWrongBatch}
 use Rattle.bench_commands.specs.Texts.{IsTextFault}
 use Rattle.bench_commands.specs.Jobs.{IsFileFault, IsOneFault}
 
 -- a file that was not read
-pub reading_file : (holds : List ℕ → List ℕ → Type 0) (fails : List ℕ → Type 0) (broken : List ℕ → LayoutFault → Type 0) (path : List ℕ) (f : Fault)
+pub reading_file : (holds : List ℕ → List ℕ → Type 0) (fails : List ℕ → Type 0) (broken : List ℕ → LayoutFault → Type 0)
+    (path : List ℕ) (f : Fault)
     → IsReadingFault (fails path) f → IsFileFault holds fails broken path f
 reading_file holds fails broken path faults.Memory h = tt
 reading_file holds fails broken path faults.Read h = h
@@ -41,18 +43,27 @@ reading_file holds fails broken path faults.Batch h = absurd h
 reading_file holds fails broken path faults.Spent h = absurd h
 
 -- a file whose bytes break off
-pub broken_at : (holds : List ℕ → List ℕ → Type 0) (fails : List ℕ → Type 0) (broken : List ℕ → LayoutFault → Type 0) (path bytes : List ℕ) → holds path bytes
-    → (fault : LayoutFault) → (fault ≢ layout.Memory → broken bytes fault) → IsFileFault holds fails broken path (layout_fault fault)
-broken_at holds fails broken path bytes held layout.Magic h = record { bytes = bytes; held = held; faulty = h (search rules) }
-broken_at holds fails broken path bytes held layout.Version h = record { bytes = bytes; held = held; faulty = h (search rules) }
-broken_at holds fails broken path bytes held layout.Cut h = record { bytes = bytes; held = held; faulty = h (search rules) }
-broken_at holds fails broken path bytes held layout.Trailing h = record { bytes = bytes; held = held; faulty = h (search rules) }
-broken_at holds fails broken path bytes held (layout.BadField place) h = record { bytes = bytes; held = held; faulty = h (search rules) }
-broken_at holds fails broken path bytes held (layout.Limit place) h = record { bytes = bytes; held = held; faulty = h (search rules) }
+pub broken_at : (holds : List ℕ → List ℕ → Type 0) (fails : List ℕ → Type 0) (broken : List ℕ → LayoutFault → Type 0)
+    (path bytes : List ℕ) → holds path bytes
+    → (fault : LayoutFault) → (fault ≢ layout.Memory → broken bytes fault)
+    → IsFileFault holds fails broken path (layout_fault fault)
+broken_at holds fails broken path bytes held layout.Magic h =
+    record { bytes = bytes; held = held; faulty = h (search rules) }
+broken_at holds fails broken path bytes held layout.Version h =
+    record { bytes = bytes; held = held; faulty = h (search rules) }
+broken_at holds fails broken path bytes held layout.Cut h =
+    record { bytes = bytes; held = held; faulty = h (search rules) }
+broken_at holds fails broken path bytes held layout.Trailing h =
+    record { bytes = bytes; held = held; faulty = h (search rules) }
+broken_at holds fails broken path bytes held (layout.BadField place) h =
+    record { bytes = bytes; held = held; faulty = h (search rules) }
+broken_at holds fails broken path bytes held (layout.Limit place) h =
+    record { bytes = bytes; held = held; faulty = h (search rules) }
 broken_at holds fails broken path bytes held layout.Memory h = tt
 
 -- a text that was not read
-pub reading_text : (holds : List ℕ → List ℕ → Type 0) (fails : List ℕ → Type 0) (path : List ℕ) (f : Fault) → IsReadingFault (fails path) f → IsTextFault holds fails path f
+pub reading_text : (holds : List ℕ → List ℕ → Type 0) (fails : List ℕ → Type 0) (path : List ℕ) (f : Fault)
+    → IsReadingFault (fails path) f → IsTextFault holds fails path f
 reading_text holds fails path faults.Memory h = tt
 reading_text holds fails path faults.Read h = inl h
 reading_text holds fails path faults.Hex h = absurd h
@@ -66,31 +77,42 @@ reading_text holds fails path faults.Batch h = absurd h
 reading_text holds fails path faults.Spent h = absurd h
 
 -- bytes that are no text
-pub no_text : (holds : List ℕ → List ℕ → Type 0) (fails : List ℕ → Type 0) (path bytes : List ℕ) → holds path bytes → ¬ (IsUtf8 bytes) → IsTextFault holds fails path faults.Read
+pub no_text : (holds : List ℕ → List ℕ → Type 0) (fails : List ℕ → Type 0) (path bytes : List ℕ) → holds path bytes
+    → ¬ (IsUtf8 bytes) → IsTextFault holds fails path faults.Read
 no_text holds fails path bytes held broken = inr (record { bytes = bytes; held = held; no_text = broken })
 
 -- a text that denotes no scenario
-refused_as : (holds : List ℕ → List ℕ → Type 0) (fails : List ℕ → Type 0) (path bytes : List ℕ) → holds path bytes → (c : Cause) (fault : AsmFault)
+refused_as : (holds : List ℕ → List ℕ → Type 0) (fails : List ℕ → Type 0) (path bytes : List ℕ) → holds path bytes
+    → (c : Cause) (fault : AsmFault)
     → (c ≢ cause.Memory → assembled bytes ≡ Err fault) → IsTextFault holds fails path (refused_text c fault)
-refused_as holds fails path bytes held cause.Missing fault h = record { bytes = bytes; held = held; wrong = h (search rules) }
-refused_as holds fails path bytes held cause.Token fault h = record { bytes = bytes; held = held; wrong = h (search rules) }
-refused_as holds fails path bytes held cause.UnknownWord fault h = record { bytes = bytes; held = held; wrong = h (search rules) }
-refused_as holds fails path bytes held cause.Range fault h = record { bytes = bytes; held = held; wrong = h (search rules) }
-refused_as holds fails path bytes held cause.Duplicate fault h = record { bytes = bytes; held = held; wrong = h (search rules) }
-refused_as holds fails path bytes held cause.Limit fault h = record { bytes = bytes; held = held; wrong = h (search rules) }
+refused_as holds fails path bytes held cause.Missing fault h =
+    record { bytes = bytes; held = held; wrong = h (search rules) }
+refused_as holds fails path bytes held cause.Token fault h =
+    record { bytes = bytes; held = held; wrong = h (search rules) }
+refused_as holds fails path bytes held cause.UnknownWord fault h =
+    record { bytes = bytes; held = held; wrong = h (search rules) }
+refused_as holds fails path bytes held cause.Range fault h =
+    record { bytes = bytes; held = held; wrong = h (search rules) }
+refused_as holds fails path bytes held cause.Duplicate fault h =
+    record { bytes = bytes; held = held; wrong = h (search rules) }
+refused_as holds fails path bytes held cause.Limit fault h =
+    record { bytes = bytes; held = held; wrong = h (search rules) }
 refused_as holds fails path bytes held cause.Memory fault h = tt
 
-pub wrong_text : (holds : List ℕ → List ℕ → Type 0) (fails : List ℕ → Type 0) (path bytes : List ℕ) → holds path bytes → (fault : AsmFault)
+pub wrong_text : (holds : List ℕ → List ℕ → Type 0) (fails : List ℕ → Type 0) (path bytes : List ℕ) → holds path bytes
+    → (fault : AsmFault)
     → (fault.cause ≢ cause.Memory → assembled bytes ≡ Err fault) → IsTextFault holds fails path (text_fault fault)
 wrong_text holds fails path bytes held fault h = refused_as holds fails path bytes held fault.cause fault h
 
 -- entries that got no trace file
-pub unsaved : (es : List Entry) (e : WriteFault) → ((e ≡ trace.TooLarge) ↔ ((bytes : List ℕ) → IsTraceFile bytes es → ⊥)) → IsSavingFault es (trace_fault e)
+pub unsaved : (es : List Entry) (e : WriteFault)
+    → ((e ≡ trace.TooLarge) ↔ ((bytes : List ℕ) → IsTraceFile bytes es → ⊥)) → IsSavingFault es (trace_fault e)
 unsaved es trace.TooLarge h = h.0 refl
 unsaved es trace.Memory h = tt
 
 -- a run that was not saved
-pub unsaved_run : (s : Script) (workers batch : ℕ) (r : FleetRun) → IsFleetRun s r → (f : Fault) → IsSavingFault r.entries f
+pub unsaved_run : (s : Scenario) (workers batch : ℕ) (r : FleetRun) → IsFleetRun s r → (f : Fault)
+    → IsSavingFault r.entries f
     → IsRunFault s workers batch f
 unsaved_run s workers batch r right faults.Memory h = tt
 unsaved_run s workers batch r right faults.TooLarge h = (r, right, h)
@@ -105,7 +127,7 @@ unsaved_run s workers batch r right faults.Batch h = absurd h
 unsaved_run s workers batch r right faults.Spent h = absurd h
 
 -- a run that was refused, or not ended
-pub run_fault_is : (s : Script) (workers batch : ℕ) (f : RunFault) → (f ≡ runs.Workers → workers ≢ 2)
+pub run_fault_is : (s : Scenario) (workers batch : ℕ) (f : RunFault) → (f ≡ runs.Workers → workers ≢ 2)
     → (f ≡ runs.Batch → IsWrongBatch workers batch) → IsRunFault s workers batch (run_fault f)
 run_fault_is s workers batch (runs.Memory es) others batches = tt
 run_fault_is s workers batch (runs.Spent es) others batches = tt
@@ -113,7 +135,8 @@ run_fault_is s workers batch runs.Workers others batches = others refl
 run_fault_is s workers batch runs.Batch others batches = batches refl
 
 -- the demonstration device's faults
-pub no_hex : (hex : List ℕ) (f : Fault) → (f ≡ faults.Memory) ⊎ ((f ≡ faults.Hex) × IsErr (decode_of hex)) → IsOneFault hex f
+pub no_hex : (hex : List ℕ) (f : Fault) → (f ≡ faults.Memory) ⊎ ((f ≡ faults.Hex) × IsErr (decode_of hex))
+    → IsOneFault hex f
 no_hex hex f (inl memory) = subst (λ g. IsOneFault hex g) (sym memory) tt
 no_hex hex f (inr bad) = subst (λ g. IsOneFault hex g) (sym bad.0) bad.1
 
@@ -131,10 +154,12 @@ no_demo hex faults.Batch h = absurd h
 no_demo hex faults.Spent h = absurd h
 
 -- no memory is left
-pub text_memory : (holds : List ℕ → List ℕ → Type 0) (fails : List ℕ → Type 0) (path : List ℕ) (f : Fault) → f ≡ faults.Memory → IsTextFault holds fails path f
+pub text_memory : (holds : List ℕ → List ℕ → Type 0) (fails : List ℕ → Type 0) (path : List ℕ) (f : Fault)
+    → f ≡ faults.Memory → IsTextFault holds fails path f
 text_memory holds fails path f same = subst (λ g. IsTextFault holds fails path g) (sym same) tt
 
-pub file_memory : (holds : List ℕ → List ℕ → Type 0) (fails : List ℕ → Type 0) (broken : List ℕ → LayoutFault → Type 0) (path : List ℕ) (f : Fault) → f ≡ faults.Memory
+pub file_memory : (holds : List ℕ → List ℕ → Type 0) (fails : List ℕ → Type 0) (broken : List ℕ → LayoutFault → Type 0)
+    (path : List ℕ) (f : Fault) → f ≡ faults.Memory
     → IsFileFault holds fails broken path f
 file_memory holds fails broken path f same = subst (λ g. IsFileFault holds fails broken path g) (sym same) tt
 

@@ -5,7 +5,8 @@ use Rattle.std.proofs.KnownBytes.{Appends-kept}
 use Rattle.bench_commands.specs.Refusals.{IsAbout, about_line, plain_line}
 
 -- what was printed and then passed on
-pub passed_on : (text before between after : Option (List ℕ)) → IfSome text (Appends before between) → Keeps between after
+pub passed_on : (text before between after : Option (List ℕ)) → IfSome text (Appends before between)
+    → Keeps between after
     → IfSome text (Appends before after)
 passed_on None before between after printed kept = tt
 passed_on (Some text) before between after printed kept = Appends-kept before between after text printed kept

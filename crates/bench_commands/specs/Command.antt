@@ -1,8 +1,8 @@
 -- What a command comes to: the words were answered, or refused, and the status says which.
 --
--- What is known of the files: `holds path bytes`, the file at the path had these bytes when it was read; `fails path`, it could not be read;
--- `refuses path`, no file could be made there; and which files were made before and after. What is known of a stream: `refuses text`, it did not
--- take these bytes; and which bytes it got before and after.
+-- What is known of the files: `holds path bytes`, the file at the path had these bytes when it was read; `fails path`,
+-- it could not be read; `refuses path`, no file could be made there; and which files were made before and after. What
+-- is known of a stream: `refuses text`, it did not take these bytes; and which bytes it got before and after.
 use Rattle.std.specs.Prelude.{◌≡◌, ℕ, ◌⊎◌, List, [], Option, option_map}
 use Rattle.std.specs.Io.KnownBytes.{Appends}
 use Rattle.std.specs.String.{string_bytes}
@@ -13,7 +13,8 @@ use Rattle.bench_words.specs.declared.words.Job.{Job}
 use Rattle.bench_words.specs.declared.words.Job.TheVariants as jobs
 use Rattle.bench_commands.specs.Answers.{IsUndelivered, files_of}
 use Rattle.bench_commands.specs.Files.{Grows, Made}
-use Rattle.bench_commands.specs.Jobs.{IsAsmDone, IsCheckDone, IsCheckRefused, IsDisDone, IsImageFault, IsOneDone, IsOneFault, IsRunDone, IsRunRefused}
+use Rattle.bench_commands.specs.Jobs.{IsAsmDone, IsCheckDone, IsCheckRefused, IsDisDone, IsImageFault, IsOneDone}
+use Rattle.bench_commands.specs.Jobs.{IsOneFault, IsRunDone, IsRunRefused}
 use Rattle.bench_commands.specs.Refusals.{IsTold}
 use Rattle.bench_commands.specs.Status.{text_status}
 use Rattle.bench_commands.specs.Texts.{IsTextFault}
@@ -30,7 +31,8 @@ abbrev pub IsDone : (List ℕ → List ℕ → Type 0) → Job → Status → Li
 IsDone holds (jobs.One hex) status text made = IsOneDone hex.now status text made
 IsDone holds (jobs.Asm input output) status text made = IsAsmDone holds input.now output.now status text made
 IsDone holds (jobs.Dis input) status text made = IsDisDone holds input.now status text made
-IsDone holds (jobs.Run image workers batch trace) status text made = IsRunDone holds image.now (option_map (λ p. p.now) trace) status text made
+IsDone holds (jobs.Run image workers batch trace) status text made =
+    IsRunDone holds image.now (option_map (λ p. p.now) trace) status text made
 IsDone holds (jobs.Check image trace) status text made = IsCheckDone holds image.now trace.now status text made
 
 -- a job is refused for this fault
@@ -38,7 +40,8 @@ abbrev pub IsRefusedJob : (List ℕ → List ℕ → Type 0) → (List ℕ → T
 IsRefusedJob holds fails (jobs.One hex) fault = IsOneFault hex.now fault
 IsRefusedJob holds fails (jobs.Asm input output) fault = IsTextFault holds fails input.now fault
 IsRefusedJob holds fails (jobs.Dis input) fault = IsImageFault holds fails input.now fault
-IsRefusedJob holds fails (jobs.Run image workers batch trace) fault = IsRunRefused holds fails image.now workers batch fault
+IsRefusedJob holds fails (jobs.Run image workers batch trace) fault =
+    IsRunRefused holds fails image.now workers batch fault
 IsRefusedJob holds fails (jobs.Check image trace) fault = IsCheckRefused holds fails image.now trace.now fault
 
 -- what words are answered with; a text on how to use the program is printed as it is
@@ -54,7 +57,8 @@ IsRefused holds fails (asked.Text help is_mistake) fault = ⊥
 -- ---- a command
 
 -- the answer's file was made, its text printed, and nothing else
-pub record IsAnswered (holds : List ℕ → List ℕ → Type 0) (made_before made_after : Option (List Made)) (taken_before taken_after : Option (List ℕ)) (words : List (List ℕ)) (status : Status) : Type 0 where
+pub record IsAnswered (holds : List ℕ → List ℕ → Type 0) (made_before made_after : Option (List Made))
+    (taken_before taken_after : Option (List ℕ)) (words : List (List ℕ)) (status : Status) : Type 0 where
   pub asked : Asked
   pub read : IsReadAs words asked
   pub answer : Answer
@@ -64,27 +68,36 @@ pub record IsAnswered (holds : List ℕ → List ℕ → Type 0) (made_before ma
   pub ended : status ≡ answer.status
 
 -- what the words ask for was refused for this fault
-pub record IsRefusedAsked (holds : List ℕ → List ℕ → Type 0) (fails : List ℕ → Type 0) (words : List (List ℕ)) (fault : Fault) : Type 0 where
+pub record IsRefusedAsked (holds : List ℕ → List ℕ → Type 0) (fails : List ℕ → Type 0) (words : List (List ℕ))
+    (fault : Fault) : Type 0 where
   pub asked : Asked
   pub read : IsReadAs words asked
   pub refused : IsRefused holds fails asked fault
 
 -- there was an answer, and its file was not made or its text not printed
-pub record IsLost (holds : List ℕ → List ℕ → Type 0) (file_refuses : List ℕ → Type 0) (made_before made_after : Option (List Made)) (refuses : List ℕ → Type 0) (taken_before taken_after : Option (List ℕ)) (words : List (List ℕ)) (fault : Fault) : Type 0 where
+pub record IsLost (holds : List ℕ → List ℕ → Type 0) (file_refuses : List ℕ → Type 0)
+    (made_before made_after : Option (List Made)) (refuses : List ℕ → Type 0)
+    (taken_before taken_after : Option (List ℕ)) (words : List (List ℕ)) (fault : Fault) : Type 0 where
   pub asked : Asked
   pub read : IsReadAs words asked
   pub answer : Answer
   pub right : IsAnswerTo holds asked answer.status (string_bytes answer.text) (files_of answer.file)
   pub undelivered : IsUndelivered file_refuses made_before made_after refuses taken_before taken_after answer fault
 
--- no memory was left for an answer, or there was a fault, and then nothing was made and nothing printed; or the answer was lost
-abbrev pub IsUndone : (List ℕ → List ℕ → Type 0) → (List ℕ → Type 0) → (List ℕ → Type 0) → Option (List Made) → Option (List Made) → (List ℕ → Type 0) → Option (List ℕ) → Option (List ℕ) → List (List ℕ) → Fault → Type 0
+-- no memory was left for an answer, or there was a fault, and then nothing was made and nothing printed; or the answer
+-- was lost
+abbrev pub IsUndone : (List ℕ → List ℕ → Type 0) → (List ℕ → Type 0) → (List ℕ → Type 0) → Option (List Made)
+    → Option (List Made) → (List ℕ → Type 0) → Option (List ℕ) → Option (List ℕ) → List (List ℕ) → Fault → Type 0
 IsUndone holds fails file_refuses made_before made_after refuses taken_before taken_after words fault =
-    (((fault ≡ Memory) ⊎ IsRefusedAsked holds fails words fault) × (made_after ≡ made_before) × (taken_after ≡ taken_before))
+    (((fault ≡ Memory) ⊎ IsRefusedAsked holds fails words fault) × (made_after ≡ made_before)
+    × (taken_after ≡ taken_before))
     ⊎ IsLost holds file_refuses made_before made_after refuses taken_before taken_after words fault
 
 -- what the words ask for was not done, and that was told
-pub record IsFaulted (holds : List ℕ → List ℕ → Type 0) (fails file_refuses : List ℕ → Type 0) (made_before made_after : Option (List Made)) (refuses : List ℕ → Type 0) (taken_before taken_after : Option (List ℕ)) (error_refuses : List ℕ → Type 0) (error_before error_after : Option (List ℕ)) (words : List (List ℕ)) : Type 0 where
+pub record IsFaulted (holds : List ℕ → List ℕ → Type 0) (fails file_refuses : List ℕ → Type 0)
+    (made_before made_after : Option (List Made)) (refuses : List ℕ → Type 0)
+    (taken_before taken_after : Option (List ℕ)) (error_refuses : List ℕ → Type 0)
+    (error_before error_after : Option (List ℕ)) (words : List (List ℕ)) : Type 0 where
   pub fault : Fault
   -- what standard output had got when the fault was met
   pub between : Option (List ℕ)
@@ -94,8 +107,12 @@ pub record IsFaulted (holds : List ℕ → List ℕ → Type 0) (fails file_refu
   pub told : IsTold refuses between taken_after error_refuses error_before error_after about fault
 
 -- the words were answered, and standard error got nothing; or there was a fault
-abbrev pub Ends : (List ℕ → List ℕ → Type 0) → (List ℕ → Type 0) → (List ℕ → Type 0) → Option (List Made) → Option (List Made) → (List ℕ → Type 0) → Option (List ℕ) → Option (List ℕ) → (List ℕ → Type 0) → Option (List ℕ) → Option (List ℕ) → List (List ℕ) → Status → Type 0
-Ends holds fails file_refuses made_before made_after refuses taken_before taken_after error_refuses error_before error_after words status =
+abbrev pub Ends : (List ℕ → List ℕ → Type 0) → (List ℕ → Type 0) → (List ℕ → Type 0) → Option (List Made)
+    → Option (List Made) → (List ℕ → Type 0) → Option (List ℕ) → Option (List ℕ) → (List ℕ → Type 0) → Option (List ℕ)
+    → Option (List ℕ) → List (List ℕ) → Status → Type 0
+Ends holds fails file_refuses made_before made_after refuses taken_before taken_after error_refuses error_before
+    error_after words status =
     (IsAnswered holds made_before made_after taken_before taken_after words status × (error_after ≡ error_before))
     ⊎ ((status ≡ ends.Fault)
-    × IsFaulted holds fails file_refuses made_before made_after refuses taken_before taken_after error_refuses error_before error_after words)
+    × IsFaulted holds fails file_refuses made_before made_after refuses taken_before taken_after error_refuses
+    error_before error_after words)

@@ -8,8 +8,8 @@ use Rattle.object_defs.specs.declared.path.Path.TheVariants.{Resource, Part}
 use Rattle.lwm2m_values.specs.declared.value.Value.{Value}
 use Rattle.lwm2m_values.specs.declared.value.Value.TheVariants as value
 use Rattle.instance_store.specs.Stored.{empty, with_instance}
-use Rattle.device_machine.specs.Class.{start_of}
-use Rattle.device_template.specs.Class.{Class, with_account, with_store}
+use Rattle.device_machine.specs.Template.{start_of}
+use Rattle.device_template.specs.Template.{Template, with_account, with_store}
 use Rattle.device_template.specs.Values.{with_value_at}
 use Rattle.device_machine.specs.Reactions.{outputs_of}
 use Rattle.device_machine.specs.declared.event.Event.TheVariants.{Recv}
@@ -38,16 +38,16 @@ demo_values =
     ∷ []
 
 -- a class with one instance more
-abbrev pub with_place : Class → ℕ × ℕ → Class
+abbrev pub with_place : Template → ℕ × ℕ → Template
 with_place class place =
     with_store class (with_instance class.store (record { object = place.0; instance = place.1 }))
 
 -- a class with one value more
-abbrev pub with_row : Class → Path × Value → Class
+abbrev pub with_row : Template → Path × Value → Template
 with_row class row = with_store class (with_value_at class.store (full_path row.0) row.1)
 
 -- the class: the base objects, one account, these instances and these values
-unfoldable pub demo_class : Class
+unfoldable pub demo_class : Template
 demo_class =
     fold with_row
     (fold with_place (with_account (record { accounts = []; catalogue = base; store = empty }) 1) demo_instances)

@@ -1,13 +1,14 @@
--- What the program answers to each of its words: what it prints, the file that it makes, how it ends, and what it refuses.
+-- What the program answers to each of its words: what it prints, the file that it makes, how it ends, and what it
+-- refuses.
 --
--- Two relations say what is known of the files: `holds path bytes`, the file at the path had these bytes when it was read; `fails path`, it
--- could not be read.
+-- Two relations say what is known of the files: `holds path bytes`, the file at the path had these bytes when it was
+-- read; `fails path`, it could not be read.
 use Rattle.std.specs.Prelude.{◌≡◌, ℕ, ◌⊎◌, ⊤, List, [], ◌∷◌, Option, IsErr}
 use Rattle.std.specs.Result.{IsOkAnd}
 use Rattle.hex.specs.Hex.{decode_of}
 use Rattle.byte_layout.specs.declared.fault.LayoutFault.{LayoutFault}
 use Rattle.byte_layout.specs.Whole.{HasFault}
-use Rattle.scenario_image.specs.Script.{Script}
+use Rattle.scenario_image.specs.Scenario.{Scenario}
 use Rattle.scenario_image.specs.Image.{IsImage, HasImageFault}
 use Rattle.scenario_asm.specs.Canonical as canonical
 use Rattle.trace_file.specs.declared.entry.Entry.{Entry}
@@ -25,7 +26,7 @@ use Rattle.bench_commands.specs.Texts.{IsTextAt, count_line}
 -- ---- files
 
 -- the file at the path is a scenario's image
-pub record IsScenarioAt (holds : List ℕ → List ℕ → Type 0) (path : List ℕ) (s : Script) : Type 0 where
+pub record IsScenarioAt (holds : List ℕ → List ℕ → Type 0) (path : List ℕ) (s : Scenario) : Type 0 where
   pub bytes : List ℕ
   pub held : holds path bytes
   pub image : IsImage bytes s
@@ -37,13 +38,15 @@ pub record IsTraceAt (holds : List ℕ → List ℕ → Type 0) (path : List ℕ
   pub file : IsTraceFile bytes es
 
 -- the file at the path had bytes with this fault
-pub record IsBrokenAt (holds : List ℕ → List ℕ → Type 0) (broken : List ℕ → LayoutFault → Type 0) (path : List ℕ) (fault : LayoutFault) : Type 0 where
+pub record IsBrokenAt (holds : List ℕ → List ℕ → Type 0) (broken : List ℕ → LayoutFault → Type 0) (path : List ℕ)
+    (fault : LayoutFault) : Type 0 where
   pub bytes : List ℕ
   pub held : holds path bytes
   pub faulty : broken bytes fault
 
 -- the file at the path could not be read, or had bytes with such a fault
-abbrev pub IsFileFault : (List ℕ → List ℕ → Type 0) → (List ℕ → Type 0) → (List ℕ → LayoutFault → Type 0) → List ℕ → Fault → Type 0
+abbrev pub IsFileFault : (List ℕ → List ℕ → Type 0) → (List ℕ → Type 0) → (List ℕ → LayoutFault → Type 0) → List ℕ
+    → Fault → Type 0
 IsFileFault holds fails broken path faults.Memory = ⊤
 IsFileFault holds fails broken path faults.Read = fails path
 IsFileFault holds fails broken path (faults.Layout fault) = IsBrokenAt holds broken path fault
@@ -64,8 +67,9 @@ pub record IsOneDone (hex : List ℕ) (status : Status) (text : List ℕ) (made 
   pub made_is : made ≡ []
 
 -- `asm IN OUT`: the scenario that the text denotes, and its image, which goes to OUT
-pub record IsAsmDone (holds : List ℕ → List ℕ → Type 0) (input output : List ℕ) (status : Status) (text : List ℕ) (made : List Made) : Type 0 where
-  pub scenario : Script
+pub record IsAsmDone (holds : List ℕ → List ℕ → Type 0) (input output : List ℕ) (status : Status) (text : List ℕ)
+    (made : List Made) : Type 0 where
+  pub scenario : Scenario
   pub found : IsTextAt holds input scenario
   pub bytes : List ℕ
   pub image : IsImage bytes scenario
@@ -74,22 +78,25 @@ pub record IsAsmDone (holds : List ℕ → List ℕ → Type 0) (input output : 
   pub made_is : made ≡ (output, bytes) ∷ []
 
 -- `dis IN`: the scenario's canonical text
-pub record IsDisDone (holds : List ℕ → List ℕ → Type 0) (input : List ℕ) (status : Status) (text : List ℕ) (made : List Made) : Type 0 where
-  pub scenario : Script
+pub record IsDisDone (holds : List ℕ → List ℕ → Type 0) (input : List ℕ) (status : Status) (text : List ℕ)
+    (made : List Made) : Type 0 where
+  pub scenario : Scenario
   pub found : IsScenarioAt holds input scenario
   pub text_is : text ≡ canonical.printed scenario
   pub status_is : status ≡ Done
   pub made_is : made ≡ []
 
 -- `run IMAGE [--workers N] [--batch N] [--trace FILE]`: a run of the scenario that workers make
-pub record IsRunDone (holds : List ℕ → List ℕ → Type 0) (image : List ℕ) (trace : Option (List ℕ)) (status : Status) (text : List ℕ) (made : List Made) : Type 0 where
-  pub scenario : Script
+pub record IsRunDone (holds : List ℕ → List ℕ → Type 0) (image : List ℕ) (trace : Option (List ℕ)) (status : Status)
+    (text : List ℕ) (made : List Made) : Type 0 where
+  pub scenario : Scenario
   pub found : IsScenarioAt holds image scenario
   pub run : IsRunAnswer scenario trace status text made
 
 -- `check IMAGE TRACE`: the verdict on the entries
-pub record IsCheckDone (holds : List ℕ → List ℕ → Type 0) (image trace : List ℕ) (status : Status) (text : List ℕ) (made : List Made) : Type 0 where
-  pub scenario : Script
+pub record IsCheckDone (holds : List ℕ → List ℕ → Type 0) (image trace : List ℕ) (status : Status) (text : List ℕ)
+    (made : List Made) : Type 0 where
+  pub scenario : Scenario
   pub found : IsScenarioAt holds image scenario
   pub entries : List Entry
   pub read : IsTraceAt holds trace entries
@@ -106,8 +113,8 @@ IsOneFault hex (faults.Template fault) = ⊤
 IsOneFault hex _ = ⊥
 
 -- first the image is to blame, and then the work on its scenario
-pub record IsWorkFault (holds : List ℕ → List ℕ → Type 0) (image : List ℕ) (faulty : Script → Type 0) : Type 0 where
-  pub scenario : Script
+pub record IsWorkFault (holds : List ℕ → List ℕ → Type 0) (image : List ℕ) (faulty : Scenario → Type 0) : Type 0 where
+  pub scenario : Scenario
   pub found : IsScenarioAt holds image scenario
   pub fault : faulty scenario
 

@@ -23,8 +23,10 @@ abbrev pub IsReported : (List ℕ → Type 0) → Option (List ℕ) → Option (
 IsReported refuses before after about =
     (after ≡ before) ⊎ ((text : List ℕ) × IsAbout about text × (Appends before after text ⊎ refuses text))
 
--- standard output got the fault's line, and standard error at most one line about it; or the first was not taken, and the second got nothing
-abbrev pub IsTold : (List ℕ → Type 0) → Option (List ℕ) → Option (List ℕ) → (List ℕ → Type 0) → Option (List ℕ) → Option (List ℕ) → Option (List ℕ) → Fault → Type 0
+-- standard output got the fault's line, and standard error at most one line about it; or the first was not taken, and
+-- the second got nothing
+abbrev pub IsTold : (List ℕ → Type 0) → Option (List ℕ) → Option (List ℕ) → (List ℕ → Type 0) → Option (List ℕ)
+    → Option (List ℕ) → Option (List ℕ) → Fault → Type 0
 IsTold refuses before after error_refuses error_before error_after about fault =
     (Appends before after (fault_line fault) × IsReported error_refuses error_before error_after about)
     ⊎ (refuses (fault_line fault) × (error_after ≡ error_before))

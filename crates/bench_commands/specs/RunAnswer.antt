@@ -1,6 +1,6 @@
 -- When the run that workers made of a scenario and its trace file are an answer, and what the checker's answer is.
 use Rattle.std.specs.Prelude.{◌≡◌, ◌≢◌, ◌≤◌, ℕ, ⊤, List, [], ◌∷◌, length, Option, None, Some}
-use Rattle.scenario_image.specs.Script.{Script}
+use Rattle.scenario_image.specs.Scenario.{Scenario}
 use Rattle.trace_file.specs.declared.entry.Entry.{Entry}
 use Rattle.trace_file.specs.Layout.{IsTraceFile}
 use Rattle.fleet_core.specs.declared.verdict.Verdict.{Verdict}
@@ -26,7 +26,8 @@ IsSavingFault es TooLarge = (bytes : List ℕ) → IsTraceFile bytes es → ⊥
 IsSavingFault es _ = ⊥
 
 -- a run that workers made, its trace file where one is asked for, the line of its end, and the status
-pub record IsRunAnswer (s : Script) (trace : Option (List ℕ)) (status : Status) (text : List ℕ) (made : List Made) : Type 0 where
+pub record IsRunAnswer (s : Scenario) (trace : Option (List ℕ)) (status : Status) (text : List ℕ)
+    (made : List Made) : Type 0 where
   pub run : FleetRun
   pub right : IsFleetRun s run
   pub saved : IsSavedAs trace run.entries made
@@ -38,7 +39,7 @@ abbrev pub IsWrongBatch : ℕ → ℕ → Type 0
 IsWrongBatch workers batch = (workers ≡ 2) × ((1 ≤ batch) × (batch ≤ 64) → ⊥)
 
 -- the workers or the batch are refused; or no memory or no ticket was left; or the run has no trace file
-abbrev pub IsRunFault : Script → ℕ → ℕ → Fault → Type 0
+abbrev pub IsRunFault : Scenario → ℕ → ℕ → Fault → Type 0
 IsRunFault s workers batch Memory = ⊤
 IsRunFault s workers batch Spent = ⊤
 IsRunFault s workers batch Workers = workers ≢ 2
@@ -48,7 +49,7 @@ IsRunFault s workers batch TooLarge =
 IsRunFault s workers batch _ = ⊥
 
 -- the verdict on the entries, its line, and the status
-pub record IsJudged (s : Script) (es : List Entry) (status : Status) (text : List ℕ) : Type 0 where
+pub record IsJudged (s : Scenario) (es : List Entry) (status : Status) (text : List ℕ) : Type 0 where
   pub verdict : Verdict
   pub judged : Judges s es verdict
   pub text_is : text ≡ verdict_line verdict

@@ -3,7 +3,7 @@ use Rattle.std.specs.Prelude.{◌≡◌, ℕ, ⊤, ◌⊎◌, List, ◌++◌, Er
 use Rattle.std.specs.List.{sum_by}
 use Rattle.std.specs.Fmt.{decimal}
 use Rattle.std.specs.Str.{IsUtf8}
-use Rattle.scenario_image.specs.Script.{Script}
+use Rattle.scenario_image.specs.Scenario.{Scenario}
 use Rattle.scenario_asm.specs.Denotes.{Denotes}
 use Rattle.scenario_asm.specs.Text.{assembled}
 use Rattle.scenario_asm.specs.declared.fault.AsmFault.{AsmFault}
@@ -12,7 +12,7 @@ use Rattle.bench_commands.specs.declared.fault.Fault.{Fault}
 use Rattle.bench_commands.specs.declared.fault.Fault.TheVariants.{Memory, Read, Text}
 
 -- the file at the path is a text that denotes this scenario
-pub record IsTextAt (holds : List ℕ → List ℕ → Type 0) (path : List ℕ) (s : Script) : Type 0 where
+pub record IsTextAt (holds : List ℕ → List ℕ → Type 0) (path : List ℕ) (s : Scenario) : Type 0 where
   pub bytes : List ℕ
   pub held : holds path bytes
   pub denotes : Denotes bytes s
@@ -37,8 +37,10 @@ IsTextFault holds fails path (Text fault) = IsWrongTextAt holds path fault
 IsTextFault holds fails path _ = ⊥
 
 abbrev pub ok_line : ℕ → ℕ → ℕ → List ℕ
-ok_line classes devices steps = line (codes "ok " ++ decimal classes ++ codes " classes " ++ decimal devices ++ codes " devices " ++ decimal steps ++ codes " steps")
+ok_line classes devices steps =
+    line (codes "ok " ++ decimal classes ++ codes " classes " ++ decimal devices ++ codes " devices " ++ decimal steps
+    ++ codes " steps")
 
 -- `ok C classes D devices S steps`: how many a scenario has; the steps of all its rows together
-abbrev pub count_line : Script → List ℕ
+abbrev pub count_line : Scenario → List ℕ
 count_line s = ok_line (length s.classes) (length s.rows) (sum_by (λ row. length row.steps) s.rows)

@@ -11,7 +11,8 @@ use Rattle.bench_commands.specs.declared.status.Status.{Status}
 use Rattle.bench_commands.specs.declared.status.Status.TheVariants as ends
 
 -- memory ran out, or the text was not printed
-pub record IsUnreadFault (refuses : List ℕ → Type 0) (before after : Option (List ℕ)) (error_refuses : List ℕ → Type 0) (error_before error_after : Option (List ℕ)) (text : List ℕ) (why : ErrorKind) : Type 0 where
+pub record IsUnreadFault (refuses : List ℕ → Type 0) (before after : Option (List ℕ)) (error_refuses : List ℕ → Type 0)
+    (error_before error_after : Option (List ℕ)) (text : List ℕ) (why : ErrorKind) : Type 0 where
   pub fault : Fault
   pub between : Option (List ℕ)
   pub cause : ((why ≡ OutOfMemory) × (fault ≡ Memory) × (between ≡ before)) ⊎ IsWritingFault (refuses text) fault
@@ -19,7 +20,8 @@ pub record IsUnreadFault (refuses : List ℕ → Type 0) (before after : Option 
   pub told : IsTold refuses between after error_refuses error_before error_after about fault
 
 -- a word is not a text, and that was printed; or there was a fault
-abbrev pub EndsUnread : (List ℕ → Type 0) → Option (List ℕ) → Option (List ℕ) → (List ℕ → Type 0) → Option (List ℕ) → Option (List ℕ) → List ℕ → ErrorKind → Status → Type 0
+abbrev pub EndsUnread : (List ℕ → Type 0) → Option (List ℕ) → Option (List ℕ) → (List ℕ → Type 0) → Option (List ℕ)
+    → Option (List ℕ) → List ℕ → ErrorKind → Status → Type 0
 EndsUnread refuses before after error_refuses error_before error_after text why status =
     ((status ≡ ends.Usage) × (why ≢ OutOfMemory) × Appends before after text × (error_after ≡ error_before))
     ⊎ ((status ≡ ends.Fault) × IsUnreadFault refuses before after error_refuses error_before error_after text why)

@@ -4,7 +4,8 @@ ghost use Rattle.std.specs.Prelude.{◌≡◌, IfErr, IfOk, option_map};
 ghost use Rattle.bench_commands.specs.Answers.{files_of};
 ghost use Rattle.bench_commands.specs.Demo.{demo_outputs};
 ghost use Rattle.std.specs.String.{string_bytes};
-ghost use Rattle.bench_commands.specs.Jobs.{IsAsmDone, IsCheckDone, IsCheckRefused, IsDisDone, IsImageFault, IsOneDone, IsOneFault, IsRunDone, IsRunRefused};
+ghost use Rattle.bench_commands.specs.Jobs.{IsAsmDone, IsCheckDone, IsCheckRefused, IsDisDone, IsImageFault, IsOneDone};
+ghost use Rattle.bench_commands.specs.Jobs.{IsOneFault, IsRunDone, IsRunRefused};
 ghost use Rattle.bench_commands.specs.Texts.{IsTextFault};
 ghost use Rattle.bench_commands.specs.Printed.{act_line, act_name, line_of, printed, send_line};
 
@@ -54,7 +55,8 @@ pub fn asm<'a, F: Files>(
     files: &F,
 ) -> Result<Answer<'a>, Refusal<'a>>
     ensures done { IfOk result (λ a.
-        IsAsmDone (F.holds files.now) input.entry.now output.entry.now a.status (string_bytes a.text) (files_of a.file)) }
+        IsAsmDone (F.holds files.now) input.entry.now output.entry.now a.status (string_bytes a.text)
+        (files_of a.file)) }
     ensures refused { IfErr result (λ r. IsTextFault (F.holds files.now) (F.fails files.now) input.entry.now r.fault) }
 {
     let scenario = load_text(alloc, input, files)?;

@@ -1,7 +1,8 @@
 //! What the program answers to the words that are about runs: `run` and `check`.
 ghost use Rattle.std.specs.Prelude.{◌≡◌, [], length, option_map, IfErr, IfOk};
 ghost use Rattle.std.specs.String.{string_bytes};
-ghost use Rattle.bench_commands.specs.Runs.{device_word, device_words, done_line, end_line, end_status, stalled_line, stalled_text, verdict_line, verdict_status};
+ghost use Rattle.bench_commands.specs.Runs.{device_word, device_words, done_line, end_line, end_status, stalled_line};
+ghost use Rattle.bench_commands.specs.Runs.{stalled_text, verdict_line, verdict_status};
 ghost use Rattle.fleet_core.specs.Waiting.{waiting};
 ghost use Rattle.fleet_workers.specs.Fleet.{IsFleetRun};
 ghost use Rattle.bench_commands.specs.Answers.{files_of};
@@ -29,7 +30,8 @@ pub fn run_scenario<'a, R: Threads + Wait + Sync>(
     trace: Option<&'a str>,
 ) -> Result<Answer<'a>, Fault>
     ensures done { IfOk result (λ a.
-        IsRunAnswer scenario.now (option_map (λ p. p.now) trace.entry) a.status (string_bytes a.text) (files_of a.file)) }
+        IsRunAnswer scenario.now (option_map (λ p. p.now) trace.entry) a.status (string_bytes a.text)
+        (files_of a.file)) }
     ensures refused { IfErr result (IsRunFault scenario.now workers batch) }
 {
     let run = made_by_workers(rt, alloc, scenario, workers, batch)?;
@@ -87,7 +89,8 @@ struct Ending {
 
 /// What is said of entries that end a run: how many there are, and the devices that are not at the end of their rows.
 fn end_of(alloc: Global, scenario: &Scenario, entries: &[Entry]) -> Result<Ending, AllocError>
-    ensures text { IfOk result (λ a. string_bytes a.text ≡ end_line (length entries.now) (waiting scenario.now entries.now)) }
+    ensures text { IfOk result (λ a. string_bytes a.text
+        ≡ end_line (length entries.now) (waiting scenario.now entries.now)) }
     ensures status { IfOk result (λ a. a.status ≡ end_status (waiting scenario.now entries.now)) }
 {
     let waiting = unfinished(alloc, scenario, entries)?;

@@ -65,7 +65,8 @@ pub fn conclude<R: Threads + Wait + Sync, F: Files, O: Output, E: Output>(
         O.refuses (O.taken output.old) (O.taken output.new) E.refuses (E.taken errors.old) (E.taken errors.new)
         (map string_bytes words.items) status) }
     ensures unread { IfErr words (λ why. (status : Ending) × (exit_status result ≡ exit_code status)
-        × EndsUnread O.refuses (O.taken output.old) (O.taken output.new) E.refuses (E.taken errors.old) (E.taken errors.new)
+        × EndsUnread O.refuses (O.taken output.old) (O.taken output.new) E.refuses (E.taken errors.old)
+        (E.taken errors.new)
         NO_TEXT.now why status) }
 {
     let status = match words {

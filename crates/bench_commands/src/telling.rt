@@ -32,7 +32,8 @@ pub fn tell<O: Output, E: Output>(
 /// Prints what a refusal is about. Where no memory is left for the line there is none.
 #[tactic(auto, using(crate::proofs::Told::silent, crate::proofs::Told::reported, crate::proofs::Told::unreported))]
 fn complain<E: Output>(alloc: Global, refusal: &Refusal, errors: &mut E)
-    ensures { IsReported E.refuses (E.taken errors.old) (E.taken errors.new) (option_map (λ p. p.now) refusal.now.about) }
+    ensures { IsReported E.refuses (E.taken errors.old) (E.taken errors.new)
+        (option_map (λ p. p.now) refusal.now.about) }
 {
     if let Ok(text) = complaint(alloc, refusal) {
         let _ = errors.print(text.as_str());

@@ -1,9 +1,11 @@
 -- Single fields are exact: bytes, and numbers of each width.
-use Rattle.std.proofs.Common.{◌≡◌, ℕ, ◌^◌, ◌<◌, ◌≤◌, false, ltb, List, ◌∷◌, [], ◌++◌, length, take, drop, refl, sym, ap, arith}
+use Rattle.std.proofs.Common.{◌≡◌, ℕ, ◌^◌, ◌<◌, ◌≤◌, false, ltb, List, ◌∷◌, [], ◌++◌, length, take, drop, refl, sym, ap}
+use Rattle.std.proofs.Common.{arith}
 use Rattle.std.specs.Int.{Width, w8, w16, w32, w64, byte_len, from_be_bytes, to_be_bytes}
 use Rattle.std.proofs.lemmas.Bool.{ltb-false, ltb-true, le-ltb, lt-ltb}
 use Rattle.std.proofs.lemmas.List.{take_at, drop_at, take-append-drop, length-append, length-take}
-use Rattle.std.proofs.lemmas.Nat.{be_bytes_2, be_bytes_4, be_bytes_8, from_be_bytes-to_be_bytes_2, from_be_bytes-to_be_bytes_4, from_be_bytes-to_be_bytes_8}
+use Rattle.std.proofs.lemmas.Nat.{be_bytes_2, be_bytes_4, be_bytes_8, from_be_bytes-to_be_bytes_2}
+use Rattle.std.proofs.lemmas.Nat.{from_be_bytes-to_be_bytes_4, from_be_bytes-to_be_bytes_8}
 use Rattle.byte_layout.specs.declared.fault.Break.TheVariants.{Cut}
 use Rattle.byte_layout.specs.Part.{raw, number}
 use Rattle.byte_layout.specs.Exact.{IsBytes, IsExact}
@@ -19,7 +21,8 @@ raw_exact n = record {
       let behind : drop n bytes ≡ rest = ap (λ x. x.1) g.1 in
       (rw (← front) (omega (arith, length-take n bytes)), rw (← front, ← behind) (sym (take-append-drop n bytes)));
   again = λ a rest good.
-      let long : ltb (length (a ++ rest)) n ≡ false = le-ltb (length (a ++ rest)) n (omega (arith, length-append a rest)) in
+      let long : ltb (length (a ++ rest)) n ≡ false =
+      le-ltb (length (a ++ rest)) n (omega (arith, length-append a rest)) in
       rw (long, take_at a rest n good, drop_at a rest n good) refl;
   broken = λ bytes fits b e.
       let g = barred_err (ltb (length bytes) n) Cut b (take n bytes, drop n bytes) e in
@@ -31,7 +34,8 @@ raw_exact n = record {
 -- numbers of a width and lists of its length stand for one another
 pub record IsWide (w : Width) : Type 0 where
   pub len : (n : ℕ) → length (to_be_bytes w n) ≡ byte_len w
-  pub back : (bytes : List ℕ) → length bytes ≡ byte_len w → IsBytes bytes → to_be_bytes w (from_be_bytes w bytes) ≡ bytes
+  pub back : (bytes : List ℕ) → length bytes ≡ byte_len w → IsBytes bytes
+      → to_be_bytes w (from_be_bytes w bytes) ≡ bytes
   pub again : (n : ℕ) → n < 256 ^ byte_len w → from_be_bytes w (to_be_bytes w n) ≡ n
   pub below : (bytes : List ℕ) → IsBytes bytes → from_be_bytes w bytes < 256 ^ byte_len w
 
@@ -81,12 +85,16 @@ number_exact w wide = record {
       let long : k ≤ length bytes = ltb-false (length bytes) k g.0 in
       let value : from_be_bytes w (take k bytes) ≡ n = ap (λ x. x.0) g.1 in
       let behind : drop k bytes ≡ rest = ap (λ x. x.1) g.1 in
-      let front : to_be_bytes w n ≡ take k bytes = rw (← value) (wide.back (take k bytes) (omega (arith, length-take k bytes)) (are_bytes-take k bytes fits)) in
-      (rw (← value) (wide.below (take k bytes) (are_bytes-take k bytes fits)), rw (front, ← behind) (sym (take-append-drop k bytes)));
+      let front : to_be_bytes w n ≡ take k bytes =
+      rw (← value) (wide.back (take k bytes) (omega (arith, length-take k bytes)) (are_bytes-take k bytes fits)) in (
+        rw (← value) (wide.below (take k bytes) (are_bytes-take k bytes fits)),
+        rw (front, ← behind) (sym (take-append-drop k bytes)),
+      );
   again = λ n rest good.
       let k = byte_len w in
       let len = wide.len n in
-      let long : ltb (length (to_be_bytes w n ++ rest)) k ≡ false = le-ltb (length (to_be_bytes w n ++ rest)) k (omega (arith, length-append (to_be_bytes w n) rest)) in
+      let long : ltb (length (to_be_bytes w n ++ rest)) k ≡ false =
+      le-ltb (length (to_be_bytes w n ++ rest)) k (omega (arith, length-append (to_be_bytes w n) rest)) in
       rw (long, take_at (to_be_bytes w n) rest k len, drop_at (to_be_bytes w n) rest k len, wide.again n good) refl;
   broken = λ bytes fits b e.
       let k = byte_len w in

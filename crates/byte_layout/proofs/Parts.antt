@@ -1,5 +1,6 @@
 -- What is put together from exact parts is exact.
-use Rattle.std.proofs.Common.{◌≡◌, ℕ, ◌≤◌, Bool, cond, List, ◌++◌, length, Ok, Err, sym, ap, subst, ◌∙◌, append_assoc, length-append, arith, inl, inr}
+use Rattle.std.proofs.Common.{◌≡◌, ℕ, ◌≤◌, Bool, cond, List, ◌++◌, length, Ok, Err, sym, ap, subst, ◌∙◌, append_assoc}
+use Rattle.std.proofs.Common.{length-append, arith, inl, inr}
 use Rattle.std.specs.Prelude.{◌+◌, ◌==◌, nat_lt}
 use Rattle.byte_layout.specs.declared.fault.Break.{Break}
 use Rattle.byte_layout.specs.declared.fault.Break.TheVariants.{BadField, Limit}
@@ -17,7 +18,8 @@ bytes_behind bytes front rest fits e = behind_front front rest (subst IsBytes e 
 pub le_behind : (n : ℕ) (bytes front rest : List ℕ) → bytes ≡ front ++ rest → n ≤ length rest → n ≤ length bytes
 le_behind n bytes front rest e le = omega (arith, le, ap length e, length-append front rest)
 
-pub judged_exact : {A : Type 0} (fault : ℕ → Break) → ((left : ℕ) → left_of (fault left) ≤ left) → (is_good : A → Bool) (p : Part A) → IsExact p → IsExact (judged fault is_good p)
+pub judged_exact : {A : Type 0} (fault : ℕ → Break) → ((left : ℕ) → left_of (fault left) ≤ left)
+    → (is_good : A → Bool) (p : Part A) → IsExact p → IsExact (judged fault is_good p)
 judged_exact {A = A} fault bound is_good p exact = record {
   taken = λ bytes fits a rest e.
       let s = bind_ok (p.read bytes) (λ x. cond (is_good x.0) (Ok x) (Err (fault (length bytes)))) (a, rest) e in
@@ -26,7 +28,8 @@ judged_exact {A = A} fault bound is_good p exact = record {
       ((t.0, ap (λ x. is_good x.0) (sym g.1) ∙ g.0), t.1);
   again = λ a rest good.
       let after = λ (x : A × List ℕ). cond (is_good x.0) (Ok x) (Err (fault (length (p.spell a ++ rest)))) in
-      ap (λ r. r >>= after) (exact.again a rest good.0) ∙ ap (λ t. cond t (Ok (a, rest)) (Err (fault (length (p.spell a ++ rest))))) good.1;
+      ap (λ r. r >>= after) (exact.again a rest good.0)
+      ∙ ap (λ t. cond t (Ok (a, rest)) (Err (fault (length (p.spell a ++ rest))))) good.1;
   broken = λ bytes fits b e.
       elim (bind_err (p.read bytes) (λ x. cond (is_good x.0) (Ok x) (Err (fault (length bytes)))) b e) [
         | inl h ↦ inl (exact.broken bytes fits b h)
@@ -71,14 +74,20 @@ done_exact a = record {
   within = λ bytes b h. absurd h;
 }
 
-pub split_exact : {A B : Type 0} (proj : A → B) (p : Part B) (q : B → Part A) → IsExact p → ((b : B) → p.Good b → IsExact (q b)) → ((b : B) → p.Good b → (a : A) → (q b).Good a → proj a ≡ b) → IsExact (split proj p q)
+pub split_exact : {A B : Type 0} (proj : A → B) (p : Part B) (q : B → Part A) → IsExact p
+    → ((b : B) → p.Good b → IsExact (q b)) → ((b : B) → p.Good b → (a : A) → (q b).Good a → proj a ≡ b)
+    → IsExact (split proj p q)
 split_exact {A = A} {B = B} proj p q first second agrees = record {
   taken = λ bytes fits a rest e.
       let s = bind_ok (p.read bytes) (λ x. (q x.0).read x.1) (a, rest) e in
       let f = first.taken bytes fits s.0.0 s.0.1 s.1 in
       let g = (second s.0.0 f.0).taken s.0.1 (bytes_behind bytes (p.spell s.0.0) s.0.1 fits f.1) a rest s.2 in
-      subst (λ (b : B). (p.Good b × (q b).Good a) × (bytes ≡ (p.spell b ++ (q b).spell a) ++ rest)) (sym (agrees s.0.0 f.0 a g.0))
-      ((f.0, g.0), f.1 ∙ ap (λ t. p.spell s.0.0 ++ t) g.1 ∙ sym (append_assoc (p.spell s.0.0) ((q s.0.0).spell a) rest));
+      subst (λ (b : B). (p.Good b × (q b).Good a) × (bytes ≡ (p.spell b ++ (q b).spell a) ++ rest))
+      (sym (agrees s.0.0 f.0 a g.0)) (
+        (f.0, g.0),
+        f.1 ∙ ap (λ t. p.spell s.0.0 ++ t) g.1
+            ∙ sym (append_assoc (p.spell s.0.0) ((q s.0.0).spell a) rest),
+      );
   again = λ a rest good.
       let b = proj a in
       let after = λ (x : B × List ℕ). (q x.0).read x.1 in
@@ -90,7 +99,13 @@ split_exact {A = A} {B = B} proj p q first second agrees = record {
         | inl h ↦ inl (first.broken bytes fits b h)
         | inr s ↦
             let f = first.taken bytes fits s.0.0 s.0.1 s.1 in
-            inr (s.0.0, s.0.1, f.0, f.1, (second s.0.0 f.0).broken s.0.1 (bytes_behind bytes (p.spell s.0.0) s.0.1 fits f.1) b s.2)
+            inr (
+              s.0.0,
+              s.0.1,
+              f.0,
+              f.1,
+              (second s.0.0 f.0).broken s.0.1 (bytes_behind bytes (p.spell s.0.0) s.0.1 fits f.1) b s.2,
+            )
       ];
   refused = λ bytes b h.
       let after = λ (x : B × List ℕ). (q x.0).read x.1 in
@@ -105,11 +120,17 @@ split_exact {A = A} {B = B} proj p q first second agrees = record {
       ];
 }
 
-pub last_exact : {A B : Type 0} (proj : A → B) (make : B → A) (p : Part B) → IsExact p → ((b : B) → p.Good b → proj (make b) ≡ b) → IsExact (last proj make p)
-last_exact proj make p exact made = split_exact proj p (λ b. done (make b)) exact (λ b good. done_exact (make b)) (λ b good a h. ap proj h ∙ made b good)
+pub last_exact : {A B : Type 0} (proj : A → B) (make : B → A) (p : Part B) → IsExact p
+    → ((b : B) → p.Good b → proj (make b) ≡ b) → IsExact (last proj make p)
+last_exact proj make p exact made =
+    split_exact proj p (λ b. done (make b)) exact (λ b good. done_exact (make b))
+    (λ b good a h. ap proj h ∙ made b good)
 
 pub sized_exact : (len : Part ℕ) → IsExact len → IsExact (sized len)
 sized_exact len exact = split_exact length len raw exact (λ n good. raw_exact n) (λ n good a h. raw_length n a h)
 
-pub marked_exact : {A : Type 0} (fault : Break) → left_of fault ≡ 0 → (n : ℕ) (p : Part ℕ) (q : Part A) → IsExact p → IsExact q → IsExact (marked fault n p q)
-marked_exact fault plain n p q first second = split_exact (λ a. n) (mark fault n p) (λ m. q) (mark_exact fault plain n p first) (λ m good. second) (λ m good a h. sym (eqb-true m n good.1))
+pub marked_exact : {A : Type 0} (fault : Break) → left_of fault ≡ 0 → (n : ℕ) (p : Part ℕ) (q : Part A) → IsExact p
+    → IsExact q → IsExact (marked fault n p q)
+marked_exact fault plain n p q first second =
+    split_exact (λ a. n) (mark fault n p) (λ m. q) (mark_exact fault plain n p first) (λ m good. second)
+    (λ m good a h. sym (eqb-true m n good.1))

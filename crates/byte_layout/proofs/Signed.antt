@@ -11,7 +11,9 @@ use Rattle.byte_layout.proofs.Fields.{IsWide, number_exact, number_good, number_
 use Rattle.byte_layout.proofs.Parts.{last_exact}
 
 signed_exact : (w : Width) → IsWide w → 256 ^ byte_len w ≡ 2 ^ bits w → IsExact (signed w)
-signed_exact w wide whole = last_exact (cast_unsigned w) (cast_signed w) (number w) (number_exact w wide) (λ n good. of_z-to_z w n (subst (λ k. n < k) whole (number_below w n good)))
+signed_exact w wide whole =
+    last_exact (cast_unsigned w) (cast_signed w) (number w) (number_exact w wide)
+    (λ n good. of_z-to_z w n (subst (λ k. n < k) whole (number_below w n good)))
 
 pub signed64_exact : IsExact (signed w64)
 signed64_exact = signed_exact w64 wide64 refl
@@ -24,4 +26,5 @@ signed64_good z fits =
     (number_good w64 (cast_unsigned w64 z) below, sym same)
 
 pub signed64_fits : (z : ℤ) → (signed w64).Good z → FitsSigned w64 z
-signed64_fits z good = let below : Fits w64 (cast_unsigned w64 z) = Fits-of_lt (number_below w64 (cast_unsigned w64 z) good.0) in subst (FitsSigned w64) (sym good.1) (sfits_to_z below)
+signed64_fits z good = let below : Fits w64 (cast_unsigned w64 z) =
+    Fits-of_lt (number_below w64 (cast_unsigned w64 z) good.0) in subst (FitsSigned w64) (sym good.1) (sfits_to_z below)

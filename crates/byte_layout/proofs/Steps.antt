@@ -1,5 +1,6 @@
 -- One reading after another, taken apart; and lists of bytes.
-use Rattle.std.proofs.Common.{◌≡◌, ℕ, zero, suc, ◌+◌, ◌⊎◌, Bool, true, false, cond, List, [], ◌∷◌, ◌++◌, take, drop, Result, Ok, Err, refl, arith, inl, inr}
+use Rattle.std.proofs.Common.{◌≡◌, ℕ, zero, suc, ◌+◌, ◌⊎◌, Bool, true, false, cond, List, [], ◌∷◌, ◌++◌, take, drop}
+use Rattle.std.proofs.Common.{Result, Ok, Err, refl, arith, inl, inr}
 use Rattle.std.proofs.lemmas.Bool.{cases_lt}
 use Rattle.std.proofs.lemmas.List.{get_or-drop, get_or-take, get_or_past, length-take}
 use Rattle.byte_layout.specs.declared.fault.Break.{Break}
@@ -17,12 +18,14 @@ pub went_well : {A : Type 0} (x : A) (b : Break) → went x ≡ Err b → ⊥
 went_well x b e = cc
 
 -- the value of a step that did not break off
-pub bind_ok : {A B : Type 0} (r : Result A Break) (f : A → Result B Break) (y : B) → (r >>= f) ≡ Ok y → (x : A) × (r ≡ Ok x) × (f x ≡ Ok y)
+pub bind_ok : {A B : Type 0} (r : Result A Break) (f : A → Result B Break) (y : B) → (r >>= f) ≡ Ok y → (x : A)
+    × (r ≡ Ok x) × (f x ≡ Ok y)
 bind_ok (Ok x) f y e = (x, refl, e)
 bind_ok (Err b) f y e = absurd cc
 
 -- the step that broke off
-pub bind_err : {A B : Type 0} (r : Result A Break) (f : A → Result B Break) (b : Break) → (r >>= f) ≡ Err b → (r ≡ Err b) ⊎ ((x : A) × (r ≡ Ok x) × (f x ≡ Err b))
+pub bind_err : {A B : Type 0} (r : Result A Break) (f : A → Result B Break) (b : Break) → (r >>= f) ≡ Err b
+    → (r ≡ Err b) ⊎ ((x : A) × (r ≡ Ok x) × (f x ≡ Err b))
 bind_err (Ok x) f b e = inr (x, refl, e)
 bind_err (Err c) f b e = inl cc
 

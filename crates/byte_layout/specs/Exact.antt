@@ -17,10 +17,12 @@ left_of Trailing = 0
 left_of (BadField left) = left
 left_of (Limit left) = left
 
--- what is read is a good value, and the bytes are its spelling with what is left behind it; the spelling of a good value is read
--- again, whatever stands behind it; a reading breaks off exactly where the bytes do, and so; and no break says that more bytes are left than there are
+-- what is read is a good value, and the bytes are its spelling with what is left behind it; the spelling of a good
+-- value is read again, whatever stands behind it; a reading breaks off exactly where the bytes do, and so; and no break
+-- says that more bytes are left than there are
 pub record IsExact {A : Type 0} (p : Part A) : Type 0 where
-  pub taken : (bytes : List ℕ) → IsBytes bytes → (a : A) (rest : List ℕ) → p.read bytes ≡ Ok (a, rest) → p.Good a × (bytes ≡ p.spell a ++ rest)
+  pub taken : (bytes : List ℕ) → IsBytes bytes → (a : A) (rest : List ℕ) → p.read bytes ≡ Ok (a, rest) → p.Good a
+      × (bytes ≡ p.spell a ++ rest)
   pub again : (a : A) (rest : List ℕ) → p.Good a → p.read (p.spell a ++ rest) ≡ Ok (a, rest)
   pub broken : (bytes : List ℕ) → IsBytes bytes → (b : Break) → p.read bytes ≡ Err b → p.Breaks bytes b
   pub refused : (bytes : List ℕ) (b : Break) → p.Breaks bytes b → p.read bytes ≡ Err b

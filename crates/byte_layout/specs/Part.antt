@@ -1,5 +1,6 @@
 -- The parts that a format of bytes is put together from.
-use Rattle.std.specs.Prelude.{◌≡◌, ℕ, zero, suc, ◌+◌, ◌^◌, ◌<◌, ◌⊎◌, ◌==◌, Bool, true, false, List, [], ◌∷◌, ◌++◌, length, take, drop, Result, Ok, Err, nat_lt, if◌then◌else◌}
+use Rattle.std.specs.Prelude.{◌≡◌, ℕ, zero, suc, ◌+◌, ◌^◌, ◌<◌, ◌⊎◌, ◌==◌, Bool, true, false, List, [], ◌∷◌, ◌++◌}
+use Rattle.std.specs.Prelude.{length, take, drop, Result, Ok, Err, nat_lt, if◌then◌else◌}
 use Rattle.std.specs.Int.{Width, byte_len, to_be_bytes, from_be_bytes, cast_signed, cast_unsigned}
 use Rattle.std.specs.Prelude.{ℤ}
 use Rattle.byte_layout.specs.declared.fault.Break.{Break}
@@ -37,16 +38,19 @@ number w = record {
   spell = to_be_bytes w;
   Good = λ n. n < 256 ^ byte_len w;
   Breaks = λ bytes b. (length bytes < byte_len w) × (b ≡ Cut);
-  read = λ bytes. if nat_lt (length bytes) (byte_len w) then Err Cut else Ok (from_be_bytes w (take (byte_len w) bytes), drop (byte_len w) bytes);
+  read = λ bytes. if nat_lt (length bytes) (byte_len w) then Err Cut
+      else Ok (from_be_bytes w (take (byte_len w) bytes), drop (byte_len w) bytes);
 }
 
--- a part whose value has to pass a test, made once all of it is there. A value that fails breaks the bytes off at its first byte:
--- the fault is told how many bytes are left from there
+-- a part whose value has to pass a test, made once all of it is there. A value that fails breaks the bytes off at its
+-- first byte: the fault is told how many bytes are left from there
 abbrev pub judged : {A : Type 0} → (ℕ → Break) → (A → Bool) → Part A → Part A
 judged fault is_good p = record {
   spell = p.spell;
   Good = λ a. p.Good a × (is_good a ≡ true);
-  Breaks = λ bytes b. p.Breaks bytes b ⊎ ((a : _) × (rest : List ℕ) × p.Good a × (bytes ≡ p.spell a ++ rest) × (is_good a ≡ false) × (b ≡ fault (length bytes)));
+  Breaks = λ bytes b. p.Breaks bytes b
+      ⊎ ((a : _) × (rest : List ℕ) × p.Good a × (bytes ≡ p.spell a ++ rest) × (is_good a ≡ false)
+      × (b ≡ fault (length bytes)));
   read = λ bytes. p.read bytes >>= λ x. if is_good x.0 then Ok x else Err (fault (length bytes));
 }
 
@@ -72,7 +76,8 @@ abbrev pub split : {A B : Type 0} → (A → B) → Part B → (B → Part A) �
 split proj p q = record {
   spell = λ a. p.spell (proj a) ++ (q (proj a)).spell a;
   Good = λ a. p.Good (proj a) × (q (proj a)).Good a;
-  Breaks = λ bytes b. p.Breaks bytes b ⊎ ((x : _) × (rest : List ℕ) × p.Good x × (bytes ≡ p.spell x ++ rest) × (q x).Breaks rest b);
+  Breaks = λ bytes b. p.Breaks bytes b
+      ⊎ ((x : _) × (rest : List ℕ) × p.Good x × (bytes ≡ p.spell x ++ rest) × (q x).Breaks rest b);
   read = λ bytes. p.read bytes >>= λ x. (q x.0).read x.1;
 }
 
@@ -106,7 +111,8 @@ abbrev pub linked : {A : Type 0} → Part A → (A → Part (List A)) → Part (
 linked p q = record {
   spell = linked_bytes p q;
   Good = LinkedGood p q;
-  Breaks = λ bytes b. p.Breaks bytes b ⊎ ((x : _) × (rest : List ℕ) × p.Good x × (bytes ≡ p.spell x ++ rest) × (q x).Breaks rest b);
+  Breaks = λ bytes b. p.Breaks bytes b
+      ⊎ ((x : _) × (rest : List ℕ) × p.Good x × (bytes ≡ p.spell x ++ rest) × (q x).Breaks rest b);
   read = λ bytes. p.read bytes >>= λ x. (q x.0).read x.1 >>= λ xs. Ok (x.0 ∷ xs.0, xs.1);
 }
 

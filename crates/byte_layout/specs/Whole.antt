@@ -14,7 +14,10 @@ IsAll p bytes a = p.Good a × (bytes ≡ p.spell a)
 
 -- the bytes break off within the part, or a good value's stand there and at least one behind them
 abbrev pub BreaksOff : {A : Type 0} → Part A → List ℕ → Break → Type 0
-BreaksOff p bytes b = p.Breaks bytes b ⊎ ((a : _) × (first : ℕ) × (rest : List ℕ) × p.Good a × (bytes ≡ p.spell a ++ first ∷ rest) × (b ≡ breaks.Trailing))
+BreaksOff p bytes b =
+    p.Breaks bytes b
+    ⊎ ((a : _) × (first : ℕ) × (rest : List ℕ) × p.Good a × (bytes ≡ p.spell a ++ first ∷ rest)
+    × (b ≡ breaks.Trailing))
 
 -- the value of all of the bytes, or the first break
 abbrev pub read_all : {A : Type 0} → Part A → List ℕ → Result A Break

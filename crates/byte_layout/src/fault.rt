@@ -6,7 +6,8 @@ use thiserror::Error;
 
 /// How bytes break off where a field should stand, or behind the last one.
 ///
-/// A number is how many bytes are left from the field's first byte on, so that a field's break is the same whatever stands before it.
+/// A number is how many bytes are left from the field's first byte on, so that a field's break is the same whatever
+/// stands before it.
 #[derive(Clone, Copy, Debug, PartialEq, Eq)]
 pub enum Break {
     /// The number that marks the format is another.
@@ -32,7 +33,8 @@ pub enum ReadError {
     Fault(Break),
 }
 
-/// Why bytes are not those of a value: their first fault from the left, with its place where it has one; `Memory` says that no memory was left.
+/// Why bytes are not those of a value: their first fault from the left, with its place where it has one; `Memory` says
+/// that no memory was left.
 ///
 /// A place counts bytes from 0 and is the first byte of the field.
 #[derive(Clone, Copy, Debug, PartialEq, Eq, Error)]

@@ -33,7 +33,8 @@ pub trait Format {
 pub fn load<F: Format>(alloc: Global, bytes: &[u8]) -> Result<F::Value, LayoutFault>
     requires { IsExact F.layout }
     ensures found { IfOk result (λ v. IsAll F.layout bytes.now (F.view v)) }
-    ensures only { (a : F.Data) → IsAll F.layout bytes.now a → MatchResult result (λ v. F.view v ≡ a) (λ f. f ≡ Memory) }
+    ensures only { (a : F.Data) → IsAll F.layout bytes.now a
+        → MatchResult result (λ v. F.view v ≡ a) (λ f. f ≡ Memory) }
     ensures fault { IfErr result (λ f. f ≢ Memory → HasFault F.layout bytes.now f) }
     ensures refused { (f : LayoutFault) → HasFault F.layout bytes.now f → IsErrAnd result (λ g. g ≢ Memory → g ≡ f) }
 {

@@ -68,7 +68,8 @@ pub fn put_items<I: PutItems>(
     list: &[I::Item],
 ) -> Result<(), AllocError>
     requires { (each (I.part items.now) (length list.now) []).Good list.now }
-    ensures { OnOk result (out.new.items ≡ out.old.items ++ (each (I.part items.now) (length list.now) []).spell list.now) }
+    ensures { OnOk result (out.new.items ≡ out.old.items
+        ++ (each (I.part items.now) (length list.now) []).spell list.now) }
 {
     for (i, item) in list.iter().enumerate() {
         items.put_item(out, &list[..i], item)?;

@@ -8,17 +8,22 @@ ghost use Rattle.byte_layout.specs.Exact.{IsBytes, IsExact, left_of};
 
 use crate::format::Format;
 
-/// In each format bytes are those of one value or have one fault, and never both; a fault's place is among them; and `read_all`
-/// computes which it is.
+/// In each format bytes are those of one value or have one fault, and never both; a fault's place is among them; and
+/// `read_all` computes which it is.
 pub fn one_reading<F: Format>()
     requires { IsExact F.layout }
     ensures value { (bytes : List ℕ) (a b : F.Data) → IsAll F.layout bytes a → IsAll F.layout bytes b → a ≡ b }
-    ensures fault { (bytes : List ℕ) (f g : LayoutFault) → HasFault F.layout bytes f → HasFault F.layout bytes g → f ≡ g }
-    ensures never_both { (bytes : List ℕ) (a : F.Data) (f : LayoutFault) → IsAll F.layout bytes a → HasFault F.layout bytes f → ⊥ }
-    ensures either { (bytes : List ℕ) → IsBytes bytes → ((a : F.Data) × IsAll F.layout bytes a) ⊎ ((f : LayoutFault) × HasFault F.layout bytes f) }
+    ensures fault { (bytes : List ℕ) (f g : LayoutFault) → HasFault F.layout bytes f → HasFault F.layout bytes g
+        → f ≡ g }
+    ensures never_both { (bytes : List ℕ) (a : F.Data) (f : LayoutFault) → IsAll F.layout bytes a
+        → HasFault F.layout bytes f → ⊥ }
+    ensures either { (bytes : List ℕ) → IsBytes bytes → ((a : F.Data) × IsAll F.layout bytes a)
+        ⊎ ((f : LayoutFault) × HasFault F.layout bytes f) }
     ensures within { (bytes : List ℕ) (b : Break) → BreaksOff F.layout bytes b → left_of b ≤ length bytes }
-    ensures reads_value { (bytes : List ℕ) → IsBytes bytes → (a : F.Data) → (read_all F.layout bytes ≡ Ok a) ↔ IsAll F.layout bytes a }
-    ensures reads_break { (bytes : List ℕ) → IsBytes bytes → (b : Break) → (read_all F.layout bytes ≡ Err b) ↔ BreaksOff F.layout bytes b }
+    ensures reads_value { (bytes : List ℕ) → IsBytes bytes → (a : F.Data) → (read_all F.layout bytes ≡ Ok a)
+        ↔ IsAll F.layout bytes a }
+    ensures reads_break { (bytes : List ℕ) → IsBytes bytes → (b : Break) → (read_all F.layout bytes ≡ Err b)
+        ↔ BreaksOff F.layout bytes b }
 {}
 
 /// Single fields are exact.

@@ -1,4 +1,5 @@
-//! The fields that formats share, written at the end of a vector. Where memory runs out, the vector has the bytes that it had.
+//! The fields that formats share, written at the end of a vector. Where memory runs out, the vector has the bytes that
+//! it had.
 
 ghost use Rattle.std.specs.Prelude.{◌≡◌, ◌++◌, length, OnOk, OnErr};
 ghost use Rattle.std.specs.Int.{w8, w16, w32, w64};

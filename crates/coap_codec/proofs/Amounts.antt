@@ -5,7 +5,8 @@ use Rattle.coap_codec.specs.Message.{nibble_of, extension_of, two_bytes}
 use Rattle.coap_codec.specs.Fault.{width, amount}
 
 -- a number is itself, or has one byte more, or two
-pub by_size : (n : ℕ) (P : ℕ → List ℕ → Type 0) → (n < 13 → P n []) → (13 ≤ n → n < 269 → P 13 ((n - 13) ∷ [])) → (269 ≤ n → P 14 (two_bytes (n - 269))) → P (nibble_of n) (extension_of n)
+pub by_size : (n : ℕ) (P : ℕ → List ℕ → Type 0) → (n < 13 → P n []) → (13 ≤ n → n < 269 → P 13 ((n - 13) ∷ []))
+    → (269 ≤ n → P 14 (two_bytes (n - 269))) → P (nibble_of n) (extension_of n)
 by_size n P small middle large =
     elim (cases_lt n 13) [
       | inl h ↦ rw (lt-ltb n 13 h) (small h)
@@ -22,7 +23,8 @@ pub width_length : (n : ℕ) → width (nibble_of n) ≡ length (extension_of n)
 width_length n = by_size n (λ k e. width k ≡ length e) (λ h. rw (lt-ltb n 13 h) refl) (λ h k. refl) (λ h. refl)
 
 pub amount_again : (n : ℕ) (r : List ℕ) → amount (nibble_of n) (extension_of n ++ r) ≡ n
-amount_again n r = by_size n (λ k e. amount k (e ++ r) ≡ n) (λ h. rw (lt-ltb n 13 h) refl) (λ h k. omega arith) (λ h. omega arith)
+amount_again n r =
+    by_size n (λ k e. amount k (e ++ r) ≡ n) (λ h. rw (lt-ltb n 13 h) refl) (λ h k. omega arith) (λ h. omega arith)
 
 pub rest_again : (n : ℕ) (r : List ℕ) → drop (width (nibble_of n)) (extension_of n ++ r) ≡ r
 rest_again n r = by_size n (λ k e. drop (width k) (e ++ r) ≡ r) (λ h. rw (lt-ltb n 13 h) refl) (λ h k. refl) (λ h. refl)

@@ -1,7 +1,9 @@
-use Rattle.std.specs.Prelude.{◌≡◌, ℕ, ◌+◌, ◌*◌, ◌/◌, ◌%◌, not, ◌==◌, ◌&&◌, ◌||◌, List, [], ◌∷◌, ◌++◌, length, drop, slice_index, nat_lt, if◌then◌else◌, Option, None, Some, MatchOption}
+use Rattle.std.specs.Prelude.{◌≡◌, ℕ, ◌+◌, ◌*◌, ◌/◌, ◌%◌, not, ◌==◌, ◌&&◌, ◌||◌, List, [], ◌∷◌, ◌++◌, length, drop}
+use Rattle.std.specs.Prelude.{slice_index, nat_lt, if◌then◌else◌, Option, None, Some, MatchOption}
 use Rattle.coap_codec.specs.declared.option.Opt.{Opt}
 use Rattle.coap_codec.specs.declared.fault.CoapFault.{CoapFault}
-use Rattle.coap_codec.specs.declared.fault.CoapFault.TheVariants.{Short, Version, TokenLength, EmptyWithData, OptionCut, OptionReserved, OptionNumber, PayloadEmpty}
+use Rattle.coap_codec.specs.declared.fault.CoapFault.TheVariants.{Short, Version, TokenLength, EmptyWithData, OptionCut}
+use Rattle.coap_codec.specs.declared.fault.CoapFault.TheVariants.{OptionReserved, OptionNumber, PayloadEmpty}
 use Rattle.coap_codec.specs.Message.{IsOptionList, options_bytes}
 
 -- the token length that the first byte gives (RFC 7252 section 3)
@@ -14,7 +16,8 @@ header_fault bytes =
     if nat_lt (length bytes) 4 then Some Short
     else (if not (slice_index bytes 0 / 64 == 1) then Some Version
     else (if nat_lt 8 (token_length bytes) then Some TokenLength
-    else (if slice_index bytes 1 == 0 && (not (token_length bytes == 0) || nat_lt 4 (length bytes)) then Some EmptyWithData
+    else (if slice_index bytes 1 == 0 && (not (token_length bytes == 0) || nat_lt 4 (length bytes))
+    then Some EmptyWithData
     else (if nat_lt (length bytes) (4 + token_length bytes) then Some OptionCut else None))))
 
 -- how many bytes extend a nibble below 15 (RFC 7252 section 3.1)
@@ -37,7 +40,8 @@ option_fault number first rest =
     else (if nat_lt 65535 (number + amount (first / 16) rest) then Some OptionNumber
     else (let behind = drop (width (first / 16)) rest in
     if nat_lt (length behind) (width (first % 16)) then Some OptionCut
-    else (if nat_lt (length (drop (width (first % 16)) behind)) (amount (first % 16) behind) then Some OptionCut else None))))
+    else (if nat_lt (length (drop (width (first % 16)) behind)) (amount (first % 16) behind) then Some OptionCut
+    else None))))
 
 -- what is wrong behind whole options, the last of this number: nothing where they end, a marker with
 -- no payload, or the next option's fault (RFC 7252 section 3)

@@ -1,10 +1,11 @@
-use Rattle.std.specs.Prelude.{◌≡◌, ℕ, ◌+◌, ◌-◌, ◌*◌, ◌/◌, ◌%◌, ◌<◌, ◌≤◌, List, [], ◌∷◌, ◌++◌, length, nat_lt, if◌then◌else◌}
+use Rattle.std.specs.Prelude.{◌≡◌, ℕ, ◌+◌, ◌-◌, ◌*◌, ◌/◌, ◌%◌, ◌<◌, ◌≤◌, List, [], ◌∷◌, ◌++◌, length, nat_lt}
+use Rattle.std.specs.Prelude.{if◌then◌else◌}
 use Rattle.coap_codec.specs.declared.kind.Kind.{Kind}
 use Rattle.coap_codec.specs.declared.kind.Kind.TheVariants.{Con, Non, Ack, Rst}
 use Rattle.coap_codec.specs.declared.option.Opt.{Opt}
 
 -- a message, as contracts see it (RFC 7252 section 3)
-pub record Parts : Type 0 where
+pub record Message : Type 0 where
   pub kind : Kind
   pub code : ℕ
   pub mid : ℕ
@@ -26,7 +27,7 @@ IsOptionList number (o ∷ os) = MayFollow number o × IsOptionList o.number os
 
 -- code and message ID have 8 and 16 bits, a token at most 8 bytes, options ascend from 0, and a
 -- message of code 0.00 has nothing else (RFC 7252 sections 3 and 4.1)
-pub record IsWellFormed (m : Parts) : Type 0 where
+pub record IsWellFormed (m : Message) : Type 0 where
   pub code : m.code < 256
   pub mid : m.mid < 65536
   pub token : length m.token ≤ 8
@@ -45,7 +46,7 @@ abbrev pub two_bytes : ℕ → List ℕ
 two_bytes n = n / 256 ∷ n % 256 ∷ []
 
 -- the four bytes that begin a message: version 1, type, token length; code; message ID (RFC 7252 section 3)
-abbrev pub header_bytes : Parts → List ℕ
+abbrev pub header_bytes : Message → List ℕ
 header_bytes m = (64 + 16 * kind_number m.kind + length m.token) ∷ m.code ∷ two_bytes m.mid
 
 -- the nibble of a delta or a length: itself below 13, 13 for one byte more, 14 for two (RFC 7252 section 3.1)
@@ -56,10 +57,12 @@ nibble_of n = if nat_lt n 13 then n else (if nat_lt n 269 then 13 else 14)
 abbrev pub extension_of : ℕ → List ℕ
 extension_of n = if nat_lt n 13 then [] else (if nat_lt n 269 then (n - 13) ∷ [] else two_bytes (n - 269))
 
--- an option behind one of this number: both nibbles, the delta's extension, the length's, the value (RFC 7252 section 3.1)
+-- an option behind one of this number: both nibbles, the delta's extension, the length's, the value (RFC 7252 section
+-- 3.1)
 abbrev pub option_bytes : ℕ → Opt → List ℕ
 option_bytes number o =
-    (16 * nibble_of (o.number - number) + nibble_of (length o.value)) ∷ (extension_of (o.number - number) ++ (extension_of (length o.value) ++ o.value))
+    (16 * nibble_of (o.number - number) + nibble_of (length o.value)) ∷ (extension_of (o.number - number)
+    ++ (extension_of (length o.value) ++ o.value))
 
 -- options one after another, behind one of this number (RFC 7252 section 3.1)
 abbrev pub options_bytes : ℕ → List Opt → List ℕ
@@ -72,10 +75,10 @@ payload_bytes [] = []
 payload_bytes (b ∷ bs) = 255 ∷ b ∷ bs
 
 -- the bytes of a message (RFC 7252 section 3)
-abbrev pub spelling : Parts → List ℕ
+abbrev pub spelling : Message → List ℕ
 spelling m = header_bytes m ++ (m.token ++ (options_bytes 0 m.options ++ payload_bytes m.payload))
 
 -- the bytes are a well-formed message's (RFC 7252 section 3)
-pub record Spells (bytes : List ℕ) (m : Parts) : Type 0 where
+pub record Spells (bytes : List ℕ) (m : Message) : Type 0 where
   pub well_formed : IsWellFormed m
   pub parts : bytes ≡ spelling m

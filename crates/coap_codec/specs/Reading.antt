@@ -1,9 +1,10 @@
-use Rattle.std.specs.Prelude.{ℕ, ◌+◌, ◌*◌, ◌/◌, ◌%◌, ◌==◌, zero, suc, List, [], ◌∷◌, length, take, drop, slice_index, if◌then◌else◌, Option, None, Some, Result, Ok, Err}
+use Rattle.std.specs.Prelude.{ℕ, ◌+◌, ◌*◌, ◌/◌, ◌%◌, ◌==◌, zero, suc, List, [], ◌∷◌, length, take, drop, slice_index}
+use Rattle.std.specs.Prelude.{if◌then◌else◌, Option, None, Some, Result, Ok, Err}
 use Rattle.coap_codec.specs.declared.kind.Kind.{Kind}
 use Rattle.coap_codec.specs.declared.kind.Kind.TheVariants.{Con, Non, Ack, Rst}
 use Rattle.coap_codec.specs.declared.option.Opt.{Opt}
 use Rattle.coap_codec.specs.declared.fault.CoapFault.{CoapFault}
-use Rattle.coap_codec.specs.Message.{Parts}
+use Rattle.coap_codec.specs.Message.{Message}
 use Rattle.coap_codec.specs.Fault.{token_length, header_fault, width, amount, place_fault}
 
 -- the type of these two bits (RFC 7252 section 3)
@@ -19,7 +20,11 @@ pub record Found : Type 0 where
 abbrev pub option_here : ℕ → ℕ → List ℕ → Opt
 option_here number first rest =
     let behind = drop (width (first / 16)) rest in
-    record { number = number + amount (first / 16) rest; value = take (amount (first % 16) behind) (drop (width (first % 16)) behind) }
+    record {
+      number = number + amount (first / 16) rest;
+      value =
+          take (amount (first % 16) behind) (drop (width (first % 16)) behind);
+    }
 
 -- what stands behind that option
 abbrev pub behind_option : ℕ → List ℕ → List ℕ
@@ -47,7 +52,7 @@ read_options zero number bytes = Ok (record { options = []; payload = [] })
 read_options (suc steps) number bytes = read_place (read_options steps) number bytes (place_fault number bytes)
 
 -- the message of a header, its token and what was found behind them (RFC 7252 section 3)
-abbrev pub message_of : List ℕ → Result Found CoapFault → Result Parts CoapFault
+abbrev pub message_of : List ℕ → Result Found CoapFault → Result Message CoapFault
 message_of bytes (Ok found) =
     Ok (record {
       kind = kind_of (slice_index bytes 0 / 16 % 4);
@@ -60,10 +65,10 @@ message_of bytes (Ok found) =
 message_of bytes (Err fault) = Err fault
 
 -- the fault before the options, or else the message of what they are
-abbrev pub read_behind : List ℕ → Option CoapFault → Result Parts CoapFault
+abbrev pub read_behind : List ℕ → Option CoapFault → Result Message CoapFault
 read_behind bytes (Some fault) = Err fault
 read_behind bytes None = message_of bytes (read_options (length bytes) 0 (drop (4 + token_length bytes) bytes))
 
 -- what bytes say: the message that they spell, or else their fault
-unfoldable pub reading_of : List ℕ → Result Parts CoapFault
+unfoldable pub reading_of : List ℕ → Result Message CoapFault
 reading_of bytes = read_behind bytes (header_fault bytes)

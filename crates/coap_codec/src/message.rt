@@ -20,13 +20,29 @@ pub struct Message {
 }
 
 impl Model for Message {
-    ghost use Rattle.coap_codec.specs.Message.{Parts, IsWellFormed};
+    ghost use Rattle.coap_codec.specs.Message.{Message, IsWellFormed};
 
-    ghost Value = { Parts };
+    ghost Value = { Message };
 
-    ghost view = { λ m. record { kind = m.kind; code = m.code; mid = m.mid; token = m.token; options = m.options; payload = m.payload } };
+    ghost view = { λ m. record {
+      kind = m.kind;
+      code = m.code;
+      mid = m.mid;
+      token = m.token;
+      options =
+          m.options;
+      payload = m.payload;
+    } };
 
-    ghost invariant = { λ m. IsWellFormed (record { kind = m.kind; code = m.code; mid = m.mid; token = m.token; options = m.options; payload = m.payload }) };
+    ghost invariant = { λ m. IsWellFormed (record {
+      kind = m.kind;
+      code = m.code;
+      mid = m.mid;
+      token = m.token;
+      options =
+          m.options;
+      payload = m.payload;
+    }) };
 }
 
 impl Message {
@@ -41,9 +57,25 @@ impl Message {
         payload: Bytes,
     ) -> Option<Message>
         ensures well_formed { IsSome result
-            ↔ IsWellFormed (record { kind = kind; code = code; mid = mid; token = token; options = options; payload = payload }) }
+            ↔ IsWellFormed (record {
+              kind = kind;
+              code = code;
+              mid = mid;
+              token = token;
+              options = options;
+              payload =
+                  payload;
+            }) }
         ensures value { IfSome result
-            (λ m. m ≡ record { kind = kind; code = code; mid = mid; token = token; options = options; payload = payload }) }
+            (λ m. m ≡ record {
+              kind = kind;
+              code = code;
+              mid = mid;
+              token = token;
+              options = options;
+              payload =
+                  payload;
+            }) }
     {
         let bare = token.is_empty() && options.is_empty() && payload.is_empty();
         if token.len() > 8 || (code == 0 && !bare) || !is_option_list(options.as_slice()) {
@@ -61,8 +93,24 @@ impl Message {
         options: Options,
         payload: Bytes,
     ) -> Message
-        requires { IsWellFormed (record { kind = kind; code = code; mid = mid; token = token; options = options; payload = payload }) }
-        ensures { result ≡ record { kind = kind; code = code; mid = mid; token = token; options = options; payload = payload } }
+        requires { IsWellFormed (record {
+          kind = kind;
+          code = code;
+          mid = mid;
+          token = token;
+          options =
+              options;
+          payload = payload;
+        }) }
+        ensures { result ≡ record {
+          kind = kind;
+          code = code;
+          mid = mid;
+          token = token;
+          options = options;
+          payload =
+              payload;
+        } }
     {
         Message {
             kind,

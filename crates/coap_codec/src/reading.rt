@@ -1,6 +1,9 @@
-ghost use Rattle.std.specs.Prelude.{◌≡◌, ◌≢◌, ◌≤◌, ◌<◌, ◌+◌, ◌*◌, ◌++◌, ◌∷◌, [], length, drop, IfOk, IfErr, IfSome, IfNone, IsErrAnd, MatchResult, Some, None, Ok, Err};
-ghost use Rattle.coap_codec.specs.Message.{Parts, MayFollow, IsOptionList, Spells, kind_number, two_bytes, nibble_of, extension_of, option_bytes, options_bytes, payload_bytes};
-ghost use Rattle.coap_codec.specs.Fault.{token_length, header_fault, width, amount, option_fault, place_fault, BreaksOff, HasFault, HasEarlyFault};
+ghost use Rattle.std.specs.Prelude.{◌≡◌, ◌≢◌, ◌≤◌, ◌<◌, ◌+◌, ◌*◌, ◌++◌, ◌∷◌, [], length, drop, IfOk, IfErr, IfSome};
+ghost use Rattle.std.specs.Prelude.{IfNone, IsErrAnd, MatchResult, Some, None, Ok, Err};
+ghost use Rattle.coap_codec.specs.Message.{Message, MayFollow, IsOptionList, Spells, kind_number, two_bytes, nibble_of};
+ghost use Rattle.coap_codec.specs.Message.{extension_of, option_bytes, options_bytes, payload_bytes};
+ghost use Rattle.coap_codec.specs.Fault.{token_length, header_fault, width, amount, option_fault, place_fault};
+ghost use Rattle.coap_codec.specs.Fault.{BreaksOff, HasFault, HasEarlyFault};
 ghost use Rattle.coap_codec.specs.Reading.{reading_of};
 
 use crate::front::kind_of;
@@ -48,7 +51,8 @@ fn amount_at(nibble: u8, bytes: &[u8]) -> Option<(u32, &[u8])>
 fn start_of(bytes: &[u8]) -> Result<Start<'_>, CoapFault>
     ensures sound { IfOk result (λ s. header_fault bytes.now ≡ None) }
     ensures parts { IfOk result
-        (λ s. bytes.now ≡ ((64 + 16 * kind_number s.kind + length s.token.now) ∷ s.code ∷ two_bytes s.mid) ++ (s.token.now ++ s.rest.now)) }
+        (λ s. bytes.now ≡ ((64 + 16 * kind_number s.kind + length s.token.now) ∷ s.code ∷ two_bytes s.mid)
+        ++ (s.token.now ++ s.rest.now)) }
     ensures rest { IfOk result (λ s. s.rest.now ≡ drop (4 + token_length bytes.now) bytes.now) }
     ensures token { IfOk result (λ s. length s.token.now ≤ 8) }
     ensures empty { IfOk result (λ s. s.code ≡ 0 → (s.token.now ≡ []) × (s.rest.now ≡ [])) }
@@ -142,7 +146,7 @@ fn options_at(alloc: Global, bytes: &[u8]) -> Result<(Vec<Opt>, &[u8]), CoapFaul
 /// each byte is looked at once.
 pub fn decode(alloc: Global, bytes: &[u8]) -> Result<Message, CoapFault>
     ensures found { IfOk result (λ m. Spells bytes.now m) }
-    ensures only { (m : Parts) → Spells bytes.now m → MatchResult result (λ x. x ≡ m) (λ f. f ≡ CoapFault.Memory) }
+    ensures only { (m : Message) → Spells bytes.now m → MatchResult result (λ x. x ≡ m) (λ f. f ≡ CoapFault.Memory) }
     ensures fault { IfErr result (λ f. f ≢ CoapFault.Memory → HasFault bytes.now f) }
     ensures refused { (f : CoapFault) → HasFault bytes.now f → IsErrAnd result (λ g. g ≢ CoapFault.Memory → g ≡ f) }
     // The faults of a header, and those right behind the token, are found before memory is taken.

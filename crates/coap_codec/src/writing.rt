@@ -1,5 +1,6 @@
 ghost use Rattle.std.specs.Prelude.{◌≡◌, ◌≤◌, ◌<◌, ◌+◌, ◌*◌, ◌++◌, length, IfOk, OnOk};
-ghost use Rattle.coap_codec.specs.Message.{Spells, MayFollow, IsOptionList, kind_number, header_bytes, nibble_of, extension_of, option_bytes, options_bytes, payload_bytes, spelling};
+ghost use Rattle.coap_codec.specs.Message.{Spells, MayFollow, IsOptionList, kind_number, header_bytes, nibble_of};
+ghost use Rattle.coap_codec.specs.Message.{extension_of, option_bytes, options_bytes, payload_bytes, spelling};
 
 use crate::{Kind, Message, Opt};
 use std::alloc::{AllocError, Global};

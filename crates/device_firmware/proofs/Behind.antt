@@ -1,5 +1,6 @@
 -- What a store holds behind an event.
-use Rattle.std.proofs.Common.{◌≡◌, ◌≢◌, ℕ, Bool, true, false, cond, ◌&&◌, eqb, List, Option, None, Some, Result, Ok, Err, pos, refl, sym, ap, ◌∙◌, ◌⊎◌, inl, inr}
+use Rattle.std.proofs.Common.{◌≡◌, ◌≢◌, ℕ, Bool, true, false, cond, ◌&&◌, eqb, List, Option, None, Some, Result, Ok}
+use Rattle.std.proofs.Common.{Err, pos, refl, sym, ap, ◌∙◌, ◌⊎◌, inl, inr}
 use Rattle.std.specs.Ordering.{eq_by_cmp, is_eq}
 use Rattle.std.specs.Option.{option_map, is_some}
 use Rattle.std.proofs.lemmas.Bool.{eq-eqb, false≢true}
@@ -17,12 +18,14 @@ use Rattle.device_firmware.specs.declared.event.FirmwareEvent.{FirmwareEvent}
 use Rattle.device_firmware.specs.declared.state.State.{State}
 use Rattle.device_firmware.specs.declared.state.State.TheVariants.{Idle, Downloading, Downloaded, Updating}
 use Rattle.device_firmware.specs.declared.state.Outcome.{Outcome}
-use Rattle.device_firmware.specs.Firmware.{firmware_resource, firmware_after, outcome_in, number_of, state_as, state_in, uri_of, with_uri, with_outcome}
+use Rattle.device_firmware.specs.Firmware.{firmware_resource, firmware_after, outcome_in, number_of, state_as, state_in}
+use Rattle.device_firmware.specs.Firmware.{uri_of, with_uri, with_outcome}
 use Rattle.device_firmware.specs.Firmware.{held, is_ready}
 use Rattle.device_firmware.specs.Laws.{uri_behind}
 
 -- behind an insertion
-behind : (s : Stored) (p q : FullPath) (v : Value) → value_at (with_value s p v) q ≡ cond (eq_by_cmp path_cmp q p) (Some v) (value_at s q)
+behind : (s : Stored) (p q : FullPath) (v : Value)
+    → value_at (with_value s p v) q ≡ cond (eq_by_cmp path_cmp q p) (Some v) (value_at s q)
 behind s p q v = map.get-insert path_total s.values p v q
 
 is_equal : (r : Ordering) → is_eq r ≡ true → r ≡ Equal
@@ -53,24 +56,29 @@ read_again Updating = refl
 pub state-outcome : (s : Stored) (o : Outcome) → state_in (with_outcome s o) ≡ Some o.state
 state-outcome s o =
     let state = number (number_of o.state) in
-    ap state_as (behind (with_value s (at 3) state) (at 5) (at 3) (number o.code) ∙ behind s (at 3) (at 3) state) ∙ read_again o.state
+    ap state_as (behind (with_value s (at 3) state) (at 5) (at 3) (number o.code) ∙ behind s (at 3) (at 3) state)
+    ∙ read_again o.state
 
 pub code-outcome : (s : Stored) (o : Outcome) → held (with_outcome s o) 5 ≡ Some (number o.code)
 code-outcome s o = behind (with_value s (at 3) (number (number_of o.state))) (at 5) (at 5) (number o.code)
 
 pub uri-outcome : (s : Stored) (o : Outcome) → held (with_outcome s o) 1 ≡ held s 1
 uri-outcome s o =
-    behind (with_value s (at 3) (number (number_of o.state))) (at 5) (at 1) (number o.code) ∙ behind s (at 3) (at 1) (number (number_of o.state))
+    behind (with_value s (at 3) (number (number_of o.state))) (at 5) (at 1) (number o.code)
+    ∙ behind s (at 3) (at 1) (number (number_of o.state))
 
 pub uri-uri : (s : Stored) (uri : Option (List ℕ)) → held (with_uri s uri) 1 ≡ uri_behind (held s 1) uri
 uri-uri s None = refl
 uri-uri s (Some text) = behind s (at 1) (at 1) (Text text)
 
-pub other-outcome : (s : Stored) (o : Outcome) (q : FullPath) → q ≢ at 3 → q ≢ at 5 → value_at (with_outcome s o) q ≡ value_at s q
+pub other-outcome : (s : Stored) (o : Outcome) (q : FullPath) → q ≢ at 3 → q ≢ at 5
+    → value_at (with_outcome s o) q ≡ value_at s q
 other-outcome s o q not3 not5 =
-    elsewhere (with_value s (at 3) (number (number_of o.state))) (at 5) q (number o.code) not5 ∙ elsewhere s (at 3) q (number (number_of o.state)) not3
+    elsewhere (with_value s (at 3) (number (number_of o.state))) (at 5) q (number o.code) not5
+    ∙ elsewhere s (at 3) q (number (number_of o.state)) not3
 
-pub other-uri : (s : Stored) (uri : Option (List ℕ)) (q : FullPath) → q ≢ at 1 → value_at (with_uri s uri) q ≡ value_at s q
+pub other-uri : (s : Stored) (uri : Option (List ℕ)) (q : FullPath) → q ≢ at 1
+    → value_at (with_uri s uri) q ≡ value_at s q
 other-uri s None q not1 = refl
 other-uri s (Some text) q not1 = elsewhere s (at 1) q (Text text) not1
 
@@ -83,12 +91,15 @@ mapped f None b h = cc
 mapped f (Some a) b h = (a, cc)
 
 -- an event that is taken has an outcome, which the store then has
-pub taken : (s after : Stored) (event : FirmwareEvent) → firmware_after s event ≡ Some after → (o : Outcome) × (with_outcome (with_uri s (uri_of event)) o ≡ after)
+pub taken : (s after : Stored) (event : FirmwareEvent) → firmware_after s event ≡ Some after → (o : Outcome)
+    × (with_outcome (with_uri s (uri_of event)) o ≡ after)
 taken s after event h = mapped (with_outcome (with_uri s (uri_of event))) (outcome_in s event) after h
 
-pub taken_as : (s after : Stored) (event : FirmwareEvent) (o : Outcome) → outcome_in s event ≡ Some o → firmware_after s event ≡ Some after → with_outcome (with_uri s (uri_of event)) o ≡ after
+pub taken_as : (s after : Stored) (event : FirmwareEvent) (o : Outcome) → outcome_in s event ≡ Some o
+    → firmware_after s event ≡ Some after → with_outcome (with_uri s (uri_of event)) o ≡ after
 taken_as s after event o is h =
-    let same : firmware_after s event ≡ Some (with_outcome (with_uri s (uri_of event)) o) = ap (option_map (with_outcome (with_uri s (uri_of event)))) is in
+    let same : firmware_after s event ≡ Some (with_outcome (with_uri s (uri_of event)) o) =
+    ap (option_map (with_outcome (with_uri s (uri_of event)))) is in
     let both : Some (with_outcome (with_uri s (uri_of event)) o) ≡ Some after = sym same ∙ h in cc
 
 -- ---- where memory can be wanting
@@ -108,17 +119,20 @@ wanting-1 s h = not_ready (is_some (held s 1)) (is_some (held s 3)) (is_some (he
 
 pub wanting-3 : (s : Stored) (uri : Option (List ℕ)) → held (with_uri s uri) 3 ≡ None → is_ready s ≡ false
 wanting-3 s uri h =
-    not_ready (is_some (held s 1)) (is_some (held s 3)) (is_some (held s 5)) (inr (inl (ap is_some (sym (held-uri s uri 3 refl) ∙ h))))
+    not_ready (is_some (held s 1)) (is_some (held s 3)) (is_some (held s 5))
+    (inr (inl (ap is_some (sym (held-uri s uri 3 refl) ∙ h))))
 
 pub wanting-5 : (s : Stored) (uri : Option (List ℕ)) → held (with_uri s uri) 5 ≡ None → is_ready s ≡ false
 wanting-5 s uri h =
-    not_ready (is_some (held s 1)) (is_some (held s 3)) (is_some (held s 5)) (inr (inr (ap is_some (sym (held-uri s uri 5 refl) ∙ h))))
+    not_ready (is_some (held s 1)) (is_some (held s 3)) (is_some (held s 5))
+    (inr (inr (ap is_some (sym (held-uri s uri 5 refl) ∙ h))))
 
 pub still-5 : (s t : Stored) (v : Value) → t ≡ with_value s (at 3) v → held t 5 ≡ None → held s 5 ≡ None
 still-5 s t v e h = sym (behind s (at 3) (at 5) v) ∙ ap (λ u. held u 5) (sym e) ∙ h
 
 -- by what wants of setting the outcome
-pub wanting-outcome : (s : Stored) (uri : Option (List ℕ)) → (held (with_uri s uri) 3 ≡ None) ⊎ (held (with_uri s uri) 5 ≡ None) → is_ready s ≡ false
+pub wanting-outcome : (s : Stored) (uri : Option (List ℕ)) → (held (with_uri s uri) 3 ≡ None)
+    ⊎ (held (with_uri s uri) 5 ≡ None) → is_ready s ≡ false
 wanting-outcome s uri (inl h) = wanting-3 s uri h
 wanting-outcome s uri (inr h) = wanting-5 s uri h
 

@@ -1,5 +1,7 @@
--- Firmware update: what is taken in which state, and what it changes (OMA LwM2M 1.1 Core, object 5 Firmware Update; the table is this profile's).
-use Rattle.std.specs.Prelude.{ℕ, ◌==◌, nat_le, pos, negsuc, Bool, not, ◌&&◌, List, [], ◌∷◌, Option, None, Some, is_some, option_map, if◌then◌else◌}
+-- Firmware update: what is taken in which state, and what it changes (OMA LwM2M 1.1 Core, object 5 Firmware Update; the
+-- table is this profile's).
+use Rattle.std.specs.Prelude.{ℕ, ◌==◌, nat_le, pos, negsuc, Bool, not, ◌&&◌, List, [], ◌∷◌, Option, None, Some, is_some}
+use Rattle.std.specs.Prelude.{option_map, if◌then◌else◌}
 use Rattle.lwm2m_values.specs.declared.value.Value.{Value}
 use Rattle.lwm2m_values.specs.declared.value.Value.TheVariants.{Text, Whole, Flag, Opaque, Moment, Link}
 use Rattle.object_defs.specs.Path.{single_of}
@@ -27,7 +29,8 @@ downloading_ended c = if c == 0 then Some (to Downloaded 0) else if is_failure c
 -- an update ends with code 1; with code 8, which leaves the package; or with a failure
 abbrev pub updating_ended : ℕ → Option Outcome
 updating_ended c =
-    if c == 1 then Some (to Idle 1) else if c == 8 then Some (to Downloaded 8) else if is_failure c then Some (to Idle c) else None
+    if c == 1 then Some (to Idle 1) else if c == 8 then Some (to Downloaded 8) else if is_failure c
+    then Some (to Idle c) else None
 
 -- the table: what an event leads to in a state; None where it isn't taken
 abbrev pub next : FirmwareEvent → State → Option Outcome
@@ -84,7 +87,8 @@ number_of Updating = 3
 
 abbrev pub state_of : ℕ → Option State
 state_of n =
-    if n == 0 then Some Idle else if n == 1 then Some Downloading else if n == 2 then Some Downloaded else if n == 3 then Some Updating else None
+    if n == 0 then Some Idle else if n == 1 then Some Downloading else if n == 2 then Some Downloaded else if n == 3
+    then Some Updating else None
 
 abbrev pub state_as : Option Value → Option State
 state_as None = None

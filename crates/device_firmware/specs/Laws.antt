@@ -9,7 +9,8 @@ use Rattle.device_firmware.specs.declared.event.FirmwareEvent.{FirmwareEvent}
 use Rattle.device_firmware.specs.declared.event.FirmwareEvent.TheVariants.{Cleared}
 use Rattle.device_firmware.specs.declared.state.State.TheVariants.{Idle}
 use Rattle.device_firmware.specs.declared.state.Outcome.{Outcome}
-use Rattle.device_firmware.specs.Firmware.{firmware, firmware_resource, held, firmware_after, outcome_in, state_in, uri_of, to}
+use Rattle.device_firmware.specs.Firmware.{firmware, firmware_resource, held, firmware_after, outcome_in, state_in}
+use Rattle.device_firmware.specs.Firmware.{uri_of, to}
 
 -- clearing is taken in any state
 abbrev pub ClearingIsTaken : Type 0
@@ -19,7 +20,8 @@ ClearingIsTaken = (stored : Stored) → has_instance stored firmware ≡ true �
 abbrev pub OutcomeIsHeld : Type 0
 OutcomeIsHeld =
     (stored after : Stored) (event : FirmwareEvent) (outcome : Outcome) → outcome_in stored event ≡ Some outcome
-    → firmware_after stored event ≡ Some after → (state_in after ≡ Some outcome.state) × (held after 5 ≡ Some (Whole (pos outcome.code)))
+    → firmware_after stored event ≡ Some after → (state_in after ≡ Some outcome.state)
+    × (held after 5 ≡ Some (Whole (pos outcome.code)))
 
 -- the Package URI is the new one, where there is one; else it stays
 abbrev pub uri_behind : Option Value → Option (List ℕ) → Option Value

@@ -1,4 +1,5 @@
-//! What follows from the table of firmware updates, for its readers. The calls do nothing; their contracts are the laws.
+//! What follows from the table of firmware updates, for its readers. The calls do nothing; their contracts are the
+//! laws.
 
 ghost use Rattle.device_firmware.specs.Laws.{ClearingIsTaken, OutcomeIsHeld, UriIsHeld, OthersStay};
 

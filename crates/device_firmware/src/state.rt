@@ -1,6 +1,7 @@
 ghost use Rattle.std.specs.Prelude.{◌≡◌, pos};
 ghost use Rattle.std.specs.Option.{option_copied};
-ghost use Rattle.device_firmware.specs.Firmware.{number_of, state_as, next, next_from, downloading_ended, updating_ended, is_failure};
+ghost use Rattle.device_firmware.specs.Firmware.{number_of, state_as, next, next_from, downloading_ended};
+ghost use Rattle.device_firmware.specs.Firmware.{updating_ended, is_failure};
 
 use crate::event::FirmwareEvent;
 use lwm2m_values::Value;

@@ -2,7 +2,8 @@ ghost use Rattle.std.specs.Prelude.{◌≡◌, ◌⊎◌, true, false, None, IfO
 ghost use Rattle.std.specs.Option.{is_some, unwrap_or};
 ghost use Rattle.object_defs.specs.Path.{single_of};
 ghost use Rattle.instance_store.specs.Stored.{has_instance, with_value};
-ghost use Rattle.device_firmware.specs.Firmware.{firmware, firmware_resource, held, is_ready, outcome_in, uri_of, with_uri, with_outcome, firmware_after};
+ghost use Rattle.device_firmware.specs.Firmware.{firmware, firmware_resource, held, is_ready, outcome_in, uri_of};
+ghost use Rattle.device_firmware.specs.Firmware.{with_uri, with_outcome, firmware_after};
 
 use crate::event::FirmwareEvent;
 use crate::state::{Outcome, next_from, number_of, state_as};
@@ -124,7 +125,8 @@ pub fn takes(store: &Store, event: &FirmwareEvent) -> bool
     outcome_in(store, event).is_some()
 }
 
-/// Takes an event. Answers whether it is in the table of what the device's State allows; one that isn't changes nothing.
+/// Takes an event. Answers whether it is in the table of what the device's State allows; one that isn't changes
+/// nothing.
 pub fn take(alloc: Global, store: &mut Store, event: FirmwareEvent) -> Result<bool, AllocError>
     ensures answer { IfOk result (λ taken. taken ≡ is_some (firmware_after store.old event)) }
     ensures change { OnOk result (store.new ≡ unwrap_or (firmware_after store.old event) store.old) }

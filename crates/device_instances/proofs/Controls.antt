@@ -1,5 +1,6 @@
 -- The instance of object 2 that a Create adds.
-use Rattle.std.proofs.Common.{◌≡◌, ◌≢◌, ℕ, Bool, true, false, cond, ◌||◌, nat_le, eqb, length, Option, None, Some, pos, refl, sym, ap, ◌∙◌, ◌⊎◌, inl, inr}
+use Rattle.std.proofs.Common.{◌≡◌, ◌≢◌, ℕ, Bool, true, false, cond, ◌||◌, nat_le, eqb, length, Option, None, Some, pos}
+use Rattle.std.proofs.Common.{refl, sym, ap, ◌∙◌, ◌⊎◌, inl, inr}
 use Rattle.std.specs.Option.{is_some}
 use Rattle.std.specs.Ordering.{eq_by_cmp}
 use Rattle.std.specs.FinMap as map
@@ -36,13 +37,17 @@ IsNew s p = (p.object ≡ 2) × (smallest_free s 2 ≡ Some p.instance)
 is_new : (s : Stored) (j : ℕ) (p : InstancePath) → smallest_free s 2 ≡ Some j → p ≡ instance_at 2 j → IsNew s p
 is_new s j p is e = (ap (λ (q : InstancePath). q.object) e, is ∙ ap (λ (q : InstancePath). Some q.instance) (sym e))
 
-number_within : (place : InstancePath) (s : Stored) (r n : ℕ) → Within place s (with_number s (record { object = place.object; instance = place.instance; resource = r }) n)
-number_within place s r n = value_within place s (record { object = place.object; instance = place.instance; resource = r; part = None }) (Whole (pos n)) (is_itself place)
+number_within : (place : InstancePath) (s : Stored) (r n : ℕ)
+    → Within place s (with_number s (record { object = place.object; instance = place.instance; resource = r }) n)
+number_within place s r n =
+    value_within place s (record { object = place.object; instance = place.instance; resource = r; part = None })
+    (Whole (pos n)) (is_itself place)
 
 bare : Stored → ℕ → Stored
 bare s j = without_values (with_instance s (instance_at 2 j)) (resource_path (control j 2))
 
-pub control_within : (s : Stored) (j server : ℕ) (place : InstancePath) → Within (instance_at 2 j) (with_instance s (instance_at 2 j)) (with_control s j server place)
+pub control_within : (s : Stored) (j server : ℕ) (place : InstancePath)
+    → Within (instance_at 2 j) (with_instance s (instance_at 2 j)) (with_control s j server place)
 unfolding bare
 control_within s j server place =
     let a = bare s j in
@@ -57,49 +62,66 @@ control_within s j server place =
     (number_within (instance_at 2 j) c 3 server)
 
 -- every other instance is there or not as before
-instances_by : (s : Stored) (b : Bool) (r : Option ℕ) (server : ℕ) (place p : InstancePath) → smallest_free s 2 ≡ r → ¬ (IsNew s p) → map.get (cond b (with_control_at s server place r) s).instances p ≡ map.get s.instances p
+instances_by : (s : Stored) (b : Bool) (r : Option ℕ) (server : ℕ) (place p : InstancePath) → smallest_free s 2 ≡ r
+    → ¬ (IsNew s p) → map.get (cond b (with_control_at s server place r) s).instances p ≡ map.get s.instances p
 instances_by s false r server place p is other = refl
 instances_by s true None server place p is other = refl
 instances_by s true (Some j) server place p is other = not_added s (instance_at 2 j) p (λ e. other (is_new s j p is e))
 
-pub control_instances : (s : Stored) (accounts server : ℕ) (place p : InstancePath) → ¬ (IsNew s p) → map.get (with_control_for s accounts server place).instances p ≡ map.get s.instances p
-control_instances s accounts server place p other = instances_by s (nat_le 2 accounts) (smallest_free s 2) server place p refl other
+pub control_instances : (s : Stored) (accounts server : ℕ) (place p : InstancePath) → ¬ (IsNew s p)
+    → map.get (with_control_for s accounts server place).instances p ≡ map.get s.instances p
+control_instances s accounts server place p other =
+    instances_by s (nat_le 2 accounts) (smallest_free s 2) server place p refl other
 
 -- and has its values
-values_by : (s : Stored) (b : Bool) (r : Option ℕ) (server : ℕ) (place : InstancePath) (q : FullPath) → smallest_free s 2 ≡ r → ¬ (IsNew s (instance_in q)) → value_at (cond b (with_control_at s server place r) s) q ≡ value_at s q
+values_by : (s : Stored) (b : Bool) (r : Option ℕ) (server : ℕ) (place : InstancePath) (q : FullPath)
+    → smallest_free s 2 ≡ r → ¬ (IsNew s (instance_in q))
+    → value_at (cond b (with_control_at s server place r) s) q ≡ value_at s q
 values_by s false r server place q is other = refl
 values_by s true None server place q is other = refl
 values_by s true (Some j) server place q is other =
-    (control_within s j server place).values q (not_same (instance_in q) (instance_at 2 j) (λ e. other (is_new s j (instance_in q) is e)))
+    (control_within s j server place).values q
+    (not_same (instance_in q) (instance_at 2 j) (λ e. other (is_new s j (instance_in q) is e)))
 
-pub control_values : (s : Stored) (accounts server : ℕ) (place : InstancePath) (q : FullPath) → ¬ (IsNew s (instance_in q)) → value_at (with_control_for s accounts server place) q ≡ value_at s q
-control_values s accounts server place q other = values_by s (nat_le 2 accounts) (smallest_free s 2) server place q refl other
+pub control_values : (s : Stored) (accounts server : ℕ) (place : InstancePath) (q : FullPath)
+    → ¬ (IsNew s (instance_in q)) → value_at (with_control_for s accounts server place) q ≡ value_at s q
+control_values s accounts server place q other =
+    values_by s (nat_le 2 accounts) (smallest_free s 2) server place q refl other
 
 -- another object than 2 is untouched
-pub control_free : (s : Stored) (accounts server : ℕ) (place : InstancePath) → place.object ≢ 2 → has_instance (with_control_for s accounts server place) place ≡ has_instance s place
-control_free s accounts server place other = ap is_some (control_instances s accounts server place place (λ h. other h.0))
+pub control_free : (s : Stored) (accounts server : ℕ) (place : InstancePath) → place.object ≢ 2
+    → has_instance (with_control_for s accounts server place) place ≡ has_instance s place
+control_free s accounts server place other =
+    ap is_some (control_instances s accounts server place place (λ h. other h.0))
 
-pub control_full : (s : Stored) (accounts server : ℕ) (place : InstancePath) → place.object ≢ 2 → is_full (with_control_for s accounts server place) place.object ≡ is_full s place.object
+pub control_full : (s : Stored) (accounts server : ℕ) (place : InstancePath) → place.object ≢ 2
+    → is_full (with_control_for s accounts server place) place.object ≡ is_full s place.object
 control_full s accounts server place other =
-    ap (λ ns. nat_le 64 (length ns)) (same_numbers s (with_control_for s accounts server place) place.object (λ n. control_instances s accounts server place (instance_at place.object n) (λ h. other h.0)))
+    ap (λ ns. nat_le 64 (length ns)) (same_numbers s (with_control_for s accounts server place) place.object
+    (λ n. control_instances s accounts server place (instance_at place.object n) (λ h. other h.0)))
 
 pub first_is_false : (a b : Bool) → (a || b) ≡ false → a ≡ false
 first_is_false true b h = cc
 first_is_false false b h = refl
 
 -- what is there was there, or is new
-only_by : (s : Stored) (b : Bool) (r : Option ℕ) (server : ℕ) (place p : InstancePath) → smallest_free s 2 ≡ r → has_instance (cond b (with_control_at s server place r) s) p ≡ true → (has_instance s p ≡ true) ⊎ IsNew s p
+only_by : (s : Stored) (b : Bool) (r : Option ℕ) (server : ℕ) (place p : InstancePath) → smallest_free s 2 ≡ r
+    → has_instance (cond b (with_control_at s server place r) s) p ≡ true → (has_instance s p ≡ true) ⊎ IsNew s p
 only_by s false r server place p is h = inl h
 only_by s true None server place p is h = inl h
 only_by s true (Some j) server place p is h =
-    elim (eq_by_cmp instance_cmp p (instance_at 2 j)) as (λ b. eq_by_cmp instance_cmp p (instance_at 2 j) ≡ b → (has_instance s p ≡ true) ⊎ IsNew s p) [
+    elim (eq_by_cmp instance_cmp p (instance_at 2 j)) as
+    (λ b. eq_by_cmp instance_cmp p (instance_at 2 j) ≡ b → (has_instance s p ≡ true) ⊎ IsNew s p) [
       | true ↦ λ e. inr (is_new s j p is (same_place p (instance_at 2 j) e))
-      | false ↦ λ e. inl (sym (ap is_some (behind_added s (instance_at 2 j) p ∙ ap (λ b. cond b (Some tt) (map.get s.instances p)) e)) ∙ h)
+      | false ↦ λ e. inl (sym (ap is_some (behind_added s (instance_at 2 j) p
+          ∙ ap (λ b. cond b (Some tt) (map.get s.instances p)) e)) ∙ h)
     ] refl
 
-pub control_only : (s : Stored) (accounts server : ℕ) (place p : InstancePath) → has_instance (with_control_for s accounts server place) p ≡ true → (has_instance s p ≡ true) ⊎ IsNew s p
+pub control_only : (s : Stored) (accounts server : ℕ) (place p : InstancePath)
+    → has_instance (with_control_for s accounts server place) p ≡ true → (has_instance s p ≡ true) ⊎ IsNew s p
 control_only s accounts server place p h = only_by s (nat_le 2 accounts) (smallest_free s 2) server place p refl h
 
 pub old_is_not_new : (s : Stored) (p : InstancePath) → has_instance s p ≡ true → ¬ (IsNew s p)
 old_is_not_new s p h new =
-    false≢true (sym (found_free s 2 p.instance new.1) ∙ ap (λ o. has_instance s (record { object = o; instance = p.instance })) (sym new.0) ∙ h)
+    false≢true (sym (found_free s 2 p.instance new.1)
+    ∙ ap (λ o. has_instance s (record { object = o; instance = p.instance })) (sym new.0) ∙ h)

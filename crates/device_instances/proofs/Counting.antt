@@ -15,11 +15,14 @@ one_alike s t p (Single v) = refl
 one_alike s t p (Parts parts) = refl
 
 -- Replace counts the parts given alone
-pub counts_alike : (resources : List ResourceDef) (s t : Stored) (place : InstancePath) (given : List Assignment) → has_too_many Replace resources s place given ≡ has_too_many Replace resources t place given
+pub counts_alike : (resources : List ResourceDef) (s t : Stored) (place : InstancePath) (given : List Assignment)
+    → has_too_many Replace resources s place given ≡ has_too_many Replace resources t place given
 counts_alike resources s t place [] = refl
 counts_alike resources s t place (a ∷ given) =
-    ap (λ b. (is_kept resources a && b) || has_too_many Replace resources s place given) (one_alike s t (resource_of place a.resource) a.given)
-    ∙ ap (λ b. (is_kept resources a && is_too_many Replace t (resource_of place a.resource) a.given) || b) (counts_alike resources s t place given)
+    ap (λ b. (is_kept resources a && b) || has_too_many Replace resources s place given)
+    (one_alike s t (resource_of place a.resource) a.given)
+    ∙ ap (λ b. (is_kept resources a && is_too_many Replace t (resource_of place a.resource) a.given) || b)
+    (counts_alike resources s t place given)
 
 pub last_is_false : (a b c : Bool) → (a || (b || c)) ≡ false → c ≡ false
 last_is_false true b c h = absurd cc

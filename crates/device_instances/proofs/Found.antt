@@ -1,5 +1,6 @@
 -- The first number below a limit that passes a test.
-use Rattle.std.proofs.Common.{◌≡◌, ℕ, zero, suc, ◌<◌, Bool, true, false, cond, not, ltb, ltb-true, ltb-false, List, [], ◌∷◌, Option, None, Some, refl, sym, ap, subst, ◌∙◌, arith}
+use Rattle.std.proofs.Common.{◌≡◌, ℕ, zero, suc, ◌<◌, Bool, true, false, cond, not, ltb, ltb-true, ltb-false, List, []}
+use Rattle.std.proofs.Common.{◌∷◌, Option, None, Some, refl, sym, ap, subst, ◌∙◌, arith}
 use Rattle.std.specs.List.{find}
 use Rattle.std.specs.Option.{option_or, IfSome, IfNone}
 use Rattle.std.proofs.lemmas.List.Folds.{find-append}
@@ -14,7 +15,8 @@ none_below p (suc n) h =
     ∙ ap (λ o. option_or o (find p (n ∷ []))) (none_below p n (λ k l. h k (omega arith)))
     ∙ ap (λ b. cond b (Some n) None) (h n (omega arith))
 
-first_below : (p : ℕ → Bool) (n m : ℕ) → m < n → p m ≡ true → ((k : ℕ) → k < m → p k ≡ false) → find p (below n) ≡ Some m
+first_below : (p : ℕ → Bool) (n m : ℕ) → m < n → p m ≡ true → ((k : ℕ) → k < m → p k ≡ false)
+    → find p (below n) ≡ Some m
 unfolding below
 first_below p zero m l h low = absurd (omega arith)
 first_below p (suc n) m l h low =
@@ -40,7 +42,8 @@ found stored object n h =
 pub missing : (stored : Stored) (object : ℕ) → AllAreTaken stored object → smallest_free stored object ≡ None
 missing stored object h = none_below (is_free stored object) 65535 (λ k l. taken_is _ (h k l))
 
-pub decided : (stored : Stored) (object : ℕ) (r : Option ℕ) → IfSome r (IsSmallestFree stored object) → IfNone r (AllAreTaken stored object) → r ≡ smallest_free stored object
+pub decided : (stored : Stored) (object : ℕ) (r : Option ℕ) → IfSome r (IsSmallestFree stored object)
+    → IfNone r (AllAreTaken stored object) → r ≡ smallest_free stored object
 decided stored object None h k = sym (missing stored object k)
 decided stored object (Some n) h k = sym (found stored object n h)
 
@@ -57,7 +60,8 @@ not_free : (b : Bool) → not b ≡ true → b ≡ false
 not_free true h = cc
 not_free false h = refl
 
-pub found_free : (stored : Stored) (object n : ℕ) → smallest_free stored object ≡ Some n → has_instance stored (instance_at object n) ≡ false
+pub found_free : (stored : Stored) (object n : ℕ) → smallest_free stored object ≡ Some n
+    → has_instance stored (instance_at object n) ≡ false
 found_free stored object n h = not_free _ (passes (is_free stored object) (below 65535) n h)
 
 -- where nothing is found, all fail
@@ -76,7 +80,8 @@ all_fail p (suc n) h k l =
     let parts = both_none (find p (below n)) (find p (n ∷ [])) (sym (find-append p (below n) (n ∷ [])) ∙ h) in
     elim (ltb k n) as (λ b. ltb k n ≡ b → p k ≡ false) [
       | true ↦ λ t. all_fail p n parts.0 k (ltb-true k n t)
-      | false ↦ λ t. let e : k ≡ n = omega (arith, ltb-false k n t) in subst (λ m. p m ≡ false) (sym e) (fails_alone (p n) n parts.1)
+      | false ↦ λ t. let e : k ≡ n =
+          omega (arith, ltb-false k n t) in subst (λ m. p m ≡ false) (sym e) (fails_alone (p n) n parts.1)
     ] refl
 
 not_taken : (b : Bool) → not b ≡ false → b ≡ true

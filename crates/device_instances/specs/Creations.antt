@@ -1,4 +1,5 @@
--- A Create: what there has to be room for, and a store behind it (OMA LwM2M 1.1 Core, Create and access control; the limits are this profile's).
+-- A Create: what there has to be room for, and a store behind it (OMA LwM2M 1.1 Core, Create and access control; the
+-- limits are this profile's).
 use Rattle.std.specs.Prelude.{ℕ, nat_le, pos, Bool, ◌&&◌, ◌||◌, List, length, Option, None, Some, if◌then◌else◌}
 use Rattle.lwm2m_values.specs.declared.value.Value.TheVariants.{Whole}
 use Rattle.object_defs.specs.Path.{single_of}
@@ -19,12 +20,14 @@ is_full stored object = nat_le 64 (length (instances_of stored object))
 -- the object is full; or, with two accounts or more, object 2; or a resource would have more than 32 parts
 abbrev pub has_no_room : Stored → ℕ → List ResourceDef → InstancePath → List Assignment → Bool
 has_no_room stored accounts resources place given =
-    is_full stored place.object || ((nat_le 2 accounts && is_full stored 2) || has_too_many Replace resources stored place given)
+    is_full stored place.object || ((nat_le 2 accounts && is_full stored 2)
+    || has_too_many Replace resources stored place given)
 
 abbrev pub with_number : Stored → ResourcePath → ℕ → Stored
 with_number stored path number = with_value stored (single_of path) (Whole (pos number))
 
--- with an instance of object 2 that speaks of a place and belongs to a server: 0 Object ID, 1 Object Instance ID, 3 Owner, no entry in 2 ACL
+-- with an instance of object 2 that speaks of a place and belongs to a server: 0 Object ID, 1 Object Instance ID, 3
+-- Owner, no entry in 2 ACL
 abbrev pub with_control : Stored → ℕ → ℕ → InstancePath → Stored
 with_control stored j server place =
     with_number (with_number (with_number

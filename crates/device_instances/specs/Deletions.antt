@@ -15,7 +15,8 @@ is_same p q = p.object == q.object && p.instance == q.instance
 
 -- an instance of object 2 that speaks of a place
 abbrev pub is_control_of : Stored → InstancePath → InstancePath → Bool
-is_control_of stored place p = p.object == 2 && (has_instance stored p && speaks_of stored p.instance place.object place.instance)
+is_control_of stored place p =
+    p.object == 2 && (has_instance stored p && speaks_of stored p.instance place.object place.instance)
 
 -- what goes with an instance: it, and each instance of object 2 that speaks of it
 abbrev pub is_gone : Stored → InstancePath → InstancePath → Bool

@@ -13,38 +13,46 @@ use Rattle.device_instances.specs.Deletions.{instance_in, without_deleted}
 -- behind a Create there is the instance
 abbrev pub CreatedIsThere : Type 0
 CreatedIsThere =
-    (stored : Stored) (accounts server : ℕ) (resources : List ResourceDef) (place : InstancePath) (given : List Assignment)
+    (stored : Stored) (accounts server : ℕ) (resources : List ResourceDef) (place : InstancePath)
+    (given : List Assignment)
     → has_instance (with_created stored accounts server resources place given) place ≡ true
 
 -- each other instance that was there is there as before
 abbrev pub OthersStay : Type 0
 OthersStay =
-    (stored : Stored) (accounts server : ℕ) (resources : List ResourceDef) (place : InstancePath) (given : List Assignment) (p : InstancePath)
+    (stored : Stored) (accounts server : ℕ) (resources : List ResourceDef) (place : InstancePath)
+    (given : List Assignment) (p : InstancePath)
     → has_instance stored p ≡ true → p ≢ place
     → (has_instance (with_created stored accounts server resources place given) p ≡ true)
-    × ((q : FullPath) → instance_in q ≡ p → value_at (with_created stored accounts server resources place given) q ≡ value_at stored q)
+    × ((q : FullPath) → instance_in q ≡ p
+    → value_at (with_created stored accounts server resources place given) q ≡ value_at stored q)
 
 -- no third one is new: each that is there was there, or is the created one, or the one of object 2
 abbrev pub NoneElseIsNew : Type 0
 NoneElseIsNew =
-    (stored : Stored) (accounts server : ℕ) (resources : List ResourceDef) (place : InstancePath) (given : List Assignment) (p : InstancePath)
+    (stored : Stored) (accounts server : ℕ) (resources : List ResourceDef) (place : InstancePath)
+    (given : List Assignment) (p : InstancePath)
     → has_instance (with_created stored accounts server resources place given) p ≡ true
     → (has_instance stored p ≡ true) ⊎ ((p ≡ place) ⊎ ((p.object ≡ 2) × (smallest_free stored 2 ≡ Some p.instance)))
 
 -- with two accounts or more the creator has every right on it, where no older instance of object 2 speaks of it
 abbrev pub CreatorHasEveryRight : Type 0
 CreatorHasEveryRight =
-    (stored : Stored) (accounts server : ℕ) (resources : List ResourceDef) (place : InstancePath) (given : List Assignment)
+    (stored : Stored) (accounts server : ℕ) (resources : List ResourceDef) (place : InstancePath)
+    (given : List Assignment)
     → 2 ≤ accounts → place.object ≢ 2 → is_full stored 2 ≡ false → control_of stored place.object place.instance ≡ None
-    → right_of (with_created stored accounts server resources place given) accounts server place.object place.instance ≡ every_right
+    → right_of (with_created stored accounts server resources place given) accounts server place.object place.instance
+    ≡ every_right
 
 -- behind a Delete no value lies below the instance
 abbrev pub NoValueIsLeft : Type 0
 NoValueIsLeft =
-    (stored : Stored) (place : InstancePath) (q : FullPath) → instance_in q ≡ place → value_at (without_deleted stored place) q ≡ None
+    (stored : Stored) (place : InstancePath) (q : FullPath) → instance_in q ≡ place
+    → value_at (without_deleted stored place) q ≡ None
 
 -- and no instance of object 2 speaks of it
 abbrev pub NoControlIsLeft : Type 0
 NoControlIsLeft =
-    (stored : Stored) (place : InstancePath) (j : ℕ) → has_instance (without_deleted stored place) (instance_at 2 j) ≡ true
+    (stored : Stored) (place : InstancePath) (j : ℕ)
+    → has_instance (without_deleted stored place) (instance_at 2 j) ≡ true
     → speaks_of (without_deleted stored place) j place.object place.instance ≡ false

@@ -1,5 +1,6 @@
 -- The number of a new instance (OMA LwM2M 1.1 Core, Create).
-use Rattle.std.specs.Prelude.{◌≡◌, ℕ, suc, zero, ◌<◌, ◌==◌, Bool, true, false, not, ◌||◌, List, [], ◌∷◌, ◌++◌, Option, None, Some, find, if◌then◌else◌}
+use Rattle.std.specs.Prelude.{◌≡◌, ℕ, suc, zero, ◌<◌, ◌==◌, Bool, true, false, not, ◌||◌, List, [], ◌∷◌, ◌++◌, Option}
+use Rattle.std.specs.Prelude.{None, Some, find, if◌then◌else◌}
 use Rattle.object_defs.specs.declared.path.InstancePath.{InstancePath}
 use Rattle.instance_store.specs.Stored.{Stored, has_instance}
 
@@ -29,7 +30,8 @@ pub record IsSmallestFree (stored : Stored) (object number : ℕ) : Type 0 where
 abbrev pub AllAreTaken : Stored → ℕ → Type 0
 AllAreTaken stored object = (k : ℕ) → k < 65535 → has_instance stored (instance_at object k) ≡ true
 
--- the number of a new instance: the one that is named, if it is free and isn't 65535; if none is named, the smallest free one
+-- the number of a new instance: the one that is named, if it is free and isn't 65535; if none is named, the smallest
+-- free one
 abbrev pub number_for : Stored → ℕ → Option ℕ → Option ℕ
 number_for stored object None = smallest_free stored object
 number_for stored object (Some n) = if n == 65535 || has_instance stored (instance_at object n) then None else Some n

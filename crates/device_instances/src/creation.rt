@@ -1,7 +1,8 @@
 ghost use Rattle.std.specs.Prelude.{◌≡◌, ◌≢◌, ◌≤◌, ◌↔◌, true, false, OnOk, OnErr, IsTrue, IsFalse, IsErrOf, Err};
 ghost use Rattle.std.specs.Option.{option_copied};
 ghost use Rattle.object_defs.specs.Path.{single_of};
-ghost use Rattle.instance_store.specs.Stored.{Stored, has_instance, instance_of, resource_path, with_instance, without_values};
+ghost use Rattle.instance_store.specs.Stored.{Stored, has_instance, instance_of, resource_path, with_instance};
+ghost use Rattle.instance_store.specs.Stored.{without_values};
 ghost use Rattle.access_control.specs.Rights.{control};
 ghost use Rattle.lwm2m_payloads.specs.Changes.{is_kept_as, is_too_many, has_too_many, instance_written};
 ghost use Rattle.object_defs.specs.Catalogue.{resource_in};
@@ -9,7 +10,8 @@ ghost use Rattle.object_defs.specs.declared.path.InstancePath.{InstancePath};
 ghost use Rattle.object_defs.specs.declared.path.ResourcePath.{ResourcePath};
 ghost use Rattle.lwm2m_payloads.specs.declared.given.Mode.TheVariants.{Replace};
 ghost use Rattle.device_instances.specs.Numbers.{instance_at};
-ghost use Rattle.device_instances.specs.Creations.{is_full, has_no_room, with_number, with_control, with_control_for, with_created};
+ghost use Rattle.device_instances.specs.Creations.{is_full, has_no_room, with_number, with_control, with_control_for};
+ghost use Rattle.device_instances.specs.Creations.{with_created};
 
 use crate::number::free_number;
 use instance_store::{Store, StoreFault};
@@ -57,7 +59,8 @@ fn is_too_many(given: &Given) -> bool
 
 /// Whether what is given makes more than 32 parts of one resource.
 fn has_too_many(resources: &[ResourceDef], given: &Assignments) -> bool
-    ensures { (stored : Stored) (place : InstancePath) → result ≡ has_too_many Replace resources.now stored place given.now }
+    ensures { (stored : Stored) (place : InstancePath)
+        → result ≡ has_too_many Replace resources.now stored place given.now }
 {
     for assignment in given.as_slice() {
         if is_kept(resources, assignment.resource) && is_too_many(&assignment.given) {
@@ -67,8 +70,8 @@ fn has_too_many(resources: &[ResourceDef], given: &Assignments) -> bool
     false
 }
 
-/// Whether a store has no room for a new instance with what it is given (this profile's limits): its object has 64 instances;
-/// or, with two accounts or more, object 2 Access Control has; or a resource would have more than 32 parts.
+/// Whether a store has no room for a new instance with what it is given (this profile's limits): its object has 64
+/// instances; or, with two accounts or more, object 2 Access Control has; or a resource would have more than 32 parts.
 pub fn has_no_room(
     store: &Store,
     accounts: usize,
@@ -212,8 +215,9 @@ fn make(
     write(resources, store, place, given)
 }
 
-/// Creates an instance with what its resources are given, for a server of a device that has this many accounts. With two
-/// accounts or more it also adds an instance of object 2 Access Control, which speaks of it and belongs to the server.
+/// Creates an instance with what its resources are given, for a server of a device that has this many accounts. With
+/// two accounts or more it also adds an instance of object 2 Access Control, which speaks of it and belongs to the
+/// server.
 pub fn create(
     store: &mut Store,
     accounts: usize,
@@ -228,7 +232,8 @@ pub fn create(
 
     // There is such an instance; or else there is no room.
     ensures exists { IsErrOf result StoreFault.Exists ↔ IsTrue (has_instance store.old place) }
-    ensures full { IsErrOf result StoreFault.Full ↔ (IsFalse (has_instance store.old place) × IsTrue (has_no_room store.old accounts resources.now place given)) }
+    ensures full { IsErrOf result StoreFault.Full
+        ↔ (IsFalse (has_instance store.old place) × IsTrue (has_no_room store.old accounts resources.now place given)) }
     ensures never_absent { result ≢ Err StoreFault.Absent }
     ensures unchanged { OnErr result (store.new ≡ store.old) }
 {

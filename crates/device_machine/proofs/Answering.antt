@@ -2,13 +2,13 @@
 use Rattle.std.proofs.Common.{◌≡◌, ℕ, Bool, true, false, ◌∷◌, ◌++◌, Option, None, Some, option_map, refl, ap, ◌∙◌}
 use Rattle.std.specs.Bool.{if◌then◌else◌}
 use Rattle.device_requests.specs.Options.{has_unrecognized_critical, segments_of, path_of}
-use Rattle.coap_codec.specs.Message.{Parts, spelling}
+use Rattle.coap_codec.specs.Message.{Message, spelling}
 use Rattle.coap_codec.specs.declared.kind.Kind.TheVariants.{Con, Non, Ack}
 use Rattle.device_requests.specs.Answer.{Outcome, answered, bare}
 use Rattle.device_requests.specs.declared.answer.Code.TheVariants.{BadOption}
 use Rattle.device_requests.specs.Request.{outcome_of, outcome_on}
 use Rattle.device_machine.specs.Observing.{noted}
-use Rattle.device_machine.specs.State.{Flat, with_client}
+use Rattle.device_machine.specs.State.{Machine, with_client}
 use Rattle.device_machine.specs.Reactions.{acted, on_outcome, reply_to, response, sent_to}
 use Rattle.device_machine.specs.declared.output.Output.TheVariants.{Send}
 use Rattle.device_machine.specs.Laws.{ConfirmableAnswers, NonConfirmableAnswers, NonConfirmableRejects}
@@ -16,10 +16,10 @@ use Rattle.device_requests.proofs.Answering.{says}
 use Rattle.device_machine.proofs.Repeating.{first_con, first_non}
 
 -- the Observe number of the reply to a request with this outcome
-abbrev number_with : Flat → ℕ → Parts → Outcome → Option ℕ
+abbrev number_with : Machine → ℕ → Message → Outcome → Option ℕ
 number_with f server m outcome = (noted (with_client f.kept outcome.client) server m outcome.answer).number
 
-replied : (f : Flat) (server : ℕ) (m : Parts) (outcome : Outcome) → m.kind ≡ Con
+replied : (f : Machine) (server : ℕ) (m : Message) (outcome : Outcome) → m.kind ≡ Con
     → (on_outcome f server m outcome).outputs
     ≡ Send server (spelling (response Ack m.mid m.token (number_with f server m outcome) outcome.answer)) ∷ acted outcome.answer.act
 replied f server m outcome k =
@@ -42,7 +42,7 @@ acknowledged f server bytes m fresh k =
     }
 
 -- what replies to a non-confirmable request
-replied_non : (f : Flat) (server : ℕ) (m : Parts) (outcome : Outcome) (refused : Bool) → m.kind ≡ Non → has_unrecognized_critical m.options ≡ refused
+replied_non : (f : Machine) (server : ℕ) (m : Message) (outcome : Outcome) (refused : Bool) → m.kind ≡ Non → has_unrecognized_critical m.options ≡ refused
     → (on_outcome f server m outcome).outputs
     ≡ sent_to server (option_map spelling (if refused then None else Some (response Non f.kept.next_id m.token (number_with f server m outcome) outcome.answer)))
     ++ acted outcome.answer.act

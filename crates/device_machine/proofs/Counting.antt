@@ -5,7 +5,7 @@ use Rattle.std.specs.Option.{option_map_or}
 use Rattle.std.specs.Str.{bytes_eq}
 use Rattle.std.proofs.lemmas.Bool.Decides.{Decides-eqb}
 use Rattle.std.proofs.lemmas.Slice.Eq.{bytes_eq-Decides}
-use Rattle.coap_codec.specs.Message.{Parts, spelling}
+use Rattle.coap_codec.specs.Message.{Message, spelling}
 use Rattle.coap_codec.specs.declared.kind.Kind.TheVariants.{Con, Non, Ack}
 use Rattle.notifier.specs.Observed.{cancelled, is_named, next_number, number_for, registered}
 use Rattle.notifier.specs.declared.observation.Observation.{Observation}
@@ -20,7 +20,7 @@ use Rattle.device_requests.specs.declared.observe.Interest.TheVariants.{Register
 use Rattle.device_notifications.specs.Message.{format_option, observe_option}
 use Rattle.device_notifications.specs.Second.{is_content}
 use Rattle.device_machine.specs.Observing.{Noted, begun, entered, lacks_place, noted, noted_by, unobserved}
-use Rattle.device_machine.specs.State.{Flat, Kept, with_client, with_observations}
+use Rattle.device_machine.specs.State.{Machine, Kept, with_client, with_observations}
 use Rattle.device_machine.specs.Reactions.{acted, location_options, on_noted, on_outcome, reply_to, response, sent_to}
 use Rattle.device_machine.specs.Laws.{IsCounted, RegistrationsCount, number_noted}
 use Rattle.device_machine.proofs.Refusing.{observations_after}
@@ -46,7 +46,7 @@ registered_noted (o ∷ os) new =
     ] refl
 
 -- what is noted with the content of a Read that registers
-noted_is : (k : Kept) (server : ℕ) (m : Parts) (path : Path) (accept : Option ℕ) (answer : Answer)
+noted_is : (k : Kept) (server : ℕ) (m : Message) (path : Path) (accept : Option ℕ) (answer : Answer)
     → interest_of m ≡ Some (Register path accept) → is_content answer ≡ true → lacks_place k.observations server m.token ≡ false
     → noted k server m answer
     ≡ record { number = Some (number_for k.observations server m.token); left = registered k.observations (begun k server m path accept answer.payload) }
@@ -56,14 +56,14 @@ noted_is k server m path accept answer i c l =
     ∙ ap (λ b. if b then entered k.observations new else unobserved (cancelled k.observations server m.token)) c
     ∙ ap (λ b. if b then unobserved k.observations else record { number = Some (number_for k.observations server m.token); left = registered k.observations new }) l
 
-understood : (m : Parts) (i : Interest) → interest_of m ≡ Some i → has_unrecognized_critical m.options ≡ false
+understood : (m : Message) (i : Interest) → interest_of m ≡ Some i → has_unrecognized_critical m.options ≡ false
 understood m i =
     elim (has_unrecognized_critical m.options) as (λ b. (if b then None else interest_on m (path_of (segments_of m.options))) ≡ Some i → b ≡ false) [
       | true ↦ λ h. cc
       | false ↦ λ h. refl
     ]
 
-counted_con : (f : Flat) (server : ℕ) (m : Parts) (outcome : Outcome) (told : Noted) (n : ℕ) → m.kind ≡ Con → told.number ≡ Some n
+counted_con : (f : Machine) (server : ℕ) (m : Message) (outcome : Outcome) (told : Noted) (n : ℕ) → m.kind ≡ Con → told.number ≡ Some n
     → number_noted told.left server m.token ≡ Some n → IsCounted (on_noted f server m outcome told) server m n
 counted_con f server m outcome told n k number left =
     let answer = outcome.answer in
@@ -77,7 +77,7 @@ counted_con f server m outcome told n k number left =
       observe = ap (λ o. observe_option o ++ (location_options answer.location ++ format_option answer.format)) number;
     }
 
-counted_non : (f : Flat) (server : ℕ) (m : Parts) (outcome : Outcome) (told : Noted) (n : ℕ) → m.kind ≡ Non → has_unrecognized_critical m.options ≡ false
+counted_non : (f : Machine) (server : ℕ) (m : Message) (outcome : Outcome) (told : Noted) (n : ℕ) → m.kind ≡ Non → has_unrecognized_critical m.options ≡ false
     → told.number ≡ Some n → number_noted told.left server m.token ≡ Some n → IsCounted (on_noted f server m outcome told) server m n
 counted_non f server m outcome told n k h number left =
     let answer = outcome.answer in
@@ -93,7 +93,7 @@ counted_non f server m outcome told n k h number left =
       observe = ap (λ o. observe_option o ++ (location_options answer.location ++ format_option answer.format)) number;
     }
 
-counted_by : (f : Flat) (server : ℕ) (m : Parts) (path : Path) (accept : Option ℕ) (outcome : Outcome) → (m.kind ≡ Con) ⊎ (m.kind ≡ Non)
+counted_by : (f : Machine) (server : ℕ) (m : Message) (path : Path) (accept : Option ℕ) (outcome : Outcome) → (m.kind ≡ Con) ⊎ (m.kind ≡ Non)
     → interest_of m ≡ Some (Register path accept) → is_content outcome.answer ≡ true → lacks_place f.kept.observations server m.token ≡ false
     → IsCounted (on_outcome f server m outcome) server m (number_for f.kept.observations server m.token)
 counted_by f server m path accept outcome (inl k) i c l =

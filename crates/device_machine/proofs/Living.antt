@@ -4,7 +4,7 @@ use Rattle.std.specs.List.{filter, find}
 use Rattle.std.specs.Bool.{if◌then◌else◌}
 use Rattle.std.proofs.lemmas.Bool.Decides.{nat_tests}
 use Rattle.std.proofs.lemmas.List.Elements.{filter-append}
-use Rattle.coap_codec.specs.Message.{Parts}
+use Rattle.coap_codec.specs.Message.{Message}
 use Rattle.coap_codec.specs.Reading.{reading_of}
 use Rattle.coap_codec.specs.declared.kind.Kind.{Kind}
 use Rattle.coap_codec.specs.declared.kind.Kind.TheVariants.{Con, Non, Ack, Rst}
@@ -25,8 +25,8 @@ use Rattle.notifier.specs.Observed.{without_reset}
 use Rattle.notifier.specs.declared.observation.Observation.{Observation}
 use Rattle.device_machine.specs.Observing.{Noted, noted}
 use Rattle.device_machine.specs.Memory.{remembered}
-use Rattle.device_machine.specs.State.{Kept, Flat, lifetime, is_live, living, with_client, with_observations}
-use Rattle.device_requests.specs.Managed.{Managed, has_account, with_stored}
+use Rattle.device_machine.specs.State.{Kept, Machine, lifetime, is_live, living, with_client, with_observations}
+use Rattle.device_requests.specs.Client.{Client, has_account, with_stored}
 use Rattle.device_requests.specs.Answer.{Outcome}
 use Rattle.device_requests.specs.Request.{outcome_of}
 use Rattle.device_machine.specs.Reactions.{Reaction, reply_to, kept_after, later, on_firmware, on_fresh, on_noted, on_outcome, on_reset, repeat_of, is_same, on_request, on_message, on_datagram, claims_confirmable, is_request, reaction_to}
@@ -61,7 +61,7 @@ pub record Alike (a b : Reaction) : Type 0 where
   pub outputs : a.outputs ≡ b.outputs
   pub living_then : living a.flat ≡ living b.flat
 
-abbrev flat_of : Kept → List Recorded → Flat
+abbrev flat_of : Kept → List Recorded → Machine
 flat_of k xs = record { kept = k; recorded = xs }
 
 -- where only those that live are kept, the same ones live
@@ -71,7 +71,7 @@ forgotten k kept all h =
     ∙ ap (λ rs. flat_of k rs) (filter-filter (λ r. is_live k.clock r) (λ r. is_live k.clock r) (λ r e. e) all)
 
 -- what is remembered behind an event lives
-pub living_remembered : (f : Flat) (event : Event) → living (remembered f event) ≡ living f
+pub living_remembered : (f : Machine) (event : Event) → living (remembered f event) ≡ living f
 living_remembered f (Recv server bytes) = refl
 living_remembered f (Put path value) = refl
 living_remembered f (Firmware code) = refl
@@ -92,7 +92,7 @@ alike_choice false r s t u h k = k
 alike_quiet : (k : Kept) (xs ys : List Recorded) (o : List Output) → SameLiving k.clock xs ys → Alike (record { outputs = o; flat = flat_of k xs }) (record { outputs = o; flat = flat_of k ys })
 alike_quiet k xs ys o h = record { outputs = refl; living_then = ap (λ rs. flat_of k rs) h }
 
-repeat_same : (k : Kept) (xs ys : List Recorded) (server : ℕ) (m : Parts) → SameLiving k.clock xs ys → repeat_of (flat_of k xs) server m ≡ repeat_of (flat_of k ys) server m
+repeat_same : (k : Kept) (xs ys : List Recorded) (server : ℕ) (m : Message) → SameLiving k.clock xs ys → repeat_of (flat_of k xs) server m ≡ repeat_of (flat_of k ys) server m
 repeat_same k xs ys server m h =
     sym (find-filter (λ r. is_live k.clock r) (λ r. is_same server m r) xs)
     ∙ ap (λ rs. find (λ r. is_live k.clock r && is_same server m r) rs) h
@@ -102,7 +102,7 @@ same_pushed : (clock : ℕ) (xs ys zs : List Recorded) → SameLiving clock xs y
 same_pushed clock xs ys zs h =
     filter-append (λ r. is_live clock r) xs zs ∙ ap (λ t. t ++ filter (λ r. is_live clock r) zs) h ∙ sym (filter-append (λ r. is_live clock r) ys zs)
 
-pub clock_after : (k : Kept) (kind : Kind) (reply : Option Parts) → (kept_after k kind reply).clock ≡ k.clock
+pub clock_after : (k : Kept) (kind : Kind) (reply : Option Message) → (kept_after k kind reply).clock ≡ k.clock
 clock_after k Con reply = refl
 clock_after k Non None = refl
 clock_after k Non (Some reply) = refl
@@ -112,7 +112,7 @@ clock_after k Rst reply = refl
 same_at : (c d : ℕ) (xs ys : List Recorded) → c ≡ d → SameLiving d xs ys → SameLiving c xs ys
 same_at c d xs ys e h = subst (λ n. SameLiving n xs ys) (sym e) h
 
-alike_fresh : (k : Kept) (xs ys : List Recorded) (server : ℕ) (m : Parts) (client : Managed) (left : List Observation) (reply : Option Parts) (act : Option Deed) → SameLiving k.clock xs ys
+alike_fresh : (k : Kept) (xs ys : List Recorded) (server : ℕ) (m : Message) (client : Client) (left : List Observation) (reply : Option Message) (act : Option Deed) → SameLiving k.clock xs ys
     → let new = with_observations (with_client k client) left in
     Alike (on_fresh (flat_of k xs) server m new reply act) (on_fresh (flat_of k ys) server m new reply act)
 alike_fresh k xs ys server m client left reply act h =
@@ -123,21 +123,21 @@ alike_fresh k xs ys server m client left reply act h =
           (same_at _ _ _ _ (clock_after new m.kind reply) (same_pushed k.clock xs ys _ h));
     }
 
-alike_noted : (k : Kept) (xs ys : List Recorded) (server : ℕ) (m : Parts) (outcome : Outcome) (noted : Noted) → SameLiving k.clock xs ys
+alike_noted : (k : Kept) (xs ys : List Recorded) (server : ℕ) (m : Message) (outcome : Outcome) (noted : Noted) → SameLiving k.clock xs ys
     → Alike (on_noted (flat_of k xs) server m outcome noted) (on_noted (flat_of k ys) server m outcome noted)
 alike_noted k xs ys server m outcome noted h =
     alike_fresh k xs ys server m outcome.client noted.left (reply_to k.next_id m m.kind noted.number outcome.answer) outcome.answer.act h
 
-alike_outcome : (k : Kept) (xs ys : List Recorded) (server : ℕ) (m : Parts) (outcome : Outcome) → SameLiving k.clock xs ys
+alike_outcome : (k : Kept) (xs ys : List Recorded) (server : ℕ) (m : Message) (outcome : Outcome) → SameLiving k.clock xs ys
     → Alike (on_outcome (flat_of k xs) server m outcome) (on_outcome (flat_of k ys) server m outcome)
 alike_outcome k xs ys server m outcome h = alike_noted k xs ys server m outcome (noted (with_client k outcome.client) server m outcome.answer) h
 
-alike_request : (k : Kept) (xs ys : List Recorded) (server : ℕ) (m : Parts) (o : Option Recorded) → SameLiving k.clock xs ys
+alike_request : (k : Kept) (xs ys : List Recorded) (server : ℕ) (m : Message) (o : Option Recorded) → SameLiving k.clock xs ys
     → Alike (on_request (flat_of k xs) server m o) (on_request (flat_of k ys) server m o)
 alike_request k xs ys server m None h = alike_outcome k xs ys server m (outcome_of k.client server m) h
 alike_request k xs ys server m (Some r) h = alike_quiet k xs ys _ h
 
-alike_asked : (k : Kept) (xs ys : List Recorded) (server : ℕ) (m : Parts) → SameLiving k.clock xs ys
+alike_asked : (k : Kept) (xs ys : List Recorded) (server : ℕ) (m : Message) → SameLiving k.clock xs ys
     → Alike (on_request (flat_of k xs) server m (repeat_of (flat_of k xs) server m)) (on_request (flat_of k ys) server m (repeat_of (flat_of k ys) server m))
 alike_asked k xs ys server m h =
     subst (λ o. Alike (on_request (flat_of k xs) server m (repeat_of (flat_of k xs) server m)) (on_request (flat_of k ys) server m o))
@@ -148,14 +148,14 @@ alike_reset : (k : Kept) (xs ys : List Recorded) (server mid : ℕ) → SameLivi
 alike_reset k xs ys server mid h =
     record { outputs = refl; living_then = ap (λ rs. flat_of (with_observations k (without_reset k.observations server mid)) rs) h }
 
-alike_message : (k : Kept) (xs ys : List Recorded) (server : ℕ) (m : Parts) (kind : Kind) → SameLiving k.clock xs ys
+alike_message : (k : Kept) (xs ys : List Recorded) (server : ℕ) (m : Message) (kind : Kind) → SameLiving k.clock xs ys
     → Alike (on_message (flat_of k xs) server m kind) (on_message (flat_of k ys) server m kind)
 alike_message k xs ys server m Con h = alike_choice (is_request m.code) _ _ _ _ (alike_asked k xs ys server m h) (alike_quiet k xs ys _ h)
 alike_message k xs ys server m Non h = alike_choice (is_request m.code) _ _ _ _ (alike_asked k xs ys server m h) (alike_quiet k xs ys _ h)
 alike_message k xs ys server m Ack h = alike_quiet k xs ys _ h
 alike_message k xs ys server m Rst h = alike_choice (m.code == 0) _ _ _ _ (alike_reset k xs ys server m.mid h) (alike_quiet k xs ys _ h)
 
-alike_datagram : (k : Kept) (xs ys : List Recorded) (server : ℕ) (bytes : List ℕ) (reading : Result Parts CoapFault) → SameLiving k.clock xs ys
+alike_datagram : (k : Kept) (xs ys : List Recorded) (server : ℕ) (bytes : List ℕ) (reading : Result Message CoapFault) → SameLiving k.clock xs ys
     → Alike (on_datagram (flat_of k xs) server bytes reading) (on_datagram (flat_of k ys) server bytes reading)
 alike_datagram k xs ys server bytes (Ok m) h = alike_message k xs ys server m m.kind h
 alike_datagram k xs ys server bytes (Err fault) h = alike_choice (claims_confirmable bytes) _ _ _ _ (alike_quiet k xs ys _ h) (alike_quiet k xs ys _ h)
@@ -186,7 +186,7 @@ alike_event k xs ys h (Tick n) =
     record { outputs = refl; living_then = ap (λ rs. flat_of (later (flat_of k []) n).kept rs) (same_later k.clock n xs ys h) }
 
 -- flat states in which the same requests live react alike
-pub alike : (f g : Flat) → living f ≡ living g → (event : Event) → Alike (reaction_to f event) (reaction_to g event)
+pub alike : (f g : Machine) → living f ≡ living g → (event : Event) → Alike (reaction_to f event) (reaction_to g event)
 alike f g h event =
     subst (λ k. filter (λ r. is_live f.kept.clock r) f.recorded ≡ filter (λ r. is_live k.clock r) g.recorded → Alike (reaction_to f event) (reaction_to (flat_of k g.recorded) event)) (ap (λ s. s.kept) h)
     (λ same. alike_event f.kept f.recorded g.recorded same event) (ap (λ s. s.recorded) h)

@@ -1,24 +1,24 @@
 -- What a request leaves that is answered and recorded with what is noted.
 use Rattle.std.proofs.Common.{◌≡◌, ℕ, Option, ◌∙◌}
-use Rattle.coap_codec.specs.Message.{Parts}
+use Rattle.coap_codec.specs.Message.{Message}
 use Rattle.device_requests.specs.Answer.{Leaves}
-use Rattle.device_requests.specs.Managed.{Managed}
+use Rattle.device_requests.specs.Client.{Client}
 use Rattle.device_requests.specs.Request.{outcome_of}
 use Rattle.device_requests.specs.declared.answer.Act.{Act as Deed}
 use Rattle.device_requests.specs.declared.answer.Answer.{Answer}
 use Rattle.device_machine.specs.Observing.{Noted, Notes, noted}
-use Rattle.device_machine.specs.State.{Flat, with_client, with_observations}
+use Rattle.device_machine.specs.State.{Machine, with_client, with_observations}
 use Rattle.device_machine.specs.Reactions.{on_fresh, on_noted, on_outcome, reply_to}
 
 -- a request is answered and recorded with what is noted
-pub taken : (f h : Flat) (server : ℕ) (m : Parts) (client : Managed) (answer : Answer) (number : Option ℕ) (reply : Option Parts) (act : Option Deed)
+pub taken : (f h : Machine) (server : ℕ) (m : Message) (client : Client) (answer : Answer) (number : Option ℕ) (reply : Option Message) (act : Option Deed)
     → Leaves answer client (outcome_of f.kept.client server m)
     → Notes number (with_client f.kept client) h.kept (noted (with_client f.kept client) server m answer)
     → h.recorded ≡ f.recorded
     → reply ≡ reply_to h.kept.next_id m m.kind number answer → act ≡ answer.act
     → on_fresh h server m h.kept reply act ≡ on_outcome f server m (outcome_of f.kept.client server m)
 taken f h server m client answer number reply act leaves notes same replied acts =
-    let told : Managed → Answer → Noted = λ c a. noted (with_client f.kept c) server m a in
+    let told : Client → Answer → Noted = λ c a. noted (with_client f.kept c) server m a in
     let state : h ≡ record { kept = with_observations (with_client f.kept client) (told client answer).left; recorded = f.recorded } =
     λ i. record { kept = notes.kept_is i; recorded = same i } in
     let reply_is : reply ≡ reply_to f.kept.next_id m m.kind (told client answer).number answer =

@@ -2,7 +2,7 @@
 use Rattle.std.proofs.Common.{◌≡◌, ℕ, Bool, true, false, not, cond, ◌==◌, ◌⊎◌, inl, inr, List, [], ◌∷◌, Option, None, Some, option_map, is_some, refl, sym, ap, subst, ◌∙◌}
 use Rattle.std.specs.Bool.{if◌then◌else◌}
 use Rattle.std.specs.List.{filter, list_any}
-use Rattle.coap_codec.specs.Message.{Parts, spelling}
+use Rattle.coap_codec.specs.Message.{Message, spelling}
 use Rattle.coap_codec.specs.declared.kind.Kind.{Kind}
 use Rattle.coap_codec.specs.declared.kind.Kind.TheVariants.{Con, Non, Ack, Rst}
 use Rattle.device_machine.specs.declared.event.Event.TheVariants.{Recv}
@@ -16,7 +16,7 @@ use Rattle.device_requests.specs.declared.observe.Interest.{Interest}
 use Rattle.device_requests.specs.declared.observe.Interest.TheVariants.{Register, Cancel}
 use Rattle.device_machine.specs.Observing.{noted, noted_by}
 use Rattle.device_requests.specs.Request.{outcome_of}
-use Rattle.device_machine.specs.State.{Flat, Kept, with_client, with_observations}
+use Rattle.device_machine.specs.State.{Machine, Kept, with_client, with_observations}
 use Rattle.device_requests.proofs.Refusing.{refused_keeps}
 use Rattle.device_machine.specs.Reactions.{kept_after, on_message, on_outcome, on_reset, reaction_to, record_of, reply_to}
 use Rattle.device_machine.specs.Laws.{CancelsEnd, IsFresh, OnlyRecords, ResetsEnd}
@@ -39,20 +39,20 @@ not_content UnsupportedContentFormat h = refl
 not_content InternalServerError h = refl
 
 -- what a refusal leaves of the observations
-refused_left : (k : Kept) (server : ℕ) (m : Parts) (answer : Answer) (interest : Option Interest) → is_refusal answer.code ≡ true
+refused_left : (k : Kept) (server : ℕ) (m : Message) (answer : Answer) (interest : Option Interest) → is_refusal answer.code ≡ true
     → (noted_by k server m answer interest).left ≡ (if is_some interest then cancelled k.observations server m.token else k.observations)
 refused_left k server m answer None h = refl
 refused_left k server m answer (Some Cancel) h = refl
 refused_left k server m answer (Some (Register path accept)) h = rw (not_content answer.code h) refl
 
-pub observations_after : (k : Kept) (kind : Kind) (reply : Option Parts) → (kept_after k kind reply).observations ≡ k.observations
+pub observations_after : (k : Kept) (kind : Kind) (reply : Option Message) → (kept_after k kind reply).observations ≡ k.observations
 observations_after k Con reply = refl
 observations_after k Non None = refl
 observations_after k Non (Some reply) = refl
 observations_after k Ack reply = refl
 observations_after k Rst reply = refl
 
-only_records : (f : Flat) (server : ℕ) (m : Parts) (outcome : Outcome) → outcome.client ≡ f.kept.client → is_refusal outcome.answer.code ≡ true
+only_records : (f : Machine) (server : ℕ) (m : Message) (outcome : Outcome) → outcome.client ≡ f.kept.client → is_refusal outcome.answer.code ≡ true
     → OnlyRecords f server m (on_outcome f server m outcome).flat
 only_records f server m outcome h r =
     let before = with_client f.kept outcome.client in
@@ -68,7 +68,7 @@ only_records f server m outcome h r =
     }
 
 -- a fresh request that is refused
-pub refused : (f : Flat) (server : ℕ) (bytes : List ℕ) (m : Parts) → IsFresh f server bytes m → (m.kind ≡ Con) ⊎ (m.kind ≡ Non)
+pub refused : (f : Machine) (server : ℕ) (bytes : List ℕ) (m : Message) → IsFresh f server bytes m → (m.kind ≡ Con) ⊎ (m.kind ≡ Non)
     → is_refusal (outcome_of f.kept.client server m).answer.code ≡ true → OnlyRecords f server m (reaction_to f (Recv server bytes)).flat
 refused f server bytes m fresh (inl k) h =
     subst (λ r. OnlyRecords f server m r.flat) (sym (first_con f server bytes m fresh k)) (only_records f server m _ (refused_keeps f.kept.client server m h) h)
@@ -84,7 +84,7 @@ none_left p (x ∷ xs) =
       | false ↦ λ e. rw e (none_left p xs)
     ] refl
 
-cancelled_left : (f : Flat) (server : ℕ) (m : Parts) (outcome : Outcome) → interest_of m ≡ Some Cancel
+cancelled_left : (f : Machine) (server : ℕ) (m : Message) (outcome : Outcome) → interest_of m ≡ Some Cancel
     → has_name (on_outcome f server m outcome).flat.kept.observations server m.token ≡ false
 cancelled_left f server m outcome h =
     let before = with_client f.kept outcome.client in
@@ -101,7 +101,7 @@ cancels f server bytes m fresh (inl k) h =
 cancels f server bytes m fresh (inr k) h =
     subst (λ r. has_name r.flat.kept.observations server m.token ≡ false) (sym (first_non f server bytes m fresh k)) (cancelled_left f server m _ h)
 
-reset_by : (f : Flat) (server : ℕ) (m : Parts) → m.code ≡ 0 → on_message f server m Rst ≡ on_reset f server m.mid
+reset_by : (f : Machine) (server : ℕ) (m : Message) → m.code ≡ 0 → on_message f server m Rst ≡ on_reset f server m.mid
 reset_by f server m h = rw h refl
 
 -- an empty Reset

@@ -2,18 +2,18 @@
 use Rattle.std.proofs.Common.{◌≡◌, ℕ, ◌+◌, ◌-◌, ◌<◌, nat_lt, ◌==◌, Bool, true, false, ◌&&◌, cond, List, [], ◌∷◌, ◌++◌, Option, None, Some, option_map, Ok, refl, sym, ap, subst, ◌∙◌, arith}
 use Rattle.std.specs.List.{filter, find, list_any}
 use Rattle.std.proofs.lemmas.Bool.Decides.{nat_tests}
-use Rattle.coap_codec.specs.Message.{Parts, spelling, kind_number}
+use Rattle.coap_codec.specs.Message.{Message, spelling, kind_number}
 use Rattle.coap_codec.specs.Reading.{reading_of}
 use Rattle.coap_codec.specs.declared.kind.Kind.{Kind}
 use Rattle.coap_codec.specs.declared.kind.Kind.TheVariants.{Con, Non, Ack, Rst}
 use Rattle.device_machine.specs.declared.event.Event.TheVariants.{Recv}
 use Rattle.device_machine.specs.declared.recorded.Recorded.{Recorded}
 use Rattle.device_requests.specs.declared.answer.Act.{Act as Deed}
-use Rattle.device_machine.specs.State.{Kept, Flat, lifetime, is_live, with_client, with_observations}
+use Rattle.device_machine.specs.State.{Kept, Machine, lifetime, is_live, with_client, with_observations}
 use Rattle.notifier.specs.declared.observation.Observation.{Observation}
 use Rattle.device_machine.specs.Observing.{Noted, noted}
 use Rattle.device_requests.specs.Answer.{Outcome}
-use Rattle.device_requests.specs.Managed.{Managed, has_account}
+use Rattle.device_requests.specs.Client.{Client, has_account}
 use Rattle.device_requests.proofs.Keeping.{keeps}
 use Rattle.device_requests.specs.Request.{outcome_of}
 use Rattle.device_machine.specs.Reactions.{acted, sent_to, again, is_request, is_same, kept_after, later, on_fresh, on_message, on_outcome, on_request, reaction_to, record_of, repeat_of, reply_to}
@@ -51,7 +51,7 @@ fresh_lives clock seconds life h = grind (arith, nat_tests)
 same_id : (server a b : ℕ) (k l : Kind) → a ≡ b → k ≡ l → (server == server && (b == a && kind_number l == kind_number k)) ≡ true
 same_id server a b k l e f = rw (e, f) (grind (arith, nat_tests))
 
-pub client_after : (k : Kept) (kind : Kind) (reply : Option Parts) → (kept_after k kind reply).client ≡ k.client
+pub client_after : (k : Kept) (kind : Kind) (reply : Option Message) → (kept_after k kind reply).client ≡ k.client
 client_after k Con reply = refl
 client_after k Non None = refl
 client_after k Non (Some reply) = refl
@@ -59,24 +59,24 @@ client_after k Ack reply = refl
 client_after k Rst reply = refl
 
 -- a fresh request is answered
-asked_con : (f : Flat) (server : ℕ) (m : Parts) (o : Option Recorded) → is_request m.code ≡ true → repeat_of f server m ≡ o → on_message f server m Con ≡ on_request f server m o
+asked_con : (f : Machine) (server : ℕ) (m : Message) (o : Option Recorded) → is_request m.code ≡ true → repeat_of f server m ≡ o → on_message f server m Con ≡ on_request f server m o
 asked_con f server m o r e = rw r (ap (on_request f server m) e)
 
-asked_non : (f : Flat) (server : ℕ) (m : Parts) (o : Option Recorded) → is_request m.code ≡ true → repeat_of f server m ≡ o → on_message f server m Non ≡ on_request f server m o
+asked_non : (f : Machine) (server : ℕ) (m : Message) (o : Option Recorded) → is_request m.code ≡ true → repeat_of f server m ≡ o → on_message f server m Non ≡ on_request f server m o
 asked_non f server m o r e = rw r (ap (on_request f server m) e)
 
 -- a request of an account
-pub reached : (f : Flat) (server : ℕ) (bytes : List ℕ) (m : Parts) → has_account f.kept.client server ≡ true → reading_of bytes ≡ Ok m → reaction_to f (Recv server bytes) ≡ on_message f server m m.kind
+pub reached : (f : Machine) (server : ℕ) (bytes : List ℕ) (m : Message) → has_account f.kept.client server ≡ true → reading_of bytes ≡ Ok m → reaction_to f (Recv server bytes) ≡ on_message f server m m.kind
 reached f server bytes m a r = rw (a, r) refl
 
 pub all_true : (a b : Bool) → a ≡ true → b ≡ true → (a && b) ≡ true
 all_true a b h k = rw (h, k) refl
 
-same_test : (server : ℕ) (m n : Parts) (r : Recorded) → n.kind ≡ m.kind → n.mid ≡ m.mid → is_same server n r ≡ is_same server m r
+same_test : (server : ℕ) (m n : Message) (r : Recorded) → n.kind ≡ m.kind → n.mid ≡ m.mid → is_same server n r ≡ is_same server m r
 same_test server m n r k i = ap (λ (t : ℕ × Kind). r.server == server && (r.mid == t.0 && kind_number r.kind == kind_number t.1)) (λ j. (i j, k j))
 
 -- the record of a request is the first that its repeat finds
-found_at : (clock server seconds : ℕ) (m n : Parts) (xs : List Recorded) (e : Recorded)
+found_at : (clock server seconds : ℕ) (m n : Message) (xs : List Recorded) (e : Recorded)
     → e.server ≡ server → e.kind ≡ m.kind → e.mid ≡ m.mid → e.second ≡ clock
     → find (λ r. is_live clock r && is_same server m r) xs ≡ None → seconds < lifetime m.kind → n.kind ≡ m.kind → n.mid ≡ m.mid
     → find (λ r. is_live (clock + seconds) r && is_same server n r) (xs ++ e ∷ []) ≡ Some e
@@ -88,7 +88,7 @@ found_at clock server seconds m n xs e es ek ei et first short k i =
     find_last _ xs e (find_none _ _ weaker xs first) (all_true _ _ lives same)
 
 -- what a repeat finds behind a fresh request and some seconds
-pub found : (f : Flat) (server seconds : ℕ) (m n : Parts) (client : Managed) (left : List Observation) (reply : Option Parts) (act : Option Deed)
+pub found : (f : Machine) (server seconds : ℕ) (m n : Message) (client : Client) (left : List Observation) (reply : Option Message) (act : Option Deed)
     → repeat_of f server m ≡ None → seconds < lifetime m.kind → n.kind ≡ m.kind → n.mid ≡ m.mid
     → repeat_of (later (on_fresh f server m (with_observations (with_client f.kept client) left) reply act).flat seconds) server n
     ≡ Some (record_of f.kept server m (option_map spelling reply))
@@ -98,7 +98,7 @@ found f server seconds m n client left reply act first short k i =
     (sym (clock_after (with_observations (with_client f.kept client) left) m.kind reply))
     (found_at f.kept.clock server seconds m n f.recorded (record_of f.kept server m (option_map spelling reply)) refl refl refl refl first short k i)
 
-account_stays : (f : Flat) (server seconds : ℕ) (m : Parts) (client : Managed) (left : List Observation) (reply : Option Parts) (act : Option Deed)
+account_stays : (f : Machine) (server seconds : ℕ) (m : Message) (client : Client) (left : List Observation) (reply : Option Message) (act : Option Deed)
     → client.accounts ≡ f.kept.client.accounts → has_account f.kept.client server ≡ true
     → has_account (later (on_fresh f server m (with_observations (with_client f.kept client) left) reply act).flat seconds).kept.client server ≡ true
 account_stays f server seconds m client left reply act same a =
@@ -106,22 +106,22 @@ account_stays f server seconds m client left reply act same a =
     (sym (ap (λ c. c.accounts) (client_after (with_observations (with_client f.kept client) left) m.kind reply) ∙ same)) a
 
 -- the reaction to a fresh confirmable request, and to its repeat
-pub first_con : (f : Flat) (server : ℕ) (bytes : List ℕ) (m : Parts) → IsFresh f server bytes m → m.kind ≡ Con → reaction_to f (Recv server bytes) ≡ on_outcome f server m (outcome_of f.kept.client server m)
+pub first_con : (f : Machine) (server : ℕ) (bytes : List ℕ) (m : Message) → IsFresh f server bytes m → m.kind ≡ Con → reaction_to f (Recv server bytes) ≡ on_outcome f server m (outcome_of f.kept.client server m)
 first_con f server bytes m fresh k =
     reached f server bytes m fresh.account fresh.reading ∙ ap (on_message f server m) k ∙ asked_con f server m None fresh.request fresh.first
 
-pub first_non : (f : Flat) (server : ℕ) (bytes : List ℕ) (m : Parts) → IsFresh f server bytes m → m.kind ≡ Non → reaction_to f (Recv server bytes) ≡ on_outcome f server m (outcome_of f.kept.client server m)
+pub first_non : (f : Machine) (server : ℕ) (bytes : List ℕ) (m : Message) → IsFresh f server bytes m → m.kind ≡ Non → reaction_to f (Recv server bytes) ≡ on_outcome f server m (outcome_of f.kept.client server m)
 first_non f server bytes m fresh k =
     reached f server bytes m fresh.account fresh.reading ∙ ap (on_message f server m) k ∙ asked_non f server m None fresh.request fresh.first
 
 -- a repeat of a recorded request
-pub again_con : (g : Flat) (server : ℕ) (bytes : List ℕ) (n : Parts) (r : Recorded) → has_account g.kept.client server ≡ true → reading_of bytes ≡ Ok n → is_request n.code ≡ true → n.kind ≡ Con
+pub again_con : (g : Machine) (server : ℕ) (bytes : List ℕ) (n : Message) (r : Recorded) → has_account g.kept.client server ≡ true → reading_of bytes ≡ Ok n → is_request n.code ≡ true → n.kind ≡ Con
     → repeat_of g server n ≡ Some r → reaction_to g (Recv server bytes) ≡ record { outputs = again server Con r.reply; flat = g }
 again_con g server bytes n r a reading request k e =
     reached g server bytes n a reading ∙ ap (on_message g server n) k ∙ asked_con g server n (Some r) request e
     ∙ ap (λ kind. record { outputs = again server kind r.reply; flat = g }) k
 
-pub again_non : (g : Flat) (server : ℕ) (bytes : List ℕ) (n : Parts) (r : Recorded) → has_account g.kept.client server ≡ true → reading_of bytes ≡ Ok n → is_request n.code ≡ true → n.kind ≡ Non
+pub again_non : (g : Machine) (server : ℕ) (bytes : List ℕ) (n : Message) (r : Recorded) → has_account g.kept.client server ≡ true → reading_of bytes ≡ Ok n → is_request n.code ≡ true → n.kind ≡ Non
     → repeat_of g server n ≡ Some r → reaction_to g (Recv server bytes) ≡ record { outputs = again server Non r.reply; flat = g }
 again_non g server bytes n r a reading request k e =
     reached g server bytes n a reading ∙ ap (on_message g server n) k ∙ asked_non g server n (Some r) request e
@@ -135,11 +135,11 @@ only_sent server (Some bytes) None = refl
 only_sent server (Some bytes) (Some act) = refl
 
 -- what is kept behind a request with this outcome
-abbrev noted_with : Flat → ℕ → Parts → Outcome → Noted
+abbrev noted_with : Machine → ℕ → Message → Outcome → Noted
 noted_with f server m outcome = noted (with_client f.kept outcome.client) server m outcome.answer
 
 -- a fresh confirmable request and its repeat
-pub confirmable : (f : Flat) (server seconds : ℕ) (bytes more : List ℕ) (m n : Parts) → IsFresh f server bytes m → m.kind ≡ Con → seconds < lifetime Con → IsAgain m more n
+pub confirmable : (f : Machine) (server seconds : ℕ) (bytes more : List ℕ) (m n : Message) → IsFresh f server bytes m → m.kind ≡ Con → seconds < lifetime Con → IsAgain m more n
     → reaction_to (later (reaction_to f (Recv server bytes)).flat seconds) (Recv server more)
     ≡ record { outputs = filter is_sent (reaction_to f (Recv server bytes)).outputs; flat = later (reaction_to f (Recv server bytes)).flat seconds }
 confirmable f server seconds bytes more m n fresh k short h =
@@ -157,7 +157,7 @@ confirmable f server seconds bytes more m n fresh k short h =
     ∙ ap (λ o. record { outputs = o; flat = later then seconds }) (sym (only_sent server (option_map spelling reply) act)))
 
 -- a fresh non-confirmable request and its repeat
-pub non_confirmable : (f : Flat) (server seconds : ℕ) (bytes more : List ℕ) (m n : Parts) → IsFresh f server bytes m → m.kind ≡ Non → seconds < lifetime Non → IsAgain m more n
+pub non_confirmable : (f : Machine) (server seconds : ℕ) (bytes more : List ℕ) (m n : Message) → IsFresh f server bytes m → m.kind ≡ Non → seconds < lifetime Non → IsAgain m more n
     → reaction_to (later (reaction_to f (Recv server bytes)).flat seconds) (Recv server more)
     ≡ record { outputs = []; flat = later (reaction_to f (Recv server bytes)).flat seconds }
 non_confirmable f server seconds bytes more m n fresh k short h =

@@ -6,7 +6,7 @@ use Rattle.device_notifications.specs.Second.{seconds}
 use Rattle.device_notifications.proofs.Numbers.{seconds_count}
 use Rattle.device_notifications.proofs.Spans.{seconds_add, seconds_send_after_pmin}
 use Rattle.device_notifications.proofs.Turns.{seconds_send_before_pmax}
-use Rattle.device_requests.specs.Managed.{Managed}
+use Rattle.device_requests.specs.Client.{Client}
 use Rattle.device_machine.specs.Laws.{TicksAdd, TicksCount, TicksSendAfterPmin, TicksSendBeforePmax}
 use Rattle.device_machine.specs.Reactions.{later, send_of, turn_in}
 
@@ -43,6 +43,6 @@ count f n before after o is =
     }
 
 -- without observations nothing is sent
-pub none_sent : (client : Managed) (clock n next_id : ℕ) → (seconds client clock n next_id []).sent ≡ []
+pub none_sent : (client : Client) (clock n next_id : ℕ) → (seconds client clock n next_id []).sent ≡ []
 none_sent client clock zero next_id = refl
 none_sent client clock (suc n) next_id = none_sent client (clock + 1) n next_id

@@ -1,4 +1,4 @@
-pub mod Class
+pub mod Template
 pub mod Laws
 pub mod Memory
 pub mod Observing

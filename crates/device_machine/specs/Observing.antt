@@ -1,6 +1,6 @@
 -- What the reply to a request leaves of the observations (RFC 7641 sections 3 and 4; that there are 32 at most is this profile's).
 use Rattle.std.specs.Prelude.{◌≡◌, ℕ, nat_le, Bool, true, false, not, ◌&&◌, List, length, Option, None, Some, if◌then◌else◌}
-use Rattle.coap_codec.specs.Message.{Parts}
+use Rattle.coap_codec.specs.Message.{Message}
 use Rattle.coap_codec.specs.declared.kind.Kind.{Kind}
 use Rattle.coap_codec.specs.declared.kind.Kind.TheVariants.{Con, Non, Ack, Rst}
 use Rattle.object_defs.specs.declared.path.Path.{Path}
@@ -29,7 +29,7 @@ abbrev pub unobserved : List Observation → Noted
 unobserved observations = record { number = None; left = observations }
 
 -- the message ID of the reply to a request: its own in an acknowledgement, else the device's next
-abbrev pub reply_mid : ℕ → Parts → Kind → ℕ
+abbrev pub reply_mid : ℕ → Message → Kind → ℕ
 reply_mid next_id m Con = m.mid
 reply_mid next_id m Non = next_id
 reply_mid next_id m Ack = m.mid
@@ -43,7 +43,7 @@ replies_non Ack = false
 replies_non Rst = false
 
 -- an observation that begins with the reply of this content
-abbrev pub begun : Kept → ℕ → Parts → Path → Option ℕ → List ℕ → Observation
+abbrev pub begun : Kept → ℕ → Message → Path → Option ℕ → List ℕ → Observation
 begun kept server m path accept payload =
     record {
       server = server;
@@ -68,17 +68,17 @@ entered observations new =
     else record { number = Some (number_for observations new.server new.token); left = registered observations new }
 
 -- the content of a Read that registers begins an observation, or renews that of its name; a refusal ends that
-abbrev pub noted_read : Kept → ℕ → Parts → Path → Option ℕ → Answer → Noted
+abbrev pub noted_read : Kept → ℕ → Message → Path → Option ℕ → Answer → Noted
 noted_read kept server m path accept answer =
     if is_content answer then entered kept.observations (begun kept server m path accept answer.payload)
     else unobserved (cancelled kept.observations server m.token)
 
 -- one that cancels ends the observation of its name, whatever is answered
-abbrev pub noted_by : Kept → ℕ → Parts → Answer → Option Interest → Noted
+abbrev pub noted_by : Kept → ℕ → Message → Answer → Option Interest → Noted
 noted_by kept server m answer None = unobserved kept.observations
 noted_by kept server m answer (Some (Register path accept)) = noted_read kept server m path accept answer
 noted_by kept server m answer (Some Cancel) = unobserved (cancelled kept.observations server m.token)
 
 -- what a request with this answer leaves of the observations
-abbrev pub noted : Kept → ℕ → Parts → Answer → Noted
+abbrev pub noted : Kept → ℕ → Message → Answer → Noted
 noted kept server m answer = noted_by kept server m answer (interest_of m)

@@ -4,7 +4,7 @@ use Rattle.coap_codec.specs.declared.kind.Kind.{Kind}
 use Rattle.coap_codec.specs.declared.kind.Kind.TheVariants.{Con, Non, Ack, Rst}
 use Rattle.coap_codec.specs.declared.fault.CoapFault.{CoapFault}
 use Rattle.coap_codec.specs.declared.option.Opt.{Opt}
-use Rattle.coap_codec.specs.Message.{Parts, spelling, kind_number}
+use Rattle.coap_codec.specs.Message.{Message, spelling, kind_number}
 use Rattle.coap_codec.specs.Reading.{reading_of}
 use Rattle.device_requests.specs.declared.answer.Answer.{Answer}
 use Rattle.device_machine.specs.declared.event.Event.{Event}
@@ -23,7 +23,7 @@ use Rattle.std.specs.Fmt.{decimal}
 use Rattle.object_defs.specs.declared.path.FullPath.{FullPath}
 use Rattle.object_defs.specs.declared.path.InstancePath.{InstancePath}
 use Rattle.device_requests.specs.Answer.{Outcome, code_byte}
-use Rattle.device_requests.specs.Managed.{has_account, with_stored}
+use Rattle.device_requests.specs.Client.{has_account, with_stored}
 use Rattle.device_requests.specs.Options.{has_unrecognized_critical}
 use Rattle.device_requests.specs.Request.{outcome_of}
 use Rattle.device_machine.specs.declared.recorded.Recorded.{Recorded}
@@ -32,27 +32,27 @@ use Rattle.device_notifications.specs.Message.{format_option, observe_option}
 use Rattle.device_notifications.specs.Second.{Turn, seconds}
 use Rattle.device_notifications.specs.declared.datagram.Datagram.{Datagram}
 use Rattle.device_machine.specs.Observing.{Noted, noted}
-use Rattle.device_machine.specs.State.{Kept, Flat, Shown, is_live, with_client, with_observations}
+use Rattle.device_machine.specs.State.{Kept, Machine, Device, is_live, with_client, with_observations}
 
 -- what is put out, and the flat state then
 pub record Reaction : Type 0 where
   pub outputs : List Output
-  pub flat : Flat
+  pub flat : Machine
 
 -- these outputs, and the flat state now, are the reaction
-pub record Gives (outputs : List Output) (flat : Flat) (reaction : Reaction) : Type 0 where
+pub record Gives (outputs : List Output) (flat : Machine) (reaction : Reaction) : Type 0 where
   pub sent : outputs ≡ reaction.outputs
   pub then_flat : flat ≡ reaction.flat
 
 -- nothing is sent, and nothing changes
-abbrev pub silence : Flat → Reaction
+abbrev pub silence : Machine → Reaction
 silence f = record { outputs = []; flat = f }
 
-abbrev pub sends : Flat → ℕ → Parts → Reaction
+abbrev pub sends : Machine → ℕ → Message → Reaction
 sends f server m = record { outputs = Send server (spelling m) ∷ []; flat = f }
 
 -- an empty Reset of this message ID
-abbrev pub reset : ℕ → Parts
+abbrev pub reset : ℕ → Message
 reset mid = record { kind = Rst; code = 0; mid = mid; token = []; options = []; payload = [] }
 
 -- Location-Path, one for each number, in decimal (RFC 7252 section 5.10.7)
@@ -71,7 +71,7 @@ abbrev pub answer_options : Option ℕ → Option InstancePath → Option ℕ �
 answer_options number location format = observe_option number ++ (location_options location ++ format_option format)
 
 -- the message of an answer, with the token of the request and this Observe number
-abbrev pub response : Kind → ℕ → List ℕ → Option ℕ → Answer → Parts
+abbrev pub response : Kind → ℕ → List ℕ → Option ℕ → Answer → Message
 response kind mid token number answer =
     record {
       kind = kind;
@@ -93,14 +93,14 @@ counted kept =
 
 -- a confirmable request is acknowledged; a non-confirmable one is answered by a message of the device's next
 -- message ID, or not at all where an option isn't understood
-abbrev pub reply_to : ℕ → Parts → Kind → Option ℕ → Answer → Option Parts
+abbrev pub reply_to : ℕ → Message → Kind → Option ℕ → Answer → Option Message
 reply_to next_id m Con number answer = Some (response Ack m.mid m.token number answer)
 reply_to next_id m Non number answer = if has_unrecognized_critical m.options then None else Some (response Non next_id m.token number answer)
 reply_to next_id m Ack number answer = None
 reply_to next_id m Rst number answer = None
 
 -- a reply of the device's own message ID counts it on
-abbrev pub kept_after : Kept → Kind → Option Parts → Kept
+abbrev pub kept_after : Kept → Kind → Option Message → Kept
 kept_after kept Non (Some reply) = counted kept
 kept_after kept kind reply = kept
 
@@ -114,11 +114,11 @@ acted None = []
 acted (Some act) = Act act ∷ []
 
 -- a request, as it is recorded with the datagram that replied
-abbrev pub record_of : Kept → ℕ → Parts → Option (List ℕ) → Recorded
+abbrev pub record_of : Kept → ℕ → Message → Option (List ℕ) → Recorded
 record_of kept server m reply = record { server = server; kind = m.kind; mid = m.mid; second = kept.clock; reply = reply }
 
 -- a request is answered and recorded, refusals included; this is kept then, and the device acts behind the reply
-abbrev pub on_fresh : Flat → ℕ → Parts → Kept → Option Parts → Option Deed → Reaction
+abbrev pub on_fresh : Machine → ℕ → Message → Kept → Option Message → Option Deed → Reaction
 on_fresh f server m kept reply act =
     record {
       outputs = sent_to server (option_map spelling reply) ++ acted act;
@@ -129,20 +129,20 @@ on_fresh f server m kept reply act =
     }
 
 -- the observations are noted with the answer, and the reply has their number
-abbrev pub on_noted : Flat → ℕ → Parts → Outcome → Noted → Reaction
+abbrev pub on_noted : Machine → ℕ → Message → Outcome → Noted → Reaction
 on_noted f server m outcome noted =
     on_fresh f server m (with_observations (with_client f.kept outcome.client) noted.left)
     (reply_to f.kept.next_id m m.kind noted.number outcome.answer) outcome.answer.act
 
 -- what a request that is no repeat answers and changes
-abbrev pub on_outcome : Flat → ℕ → Parts → Outcome → Reaction
+abbrev pub on_outcome : Machine → ℕ → Message → Outcome → Reaction
 on_outcome f server m outcome = on_noted f server m outcome (noted (with_client f.kept outcome.client) server m outcome.answer)
 
 -- a recorded request of the same server, type and message ID, whose age is below its lifetime (RFC 7252 section 4.5); bytes are not compared
-abbrev pub is_same : ℕ → Parts → Recorded → Bool
+abbrev pub is_same : ℕ → Message → Recorded → Bool
 is_same server m r = r.server == server && (r.mid == m.mid && kind_number r.kind == kind_number m.kind)
 
-abbrev pub repeat_of : Flat → ℕ → Parts → Option Recorded
+abbrev pub repeat_of : Machine → ℕ → Message → Option Recorded
 repeat_of f server m = find (λ r. is_live f.kept.clock r && is_same server m r) f.recorded
 
 -- a repeated confirmable request gets the recorded reply again, a repeated non-confirmable one nothing
@@ -152,12 +152,12 @@ again server Non reply = []
 again server Ack reply = []
 again server Rst reply = []
 
-abbrev pub on_request : Flat → ℕ → Parts → Option Recorded → Reaction
+abbrev pub on_request : Machine → ℕ → Message → Option Recorded → Reaction
 on_request f server m None = on_outcome f server m (outcome_of f.kept.client server m)
 on_request f server m (Some r) = record { outputs = again server m.kind r.reply; flat = f }
 
 -- an empty Reset ends the observations of its server whose last message was a NON with its message ID (RFC 7641 section 3.6)
-abbrev pub on_reset : Flat → ℕ → ℕ → Reaction
+abbrev pub on_reset : Machine → ℕ → ℕ → Reaction
 on_reset f server mid =
     record {
       outputs = [];
@@ -165,7 +165,7 @@ on_reset f server mid =
     }
 
 -- requests are answered; another confirmable message is reset, all else but an empty Reset ignored
-abbrev pub on_message : Flat → ℕ → Parts → Kind → Reaction
+abbrev pub on_message : Machine → ℕ → Message → Kind → Reaction
 on_message f server m Con = if is_request m.code then on_request f server m (repeat_of f server m) else sends f server (reset m.mid)
 on_message f server m Non = if is_request m.code then on_request f server m (repeat_of f server m) else silence f
 on_message f server m Ack = silence f
@@ -181,10 +181,10 @@ abbrev pub claimed_mid : List ℕ → ℕ
 claimed_mid bytes = 256 * slice_index bytes 2 + slice_index bytes 3
 
 -- bytes that are no message are ignored; those that claim to be confirmable are reset
-abbrev pub on_noise : Flat → ℕ → List ℕ → Reaction
+abbrev pub on_noise : Machine → ℕ → List ℕ → Reaction
 on_noise f server bytes = if claims_confirmable bytes then sends f server (reset (claimed_mid bytes)) else silence f
 
-abbrev pub on_datagram : Flat → ℕ → List ℕ → Result Parts CoapFault → Reaction
+abbrev pub on_datagram : Machine → ℕ → List ℕ → Result Message CoapFault → Reaction
 on_datagram f server bytes (Ok m) = on_message f server m m.kind
 on_datagram f server bytes (Err fault) = on_noise f server bytes
 
@@ -193,7 +193,7 @@ abbrev pub turn_in : Kept → ℕ → Turn
 turn_in kept count = seconds kept.client kept.clock count kept.next_id kept.observations
 
 -- the flat state so many seconds later: the clock is set on, second by second, and the observations have their turns
-abbrev pub later : Flat → ℕ → Flat
+abbrev pub later : Machine → ℕ → Machine
 later f count =
     record {
       kept = record {
@@ -209,11 +209,11 @@ abbrev pub send_of : Datagram → Output
 send_of datagram = Send datagram.server datagram.bytes
 
 -- seconds pass, and what the observations send in them is sent
-abbrev pub on_tick : Flat → ℕ → Reaction
+abbrev pub on_tick : Machine → ℕ → Reaction
 on_tick f count = record { outputs = map send_of (turn_in f.kept count).sent; flat = later f count }
 
 -- a value is set where it fits; else the device does no more than say so
-abbrev pub on_put : Flat → Option FullPath → Value → Reaction
+abbrev pub on_put : Machine → Option FullPath → Value → Reaction
 on_put f place value =
     if misses f.kept.client.catalogue f.kept.client.store place value then record { outputs = Act Missed ∷ []; flat = f }
     else record {
@@ -225,7 +225,7 @@ on_put f place value =
     }
 
 -- a download or an update ends where the firmware is in a state for it; else the device does no more than say so
-abbrev pub on_firmware : Flat → Option Stored → Reaction
+abbrev pub on_firmware : Machine → Option Stored → Reaction
 on_firmware f None = record { outputs = Act Missed ∷ []; flat = f }
 on_firmware f (Some stored) =
     record {
@@ -234,7 +234,7 @@ on_firmware f (Some stored) =
     }
 
 -- a datagram from a server that is no account changes nothing and gives nothing
-abbrev pub reaction_to : Flat → Event → Reaction
+abbrev pub reaction_to : Machine → Event → Reaction
 reaction_to f (Recv server bytes) =
     if has_account f.kept.client server then on_datagram f server bytes (reading_of bytes) else silence f
 reaction_to f (Put path value) = on_put f (full_path path) value
@@ -242,11 +242,11 @@ reaction_to f (Firmware code) = on_firmware f (firmware_after f.kept.client.stor
 reaction_to f (Tick count) = on_tick f count
 
 -- what a device in this flat state puts out on an event
-abbrev pub outputs_of : Flat → Event → List Output
+abbrev pub outputs_of : Machine → Event → List Output
 outputs_of f event = (reaction_to f event).outputs
 
 -- the flat state behind an event
-abbrev pub flat_after : Flat → Event → Flat
+abbrev pub flat_after : Machine → Event → Machine
 flat_after f event = (reaction_to f event).flat
 
 -- the event would take the clock past 2^63 - 1
@@ -257,5 +257,5 @@ passes_end clock (Firmware code) = false
 passes_end clock (Tick seconds) = nat_lt 9223372036854775807 (clock + seconds)
 
 -- a spent device refuses each event, every device a tick past the last second
-abbrev pub is_refused : Shown → Event → Bool
+abbrev pub is_refused : Device → Event → Bool
 is_refused device event = device.spent || passes_end device.flat.kept.clock event

@@ -2,7 +2,7 @@
 use Rattle.std.specs.Prelude.{◌≡◌, ℕ, ◌-◌, nat_lt, Bool, false, List, filter, Option, None, Some}
 use Rattle.coap_codec.specs.declared.kind.Kind.{Kind}
 use Rattle.coap_codec.specs.declared.kind.Kind.TheVariants.{Con, Non, Ack, Rst}
-use Rattle.device_requests.specs.Managed.{Managed}
+use Rattle.device_requests.specs.Client.{Client}
 use Rattle.instance_store.specs.Stored.{value_at}
 use Rattle.notifier.specs.declared.observation.Observation.{Observation}
 use Rattle.lwm2m_values.specs.declared.value.Value.{Value}
@@ -12,13 +12,13 @@ use Rattle.device_machine.specs.declared.recorded.Recorded.{Recorded}
 -- all of the flat state but the recorded requests: what device management looks at, the observations in the order of registration,
 -- the clock, and the device's next message ID
 pub record Kept : Type 0 where
-  pub client : Managed
+  pub client : Client
   pub observations : List Observation
   pub clock : ℕ
   pub next_id : ℕ
 
 -- the same with this client
-abbrev pub with_client : Kept → Managed → Kept
+abbrev pub with_client : Kept → Client → Kept
 with_client kept client = record { client = client; observations = kept.observations; clock = kept.clock; next_id = kept.next_id }
 
 -- the same with these observations
@@ -26,7 +26,7 @@ abbrev pub with_observations : Kept → List Observation → Kept
 with_observations kept observations = record { client = kept.client; observations = observations; clock = kept.clock; next_id = kept.next_id }
 
 -- the flat state: what is kept, and all the requests since the start, oldest first
-pub record Flat : Type 0 where
+pub record Machine : Type 0 where
   pub kept : Kept
   pub recorded : List Recorded
 
@@ -42,16 +42,16 @@ abbrev pub is_live : ℕ → Recorded → Bool
 is_live clock r = nat_lt (clock - r.second) (lifetime r.kind)
 
 -- the flat state with those of the recorded requests that an answer can still depend on
-abbrev pub living : Flat → Flat
+abbrev pub living : Machine → Machine
 living f = record { kept = f.kept; recorded = filter (λ r. is_live f.kept.clock r) f.recorded }
 
 -- what contracts see of a device: of the recorded requests, those that live
-pub record Shown : Type 0 where
+pub record Device : Type 0 where
   pub spent : Bool
-  pub flat : Flat
+  pub flat : Machine
 
 -- the device is not spent, and shows this flat state
-pub record Shows (device : Shown) (flat : Flat) : Type 0 where
+pub record Shows (device : Device) (flat : Machine) : Type 0 where
   pub ready : device.spent ≡ false
   pub holds : device.flat ≡ living flat
 

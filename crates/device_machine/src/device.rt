@@ -1,9 +1,9 @@
 ghost use Rattle.std.specs.Prelude.{◌≡◌, ◌↔◌, [], IfOk, OnOk, IsTrue, Ok, Err};
 ghost use Rattle.std.specs.Option.{option_copied};
 ghost use Rattle.object_defs.specs.Path.{full_path};
-ghost use Rattle.device_machine.specs.Class.{start_of};
+ghost use Rattle.device_machine.specs.Template.{start_of};
 ghost use Rattle.device_machine.specs.Memory.{KeepsRecords, event_grows};
-ghost use Rattle.device_machine.specs.State.{Flat, Shows, value_in};
+ghost use Rattle.device_machine.specs.State.{Machine, Shows, value_in};
 ghost use Rattle.device_machine.specs.Reactions.{outputs_of, flat_after, is_refused, passes_end};
 
 use crate::event::Event;
@@ -31,11 +31,11 @@ pub struct Device {
 impl Model for Device {
     ghost use Rattle.std.specs.Coded.{codes};
     ghost use Rattle.instance_store.specs.Stored.{stored_code};
-    ghost use Rattle.device_requests.specs.Managed.{attributes_code};
-    ghost use Rattle.device_machine.specs.Class.{start_of};
-    ghost use Rattle.device_machine.specs.State.{Shown, living};
+    ghost use Rattle.device_requests.specs.Client.{attributes_code};
+    ghost use Rattle.device_machine.specs.Template.{start_of};
+    ghost use Rattle.device_machine.specs.State.{Device, living};
 
-    ghost Value = { Shown };
+    ghost Value = { Device };
 
     ghost coded = { Prim.hlevel (codes, stored_code, attributes_code) };
 
@@ -79,7 +79,7 @@ impl Device {
     /// The second that the device's clock shows, from 0 at its start; that of a spent device is the
     /// one that it was left with.
     pub fn clock(&self) -> u64
-        ensures shown { (f : Flat) → Shows self.now f → result ≡ f.kept.clock }
+        ensures shown { (f : Machine) → Shows self.now f → result ≡ f.kept.clock }
         ensures left { result ≡ self.now.flat.kept.clock }
     {
         self.machine.clock()
@@ -89,8 +89,8 @@ impl Device {
     ///
     /// `Memory` leaves the device spent; `Spent` says that it was spent, and changes nothing.
     pub fn step(&mut self, event: &Event) -> Result<Outputs, StepFault>
-        ensures outputs { (f : Flat) → Shows self.old f → IfOk result (λ o. o ≡ outputs_of f event.now) }
-        ensures shows { (f : Flat) → Shows self.old f → OnOk result (Shows self.new (flat_after f event.now)) }
+        ensures outputs { (f : Machine) → Shows self.old f → IfOk result (λ o. o ≡ outputs_of f event.now) }
+        ensures shows { (f : Machine) → Shows self.old f → OnOk result (Shows self.new (flat_after f event.now)) }
         ensures spent { (result ≡ Err StepFault.Spent) ↔ IsTrue (is_refused self.old event.now) }
         ensures unchanged { result ≡ Err StepFault.Spent → self.new ≡ self.old }
         ensures memory { result ≡ Err StepFault.Memory → IsTrue self.new.spent }
@@ -112,7 +112,7 @@ impl Device {
 
     /// The attributes that servers set, lent; a spent device lends those that it was left with.
     pub fn attributes(&self) -> &Attributes
-        ensures shown { (f : Flat) → Shows self.now f → result.now ≡ f.kept.client.attributes }
+        ensures shown { (f : Machine) → Shows self.now f → result.now ≡ f.kept.client.attributes }
         ensures left { result.now ≡ self.now.flat.kept.client.attributes }
     {
         self.machine.attributes()
@@ -121,7 +121,7 @@ impl Device {
     /// The observations, lent, in the order of registration; a spent device lends those that it was
     /// left with.
     pub fn observations(&self) -> &Observations
-        ensures shown { (f : Flat) → Shows self.now f → result.now ≡ f.kept.observations }
+        ensures shown { (f : Machine) → Shows self.now f → result.now ≡ f.kept.observations }
         ensures left { result.now ≡ self.now.flat.kept.observations }
     {
         self.machine.observations()
@@ -130,7 +130,7 @@ impl Device {
     /// The value at a path of three or four numbers, lent; a spent device lends the one that it was
     /// left with.
     pub fn value(&self, path: &Path) -> Option<&Value>
-        ensures shown { (f : Flat) → Shows self.now f → option_copied result ≡ value_in f.kept (full_path path.now) }
+        ensures shown { (f : Machine) → Shows self.now f → option_copied result ≡ value_in f.kept (full_path path.now) }
         ensures left { option_copied result ≡ value_in self.now.flat.kept (full_path path.now) }
     {
         let path = path.full()?;

@@ -3,9 +3,9 @@
 ghost use Rattle.std.specs.Prelude.{◌≡◌, ◌≢◌, ◌+◌, ◌<◌, ◌^◌, [], true, false, Some, IfOk, OnErr, OnOk, IsFalse};
 ghost use Rattle.instance_store.specs.Stored.{has_instance};
 ghost use Rattle.device_template.specs.Values.{instance_at, is_one_too_many, with_value_at};
-ghost use Rattle.device_requests.specs.Managed.{with_stored};
+ghost use Rattle.device_requests.specs.Client.{with_stored};
 ghost use Rattle.object_defs.specs.Path.{full_path};
-ghost use Rattle.device_machine.specs.Class.{start_of};
+ghost use Rattle.device_machine.specs.Template.{start_of};
 ghost use Rattle.device_machine.specs.Memory.{KeepsRecords, event_grows};
 ghost use Rattle.device_machine.specs.declared.event.Event.TheVariants.{Firmware};
 ghost use Rattle.device_machine.specs.Reactions.{Gives, on_firmware, on_put, on_tick, passes_end, reaction_to};
@@ -44,10 +44,10 @@ pub(crate) struct Machine {
 impl Model for Machine {
     ghost use Rattle.std.specs.Coded.{codes};
     ghost use Rattle.instance_store.specs.Stored.{stored_code};
-    ghost use Rattle.device_requests.specs.Managed.{attributes_code};
-    ghost use Rattle.device_machine.specs.State.{Flat};
+    ghost use Rattle.device_requests.specs.Client.{attributes_code};
+    ghost use Rattle.device_machine.specs.State.{Machine};
 
-    ghost Value = { Flat };
+    ghost Value = { Machine };
 
     ghost coded = { Prim.hlevel (codes, stored_code, attributes_code) };
 

@@ -9,12 +9,12 @@ use Rattle.notifier.specs.declared.observation.Observation.{Observation}
 use Rattle.coap_codec.specs.Message.{spelling}
 use Rattle.coap_codec.specs.declared.kind.Kind.TheVariants.{Non}
 use Rattle.device_requests.specs.Answer.{code_byte}
-use Rattle.device_requests.specs.Managed.{Managed}
+use Rattle.device_requests.specs.Client.{Client}
 use Rattle.device_requests.specs.declared.answer.Answer.{Answer}
 use Rattle.device_notifications.specs.declared.datagram.Datagram.{Datagram}
 use Rattle.device_notifications.specs.Laws.{AreNamesakes, Counts, HasNamesake, IsEnd, IsLeft, IsMessageOf, IsNumbered, IsOfOneOf, RisesByOne, SecondsCountObserveNumbers}
 use Rattle.device_notifications.specs.Message.{datagram_of, format_option, observe_option}
-use Rattle.device_notifications.specs.Posted.{id_after}
+use Rattle.device_notifications.specs.Outbox.{id_after}
 use Rattle.device_notifications.specs.Report.{report_of}
 use Rattle.device_notifications.specs.Second.{Turn, and_then, beside, present, second, seconds, turn_by, turn_of}
 use Rattle.device_notifications.proofs.Turns.{both, by_verdict, first_of, weaker}
@@ -80,42 +80,42 @@ message_right (o ∷ more) os d h = inr (message_right more os d h)
 
 -- ---- what is sent and left in a second, and in many
 
-turn_left : (client : Managed) (clock next_id : ℕ) (o : Observation) (os : List Observation) → AllByRecursion (HasNamesake (o ∷ os)) (turn_of client clock next_id o).left
+turn_left : (client : Client) (clock next_id : ℕ) (o : Observation) (os : List Observation) → AllByRecursion (HasNamesake (o ∷ os)) (turn_of client clock next_id o).left
 turn_left client clock next_id o os =
     by_verdict client clock o (λ v. AllByRecursion (HasNamesake (o ∷ os)) (turn_by client clock next_id o v).left)
     (λ content due. (inl (refl, refl), tt))
     (λ content rests. (inl (refl, refl), tt))
     (λ no_content. tt)
 
-second_left : (client : Managed) (clock next_id : ℕ) (os : List Observation) → AllByRecursion (HasNamesake os) (second client clock next_id os).left
+second_left : (client : Client) (clock next_id : ℕ) (os : List Observation) → AllByRecursion (HasNamesake os) (second client clock next_id os).left
 second_left client clock next_id [] = tt
 second_left client clock next_id (o ∷ os) =
     let t = turn_of client clock next_id o in
     both (HasNamesake (o ∷ os)) t.left (second client clock t.next_id os).left (turn_left client clock next_id o os)
     (weaker (HasNamesake os) (HasNamesake (o ∷ os)) (λ p h. inr h) (second client clock t.next_id os).left (second_left client clock t.next_id os))
 
-seconds_left : (client : Managed) (clock n next_id : ℕ) (os : List Observation) → AllByRecursion (HasNamesake os) (seconds client clock n next_id os).left
+seconds_left : (client : Client) (clock n next_id : ℕ) (os : List Observation) → AllByRecursion (HasNamesake os) (seconds client clock n next_id os).left
 seconds_left client clock zero next_id os = own os
 seconds_left client clock (suc n) next_id os =
     let t = second client (clock + 1) next_id os in
     weaker (HasNamesake t.left) (HasNamesake os) (namesake_in os t.left (second_left client (clock + 1) next_id os))
     (seconds client (clock + 1) n t.next_id t.left).left (seconds_left client (clock + 1) n t.next_id t.left)
 
-turn_sent : (client : Managed) (clock next_id : ℕ) (o : Observation) (os : List Observation) → AllByRecursion (IsOfOneOf (o ∷ os)) (turn_of client clock next_id o).sent
+turn_sent : (client : Client) (clock next_id : ℕ) (o : Observation) (os : List Observation) → AllByRecursion (IsOfOneOf (o ∷ os)) (turn_of client clock next_id o).sent
 turn_sent client clock next_id o os =
     by_verdict client clock o (λ v. AllByRecursion (IsOfOneOf (o ∷ os)) (turn_by client clock next_id o v).sent)
     (λ content due. (inl (next_id, Some (next_number o.number), present client o, refl), tt))
     (λ content rests. tt)
     (λ no_content. (inl (next_id, None, present client o, refl), tt))
 
-second_sent : (client : Managed) (clock next_id : ℕ) (os : List Observation) → AllByRecursion (IsOfOneOf os) (second client clock next_id os).sent
+second_sent : (client : Client) (clock next_id : ℕ) (os : List Observation) → AllByRecursion (IsOfOneOf os) (second client clock next_id os).sent
 second_sent client clock next_id [] = tt
 second_sent client clock next_id (o ∷ os) =
     let t = turn_of client clock next_id o in
     both (IsOfOneOf (o ∷ os)) t.sent (second client clock t.next_id os).sent (turn_sent client clock next_id o os)
     (weaker (IsOfOneOf os) (IsOfOneOf (o ∷ os)) (λ d h. inr h) (second client clock t.next_id os).sent (second_sent client clock t.next_id os))
 
-seconds_sent : (client : Managed) (clock n next_id : ℕ) (os : List Observation) → AllByRecursion (IsOfOneOf os) (seconds client clock n next_id os).sent
+seconds_sent : (client : Client) (clock n next_id : ℕ) (os : List Observation) → AllByRecursion (IsOfOneOf os) (seconds client clock n next_id os).sent
 seconds_sent client clock zero next_id os = tt
 seconds_sent client clock (suc n) next_id os =
     let t = second client (clock + 1) next_id os in
@@ -128,7 +128,7 @@ seconds_sent client clock (suc n) next_id os =
 together : (a b c : Turn) → beside a (beside b c) ≡ beside (beside a b) c
 together a b c = λ i. record { sent = sym (append_assoc a.sent b.sent c.sent) i; left = sym (append_assoc a.left b.left c.left) i; next_id = c.next_id }
 
-parts : (client : Managed) (clock next_id : ℕ) (before rest : List Observation)
+parts : (client : Client) (clock next_id : ℕ) (before rest : List Observation)
     → second client clock next_id (before ++ rest) ≡ beside (second client clock next_id before) (second client clock (second client clock next_id before).next_id rest)
 parts client clock next_id [] rest = refl
 parts client clock next_id (o ∷ before) rest =
@@ -208,19 +208,19 @@ ended_then o others b a r d left before after behind end gone =
     }
 
 -- what a second and those behind it do: the observations before this one, its own turn, and those behind it
-abbrev whole : Managed → ℕ → ℕ → Turn → Turn → List Observation → Turn
+abbrev whole : Client → ℕ → ℕ → Turn → Turn → List Observation → Turn
 whole client clock n b t after =
     and_then (beside b (beside t (second client clock t.next_id after)))
     (seconds client clock n (second client clock t.next_id after).next_id (b.left ++ (t.left ++ (second client clock t.next_id after).left)))
 
 -- it is so of so many seconds
-abbrev Rise : Managed → ℕ → ℕ → Type 0
+abbrev Rise : Client → ℕ → ℕ → Type 0
 Rise client clock n =
     (next_id : ℕ) (before after : List Observation) (o : Observation)
     → RisesByOne o (before ++ after) (seconds client clock n next_id (before ++ o ∷ after)).sent (seconds client clock n next_id (before ++ o ∷ after)).left
 
 -- so it is of one more
-one_more : (client : Managed) (clock n next_id : ℕ) (before after : List Observation) (o : Observation) → Rise client clock n
+one_more : (client : Client) (clock n next_id : ℕ) (before after : List Observation) (o : Observation) → Rise client clock n
     → RisesByOne o (before ++ after) (whole client clock n (second client clock next_id before) (turn_of client clock (second client clock next_id before).next_id o) after).sent
     (whole client clock n (second client clock next_id before) (turn_of client clock (second client clock next_id before).next_id o) after).left
 one_more client clock n next_id before after o rise =

@@ -4,25 +4,25 @@ use Rattle.std.proofs.lemmas.List.{append-nil}
 use Rattle.std.specs.Option.{option_map_or}
 use Rattle.notifier.specs.Observed.{next_number, notified, with_sent}
 use Rattle.notifier.specs.declared.observation.Observation.{Observation}
-use Rattle.device_requests.specs.Managed.{Managed}
+use Rattle.device_requests.specs.Client.{Client}
 use Rattle.device_requests.specs.declared.answer.Answer.{Answer}
 use Rattle.device_notifications.specs.declared.datagram.Datagram.{Datagram}
 use Rattle.device_notifications.specs.declared.verdict.Verdict.TheVariants.{Quiet, Sends, Gone}
 use Rattle.device_notifications.specs.Message.{datagram_of}
-use Rattle.device_notifications.specs.Posted.{Posted, posted}
+use Rattle.device_notifications.specs.Outbox.{Outbox, posted}
 use Rattle.device_notifications.specs.Progress.{Passes}
 use Rattle.device_notifications.specs.Report.{report_of}
 use Rattle.device_notifications.specs.Second.{turn_by, turn_of, verdict_of}
 use Rattle.device_notifications.proofs.Places.{taken, taken_set, dropped_set, taken_removed, dropped_removed}
 
-pub passes_quiet : (client : Managed) (clock : ℕ) (os : List Observation) (place : ℕ) (o : Observation) (now : Posted)
+pub passes_quiet : (client : Client) (clock : ℕ) (os : List Observation) (place : ℕ) (o : Observation) (now : Outbox)
     → slice_get os place ≡ Some o → Quiet ≡ verdict_of client clock o
     → Passes (turn_of client clock now.next_id o) os os place (place + 1) now now
 passes_quiet client clock os place o now at is =
     subst (λ v. Passes (turn_by client clock now.next_id o v) os os place (place + 1) now now) is
     (record { sent = sym (append-nil now.sent); next_id = refl; passed = taken os place o at; coming = refl })
 
-pub passes_sends : (client : Managed) (clock : ℕ) (os left : List Observation) (place : ℕ) (o : Observation) (now after : Posted) (answer : Answer) (d : Datagram)
+pub passes_sends : (client : Client) (clock : ℕ) (os left : List Observation) (place : ℕ) (o : Observation) (now after : Outbox) (answer : Answer) (d : Datagram)
     → slice_get os place ≡ Some o → Sends answer ≡ verdict_of client clock o
     → d ≡ datagram_of o now.next_id (Some (next_number o.number)) answer
     → left ≡ with_sent os place clock now.next_id (report_of client o.path answer.payload)
@@ -40,7 +40,7 @@ passes_sends client clock os left place o now after answer d at is message then_
       coming = ap (λ xs. drop (place + 1) xs) same ∙ dropped_set os place new;
     })
 
-pub passes_gone : (client : Managed) (clock : ℕ) (os left : List Observation) (place : ℕ) (o : Observation) (now after : Posted) (answer : Answer) (d : Datagram)
+pub passes_gone : (client : Client) (clock : ℕ) (os left : List Observation) (place : ℕ) (o : Observation) (now after : Outbox) (answer : Answer) (d : Datagram)
     → Gone answer ≡ verdict_of client clock o
     → d ≡ datagram_of o now.next_id None answer
     → left ≡ remove os place

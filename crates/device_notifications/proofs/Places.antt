@@ -2,8 +2,8 @@
 use Rattle.std.proofs.Common.{◌≡◌, ℕ, zero, suc, ◌+◌, ◌-◌, ◌<◌, ◌≤◌, List, [], ◌∷◌, ◌++◌, length, take, drop, slice_get, slice_set, remove, Some, refl, sym, ap, subst, ◌∙◌, arith}
 use Rattle.std.proofs.lemmas.List.{append-nil, append_assoc, drop_all, length-drop, take_all}
 use Rattle.notifier.specs.declared.observation.Observation.{Observation}
-use Rattle.device_requests.specs.Managed.{Managed}
-use Rattle.device_notifications.specs.Posted.{Posted}
+use Rattle.device_requests.specs.Client.{Client}
+use Rattle.device_notifications.specs.Outbox.{Outbox}
 use Rattle.device_notifications.specs.Progress.{Elapsed, Leaves, Passes, Progress, Stops, StopsIn}
 use Rattle.device_notifications.specs.Second.{Turn, quiet, beside, and_then, second, seconds, turn_of}
 
@@ -68,14 +68,14 @@ dropped_removed xs i = drops_removed xs i ∙ ap (λ n. drop n xs) (next_is i)
 
 -- ---- a second, as far as it has come
 
-pub begun : (client : Managed) (clock : ℕ) (all : List Observation) (before : Posted) → Progress client clock all before all 0 before
+pub begun : (client : Client) (clock : ℕ) (all : List Observation) (before : Outbox) → Progress client clock all before all 0 before
 begun client clock all before = record { sent = refl; left = refl; next_id = refl }
 
 -- what a turn and those behind it do
-behind : Managed → ℕ → Turn → List Observation → Turn
+behind : Client → ℕ → Turn → List Observation → Turn
 behind client clock t rest = beside t (second client clock t.next_id rest)
 
-moved : (client : Managed) (clock : ℕ) (all : List Observation) (before : Posted) (os left : List Observation) (place next : ℕ) (now after : Posted) (t : Turn)
+moved : (client : Client) (clock : ℕ) (all : List Observation) (before : Outbox) (os left : List Observation) (place next : ℕ) (now after : Outbox) (t : Turn)
     → Passes t os left place next now after
     → now.sent ++ (behind client clock t (drop (place + 1) os)).sent ≡ before.sent ++ (second client clock before.next_id all).sent
     → take place os ++ (behind client clock t (drop (place + 1) os)).left ≡ (second client clock before.next_id all).left
@@ -91,7 +91,7 @@ moved client clock all before os left place next now after t passes sent kept id
       next_id = ap (λ r. r.next_id) then_ ∙ ids;
     }
 
-pub continued : (client : Managed) (clock : ℕ) (all : List Observation) (before : Posted) (os left : List Observation) (place next : ℕ) (now after : Posted) (o : Observation)
+pub continued : (client : Client) (clock : ℕ) (all : List Observation) (before : Outbox) (os left : List Observation) (place next : ℕ) (now after : Outbox) (o : Observation)
     → slice_get os place ≡ Some o → Passes (turn_of client clock now.next_id o) os left place next now after
     → Progress client clock all before os place now → Progress client clock all before left next after
 unfolding behind
@@ -104,7 +104,7 @@ continued client clock all before os left place next now after o at passes h =
     (ap (λ r. take place os ++ r.left) (sym whole) ∙ h.left)
     (ap (λ r. r.next_id) (sym whole) ∙ h.next_id)
 
-pub ended : (client : Managed) (clock : ℕ) (all : List Observation) (before : Posted) (os : List Observation) (place : ℕ) (now : Posted)
+pub ended : (client : Client) (clock : ℕ) (all : List Observation) (before : Outbox) (os : List Observation) (place : ℕ) (now : Outbox)
     → length os ≤ place → Progress client clock all before os place now → Leaves before (second client clock before.next_id all) os now
 ended client clock all before os place now past h =
     let none = drop_all place os past in
@@ -120,7 +120,7 @@ pub some_there : (os : List Observation) (place : ℕ) → place < length os →
 some_there os place within none = let empty : length os ≡ 0 = ap length none in omega (arith, within, empty)
 
 -- a turn that leaves all as it was stops the second
-pub stopped : (client : Managed) (clock : ℕ) (all : List Observation) (before : Posted) (os left : List Observation) (place : ℕ) (now after : Posted)
+pub stopped : (client : Client) (clock : ℕ) (all : List Observation) (before : Outbox) (os left : List Observation) (place : ℕ) (now after : Outbox)
     → place < length os → left ≡ os → after ≡ now → Progress client clock all before os place now → Stops client clock all before left after
 stopped client clock all before os left place now after within same unposted h =
     let here : Stops client clock all before os now = record { place = place; inside = within; progress = h } in
@@ -136,7 +136,7 @@ fewer os left place next within coming =
 
 -- ---- seconds, as far as they have come
 
-pub started : (client : Managed) (clock count : ℕ) (all : List Observation) (before : Posted) → Elapsed client clock count all before 0 all before
+pub started : (client : Client) (clock count : ℕ) (all : List Observation) (before : Outbox) → Elapsed client clock count all before 0 all before
 started client clock count all before =
     let same : clock + 0 ≡ clock = omega arith in
     let whole_count : count - 0 ≡ count = omega arith in
@@ -148,10 +148,10 @@ one_more : (clock count passed : ℕ) → passed < count → (clock + passed + 1
 one_more clock count passed h = (omega arith, omega (arith, h))
 
 -- a second and those behind it
-then_more : Managed → ℕ → ℕ → Turn → Turn
+then_more : Client → ℕ → ℕ → Turn → Turn
 then_more client clock count t = and_then t (seconds client clock count t.next_id t.left)
 
-pub elapsed : (client : Managed) (clock count : ℕ) (all : List Observation) (before : Posted) (passed : ℕ) (os left : List Observation) (now after : Posted) (second_now : ℕ)
+pub elapsed : (client : Client) (clock count : ℕ) (all : List Observation) (before : Outbox) (passed : ℕ) (os left : List Observation) (now after : Outbox) (second_now : ℕ)
     → passed < count → second_now ≡ clock + (passed + 1)
     → Leaves now (second client second_now now.next_id os) left after
     → Elapsed client clock count all before passed os now → Elapsed client clock count all before (passed + 1) left after
@@ -172,7 +172,7 @@ elapsed client clock count all before passed os left now after second_now within
       next_id = ap (λ r. r.next_id) rest ∙ ap (λ r. r.next_id) (sym whole) ∙ h.next_id;
     }
 
-pub over : (client : Managed) (clock count : ℕ) (all : List Observation) (before : Posted) (passed : ℕ) (os : List Observation) (now : Posted)
+pub over : (client : Client) (clock count : ℕ) (all : List Observation) (before : Outbox) (passed : ℕ) (os : List Observation) (now : Outbox)
     → count ≤ passed → Elapsed client clock count all before passed os now → Leaves before (seconds client clock count before.next_id all) os now
 over client clock count all before passed os now past h =
     let none : 0 ≡ count - passed = omega (arith, past) in
@@ -185,7 +185,7 @@ over client clock count all before passed os now past h =
     }
 
 -- a second that stops, stops them all
-pub stopped_in : (client : Managed) (clock count : ℕ) (all : List Observation) (before : Posted) (passed : ℕ) (os left : List Observation) (now after : Posted) (second_now : ℕ)
+pub stopped_in : (client : Client) (clock count : ℕ) (all : List Observation) (before : Outbox) (passed : ℕ) (os left : List Observation) (now after : Outbox) (second_now : ℕ)
     → passed < count → second_now ≡ clock + (passed + 1) → Stops client second_now os now left after
     → Elapsed client clock count all before passed os now → StopsIn client clock count all before left after
 stopped_in client clock count all before passed os left now after second_now within at stops h =

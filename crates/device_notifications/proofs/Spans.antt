@@ -2,7 +2,7 @@
 use Rattle.std.proofs.Common.{◌≡◌, ℕ, zero, suc, ◌+◌, List, sym, ap, subst, ◌∙◌, arith}
 use Rattle.std.proofs.lemmas.List.{append_assoc}
 use Rattle.notifier.specs.declared.observation.Observation.{Observation}
-use Rattle.device_requests.specs.Managed.{Managed}
+use Rattle.device_requests.specs.Client.{Client}
 use Rattle.device_notifications.specs.declared.datagram.Datagram.{Datagram}
 use Rattle.device_notifications.specs.Laws.{IsOf, IsInOneOf, SecondsAdd, SecondsSendAfterPmin}
 use Rattle.device_notifications.specs.Second.{Turn, and_then, second, seconds}
@@ -30,12 +30,12 @@ seconds_add client clock (suc a) b next_id os =
 
 -- ---- each datagram of many seconds is some observation's, in one of them
 
-in_first : (client : Managed) (clock n next_id : ℕ) (os : List Observation) (d : Datagram) → IsOf client (clock + 1) os d → IsInOneOf client clock (suc n) next_id os d
+in_first : (client : Client) (clock n next_id : ℕ) (os : List Observation) (d : Datagram) → IsOf client (clock + 1) os d → IsInOneOf client clock (suc n) next_id os d
 in_first client clock n next_id os d h =
     let at : clock + 1 ≡ clock + (0 + 1) = omega arith in
     (0, omega arith, subst (λ c. IsOf client c os d) at h)
 
-in_later : (client : Managed) (clock n next_id : ℕ) (os : List Observation) (d : Datagram)
+in_later : (client : Client) (clock n next_id : ℕ) (os : List Observation) (d : Datagram)
     → IsInOneOf client (clock + 1) n (second client (clock + 1) next_id os).next_id (second client (clock + 1) next_id os).left d
     → IsInOneOf client clock (suc n) next_id os d
 in_later client clock n next_id os d h =

@@ -7,7 +7,7 @@ use Rattle.std.proofs.lemmas.List.{length-append}
 use Rattle.std.proofs.Math.Logic.{◌⊎◌, inl, inr}
 use Rattle.notifier.specs.Trigger.{is_due}
 use Rattle.notifier.specs.declared.observation.Observation.{Observation}
-use Rattle.device_requests.specs.Managed.{Managed}
+use Rattle.device_requests.specs.Client.{Client}
 use Rattle.device_requests.specs.declared.answer.Answer.{Answer}
 use Rattle.device_notifications.specs.declared.verdict.Verdict.{Verdict}
 use Rattle.device_notifications.specs.declared.verdict.Verdict.TheVariants.{Quiet, Sends, Gone}
@@ -24,7 +24,7 @@ choose true false a P s q g = q refl refl
 choose false d a P s q g = g refl
 
 -- the verdict on an observation is one of three, each under its conditions
-pub by_verdict : (client : Managed) (clock : ℕ) (o : Observation) (P : Verdict → Type 0)
+pub by_verdict : (client : Client) (clock : ℕ) (o : Observation) (P : Verdict → Type 0)
     → (is_content (present client o) ≡ true → is_due_now client clock o (present client o).payload ≡ true → P (Sends (present client o)))
     → (is_content (present client o) ≡ true → is_due_now client clock o (present client o).payload ≡ false → P Quiet)
     → (is_content (present client o) ≡ false → P (Gone (present client o)))
@@ -60,14 +60,14 @@ later_of y x xs h = (suc h.0, omega (arith, h.1), h.2)
 
 -- ---- each datagram is some observation's
 
-sent_by : (client : Managed) (clock next_id : ℕ) (o : Observation) (os : List Observation) → AllByRecursion (IsOf client clock (o ∷ os)) (turn_of client clock next_id o).sent
+sent_by : (client : Client) (clock next_id : ℕ) (o : Observation) (os : List Observation) → AllByRecursion (IsOf client clock (o ∷ os)) (turn_of client clock next_id o).sent
 sent_by client clock next_id o os =
     by_verdict client clock o (λ v. AllByRecursion (IsOf client clock (o ∷ os)) (turn_by client clock next_id o v).sent)
     (λ content due. ((o, first_of o os, inl (record { mid = next_id; message = refl; content = content; waited = due_waits (age_of clock o) (pmin_of client o.server o.path) (pmax_of client o.server o.path) (triggers_now client o (present client o).payload) due })), tt))
     (λ content rests. tt)
     (λ no_content. ((o, first_of o os, inr (record { mid = next_id; message = refl; no_content = no_content })), tt))
 
-pub sends_after_pmin : (client : Managed) (clock next_id : ℕ) (os : List Observation) → AllByRecursion (IsOf client clock os) (second client clock next_id os).sent
+pub sends_after_pmin : (client : Client) (clock next_id : ℕ) (os : List Observation) → AllByRecursion (IsOf client clock os) (second client clock next_id os).sent
 sends_after_pmin client clock next_id [] = tt
 sends_after_pmin client clock next_id (o ∷ os) =
     both _ (turn_of client clock next_id o).sent _ (sent_by client clock next_id o os)
@@ -78,40 +78,40 @@ sends_after_pmin client clock next_id (o ∷ os) =
 none_old : (clock pmax : ℕ) → 0 < pmax → clock - clock < pmax
 none_old clock pmax above = omega (arith, above)
 
-fresh_by : (client : Managed) (clock next_id : ℕ) (o : Observation) → AllByRecursion (IsFresh client clock) (turn_of client clock next_id o).left
+fresh_by : (client : Client) (clock next_id : ℕ) (o : Observation) → AllByRecursion (IsFresh client clock) (turn_of client clock next_id o).left
 fresh_by client clock next_id o =
     by_verdict client clock o (λ v. AllByRecursion (IsFresh client clock) (turn_by client clock next_id o v).left)
     (λ content due. ((λ pmax is above follows. none_old clock pmax above), tt))
     (λ content rests. ((λ pmax is above follows. not_due (age_of clock o) (pmin_of client o.server o.path) (pmax_of client o.server o.path) (triggers_now client o (present client o).payload) pmax is rests above follows), tt))
     (λ no_content. tt)
 
-pub sends_before_pmax : (client : Managed) (clock next_id : ℕ) (os : List Observation) → AllByRecursion (IsFresh client clock) (second client clock next_id os).left
+pub sends_before_pmax : (client : Client) (clock next_id : ℕ) (os : List Observation) → AllByRecursion (IsFresh client clock) (second client clock next_id os).left
 sends_before_pmax client clock next_id [] = tt
 sends_before_pmax client clock next_id (o ∷ os) =
     both _ (turn_of client clock next_id o).left _ (fresh_by client clock next_id o) (sends_before_pmax client clock (turn_of client clock next_id o).next_id os)
 
-later : (client : Managed) (clock n next_id : ℕ) (os : List Observation) → AllByRecursion (IsFresh client (clock + suc n)) (seconds client clock (suc n) next_id os).left
+later : (client : Client) (clock n next_id : ℕ) (os : List Observation) → AllByRecursion (IsFresh client (clock + suc n)) (seconds client clock (suc n) next_id os).left
 later client clock zero next_id os = sends_before_pmax client (clock + 1) next_id os
 later client clock (suc n) next_id os =
     let at : clock + 1 + suc n ≡ clock + suc (suc n) = omega arith in
     let t = second client (clock + 1) next_id os in
     subst (λ c. AllByRecursion (IsFresh client c) (seconds client (clock + 1) (suc n) t.next_id t.left).left) at (later client (clock + 1) n t.next_id t.left)
 
-pub seconds_send_before_pmax : (client : Managed) (clock n next_id : ℕ) (os : List Observation) → AllByRecursion (IsFresh client (clock + (n + 1))) (seconds client clock (n + 1) next_id os).left
+pub seconds_send_before_pmax : (client : Client) (clock n next_id : ℕ) (os : List Observation) → AllByRecursion (IsFresh client (clock + (n + 1))) (seconds client clock (n + 1) next_id os).left
 seconds_send_before_pmax client clock n next_id os =
     let same : suc n ≡ n + 1 = omega arith in
     subst (λ m. AllByRecursion (IsFresh client (clock + m)) (seconds client clock m next_id os).left) same (later client clock n next_id os)
 
 -- ---- order
 
-order_by : (client : Managed) (clock next_id : ℕ) (o : Observation) (os ps : List Observation) → StayInOrder client clock os ps → StayInOrder client clock (o ∷ os) ((turn_of client clock next_id o).left ++ ps)
+order_by : (client : Client) (clock next_id : ℕ) (o : Observation) (os ps : List Observation) → StayInOrder client clock os ps → StayInOrder client clock (o ∷ os) ((turn_of client clock next_id o).left ++ ps)
 order_by client clock next_id o os ps rest =
     by_verdict client clock o (λ v. StayInOrder client clock (o ∷ os) ((turn_by client clock next_id o v).left ++ ps))
     (λ content due. stays o _ os ps (told next_id (due_waits (age_of clock o) (pmin_of client o.server o.path) (pmax_of client o.server o.path) (triggers_now client o (present client o).payload) due)) rest)
     (λ content rests. stays o o os ps as_it_was rest)
     (λ no_content. goes o os ps no_content rest)
 
-pub keeps_order : (client : Managed) (clock next_id : ℕ) (os : List Observation) → StayInOrder client clock os (second client clock next_id os).left
+pub keeps_order : (client : Client) (clock next_id : ℕ) (os : List Observation) → StayInOrder client clock os (second client clock next_id os).left
 keeps_order client clock next_id [] = none
 keeps_order client clock next_id (o ∷ os) = order_by client clock next_id o os _ (keeps_order client clock (turn_of client clock next_id o).next_id os)
 
@@ -123,7 +123,7 @@ one_of x y h = cc
 no_more : {X : Type 0} (y : X) → [] ≡ y ∷ [] → ⊥
 no_more y h = cc
 
-pub counts_observe_numbers : (client : Managed) (clock next_id : ℕ) (o p : Observation) → (turn_of client clock next_id o).left ≡ p ∷ []
+pub counts_observe_numbers : (client : Client) (clock next_id : ℕ) (o p : Observation) → (turn_of client clock next_id o).left ≡ p ∷ []
     → (((turn_of client clock next_id o).sent ≡ []) × (p ≡ o))
     ⊎ (((turn_of client clock next_id o).sent ≡ datagram_of o next_id (Some p.number) (present client o) ∷ []) × (p.number ≡ (o.number + 1) % 16777216))
 counts_observe_numbers client clock next_id o p =
@@ -141,7 +141,7 @@ id_fits n = omega arith
 same_id : (n : ℕ) → n < 65536 → n ≡ (n + 0) % 65536
 same_id n h = omega (arith, h)
 
-id_by : (client : Managed) (clock next_id : ℕ) (o : Observation) → next_id < 65536 → ((turn_of client clock next_id o).next_id ≡ (next_id + length (turn_of client clock next_id o).sent) % 65536) × ((turn_of client clock next_id o).next_id < 65536)
+id_by : (client : Client) (clock next_id : ℕ) (o : Observation) → next_id < 65536 → ((turn_of client clock next_id o).next_id ≡ (next_id + length (turn_of client clock next_id o).sent) % 65536) × ((turn_of client clock next_id o).next_id < 65536)
 id_by client clock next_id o h =
     by_verdict client clock o (λ v. ((turn_by client clock next_id o v).next_id ≡ (next_id + length (turn_by client clock next_id o v).sent) % 65536) × ((turn_by client clock next_id o v).next_id < 65536))
     (λ content due. (refl, id_fits next_id))
@@ -151,7 +151,7 @@ id_by client clock next_id o h =
 ids_add : (start middle finish a b : ℕ) → middle ≡ (start + a) % 65536 → finish ≡ (middle + b) % 65536 → finish ≡ (start + (a + b)) % 65536
 ids_add start middle finish a b h k = omega (arith, h, k)
 
-pub counts_message_ids : (client : Managed) (clock next_id : ℕ) (os : List Observation) → next_id < 65536
+pub counts_message_ids : (client : Client) (clock next_id : ℕ) (os : List Observation) → next_id < 65536
     → (second client clock next_id os).next_id ≡ (next_id + length (second client clock next_id os).sent) % 65536
 counts_message_ids client clock next_id [] h = same_id next_id h
 counts_message_ids client clock next_id (o ∷ os) h =

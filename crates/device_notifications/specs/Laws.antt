@@ -3,7 +3,7 @@ use Rattle.std.specs.Prelude.{◌≡◌, ℕ, ◌+◌, ◌%◌, ◌<◌, ◌≤�
 use Rattle.std.specs.List.{AllByRecursion, Contains}
 use Rattle.notifier.specs.Observed.{next_number, notified}
 use Rattle.notifier.specs.declared.observation.Observation.{Observation}
-use Rattle.device_requests.specs.Managed.{Managed}
+use Rattle.device_requests.specs.Client.{Client}
 use Rattle.device_requests.specs.declared.answer.Answer.{Answer}
 use Rattle.device_notifications.specs.declared.datagram.Datagram.{Datagram}
 use Rattle.device_notifications.specs.Message.{datagram_of}
@@ -13,65 +13,65 @@ use Rattle.device_notifications.specs.Second.{age_of, and_then, is_content, pres
 
 -- a datagram is a notification that keeps the observation: its present answer, which is content, with the next Observe number;
 -- and pmin seconds or more have passed since the observation's last message
-pub record Notifies (client : Managed) (clock : ℕ) (o : Observation) (d : Datagram) : Type 0 where
+pub record Notifies (client : Client) (clock : ℕ) (o : Observation) (d : Datagram) : Type 0 where
   pub mid : ℕ
   pub message : d ≡ datagram_of o mid (Some (next_number o.number)) (present client o)
   pub content : is_content (present client o) ≡ true
   pub waited : pmin_of client o.server o.path ≤ age_of clock o
 
 -- a datagram ends the observation: its present answer, which is no content
-pub record Ends (client : Managed) (o : Observation) (d : Datagram) : Type 0 where
+pub record Ends (client : Client) (o : Observation) (d : Datagram) : Type 0 where
   pub mid : ℕ
   pub message : d ≡ datagram_of o mid None (present client o)
   pub no_content : is_content (present client o) ≡ false
 
 -- each datagram of a second is one or the other, of an observation that was there
-abbrev pub IsOf : Managed → ℕ → List Observation → Datagram → Type 0
+abbrev pub IsOf : Client → ℕ → List Observation → Datagram → Type 0
 IsOf client clock os d = (o : Observation) × Contains os o × (Notifies client clock o d ⊎ Ends client o d)
 
 abbrev pub SendsAfterPmin : Type 0
-SendsAfterPmin = (client : Managed) (clock next_id : ℕ) (os : List Observation) → AllByRecursion (IsOf client clock os) (second client clock next_id os).sent
+SendsAfterPmin = (client : Client) (clock next_id : ℕ) (os : List Observation) → AllByRecursion (IsOf client clock os) (second client clock next_id os).sent
 
 -- and so is each datagram of so many seconds, in one of them, of an observation that was there then
-abbrev pub IsInOneOf : Managed → ℕ → ℕ → ℕ → List Observation → Datagram → Type 0
+abbrev pub IsInOneOf : Client → ℕ → ℕ → ℕ → List Observation → Datagram → Type 0
 IsInOneOf client clock n next_id os d = (k : ℕ) × (k < n) × IsOf client (clock + (k + 1)) (seconds client clock k next_id os).left d
 
 abbrev pub SecondsSendAfterPmin : Type 0
 SecondsSendAfterPmin =
-    (client : Managed) (clock n next_id : ℕ) (os : List Observation) → AllByRecursion (IsInOneOf client clock n next_id os) (seconds client clock n next_id os).sent
+    (client : Client) (clock n next_id : ℕ) (os : List Observation) → AllByRecursion (IsInOneOf client clock n next_id os) (seconds client clock n next_id os).sent
 
 -- where pmax has effect, which is where it is above 0 and not below pmin, the last message is less than pmax seconds old
-abbrev pub IsFresh : Managed → ℕ → Observation → Type 0
+abbrev pub IsFresh : Client → ℕ → Observation → Type 0
 IsFresh client clock o =
     (pmax : ℕ) → pmax_of client o.server o.path ≡ Some pmax → 0 < pmax → pmin_of client o.server o.path ≤ pmax → age_of clock o < pmax
 
 -- behind each second that is so of each observation that is left
 abbrev pub SendsBeforePmax : Type 0
-SendsBeforePmax = (client : Managed) (clock next_id : ℕ) (os : List Observation) → AllByRecursion (IsFresh client clock) (second client clock next_id os).left
+SendsBeforePmax = (client : Client) (clock next_id : ℕ) (os : List Observation) → AllByRecursion (IsFresh client clock) (second client clock next_id os).left
 
 -- and so it is behind the last of one second or more
 abbrev pub SecondsSendBeforePmax : Type 0
 SecondsSendBeforePmax =
-    (client : Managed) (clock n next_id : ℕ) (os : List Observation) → AllByRecursion (IsFresh client (clock + (n + 1))) (seconds client clock (n + 1) next_id os).left
+    (client : Client) (clock n next_id : ℕ) (os : List Observation) → AllByRecursion (IsFresh client (clock + (n + 1))) (seconds client clock (n + 1) next_id os).left
 
 -- an observation keeps all that it was, its last report among them, or its server has been notified, pmin seconds or more behind its last message
-pub data Stays (client : Managed) (clock : ℕ) (o : Observation) : Observation → Type 0 where
+pub data Stays (client : Client) (clock : ℕ) (o : Observation) : Observation → Type 0 where
   as_it_was : Stays client clock o o
   told : (mid : ℕ) → pmin_of client o.server o.path ≤ age_of clock o → Stays client clock o (notified clock mid (report_of client o.path (present client o).payload) o)
 
 -- observations stay in their order, and go only where their present answer is no content
-pub data StayInOrder (client : Managed) (clock : ℕ) : List Observation → List Observation → Type 0 where
+pub data StayInOrder (client : Client) (clock : ℕ) : List Observation → List Observation → Type 0 where
   none : StayInOrder client clock [] []
   stays : (o p : Observation) (os ps : List Observation) → Stays client clock o p → StayInOrder client clock os ps → StayInOrder client clock (o ∷ os) (p ∷ ps)
   goes : (o : Observation) (os ps : List Observation) → is_content (present client o) ≡ false → StayInOrder client clock os ps → StayInOrder client clock (o ∷ os) ps
 
 abbrev pub KeepsOrder : Type 0
-KeepsOrder = (client : Managed) (clock next_id : ℕ) (os : List Observation) → StayInOrder client clock os (second client clock next_id os).left
+KeepsOrder = (client : Client) (clock next_id : ℕ) (os : List Observation) → StayInOrder client clock os (second client clock next_id os).left
 
 -- an observation that stays has sent nothing and is as it was, or has sent its Observe number, which is one more than before modulo 2^24
 abbrev pub CountsObserveNumbers : Type 0
 CountsObserveNumbers =
-    (client : Managed) (clock next_id : ℕ) (o p : Observation) → (turn_of client clock next_id o).left ≡ p ∷ []
+    (client : Client) (clock next_id : ℕ) (o p : Observation) → (turn_of client clock next_id o).left ≡ p ∷ []
     → (((turn_of client clock next_id o).sent ≡ []) × (p ≡ o))
     ⊎ (((turn_of client clock next_id o).sent ≡ datagram_of o next_id (Some p.number) (present client o) ∷ []) × (p.number ≡ (o.number + 1) % 16777216))
 
@@ -124,13 +124,13 @@ pub record RisesByOne (o : Observation) (others : List Observation) (sent : List
 -- so it is through so many seconds, of each of the observations
 abbrev pub SecondsCountObserveNumbers : Type 0
 SecondsCountObserveNumbers =
-    (client : Managed) (clock n next_id : ℕ) (before after : List Observation) (o : Observation)
+    (client : Client) (clock n next_id : ℕ) (before after : List Observation) (o : Observation)
     → RisesByOne o (before ++ after) (seconds client clock n next_id (before ++ o ∷ after)).sent (seconds client clock n next_id (before ++ o ∷ after)).left
 
 -- so many seconds, and so many more behind them, are all of them
 abbrev pub SecondsAdd : Type 0
 SecondsAdd =
-    (client : Managed) (clock a b next_id : ℕ) (os : List Observation)
+    (client : Client) (clock a b next_id : ℕ) (os : List Observation)
     → seconds client clock (a + b) next_id os
     ≡ and_then (seconds client clock a next_id os)
     (seconds client (clock + a) b (seconds client clock a next_id os).next_id (seconds client clock a next_id os).left)
@@ -138,5 +138,5 @@ SecondsAdd =
 -- each datagram of a second takes one message ID
 abbrev pub CountsMessageIds : Type 0
 CountsMessageIds =
-    (client : Managed) (clock next_id : ℕ) (os : List Observation) → next_id < 65536
+    (client : Client) (clock next_id : ℕ) (os : List Observation) → next_id < 65536
     → (second client clock next_id os).next_id ≡ (next_id + length (second client clock next_id os).sent) % 65536

@@ -1,4 +1,4 @@
-pub mod Posted
+pub mod Outbox
 pub mod Report
 pub mod Period
 pub mod Message

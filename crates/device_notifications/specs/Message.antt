@@ -1,6 +1,6 @@
 -- The messages of an observation (RFC 7641 section 4).
 use Rattle.std.specs.Prelude.{ℕ, List, [], ◌∷◌, ◌++◌, Option, None, Some}
-use Rattle.coap_codec.specs.Message.{Parts, spelling}
+use Rattle.coap_codec.specs.Message.{Message, spelling}
 use Rattle.coap_codec.specs.Number.{shortest}
 use Rattle.coap_codec.specs.declared.kind.Kind.TheVariants.{Non}
 use Rattle.coap_codec.specs.declared.option.Opt.{Opt}
@@ -22,7 +22,7 @@ abbrev pub format_option : Option ℕ → List Opt
 format_option format = number_option 12 format
 
 -- an answer as a message of the device's own: a NON of this message ID, with the observation's token
-abbrev pub notification : Observation → ℕ → Option ℕ → Answer → Parts
+abbrev pub notification : Observation → ℕ → Option ℕ → Answer → Message
 notification o mid number answer =
     record {
       kind = Non;

@@ -8,7 +8,7 @@ use Rattle.instance_store.specs.Stored.{Stored, value_at, instances_of}
 use Rattle.notifier.specs.Attributes.{effective}
 use Rattle.notifier.specs.declared.attribute.Name.{Name}
 use Rattle.notifier.specs.declared.attribute.Name.TheVariants as name
-use Rattle.device_requests.specs.Managed.{Managed}
+use Rattle.device_requests.specs.Client.{Client}
 use Rattle.device_requests.specs.Targets.{resource_place}
 use Rattle.device_notifications.specs.Report.{number_in}
 
@@ -41,14 +41,14 @@ default_period stored server resource =
     option_and_then (λ instance. option_and_then seconds_in (number_in (value_at stored (account_path instance resource)))) (account_of stored server)
 
 -- the attribute of the lowest level that has one, else the default of the server
-abbrev pub period_of : Managed → ℕ → Path → Name → ℕ → Option ℕ
+abbrev pub period_of : Client → ℕ → Path → Name → ℕ → Option ℕ
 period_of client server path n resource =
     option_or (option_and_then seconds_in (effective client.attributes server path n)) (default_period client.store server resource)
 
 -- the minimum period that has effect, 0 where none is set
-abbrev pub pmin_of : Managed → ℕ → Path → ℕ
+abbrev pub pmin_of : Client → ℕ → Path → ℕ
 pmin_of client server path = unwrap_or (period_of client server path name.Pmin 2) 0
 
 -- the maximum period
-abbrev pub pmax_of : Managed → ℕ → Path → Option ℕ
+abbrev pub pmax_of : Client → ℕ → Path → Option ℕ
 pmax_of client server path = period_of client server path name.Pmax 3

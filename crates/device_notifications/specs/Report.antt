@@ -8,7 +8,7 @@ use Rattle.object_defs.specs.declared.path.Path.{Path}
 use Rattle.object_defs.specs.declared.path.Path.TheVariants.{Object, Instance, Resource, Part}
 use Rattle.instance_store.specs.Stored.{value_at}
 use Rattle.notifier.specs.declared.observation.Report.{Report}
-use Rattle.device_requests.specs.Managed.{Managed}
+use Rattle.device_requests.specs.Client.{Client}
 use Rattle.device_requests.specs.Targets.{is_multiple, resource_place}
 
 -- the number that a value is: an Integer's or a Time's
@@ -27,12 +27,12 @@ single_number true value = None
 single_number false value = number_in value
 
 -- the number at a path: there is one where the path names a single resource that is an Integer or a Time
-abbrev pub number_at : Managed → Path → Option ℤ
+abbrev pub number_at : Client → Path → Option ℤ
 number_at client (Object _) = None
 number_at client (Instance _ _) = None
 number_at client (Resource o i r) = single_number (is_multiple (definition_of client.catalogue o r)) (value_at client.store (single_of (resource_place o i r)))
 number_at client (Part _ _ _ _) = None
 
 -- a message with this payload reports the payload, and the number at the path
-abbrev pub report_of : Managed → Path → List ℕ → Report
+abbrev pub report_of : Client → Path → List ℕ → Report
 report_of client path payload = record { payload = payload; number = number_at client path }

@@ -1,5 +1,5 @@
 ghost use Rattle.std.specs.Prelude.{◌≡◌, [], OnErr, OnOk};
-ghost use Rattle.device_notifications.specs.Posted.{posted};
+ghost use Rattle.device_notifications.specs.Outbox.{posted};
 
 use crate::datagram::Datagram;
 use std::alloc::{AllocError, Global};
@@ -13,9 +13,9 @@ pub struct Outbox {
 }
 
 impl Model for Outbox {
-    ghost use Rattle.device_notifications.specs.Posted.{Posted};
+    ghost use Rattle.device_notifications.specs.Outbox.{Outbox};
 
-    ghost Value = { Posted };
+    ghost Value = { Outbox };
 
     ghost view = { λ o. record { sent = o.items.items; next_id = o.next_id } };
 }

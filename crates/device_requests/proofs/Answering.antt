@@ -2,7 +2,7 @@
 use Rattle.std.proofs.Common.{◌≡◌, ℕ, Bool, true, false, not, cond, ◌==◌, List, [], ◌∷◌, ◌++◌, Option, None, Some, is_some, refl, ap, ◌∙◌}
 use Rattle.std.specs.Bool.{if◌then◌else◌}
 use Rattle.std.specs.Option.{unwrap_or}
-use Rattle.coap_codec.specs.Message.{Parts}
+use Rattle.coap_codec.specs.Message.{Message}
 use Rattle.instance_store.specs.Stored.{Stored}
 use Rattle.object_defs.specs.Path.{object_in}
 use Rattle.object_defs.specs.declared.path.Path.{Path}
@@ -29,7 +29,7 @@ use Rattle.device_requests.specs.Read.{can_be_read, content_in, format_at, read_
 use Rattle.device_requests.specs.Request.{outcome_at, outcome_by, outcome_on, outcome_of}
 use Rattle.device_requests.specs.Access.{may_read, rights_on}
 use Rattle.device_requests.specs.Write.{event_of, left, mode_at, new_values, write_lines, write_outcome, write_unless}
-use Rattle.device_requests.specs.Managed.{Managed}
+use Rattle.device_requests.specs.Client.{Client}
 use Rattle.device_requests.specs.Laws.{operation_lines, lines_by, lines_on, request_lines}
 
 -- the code is that of the first line that applies
@@ -65,22 +65,22 @@ refused_code : (code : Option Code) (format : ℕ) (payload : List ℕ) → unwr
 refused_code None format payload = refl
 refused_code (Some code) format payload = refl
 
-write_code : (code : Option Code) (client : Managed) (stored : Stored) → unwrap_or code Changed
+write_code : (code : Option Code) (client : Client) (stored : Stored) → unwrap_or code Changed
     ≡ (write_unless code client stored).answer.code
 write_code None client stored = refl
 write_code (Some code) client stored = refl
 
-execute_code : (code : Option Code) (client : Managed) (path : Path) → unwrap_or code Changed
+execute_code : (code : Option Code) (client : Client) (path : Path) → unwrap_or code Changed
     ≡ (execute_unless code client path).answer.code
 execute_code None client path = refl
 execute_code (Some code) client path = refl
 
-delete_code : (code : Option Code) (client : Managed) (path : Path) → unwrap_or code Deleted
+delete_code : (code : Option Code) (client : Client) (path : Path) → unwrap_or code Deleted
     ≡ (delete_unless code client path).answer.code
 delete_code None client path = refl
 delete_code (Some code) client path = refl
 
-create_says : (a b c d e room : Bool) (client : Managed) (server o : ℕ) (new : Option Newborn)
+create_says : (a b c d e room : Bool) (client : Client) (server o : ℕ) (new : Option Newborn)
     → let lines : List (Bool × Code) =
     (a, Unauthorized) ∷ (b, NotFound) ∷ (c, Unauthorized) ∷ (d, MethodNotAllowed) ∷ (e, UnsupportedContentFormat)
     ∷ (not (is_some new), BadRequest) ∷ (room, InternalServerError) ∷ [] in
@@ -94,7 +94,7 @@ create_says false false false false false room client server o None = refl
 create_says false false false false false true client server o (Some n) = refl
 create_says false false false false false false client server o (Some n) = refl
 
-attributes_says : (a b c : Bool) (client : Managed) (given : Option Numbers)
+attributes_says : (a b c : Bool) (client : Client) (given : Option Numbers)
     → let lines : List (Bool × Code) =
     (a, Unauthorized) ∷ (b, NotFound) ∷ (c, Unauthorized) ∷ (not (is_some given), BadRequest) ∷ [] in
     Says (annotate_unless (first_line lines) client given).answer (lines ++ (true, Changed) ∷ [])
@@ -104,13 +104,13 @@ attributes_says false false true client given = refl
 attributes_says false false false client None = refl
 attributes_says false false false client (Some m) = refl
 
-discover_says : (client : Managed) (server : ℕ) (path : Path)
+discover_says : (client : Client) (server : ℕ) (path : Path)
     → Says (discover_answer client server path) (discover_lines client server path ++ (true, Content) ∷ [])
 discover_says client server path =
     ended (discover_lines client server path) Content
     ∙ ap Some (refused_code (first_line (discover_lines client server path)) 40 (discover_payload client server path))
 
-write_says : (client : Managed) (server : ℕ) (mode : Mode) (path : Path) (number : Option ℕ) (payload : List ℕ)
+write_says : (client : Client) (server : ℕ) (mode : Mode) (path : Path) (number : Option ℕ) (payload : List ℕ)
     → Says (write_outcome client server mode path number payload).answer
     (write_lines client server mode path number payload ++ (true, Changed) ∷ [])
 write_says client server mode path number payload =
@@ -119,7 +119,7 @@ write_says client server mode path number payload =
     (left (mode_at mode path) client path (new_values client path number payload)
     (event_of path (new_values client path number payload))))
 
-says_at : (client : Managed) (server : ℕ) (m : Parts) (path : Path) (operation : Operation)
+says_at : (client : Client) (server : ℕ) (m : Message) (path : Path) (operation : Operation)
     → Says (outcome_at client server m path operation).answer (operation_lines client server m path operation)
 says_at client server m path Read =
     read_says (object_in path == 0) (not (exists client.catalogue client.store path))
@@ -147,24 +147,24 @@ says_at client server m path Delete =
     ended (delete_lines client server path) Deleted
     ∙ ap Some (delete_code (first_line (delete_lines client server path)) client path)
 
-says_by : (client : Managed) (server : ℕ) (m : Parts) (path : Path) (operation : Option Operation)
+says_by : (client : Client) (server : ℕ) (m : Message) (path : Path) (operation : Option Operation)
     → Says (outcome_by client server m path operation).answer (lines_by client server m path operation)
 says_by client server m path None = refl
 says_by client server m path (Some operation) = says_at client server m path operation
 
-says_on : (client : Managed) (server : ℕ) (m : Parts) (path : Option Path)
+says_on : (client : Client) (server : ℕ) (m : Message) (path : Option Path)
     → Says (outcome_on client server m path).answer (lines_on client server m path)
 says_on client server m None = refl
 says_on client server m (Some path) =
     says_by client server m path (operation_of m.code (accept_of m.options) (has_query m.options) path)
 
-says_if : (b : Bool) (client : Managed) (outcome : Outcome) (lines : List (Bool × Code)) → Says outcome.answer lines
+says_if : (b : Bool) (client : Client) (outcome : Outcome) (lines : List (Bool × Code)) → Says outcome.answer lines
     → Says (if b then answered client (bare BadOption) else outcome).answer ((b, BadOption) ∷ lines)
 says_if true client outcome lines h = refl
 says_if false client outcome lines h = h
 
 -- the answer's code is that of the first line that the request meets
-pub says : (client : Managed) (server : ℕ) (m : Parts) → first_line (request_lines client server m)
+pub says : (client : Client) (server : ℕ) (m : Message) → first_line (request_lines client server m)
     ≡ Some (outcome_of client server m).answer.code
 says client server m =
     let path = path_of (segments_of m.options) in

@@ -1,6 +1,5 @@
 -- Which answers may take memory.
 use Rattle.std.proofs.Common.{◌≡◌, ℕ, Bool, true, false, not, ◌==◌, List, [], ◌∷◌, Option, None, Some, Result, Ok, Err, OnErr, is_some, refl, ap, ◌∙◌}
-use Rattle.coap_codec.specs.Message.{Parts}
 use Rattle.instance_store.specs.Stored.{Stored}
 use Rattle.object_defs.specs.Lines.{first_line}
 use Rattle.object_defs.specs.Path.{object_in}
@@ -8,11 +7,11 @@ use Rattle.object_defs.specs.declared.path.Path.{Path}
 use Rattle.device_firmware.specs.declared.event.FirmwareEvent.{FirmwareEvent}
 use Rattle.lwm2m_payloads.specs.declared.given.Mode.{Mode}
 use Rattle.device_requests.specs.declared.answer.Code.{Code}
-use Rattle.device_requests.specs.declared.answer.Code.TheVariants.{BadRequest, Unauthorized, NotFound, MethodNotAllowed, UnsupportedContentFormat, InternalServerError}
+use Rattle.device_requests.specs.declared.answer.Code.TheVariants.{Unauthorized, NotFound, MethodNotAllowed, UnsupportedContentFormat, InternalServerError}
 use Rattle.device_requests.specs.declared.write.NewValues.{NewValues}
 use Rattle.device_requests.specs.Access.{rights_on}
 use Rattle.device_requests.specs.Answer.{takes_memory}
-use Rattle.device_requests.specs.Managed.{Managed}
+use Rattle.device_requests.specs.Client.{Client}
 use Rattle.device_requests.specs.Read.{format_at}
 use Rattle.device_requests.specs.Write.{can_be_written, event_of, is_target, left, mode_at, new_values, turn_lines, value_lines, write_outcome, write_unless}
 
@@ -21,18 +20,18 @@ pub of_error : {X E : Type 0} (r : Result X E) (P Q : Type 0) → (P → Q) → 
 of_error (Ok x) P Q f h = tt
 of_error (Err e) P Q f h = f h
 
-late_code : (b : Bool) (code : Code) (client : Managed) (stored : Stored) → takes_memory code ≡ true
+late_code : (b : Bool) (code : Code) (client : Client) (stored : Stored) → takes_memory code ≡ true
     → takes_memory (write_unless (first_line ((b, code) ∷ [])) client stored).answer.code ≡ true
 late_code true code client stored h = h
 late_code false code client stored h = refl
 
-late_turn : (client : Managed) (mode : Mode) (path : Path) (values : Option NewValues) (event : Option FirmwareEvent)
+late_turn : (client : Client) (mode : Mode) (path : Path) (values : Option NewValues) (event : Option FirmwareEvent)
     (stored : Stored)
     → takes_memory (write_unless (first_line (turn_lines client mode path values event)) client stored).answer.code ≡ true
 late_turn client mode path values None stored = late_code _ InternalServerError client stored refl
 late_turn client mode path values (Some event) stored = late_code _ MethodNotAllowed client stored refl
 
-late_values : (client : Managed) (mode : Mode) (path : Path) (values : Option NewValues) (stored : Stored)
+late_values : (client : Client) (mode : Mode) (path : Path) (values : Option NewValues) (stored : Stored)
     → takes_memory (write_unless (first_line (value_lines client mode path values)) client stored).answer.code ≡ true
 late_values client mode path None stored = refl
 late_values client mode path (Some values) stored =
@@ -49,7 +48,7 @@ late_write o t r w f lines other target may can served =
     ∷ (not (served j), UnsupportedContentFormat) ∷ lines)
 
 -- a Write whose target, server and format are not refused may take memory
-pub write_grows : (client : Managed) (server : ℕ) (mode : Mode) (path : Path) (number : Option ℕ) (payload : List ℕ)
+pub write_grows : (client : Client) (server : ℕ) (mode : Mode) (path : Path) (number : Option ℕ) (payload : List ℕ)
     → (object_in path == 0) ≡ false → is_target client.catalogue client.store path ≡ true
     → (rights_on client server path).write ≡ true → can_be_written client.catalogue path ≡ true
     → is_some (format_at client.catalogue path number) ≡ true

@@ -17,7 +17,7 @@ use Rattle.device_requests.specs.declared.answer.Code.TheVariants.{Unauthorized,
 use Rattle.device_requests.specs.Access.{may_read, reads}
 use Rattle.device_requests.specs.Answer.{bare, refused_or}
 use Rattle.device_requests.specs.Hiding.{UnreadableIsHidden, UnreadableIsRefused}
-use Rattle.device_requests.specs.Managed.{Managed, with_stored}
+use Rattle.device_requests.specs.Client.{Client, with_stored}
 use Rattle.device_requests.specs.Read.{can_be_read, content_in, format_at, read_payload}
 use Rattle.device_requests.specs.Targets.{defined, exists}
 
@@ -49,7 +49,7 @@ same_map p f g h (n ∷ ns) =
     ] (h n)
 
 -- the answer to a Read of an object, by whether it may be read and by its payload
-abbrev answer_with : Managed → ℕ → Option ℕ → Bool → Option (List ℕ) → Answer
+abbrev answer_with : Client → ℕ → Option ℕ → Bool → Option (List ℕ) → Answer
 answer_with client o accept may payload =
     let format = format_at client.catalogue (Object o) accept in
     let shown = option_and_then (λ f. payload) format in

@@ -1,7 +1,7 @@
 -- No request changes the accounts or the catalogue.
 use Rattle.std.proofs.Common.{ℕ, Bool, true, false, List, Option, None, Some, refl}
 use Rattle.std.specs.Bool.{if◌then◌else◌}
-use Rattle.coap_codec.specs.Message.{Parts}
+use Rattle.coap_codec.specs.Message.{Message}
 use Rattle.instance_store.specs.Stored.{Stored}
 use Rattle.object_defs.specs.Lines.{first_line}
 use Rattle.object_defs.specs.declared.path.Path.{Path}
@@ -14,7 +14,7 @@ use Rattle.device_requests.specs.declared.operation.Operation.TheVariants.{Read,
 use Rattle.notifier.specs.Attributes.{Numbers}
 use Rattle.device_requests.specs.WriteAttributes.{annotate_unless, attribute_lines, attributes_given}
 use Rattle.device_requests.specs.Answer.{Outcome, answered, bare}
-use Rattle.device_requests.specs.Managed.{Managed}
+use Rattle.device_requests.specs.Client.{Client}
 use Rattle.object_defs.specs.Path.{object_in}
 use Rattle.device_requests.specs.Create.{Newborn, create_lines, create_unless, newborn}
 use Rattle.device_requests.specs.Delete.{delete_lines, delete_unless}
@@ -25,44 +25,44 @@ use Rattle.device_requests.specs.Request.{outcome_at, outcome_by, outcome_on, ou
 use Rattle.device_requests.specs.Write.{event_of, left, mode_at, new_values, write_lines, write_outcome, write_unless}
 use Rattle.device_requests.specs.Laws.{KeepsFrame}
 
-unless_keeps : (code : Option Code) (client : Managed) (stored : Stored)
+unless_keeps : (code : Option Code) (client : Client) (stored : Stored)
     → KeepsFrame client (write_unless code client stored).client
 unless_keeps None client stored = record { accounts = refl; catalogue = refl }
 unless_keeps (Some code) client stored = record { accounts = refl; catalogue = refl }
 
-same : (client : Managed) → KeepsFrame client client
+same : (client : Client) → KeepsFrame client client
 same client = record { accounts = refl; catalogue = refl }
 
-write_keeps : (client : Managed) (server : ℕ) (mode : Mode) (path : Path) (number : Option ℕ) (payload : List ℕ)
+write_keeps : (client : Client) (server : ℕ) (mode : Mode) (path : Path) (number : Option ℕ) (payload : List ℕ)
     → KeepsFrame client (write_outcome client server mode path number payload).client
 write_keeps client server mode path number payload =
     unless_keeps (first_line (write_lines client server mode path number payload)) client
     (left (mode_at mode path) client path (new_values client path number payload)
     (event_of path (new_values client path number payload)))
 
-create_keeps : (code : Option Code) (client : Managed) (server o : ℕ) (new : Option Newborn)
+create_keeps : (code : Option Code) (client : Client) (server o : ℕ) (new : Option Newborn)
     → KeepsFrame client (create_unless code client server o new).client
 create_keeps None client server o None = record { accounts = refl; catalogue = refl }
 create_keeps None client server o (Some n) = record { accounts = refl; catalogue = refl }
 create_keeps (Some code) client server o new = record { accounts = refl; catalogue = refl }
 
-execute_keeps : (code : Option Code) (client : Managed) (path : Path)
+execute_keeps : (code : Option Code) (client : Client) (path : Path)
     → KeepsFrame client (execute_unless code client path).client
 execute_keeps None client path = record { accounts = refl; catalogue = refl }
 execute_keeps (Some code) client path = record { accounts = refl; catalogue = refl }
 
-delete_keeps : (code : Option Code) (client : Managed) (path : Path)
+delete_keeps : (code : Option Code) (client : Client) (path : Path)
     → KeepsFrame client (delete_unless code client path).client
 delete_keeps None client path = record { accounts = refl; catalogue = refl }
 delete_keeps (Some code) client path = record { accounts = refl; catalogue = refl }
 
-attributes_keep : (code : Option Code) (client : Managed) (given : Option Numbers)
+attributes_keep : (code : Option Code) (client : Client) (given : Option Numbers)
     → KeepsFrame client (annotate_unless code client given).client
 attributes_keep None client None = record { accounts = refl; catalogue = refl }
 attributes_keep None client (Some m) = record { accounts = refl; catalogue = refl }
 attributes_keep (Some code) client given = record { accounts = refl; catalogue = refl }
 
-keeps_at : (client : Managed) (server : ℕ) (m : Parts) (path : Path) (operation : Operation)
+keeps_at : (client : Client) (server : ℕ) (m : Message) (path : Path) (operation : Operation)
     → KeepsFrame client (outcome_at client server m path operation).client
 keeps_at client server m path Read = same client
 keeps_at client server m path Discover = same client
@@ -82,23 +82,23 @@ keeps_at client server m path Execute =
     execute_keeps (first_line (execute_lines client server path (content_format_of m.options) m.payload)) client path
 keeps_at client server m path Delete = delete_keeps (first_line (delete_lines client server path)) client path
 
-keeps_by : (client : Managed) (server : ℕ) (m : Parts) (path : Path) (operation : Option Operation)
+keeps_by : (client : Client) (server : ℕ) (m : Message) (path : Path) (operation : Option Operation)
     → KeepsFrame client (outcome_by client server m path operation).client
 keeps_by client server m path None = same client
 keeps_by client server m path (Some operation) = keeps_at client server m path operation
 
-keeps_on : (client : Managed) (server : ℕ) (m : Parts) (path : Option Path)
+keeps_on : (client : Client) (server : ℕ) (m : Message) (path : Option Path)
     → KeepsFrame client (outcome_on client server m path).client
 keeps_on client server m None = same client
 keeps_on client server m (Some path) =
     keeps_by client server m path (operation_of m.code (accept_of m.options) (has_query m.options) path)
 
-keeps_if : (b : Bool) (client : Managed) (outcome : Outcome) → KeepsFrame client outcome.client
+keeps_if : (b : Bool) (client : Client) (outcome : Outcome) → KeepsFrame client outcome.client
     → KeepsFrame client (if b then answered client (bare BadOption) else outcome).client
 keeps_if true client outcome k = same client
 keeps_if false client outcome k = k
 
 -- a request leaves the accounts and the catalogue
-pub keeps : (client : Managed) (server : ℕ) (m : Parts) → KeepsFrame client (outcome_of client server m).client
+pub keeps : (client : Client) (server : ℕ) (m : Message) → KeepsFrame client (outcome_of client server m).client
 keeps client server m =
     keeps_if (has_unrecognized_critical m.options) client _ (keeps_on client server m (path_of (segments_of m.options)))

@@ -5,6 +5,7 @@ pub mod Keeping
 mod Hiding
 mod Linking
 mod LinksExist
+mod Order
 mod Paths
 mod Present
 mod Queries

@@ -20,7 +20,7 @@ use Rattle.device_requests.specs.Access.{rights_on}
 use Rattle.device_requests.specs.Delete.{delete_lines}
 use Rattle.device_requests.specs.Targets.{is_fixed, definition_at, exists, place_of, resource_place, is_multiple}
 use Rattle.device_requests.specs.Execute.{execute_lines, argument_lines, is_executable}
-use Rattle.device_requests.specs.Managed.{Managed}
+use Rattle.device_requests.specs.Client.{Client}
 use Rattle.device_requests.specs.Inside.{has_place}
 use Rattle.device_requests.specs.Write.{is_target}
 
@@ -53,7 +53,7 @@ second_passes true b x y lines h = absurd cc
 second_passes false true x y lines h = refl
 second_passes false false x y lines h = absurd cc
 
-pub execute_has : (client : Managed) (server : ℕ) (path : Path) (number : Option ℕ) (payload : List ℕ)
+pub execute_has : (client : Client) (server : ℕ) (path : Path) (number : Option ℕ) (payload : List ℕ)
     → first_line (execute_lines client server path number payload) ≡ None → has_place client.store path ≡ true
 execute_has client server path number payload h =
     exists_has client.catalogue client.store path (second_passes (object_in path == 0)
@@ -62,7 +62,7 @@ execute_has client server path number payload h =
     ∷ (not (is_executable (definition_at client.catalogue path)), MethodNotAllowed)
     ∷ argument_lines client path number payload) h)
 
-pub delete_has : (client : Managed) (server : ℕ) (path : Path) → first_line (delete_lines client server path) ≡ None
+pub delete_has : (client : Client) (server : ℕ) (path : Path) → first_line (delete_lines client server path) ≡ None
     → has_place client.store path ≡ true
 delete_has client server path h =
     exists_has client.catalogue client.store path (second_passes (object_in path == 0)

@@ -35,7 +35,7 @@ use Rattle.device_requests.specs.Access.{may_read, rights_on, shown_instances}
 use Rattle.device_requests.specs.Answer.{Outcome, refused_or}
 use Rattle.object_defs.specs.Lines.{first_line}
 use Rattle.device_requests.specs.Read.{content_in, format_at, payload_in, read_answer, read_payload}
-use Rattle.device_requests.specs.Managed.{Managed, with_stored}
+use Rattle.device_requests.specs.Client.{Client, with_stored}
 use Rattle.device_requests.specs.Targets.{is_readable, place_of, resource_place}
 use Rattle.device_requests.specs.Write.{can_be_written, event_of, exceeds, left, turn_lines, values_given, given_to_resource, is_target, resource_written, new_values, write_unless, written}
 use Rattle.device_requests.specs.Laws.{IsReadBack, WrittenIsRead}
@@ -99,7 +99,7 @@ record Passes (a b format values : Bool) (done : Outcome) (stored : Stored) : Ty
   good : values ≡ false
   store : done.client.store ≡ stored
 
-passes : (a b w c f g x : Bool) (client : Managed) (stored : Stored)
+passes : (a b w c f g x : Bool) (client : Client) (stored : Stored)
     → let done = write_unless (first_line ((a, Unauthorized) ∷ (b, NotFound) ∷ (w, Unauthorized) ∷ (c, MethodNotAllowed)
     ∷ (f, UnsupportedContentFormat) ∷ (g, BadRequest) ∷ (x, InternalServerError) ∷ [])) client stored in
     done.answer.code ≡ Changed → Passes a b f g done stored
@@ -128,7 +128,7 @@ shown false false false false (Some format) wanted None h j m k l = refl
 shown false false false false (Some format) wanted (Some payload) h j m k l = ap (λ w. content_in w (Some payload)) l
 
 -- a single resource that can be read and has a value
-record Holds (client : Managed) (o i r : ℕ) (d : ResourceDef) (value : Value) : Type 0 where
+record Holds (client : Client) (o i r : ℕ) (d : ResourceDef) (value : Value) : Type 0 where
   object : (o == 0) ≡ false
   place : has_instance client.store (place_of o i) ≡ true
   defined : definition_of client.catalogue o r ≡ Some d
@@ -136,7 +136,7 @@ record Holds (client : Managed) (o i r : ℕ) (d : ResourceDef) (value : Value) 
   readable : can_read d.ops ≡ true
   value_is : value_at client.store (single_of (resource_place o i r)) ≡ Some value
 
-format_same : (client : Managed) (o i r : ℕ) (d : ResourceDef) (number : Option ℕ)
+format_same : (client : Client) (o i r : ℕ) (d : ResourceDef) (number : Option ℕ)
     → definition_of client.catalogue o r ≡ Some d → d.multiple ≡ false
     → format_at client.catalogue (Resource o i r) number ≡ format_for (one d.kind) number
 format_same client o i r d number h k =
@@ -151,7 +151,7 @@ resource_there : (stored : Stored) (p : ResourcePath) (d : ResourceDef) (value :
     → d.multiple ≡ false → value_at stored (single_of p) ≡ Some value → not (has_resource stored p (Some d)) ≡ false
 resource_there stored p d value h k v = rw (h, k, v) (or_true (not (can_read d.ops)))
 
-payload_shown : (client : Managed) (instances : List ℕ) (o i r : ℕ) (d : ResourceDef) (value : Value)
+payload_shown : (client : Client) (instances : List ℕ) (o i r : ℕ) (d : ResourceDef) (value : Value)
     (wanted : Format) → Holds client o i r d value
     → payload_in client.catalogue client.store instances (Resource o i r) wanted
     ≡ within_limit (value_payload wanted (single r) value)
@@ -170,7 +170,7 @@ value_there stored p v =
     map.get-insert path_total stored.values p v p ∙ ap (λ b. if b then Some v else value_at stored p) (same_path p)
 
 -- what it has is read
-read_shown : (client : Managed) (server o i r : ℕ) (d : ResourceDef) (value : Value) (accept : Option ℕ)
+read_shown : (client : Client) (server o i r : ℕ) (d : ResourceDef) (value : Value) (accept : Option ℕ)
     (wanted : Format) → Holds client o i r d value
     → may_read client server (Resource o i r) ≡ true → format_for (one d.kind) accept ≡ Some wanted
     → read_answer client server (Resource o i r) accept
@@ -193,7 +193,7 @@ read_shown client server o i r d value accept wanted h m k =
     ∙ ap (content_in (Some wanted)) payload
 
 -- what a Write that is answered by Changed leaves
-behind : (client : Managed) (o i r : ℕ) (d : ResourceDef) (number : Option ℕ) (payload : List ℕ) (stored : Stored)
+behind : (client : Client) (o i r : ℕ) (d : ResourceDef) (number : Option ℕ) (payload : List ℕ) (stored : Stored)
     → definition_of client.catalogue o r ≡ Some d → d.multiple ≡ false → can_read d.ops ≡ true → (o == 0) ≡ false
     → not (is_target client.catalogue client.store (Resource o i r)) ≡ false
     → not (is_some (format_at client.catalogue (Resource o i r) number)) ≡ false
@@ -238,7 +238,7 @@ no_event o i r (Some (One given)) h = rw h refl
 no_event o i r (Some (Several given)) h = refl
 
 -- a Write, with what it is to the firmware
-abbrev turned : Managed → ℕ → ℕ → ℕ → ℕ → Option ℕ → List ℕ → Option FirmwareEvent → Outcome
+abbrev turned : Client → ℕ → ℕ → ℕ → ℕ → Option ℕ → List ℕ → Option FirmwareEvent → Outcome
 turned client server o i r number payload event =
     let path = Resource o i r in
     let values = new_values client path number payload in

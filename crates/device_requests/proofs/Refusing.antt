@@ -1,16 +1,20 @@
--- A request that is refused changes nothing.
-use Rattle.std.proofs.Common.{◌≡◌, ℕ, Bool, true, false, List, Option, None, Some, refl}
+-- A request that is refused changes nothing, and its answer is a code alone.
+use Rattle.std.proofs.Common.{◌≡◌, ℕ, Bool, true, false, List, Option, None, Some, refl, ap}
 use Rattle.std.specs.Bool.{if◌then◌else◌}
-use Rattle.coap_codec.specs.Message.{Parts}
+use Rattle.coap_codec.specs.Message.{Message}
 use Rattle.instance_store.specs.Stored.{Stored}
 use Rattle.object_defs.specs.declared.path.Path.{Path}
+use Rattle.device_requests.specs.declared.answer.Answer.{Answer}
 use Rattle.device_requests.specs.declared.answer.Code.{Code}
 use Rattle.device_requests.specs.declared.answer.Code.TheVariants.{BadOption}
 use Rattle.device_requests.specs.declared.operation.Operation.{Operation}
 use Rattle.device_requests.specs.declared.operation.Operation.TheVariants.{Read, Discover, WriteAttributes, WriteReplace, WritePartial, Create, Execute, Delete}
 use Rattle.notifier.specs.Attributes.{Numbers}
 use Rattle.device_requests.specs.WriteAttributes.{annotate_unless, attribute_lines, attributes_given}
-use Rattle.device_requests.specs.Answer.{Outcome, answered, bare}
+use Rattle.device_requests.specs.Answer.{Outcome, answered, bare, content, refused_or}
+use Rattle.device_requests.specs.Discover.{discover_lines, discover_payload}
+use Rattle.device_requests.specs.Read.{content_in, format_at, read_lines, read_payload}
+use Rattle.lwm2m_payloads.specs.declared.format.Format.{Format}
 use Rattle.lwm2m_payloads.specs.declared.given.Mode.{Mode}
 use Rattle.lwm2m_payloads.specs.declared.given.Mode.TheVariants.{Replace, Update}
 use Rattle.object_defs.specs.Lines.{first_line}
@@ -22,49 +26,64 @@ use Rattle.device_requests.specs.Operation.{operation_of}
 use Rattle.device_requests.specs.Options.{accept_of, content_format_of, has_query, has_unrecognized_critical, queries_of, segments_of, path_of}
 use Rattle.device_requests.specs.Request.{outcome_at, outcome_by, outcome_on, outcome_of}
 use Rattle.device_requests.specs.Write.{event_of, left, mode_at, new_values, write_lines, write_outcome, write_unless}
-use Rattle.device_requests.specs.Managed.{Managed}
-use Rattle.device_requests.specs.Laws.{is_refusal}
+use Rattle.device_requests.specs.Client.{Client}
+use Rattle.device_requests.specs.Laws.{RefusalIsCodeAlone, RefusalKeeps, is_refusal}
 
--- a refusal changes nothing
-abbrev Keeps : Managed → Outcome → Type 0
-Keeps client outcome = is_refusal outcome.answer.code ≡ true → outcome.client ≡ client
+-- a refusal is its code
+abbrev Keeps : Client → Outcome → Type 0
+Keeps client outcome = is_refusal outcome.answer.code ≡ true → outcome ≡ answered client (bare outcome.answer.code)
 
-unless_refused : (code : Option Code) (client : Managed) (stored : Stored)
+unless_refused : (code : Option Code) (client : Client) (stored : Stored)
     → Keeps client (write_unless code client stored)
 unless_refused None client stored h = cc
 unless_refused (Some code) client stored h = refl
 
-refused_write : (client : Managed) (server : ℕ) (mode : Mode) (path : Path) (number : Option ℕ) (payload : List ℕ)
+refused_write : (client : Client) (server : ℕ) (mode : Mode) (path : Path) (number : Option ℕ) (payload : List ℕ)
     → Keeps client (write_outcome client server mode path number payload)
 refused_write client server mode path number payload =
     unless_refused (first_line (write_lines client server mode path number payload)) client
     (left (mode_at mode path) client path (new_values client path number payload)
     (event_of path (new_values client path number payload)))
 
-refused_create : (code : Option Code) (client : Managed) (server o : ℕ) (new : Option Newborn)
+refused_create : (code : Option Code) (client : Client) (server o : ℕ) (new : Option Newborn)
     → Keeps client (create_unless code client server o new)
 refused_create None client server o None h = refl
 refused_create None client server o (Some n) h = cc
 refused_create (Some code) client server o new h = refl
 
-refused_execute : (code : Option Code) (client : Managed) (path : Path) → Keeps client (execute_unless code client path)
+refused_execute : (code : Option Code) (client : Client) (path : Path) → Keeps client (execute_unless code client path)
 refused_execute None client path h = cc
 refused_execute (Some code) client path h = refl
 
-refused_delete : (code : Option Code) (client : Managed) (path : Path) → Keeps client (delete_unless code client path)
+refused_delete : (code : Option Code) (client : Client) (path : Path) → Keeps client (delete_unless code client path)
 refused_delete None client path h = cc
 refused_delete (Some code) client path h = refl
 
-refused_attributes : (code : Option Code) (client : Managed) (given : Option Numbers)
+refused_attributes : (code : Option Code) (client : Client) (given : Option Numbers)
     → Keeps client (annotate_unless code client given)
 refused_attributes None client None h = refl
 refused_attributes None client (Some m) h = cc
 refused_attributes (Some code) client given h = refl
 
-refused_at : (client : Managed) (server : ℕ) (m : Parts) (path : Path) (operation : Operation)
+refused_read : (code : Option Code) (client : Client) (format : Option Format) (payload : Option (List ℕ))
+    → Keeps client (answered client (refused_or code (content_in format payload)))
+refused_read None client None payload h = refl
+refused_read None client (Some format) None h = refl
+refused_read None client (Some format) (Some payload) h = cc
+refused_read (Some code) client format payload h = refl
+
+refused_discover : (code : Option Code) (client : Client) (payload : List ℕ)
+    → Keeps client (answered client (refused_or code (content 40 payload)))
+refused_discover None client payload h = cc
+refused_discover (Some code) client payload h = refl
+
+refused_at : (client : Client) (server : ℕ) (m : Message) (path : Path) (operation : Operation)
     → Keeps client (outcome_at client server m path operation)
-refused_at client server m path Read h = refl
-refused_at client server m path Discover h = refl
+refused_at client server m path Read h =
+    refused_read (first_line (read_lines client server path (accept_of m.options))) client
+    (format_at client.catalogue path (accept_of m.options)) (read_payload client server path (accept_of m.options)) h
+refused_at client server m path Discover h =
+    refused_discover (first_line (discover_lines client server path)) client (discover_payload client server path) h
 refused_at client server m path WriteAttributes h =
     refused_attributes (first_line (attribute_lines client server path
     (attributes_given client server path (queries_of m.options)))) client
@@ -82,24 +101,38 @@ refused_at client server m path Execute h =
     path h
 refused_at client server m path Delete h = refused_delete (first_line (delete_lines client server path)) client path h
 
-refused_by : (client : Managed) (server : ℕ) (m : Parts) (path : Path) (operation : Option Operation)
+refused_by : (client : Client) (server : ℕ) (m : Message) (path : Path) (operation : Option Operation)
     → Keeps client (outcome_by client server m path operation)
 refused_by client server m path None h = refl
 refused_by client server m path (Some operation) h = refused_at client server m path operation h
 
-refused_on : (client : Managed) (server : ℕ) (m : Parts) (path : Option Path)
+refused_on : (client : Client) (server : ℕ) (m : Message) (path : Option Path)
     → Keeps client (outcome_on client server m path)
 refused_on client server m None h = refl
 refused_on client server m (Some path) h =
     refused_by client server m path (operation_of m.code (accept_of m.options) (has_query m.options) path) h
 
-refused_if : (b : Bool) (client : Managed) (outcome : Outcome) → Keeps client outcome
+refused_if : (b : Bool) (client : Client) (outcome : Outcome) → Keeps client outcome
     → Keeps client (if b then answered client (bare BadOption) else outcome)
 refused_if true client outcome k h = refl
 refused_if false client outcome k h = k h
 
--- a request that is refused changes nothing
-pub refused_keeps : (client : Managed) (server : ℕ) (m : Parts) → Keeps client (outcome_of client server m)
-refused_keeps client server m =
+refused_whole : (client : Client) (server : ℕ) (m : Message) → Keeps client (outcome_of client server m)
+refused_whole client server m =
     refused_if (has_unrecognized_critical m.options) client _
     (refused_on client server m (path_of (segments_of m.options)))
+
+-- a request that is refused changes nothing
+pub refused_keeps : RefusalKeeps
+refused_keeps client server m h = ap (λ (o : Outcome). o.client) (refused_whole client server m h)
+
+-- its answer is a code alone
+pub refused_alone : RefusalIsCodeAlone
+refused_alone client server m h =
+    let is = ap (λ (o : Outcome). o.answer) (refused_whole client server m h) in
+    record {
+      location = ap (λ (a : Answer). a.location) is;
+      format = ap (λ (a : Answer). a.format) is;
+      payload = ap (λ (a : Answer). a.payload) is;
+      act = ap (λ (a : Answer). a.act) is;
+    }

@@ -6,7 +6,7 @@ use Rattle.access_control.specs.declared.letters.Rights.{Rights}
 use Rattle.object_defs.specs.declared.path.Path.{Path}
 use Rattle.object_defs.specs.declared.path.Path.TheVariants.{Object, Instance, Resource, Part}
 use Rattle.instance_store.specs.Stored.{Stored, instances_of}
-use Rattle.device_requests.specs.Managed.{Managed}
+use Rattle.device_requests.specs.Client.{Client}
 
 -- the rights at a path, in a device with this many accounts: those on its instance; at an object those by which
 -- instances are created
@@ -33,8 +33,8 @@ may_read_at stored accounts server (Resource o i r) = reads stored accounts serv
 may_read_at stored accounts server (Part o i r n) = reads stored accounts server o i
 
 -- the rights of a server of a client, and whether it may read there
-abbrev pub rights_on : Managed → ℕ → Path → Rights
+abbrev pub rights_on : Client → ℕ → Path → Rights
 rights_on client server path = rights_at client.store (length client.accounts) server path
 
-abbrev pub may_read : Managed → ℕ → Path → Bool
+abbrev pub may_read : Client → ℕ → Path → Bool
 may_read client server path = may_read_at client.store (length client.accounts) server path

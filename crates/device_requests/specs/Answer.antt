@@ -5,7 +5,7 @@ use Rattle.device_requests.specs.declared.answer.Act.{Act}
 use Rattle.device_requests.specs.declared.answer.Answer.{Answer}
 use Rattle.device_requests.specs.declared.answer.Code.{Code}
 use Rattle.device_requests.specs.declared.answer.Code.TheVariants.{Created, Deleted, Changed, Content, BadRequest, Unauthorized, BadOption, NotFound, MethodNotAllowed, NotAcceptable, UnsupportedContentFormat, InternalServerError}
-use Rattle.device_requests.specs.Managed.{Managed}
+use Rattle.device_requests.specs.Client.{Client}
 
 -- the code's class in the three high bits, its detail in the five low ones (RFC 7252 section 12.1.2)
 abbrev pub code_byte : Code → ℕ
@@ -56,14 +56,14 @@ takes_memory InternalServerError = true
 -- the answer to a request, and what is managed then
 pub record Outcome : Type 0 where
   pub answer : Answer
-  pub client : Managed
+  pub client : Client
 
 -- an answer alone: nothing changes
-abbrev pub answered : Managed → Answer → Outcome
+abbrev pub answered : Client → Answer → Outcome
 answered client answer = record { answer = answer; client = client }
 
 -- this answer is the outcome's, and so is what is managed now
-pub record Leaves (answer : Answer) (new : Managed) (outcome : Outcome) : Type 0 where
+pub record Leaves (answer : Answer) (new : Client) (outcome : Outcome) : Type 0 where
   pub says : answer ≡ outcome.answer
   pub then_client : new ≡ outcome.client
 

@@ -13,7 +13,7 @@ use Rattle.device_requests.specs.declared.answer.Code.{Code}
 use Rattle.device_requests.specs.declared.answer.Code.TheVariants.{BadRequest, Unauthorized, NotFound, MethodNotAllowed, UnsupportedContentFormat, InternalServerError}
 use Rattle.device_requests.specs.Access.{rights_on}
 use Rattle.device_requests.specs.Answer.{Outcome, answered, bare, created}
-use Rattle.device_requests.specs.Managed.{Managed, with_stored}
+use Rattle.device_requests.specs.Client.{Client, with_stored}
 use Rattle.device_requests.specs.Targets.{defined, exists, is_fixed, place_of}
 
 -- the values of an instance are TLV, of which the number is 11542; no Content-Format says the same
@@ -31,20 +31,20 @@ numbered stored o None = None
 numbered stored o (Some c) = option_map (λ n. record { number = n; given = c.assigned }) (number_for stored o c.number)
 
 -- what a payload makes of an object, where it is good and a number is free
-abbrev pub newborn : Managed → ℕ → List ℕ → Option Newborn
+abbrev pub newborn : Client → ℕ → List ℕ → Option Newborn
 newborn client o payload = numbered client.store o (creation_given (defined client.catalogue o) payload)
 
-abbrev pub lacks_room : Managed → ℕ → Option Newborn → Bool
+abbrev pub lacks_room : Client → ℕ → Option Newborn → Bool
 lacks_room client o None = false
 lacks_room client o (Some b) =
     has_no_room client.store (length client.accounts) (defined client.catalogue o) (place_of o b.number) b.given
 
 -- what refuses the payload of a Create, in this order
-abbrev pub newborn_lines : Managed → ℕ → Option Newborn → List (Bool × Code)
+abbrev pub newborn_lines : Client → ℕ → Option Newborn → List (Bool × Code)
 newborn_lines client o new = (not (is_some new), BadRequest) ∷ (lacks_room client o new, InternalServerError) ∷ []
 
 -- what refuses a Create, in this order
-abbrev pub create_lines : Managed → ℕ → Path → Option ℕ → List ℕ → List (Bool × Code)
+abbrev pub create_lines : Client → ℕ → Path → Option ℕ → List ℕ → List (Bool × Code)
 create_lines client server path number payload =
     (object_in path == 0, Unauthorized)
     ∷ (not (exists client.catalogue client.store path), NotFound)
@@ -54,7 +54,7 @@ create_lines client server path number payload =
     ∷ newborn_lines client (object_in path) (newborn client (object_in path) payload)
 
 -- a refusal changes nothing; else there is the new instance, which the server owns
-abbrev pub create_unless : Option Code → Managed → ℕ → ℕ → Option Newborn → Outcome
+abbrev pub create_unless : Option Code → Client → ℕ → ℕ → Option Newborn → Outcome
 create_unless (Some code) client server o new = answered client (bare code)
 create_unless None client server o None = answered client (bare BadRequest)
 create_unless None client server o (Some b) =
@@ -66,7 +66,7 @@ create_unless None client server o (Some b) =
     }
 
 -- a Create at a path, with the format that Content-Format names
-abbrev pub create_outcome : Managed → ℕ → Path → Option ℕ → List ℕ → Outcome
+abbrev pub create_outcome : Client → ℕ → Path → Option ℕ → List ℕ → Outcome
 create_outcome client server path number payload =
     create_unless (first_line (create_lines client server path number payload)) client server (object_in path)
     (newborn client (object_in path) payload)

@@ -11,11 +11,11 @@ use Rattle.device_requests.specs.declared.answer.Code.{Code}
 use Rattle.device_requests.specs.declared.answer.Code.TheVariants.{Deleted, Unauthorized, NotFound, MethodNotAllowed}
 use Rattle.device_requests.specs.Access.{rights_on}
 use Rattle.device_requests.specs.Answer.{Outcome, answered, bare}
-use Rattle.device_requests.specs.Managed.{Managed, with_attributes, with_stored}
+use Rattle.device_requests.specs.Client.{Client, with_attributes, with_stored}
 use Rattle.device_requests.specs.Targets.{exists, is_fixed, place_of}
 
 -- what refuses a Delete, in this order
-abbrev pub delete_lines : Managed → ℕ → Path → List (Bool × Code)
+abbrev pub delete_lines : Client → ℕ → Path → List (Bool × Code)
 delete_lines client server path =
     (object_in path == 0, Unauthorized)
     ∷ (not (exists client.catalogue client.store path), NotFound)
@@ -40,12 +40,12 @@ without_controls m [] = m
 without_controls m (j ∷ js) = without_controls (without_under m (Instance 2 j)) js
 
 -- attributes go with what they are set for
-abbrev pub forgotten : Managed → Path → Numbers
+abbrev pub forgotten : Client → Path → Numbers
 forgotten client path =
     without_controls (without_under client.attributes path) (taken_away client.store (deleted client.store path))
 
 -- a refusal changes nothing
-abbrev pub delete_unless : Option Code → Managed → Path → Outcome
+abbrev pub delete_unless : Option Code → Client → Path → Outcome
 delete_unless (Some code) client path = answered client (bare code)
 delete_unless None client path =
     record {
@@ -54,5 +54,5 @@ delete_unless None client path =
           (forgotten client path);
     }
 
-abbrev pub delete_outcome : Managed → ℕ → Path → Outcome
+abbrev pub delete_outcome : Client → ℕ → Path → Outcome
 delete_outcome client server path = delete_unless (first_line (delete_lines client server path)) client path

@@ -14,7 +14,7 @@ use Rattle.object_defs.specs.declared.definition.ResourceDef.{ResourceDef}
 use Rattle.object_defs.specs.declared.path.Path.{Path}
 use Rattle.object_defs.specs.declared.path.Path.TheVariants.{Object, Instance, Resource, Part}
 use Rattle.instance_store.specs.Stored.{Stored, instances_of, parts_of}
-use Rattle.device_requests.specs.Managed.{Managed}
+use Rattle.device_requests.specs.Client.{Client}
 use Rattle.device_requests.specs.Targets.{defined, exists, is_multiple, resource_place}
 use Rattle.object_defs.specs.Path.{object_in}
 use Rattle.device_requests.specs.declared.answer.Answer.{Answer}
@@ -128,29 +128,29 @@ attributes_text m server inherits path =
     ++ shown_attribute m server inherits path name.St)))
 
 -- what stands behind a link's target: `;dim=N` for a multiple resource that is held, and the server's attributes
-abbrev pub behind : Managed → ℕ → Bool → Path → List ℕ
+abbrev pub behind : Client → ℕ → Bool → Path → List ℕ
 behind client server inherits path =
     dimension_text (dimension client.catalogue client.store path)
     ++ attributes_text client.attributes server inherits path
 
 -- a link: its target in angle brackets, and what stands behind it
-abbrev pub link : Managed → ℕ → Bool → Path → List ℕ
+abbrev pub link : Client → ℕ → Bool → Path → List ℕ
 link client server inherits path = 60 ∷ path_text path ++ 62 ∷ behind client server inherits path
 
-abbrev pub more_links : Managed → ℕ → List Path → List ℕ
+abbrev pub more_links : Client → ℕ → List Path → List ℕ
 more_links client server paths = flat_map (λ p. 44 ∷ link client server false p) paths
 
 -- links joined by commas, the first of them that of the target
-abbrev pub links_text : Managed → ℕ → List Path → List ℕ
+abbrev pub links_text : Client → ℕ → List Path → List ℕ
 links_text client server [] = []
 links_text client server (p ∷ ps) = link client server (inherits_at p) p ++ more_links client server ps
 
 -- the links of a path and of what lies below it
-abbrev pub discover_payload : Managed → ℕ → Path → List ℕ
+abbrev pub discover_payload : Client → ℕ → Path → List ℕ
 discover_payload client server path = links_text client server (linked client.catalogue client.store path)
 
 -- what refuses a Discover, in this order; it asks for no right
-abbrev pub discover_lines : Managed → ℕ → Path → List (Bool × Code)
+abbrev pub discover_lines : Client → ℕ → Path → List (Bool × Code)
 discover_lines client server path =
     (object_in path == 0, Unauthorized)
     ∷ (not (exists client.catalogue client.store path), NotFound)
@@ -158,6 +158,6 @@ discover_lines client server path =
     ∷ []
 
 -- application/link-format is 40
-abbrev pub discover_answer : Managed → ℕ → Path → Answer
+abbrev pub discover_answer : Client → ℕ → Path → Answer
 discover_answer client server path =
     refused_or (first_line (discover_lines client server path)) (content 40 (discover_payload client server path))

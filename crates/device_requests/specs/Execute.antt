@@ -19,7 +19,7 @@ use Rattle.device_requests.specs.declared.answer.Code.{Code}
 use Rattle.device_requests.specs.declared.answer.Code.TheVariants.{BadRequest, Unauthorized, NotFound, MethodNotAllowed, UnsupportedContentFormat}
 use Rattle.device_requests.specs.Access.{rights_on}
 use Rattle.device_requests.specs.Answer.{Outcome, answered, bare, done}
-use Rattle.device_requests.specs.Managed.{Managed, with_stored}
+use Rattle.device_requests.specs.Client.{Client, with_stored}
 use Rattle.device_requests.specs.Targets.{definition_at, exists, resource_place}
 
 abbrev pub is_executable : Option ResourceDef → Bool
@@ -47,7 +47,7 @@ abbrev pub is_untimely : Stored → Path → Bool
 is_untimely stored path = is_resource 5 2 path && not (is_some (firmware_after stored Update))
 
 -- what refuses the arguments of an Execute, and the Execute where it is untimely, in this order
-abbrev pub argument_lines : Managed → Path → Option ℕ → List ℕ → List (Bool × Code)
+abbrev pub argument_lines : Client → Path → Option ℕ → List ℕ → List (Bool × Code)
 argument_lines client path number payload =
     (not (is_plain number), UnsupportedContentFormat)
     ∷ (not (are_arguments payload), BadRequest)
@@ -55,7 +55,7 @@ argument_lines client path number payload =
     ∷ []
 
 -- what refuses an Execute, in this order
-abbrev pub execute_lines : Managed → ℕ → Path → Option ℕ → List ℕ → List (Bool × Code)
+abbrev pub execute_lines : Client → ℕ → Path → Option ℕ → List ℕ → List (Bool × Code)
 execute_lines client server path number payload =
     (object_in path == 0, Unauthorized)
     ∷ (not (exists client.catalogue client.store path), NotFound)
@@ -89,12 +89,12 @@ executed stored path =
     else stored
 
 -- a refusal changes nothing; else it is done, and the device acts
-abbrev pub execute_unless : Option Code → Managed → Path → Outcome
+abbrev pub execute_unless : Option Code → Client → Path → Outcome
 execute_unless (Some code) client path = answered client (bare code)
 execute_unless None client path =
     record { answer = done (act_of path); client = with_stored client (executed client.store path) }
 
 -- an Execute at a path, with the format that Content-Format names
-abbrev pub execute_outcome : Managed → ℕ → Path → Option ℕ → List ℕ → Outcome
+abbrev pub execute_outcome : Client → ℕ → Path → Option ℕ → List ℕ → Outcome
 execute_outcome client server path number payload =
     execute_unless (first_line (execute_lines client server path number payload)) client path

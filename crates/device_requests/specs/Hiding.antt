@@ -7,20 +7,20 @@ use Rattle.lwm2m_payloads.specs.Nodes.{shown_in}
 use Rattle.device_requests.specs.declared.answer.Code.TheVariants.{Unauthorized, NotFound}
 use Rattle.device_requests.specs.Access.{may_read, reads}
 use Rattle.device_requests.specs.Answer.{bare}
-use Rattle.device_requests.specs.Managed.{Managed, with_stored}
+use Rattle.device_requests.specs.Client.{Client, with_stored}
 use Rattle.device_requests.specs.Read.{read_answer}
 use Rattle.device_requests.specs.Targets.{defined}
 
 -- where a server may not read, the answer to its Read is a code alone
 abbrev pub UnreadableIsRefused : Type 0
 UnreadableIsRefused =
-    (client : Managed) (server : ℕ) (path : Path) (accept : Option ℕ) → may_read client server path ≡ false
+    (client : Client) (server : ℕ) (path : Path) (accept : Option ℕ) → may_read client server path ≡ false
     → (read_answer client server path accept ≡ bare Unauthorized)
     ⊎ (read_answer client server path accept ≡ bare NotFound)
 
 -- a store with the same instances of an object, the same R on each, and the same values in those on which the server
 -- has R
-pub record IsAlike (client : Managed) (stored : Stored) (server o : ℕ) : Type 0 where
+pub record IsAlike (client : Client) (stored : Stored) (server o : ℕ) : Type 0 where
   pub instances : instances_of stored o ≡ instances_of client.store o
   pub rights : (i : ℕ)
       → reads stored (length client.accounts) server o i ≡ reads client.store (length client.accounts) server o i
@@ -31,5 +31,5 @@ pub record IsAlike (client : Managed) (stored : Stored) (server o : ℕ) : Type 
 -- a Read of the object has the same answer then, whatever the other instances hold
 abbrev pub UnreadableIsHidden : Type 0
 UnreadableIsHidden =
-    (client : Managed) (stored : Stored) (server o : ℕ) (accept : Option ℕ) → IsAlike client stored server o
+    (client : Client) (stored : Stored) (server o : ℕ) (accept : Option ℕ) → IsAlike client stored server o
     → read_answer (with_stored client stored) server (Object o) accept ≡ read_answer client server (Object o) accept

@@ -1,6 +1,6 @@
 -- What follows from the tables, in the words of the standard.
 use Rattle.std.specs.Prelude.{◌≡◌, ◌≢◌, ℕ, ◌==◌, nat_le, Bool, true, false, List, [], ◌∷◌, ◌++◌, Option, None, Some, ◌*◌, ◌&&◌, ◌⊎◌, ◌↔◌}
-use Rattle.coap_codec.specs.Message.{Parts}
+use Rattle.coap_codec.specs.Message.{Message}
 use Rattle.lwm2m_values.specs.Tree.{single}
 use Rattle.lwm2m_values.specs.declared.value.Value.{Value}
 use Rattle.object_defs.specs.Catalogue.{definition_of}
@@ -15,6 +15,7 @@ use Rattle.lwm2m_payloads.specs.declared.given.Mode.TheVariants.{Replace, Update
 use Rattle.lwm2m_payloads.specs.Formats.{one, format_for}
 use Rattle.lwm2m_payloads.specs.Given.{resource_given}
 use Rattle.lwm2m_payloads.specs.Nodes.{value_payload, within_limit}
+use Rattle.device_requests.specs.declared.answer.Answer.{Answer}
 use Rattle.device_requests.specs.declared.answer.Code.{Code}
 use Rattle.device_requests.specs.declared.answer.Code.TheVariants.{Created, Deleted, Changed, Content, BadOption, NotFound, MethodNotAllowed}
 use Rattle.device_requests.specs.declared.operation.Operation.{Operation}
@@ -31,13 +32,13 @@ use Rattle.device_requests.specs.Operation.{operation_of}
 use Rattle.device_requests.specs.Options.{accept_of, content_format_of, has_query, has_unrecognized_critical, queries_of, segments_of, path_of}
 use Rattle.device_requests.specs.Read.{content_in, read_answer, read_lines}
 use Rattle.device_requests.specs.Request.{outcome_of}
-use Rattle.device_requests.specs.Managed.{Managed, with_stored}
+use Rattle.device_requests.specs.Client.{Client, with_stored}
 use Rattle.device_requests.specs.Write.{write_lines, write_outcome}
 use Rattle.object_defs.specs.declared.definition.ObjectDef.{ObjectDef}
 use Rattle.device_requests.specs.Targets.{exists}
 
 -- the lines that an operation at a path meets, of which the last is its success
-abbrev pub operation_lines : Managed → ℕ → Parts → Path → Operation → List (Bool × Code)
+abbrev pub operation_lines : Client → ℕ → Message → Path → Operation → List (Bool × Code)
 operation_lines client server m path Read = read_lines client server path (accept_of m.options) ++ (true, Content) ∷ []
 operation_lines client server m path Discover = discover_lines client server path ++ (true, Content) ∷ []
 operation_lines client server m path WriteReplace =
@@ -53,17 +54,17 @@ operation_lines client server m path Execute =
     execute_lines client server path (content_format_of m.options) m.payload ++ (true, Changed) ∷ []
 operation_lines client server m path Delete = delete_lines client server path ++ (true, Deleted) ∷ []
 
-abbrev pub lines_by : Managed → ℕ → Parts → Path → Option Operation → List (Bool × Code)
+abbrev pub lines_by : Client → ℕ → Message → Path → Option Operation → List (Bool × Code)
 lines_by client server m path None = (true, MethodNotAllowed) ∷ []
 lines_by client server m path (Some operation) = operation_lines client server m path operation
 
-abbrev pub lines_on : Managed → ℕ → Parts → Option Path → List (Bool × Code)
+abbrev pub lines_on : Client → ℕ → Message → Option Path → List (Bool × Code)
 lines_on client server m None = (true, NotFound) ∷ []
 lines_on client server m (Some path) =
     lines_by client server m path (operation_of m.code (accept_of m.options) (has_query m.options) path)
 
 -- all the lines that a request meets, in their order
-abbrev pub request_lines : Managed → ℕ → Parts → List (Bool × Code)
+abbrev pub request_lines : Client → ℕ → Message → List (Bool × Code)
 request_lines client server m =
     (has_unrecognized_critical m.options, BadOption) ∷ lines_on client server m (path_of (segments_of m.options))
 
@@ -72,29 +73,42 @@ abbrev pub is_refusal : Code → Bool
 is_refusal code = nat_le (4 * 32) (code_byte code)
 
 -- accounts and catalogue are as they were
-pub record KeepsFrame (old new : Managed) : Type 0 where
+pub record KeepsFrame (old new : Client) : Type 0 where
   pub accounts : new.accounts ≡ old.accounts
   pub catalogue : new.catalogue ≡ old.catalogue
 
 -- no request changes them
 abbrev pub RequestsKeepFrame : Type 0
-RequestsKeepFrame = (client : Managed) (server : ℕ) (m : Parts) → KeepsFrame client (outcome_of client server m).client
+RequestsKeepFrame = (client : Client) (server : ℕ) (m : Message) → KeepsFrame client (outcome_of client server m).client
 
 -- the answer's code is that of the first line that the request meets
 abbrev pub FirstLineAnswers : Type 0
 FirstLineAnswers =
-    (client : Managed) (server : ℕ) (m : Parts)
+    (client : Client) (server : ℕ) (m : Message)
     → first_line (request_lines client server m) ≡ Some (outcome_of client server m).answer.code
 
 -- a refusal changes nothing
 abbrev pub RefusalKeeps : Type 0
 RefusalKeeps =
-    (client : Managed) (server : ℕ) (m : Parts) → is_refusal (outcome_of client server m).answer.code ≡ true
+    (client : Client) (server : ℕ) (m : Message) → is_refusal (outcome_of client server m).answer.code ≡ true
     → (outcome_of client server m).client ≡ client
+
+-- a code alone, with neither option nor payload, behind which the device does not act
+pub record IsCodeAlone (answer : Answer) : Type 0 where
+  pub location : answer.location ≡ None
+  pub format : answer.format ≡ None
+  pub payload : answer.payload ≡ []
+  pub act : answer.act ≡ None
+
+-- the answer of a refusal
+abbrev pub RefusalIsCodeAlone : Type 0
+RefusalIsCodeAlone =
+    (client : Client) (server : ℕ) (m : Message) → is_refusal (outcome_of client server m).answer.code ≡ true
+    → IsCodeAlone (outcome_of client server m).answer
 
 -- the payload gives this value, and a Read of the resource then answers it in each format that is served, to each
 -- server that may read it
-pub record IsReadBack (client : Managed) (o i r : ℕ) (d : ResourceDef) (number : Option ℕ) (payload : List ℕ)
+pub record IsReadBack (client : Client) (o i r : ℕ) (d : ResourceDef) (number : Option ℕ) (payload : List ℕ)
     (stored : Stored) : Type 0 where
   pub format : Format
   pub served : format_for (one d.kind) number ≡ Some format
@@ -109,7 +123,7 @@ pub record IsReadBack (client : Managed) (o i r : ℕ) (d : ResourceDef) (number
 -- a Write of a single resource that can be read and is not one of Firmware Update, answered by Changed
 abbrev pub WrittenIsRead : Type 0
 WrittenIsRead =
-    (client : Managed) (server o i r : ℕ) (d : ResourceDef) (number : Option ℕ) (payload : List ℕ)
+    (client : Client) (server o i r : ℕ) (d : ResourceDef) (number : Option ℕ) (payload : List ℕ)
     → definition_of client.catalogue o r ≡ Some d → d.multiple ≡ false → can_read d.ops ≡ true → o ≢ 5
     → (write_outcome client server Replace (Resource o i r) number payload).answer.code ≡ Changed
     → IsReadBack client o i r d number payload

@@ -7,10 +7,11 @@ pub mod Execute
 pub mod Hiding
 pub mod Inside
 pub mod Laws
-pub mod Managed
+pub mod Client
 pub mod Observe
 pub mod Operation
 pub mod Options
+pub mod Order
 pub mod Read
 pub mod Request
 pub mod Targets

@@ -1,6 +1,6 @@
 -- What a request asks of the observation of its server and token (RFC 7641 section 2).
 use Rattle.std.specs.Prelude.{ℕ, ◌==◌, Bool, true, false, Option, None, Some, if◌then◌else◌}
-use Rattle.coap_codec.specs.Message.{Parts}
+use Rattle.coap_codec.specs.Message.{Message}
 use Rattle.object_defs.specs.declared.path.Path.{Path}
 use Rattle.device_requests.specs.declared.observe.Interest.{Interest}
 use Rattle.device_requests.specs.declared.observe.Interest.TheVariants.{Register, Cancel}
@@ -27,7 +27,7 @@ interest_in (Some number) path accept =
     if number == 0 then Some (Register path accept) else if number == 1 then Some Cancel else None
 
 -- Observe means something in a Read alone
-abbrev pub interest_on : Parts → Option Path → Option Interest
+abbrev pub interest_on : Message → Option Path → Option Interest
 interest_on m None = None
 interest_on m (Some path) =
     if is_read (operation_of m.code (accept_of m.options) (has_query m.options) path)
@@ -35,5 +35,5 @@ interest_on m (Some path) =
     else None
 
 -- the interest of a request whose options are understood and whose path is one
-abbrev pub interest_of : Parts → Option Interest
+abbrev pub interest_of : Message → Option Interest
 interest_of m = if has_unrecognized_critical m.options then None else interest_on m (path_of (segments_of m.options))

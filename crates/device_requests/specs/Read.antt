@@ -18,7 +18,7 @@ use Rattle.device_requests.specs.declared.answer.Code.TheVariants.{Unauthorized,
 use Rattle.device_requests.specs.Access.{may_read, shown_instances}
 use Rattle.device_requests.specs.Answer.{bare, content, refused_or}
 use Rattle.object_defs.specs.Lines.{first_line}
-use Rattle.device_requests.specs.Managed.{Managed}
+use Rattle.device_requests.specs.Client.{Client}
 use Rattle.device_requests.specs.Targets.{defined, definition_at, exists, is_multiple, is_readable, resource_place}
 
 -- an object and an instance can be read, a resource and its parts where the resource has that operation
@@ -59,7 +59,7 @@ payload_in catalogue stored instances (Part o i r n) format =
     one_payload format (part n) (value_at stored (part_of (resource_place o i r) n))
 
 -- the payload that a server is shown, where it has 1,024 bytes at most: of an object the instances on which it has R
-abbrev pub read_payload : Managed → ℕ → Path → Option ℕ → Option (List ℕ)
+abbrev pub read_payload : Client → ℕ → Path → Option ℕ → Option (List ℕ)
 read_payload client server path accept =
     option_and_then
     (payload_in client.catalogue client.store
@@ -67,7 +67,7 @@ read_payload client server path accept =
     (format_at client.catalogue path accept)
 
 -- what refuses a Read, in this order
-abbrev pub read_lines : Managed → ℕ → Path → Option ℕ → List (Bool × Code)
+abbrev pub read_lines : Client → ℕ → Path → Option ℕ → List (Bool × Code)
 read_lines client server path accept =
     (object_in path == 0, Unauthorized)
     ∷ (not (exists client.catalogue client.store path), NotFound)
@@ -83,7 +83,7 @@ content_in (Some format) (Some payload) = content (number_of format) payload
 content_in format payload = bare InternalServerError
 
 -- the answer to a Read at a path, with the format that Accept names
-abbrev pub read_answer : Managed → ℕ → Path → Option ℕ → Answer
+abbrev pub read_answer : Client → ℕ → Path → Option ℕ → Answer
 read_answer client server path accept =
     refused_or (first_line (read_lines client server path accept))
     (content_in (format_at client.catalogue path accept) (read_payload client server path accept))

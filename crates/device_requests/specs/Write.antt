@@ -28,7 +28,7 @@ use Rattle.device_requests.specs.Access.{rights_on}
 use Rattle.device_requests.specs.Answer.{Outcome, answered, bare}
 use Rattle.object_defs.specs.Lines.{first_line}
 use Rattle.device_requests.specs.Read.{format_at}
-use Rattle.device_requests.specs.Managed.{Managed, with_stored}
+use Rattle.device_requests.specs.Client.{Client, with_stored}
 use Rattle.device_requests.specs.Targets.{defined, is_multiple, place_of, resource_place}
 
 -- for a Write a resource exists where it is defined, and any part where its resource is multiple; the instance must
@@ -70,7 +70,7 @@ values_given catalogue (Resource o i r) payload format =
 values_given catalogue (Part o i r n) payload format =
     option_map One (given_to_part (definition_of catalogue o r) n format payload)
 
-abbrev pub new_values : Managed → Path → Option ℕ → List ℕ → Option NewValues
+abbrev pub new_values : Client → Path → Option ℕ → List ℕ → Option NewValues
 new_values client path number payload =
     option_and_then (values_given client.catalogue path payload) (format_at client.catalogue path number)
 
@@ -139,25 +139,25 @@ event_of path None = None
 event_of path (Some values) = event_in path values
 
 -- the firmware takes a Package and a Package URI in some states only; all else has to keep to the counts
-abbrev pub turn_lines : Managed → Mode → Path → Option NewValues → Option FirmwareEvent → List (Bool × Code)
+abbrev pub turn_lines : Client → Mode → Path → Option NewValues → Option FirmwareEvent → List (Bool × Code)
 turn_lines client mode path values (Some event) =
     (not (is_some (firmware_after client.store event)), MethodNotAllowed) ∷ []
 turn_lines client mode path values None =
     (exceeds mode client.catalogue client.store path values, InternalServerError) ∷ []
 
 -- what refuses that which a payload gives, in this order
-abbrev pub value_lines : Managed → Mode → Path → Option NewValues → List (Bool × Code)
+abbrev pub value_lines : Client → Mode → Path → Option NewValues → List (Bool × Code)
 value_lines client mode path values =
     (not (is_some values), BadRequest) ∷ turn_lines client (mode_at mode path) path values (event_of path values)
 
 -- what refuses the payload of a Write, in this order
-abbrev pub payload_lines : Managed → Mode → Path → Option ℕ → List ℕ → List (Bool × Code)
+abbrev pub payload_lines : Client → Mode → Path → Option ℕ → List ℕ → List (Bool × Code)
 payload_lines client mode path number payload =
     (not (is_some (format_at client.catalogue path number)), UnsupportedContentFormat)
     ∷ value_lines client mode path (new_values client path number payload)
 
 -- what refuses a Write, in this order
-abbrev pub write_lines : Managed → ℕ → Mode → Path → Option ℕ → List ℕ → List (Bool × Code)
+abbrev pub write_lines : Client → ℕ → Mode → Path → Option ℕ → List ℕ → List (Bool × Code)
 write_lines client server mode path number payload =
     (object_in path == 0, Unauthorized)
     ∷ (not (is_target client.catalogue client.store path), NotFound)
@@ -166,22 +166,22 @@ write_lines client server mode path number payload =
     ∷ payload_lines client mode path number payload
 
 -- a refusal changes nothing; else what is given is written
-abbrev pub write_unless : Option Code → Managed → Stored → Outcome
+abbrev pub write_unless : Option Code → Client → Stored → Outcome
 write_unless (Some code) client stored = answered client (bare code)
 write_unless None client stored = record { answer = bare Changed; client = with_stored client stored }
 
 -- the store behind a Write that is not refused: a Package is not kept, it goes to the firmware, and so does a Package
 -- URI
-abbrev pub left : Mode → Managed → Path → Option NewValues → Option FirmwareEvent → Stored
+abbrev pub left : Mode → Client → Path → Option NewValues → Option FirmwareEvent → Stored
 left mode client path values (Some event) = unwrap_or (firmware_after client.store event) client.store
 left mode client path values None = written mode client.catalogue client.store path values
 
 -- what is given is written, where these lines don't refuse it
-abbrev pub give : List (Bool × Code) → Managed → Mode → Path → Option NewValues → Outcome
+abbrev pub give : List (Bool × Code) → Client → Mode → Path → Option NewValues → Outcome
 give lines client mode path values =
     write_unless (first_line lines) client (left (mode_at mode path) client path values (event_of path values))
 
 -- a Write at a path, with the format that Content-Format names
-abbrev pub write_outcome : Managed → ℕ → Mode → Path → Option ℕ → List ℕ → Outcome
+abbrev pub write_outcome : Client → ℕ → Mode → Path → Option ℕ → List ℕ → Outcome
 write_outcome client server mode path number payload =
     give (write_lines client server mode path number payload) client mode path (new_values client path number payload)

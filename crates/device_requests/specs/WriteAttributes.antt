@@ -20,7 +20,7 @@ use Rattle.device_requests.specs.declared.answer.Code.{Code}
 use Rattle.device_requests.specs.declared.answer.Code.TheVariants.{Changed, BadRequest, Unauthorized, NotFound}
 use Rattle.device_requests.specs.Access.{rights_on}
 use Rattle.device_requests.specs.Answer.{Outcome, answered, bare}
-use Rattle.device_requests.specs.Managed.{Managed, with_attributes}
+use Rattle.device_requests.specs.Client.{Client, with_attributes}
 use Rattle.device_requests.specs.Targets.{exists}
 
 -- Integers and Times are numbers
@@ -55,7 +55,7 @@ annotates_at rights (Instance o i) = annotates rights o
 annotates_at rights (Resource o i r) = annotates rights o
 annotates_at rights (Part o i r n) = annotates rights o
 
-abbrev pub may_annotate : Managed → ℕ → Path → Bool
+abbrev pub may_annotate : Client → ℕ → Path → Bool
 may_annotate client server path = annotates_at (rights_on client server path) path
 
 -- the changes, where the queries spell some
@@ -72,12 +72,12 @@ agreed m server path changes =
     if is_consistent (written m server path changes) server path then Some (written m server path changes) else None
 
 -- the attributes with the changes that queries spell, where they may stand so
-abbrev pub attributes_given : Managed → ℕ → Path → List (List ℕ) → Option Numbers
+abbrev pub attributes_given : Client → ℕ → Path → List (List ℕ) → Option Numbers
 attributes_given client server path queries =
     option_and_then (agreed client.attributes server path) (changes_given client.catalogue path queries)
 
 -- what refuses a Write-Attributes, in this order
-abbrev pub attribute_lines : Managed → ℕ → Path → Option Numbers → List (Bool × Code)
+abbrev pub attribute_lines : Client → ℕ → Path → Option Numbers → List (Bool × Code)
 attribute_lines client server path given =
     (object_in path == 0, Unauthorized)
     ∷ (not (exists client.catalogue client.store path), NotFound)
@@ -86,13 +86,13 @@ attribute_lines client server path given =
     ∷ []
 
 -- a refusal changes nothing; else the attributes are these
-abbrev pub annotate_unless : Option Code → Managed → Option Numbers → Outcome
+abbrev pub annotate_unless : Option Code → Client → Option Numbers → Outcome
 annotate_unless (Some code) client given = answered client (bare code)
 annotate_unless None client None = answered client (bare BadRequest)
 annotate_unless None client (Some m) = record { answer = bare Changed; client = with_attributes client m }
 
 -- a Write-Attributes at a path
-abbrev pub attributes_outcome : Managed → ℕ → Path → List (List ℕ) → Outcome
+abbrev pub attributes_outcome : Client → ℕ → Path → List (List ℕ) → Outcome
 attributes_outcome client server path queries =
     annotate_unless (first_line (attribute_lines client server path (attributes_given client server path queries)))
     client

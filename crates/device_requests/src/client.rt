@@ -2,7 +2,7 @@
 
 ghost use Rattle.std.specs.Prelude.{◌≡◌, ◌≢◌, ◌↔◌, false, length, Err, IfOk, IsErrOf, IsFalse, IsTrue, OnOk, OnErr, Some};
 ghost use Rattle.instance_store.specs.Stored.{has_instance};
-ghost use Rattle.device_requests.specs.Managed.{has_account, with_stored};
+ghost use Rattle.device_requests.specs.Client.{has_account, with_stored};
 ghost use Rattle.std.specs.FinMap as map;
 ghost use Rattle.std.specs.Option.{is_some, unwrap_or};
 ghost use Rattle.device_template.specs.Values.{instance_at, is_one_too_many, with_value_at};
@@ -31,9 +31,9 @@ pub struct Client {
 impl Model for Client {
     ghost use Rattle.std.specs.Coded.{codes};
     ghost use Rattle.instance_store.specs.Stored.{stored_code};
-    ghost use Rattle.device_requests.specs.Managed.{Managed, attributes_code};
+    ghost use Rattle.device_requests.specs.Client.{Client, attributes_code};
 
-    ghost Value = { Managed };
+    ghost Value = { Client };
 
     ghost coded = { Prim.hlevel (codes, stored_code, attributes_code) };
 

@@ -7,7 +7,7 @@ ghost use Rattle.object_defs.specs.Path.{part_of};
 ghost use Rattle.instance_store.specs.Stored.{has_instance, instance_of, is_full, resource_path, with_value, without_values};
 ghost use Rattle.device_requests.specs.Answer.{Leaves};
 ghost use Rattle.device_requests.specs.Execute.{act_of, argument_lines, execute_lines, execute_outcome, executed, is_executable, is_plain, is_resource, is_untimely, with_no_error};
-ghost use Rattle.device_requests.specs.Managed.{with_stored};
+ghost use Rattle.device_requests.specs.Client.{with_stored};
 ghost use Rattle.device_requests.specs.Options.{content_format_of};
 ghost use Rattle.device_requests.specs.Inside.{has_place};
 

@@ -2,7 +2,8 @@
 
 ghost use Rattle.device_requests.specs.Execute.{ArgumentsAreTested};
 ghost use Rattle.device_requests.specs.Hiding.{UnreadableIsHidden, UnreadableIsRefused};
-ghost use Rattle.device_requests.specs.Laws.{FirstLineAnswers, LinksWhatExists, RefusalKeeps, RequestsKeepFrame, WrittenIsRead};
+ghost use Rattle.device_requests.specs.Laws.{FirstLineAnswers, LinksWhatExists, RefusalIsCodeAlone, RefusalKeeps, RequestsKeepFrame, WrittenIsRead};
+ghost use Rattle.device_requests.specs.Order.{FormatsPrecedePayloads, MethodsPrecedeObjects, OneTable, OnlyReadsObserve, OperationsPrecedeFormats, OptionsComeFirst, PathsPrecedeMethods, PayloadsPrecedeStates, RefusalsHaveReasons, RightsPrecedeOperations, SecurityPrecedesTargets, TargetsPrecedeRights};
 
 /// A request's answer is that of the first line of the tables that it meets, of which the last is
 /// its success. So each request has exactly one answer.
@@ -10,10 +11,36 @@ pub fn first_line_answers()
     ensures { FirstLineAnswers }
 {}
 
-/// A request that is refused changes nothing, and none changes the accounts or the catalogue.
+/// A request that is refused changes nothing, and its answer is a code alone; and no request changes the accounts or
+/// the catalogue.
 pub fn refusals_change_nothing()
     ensures nothing { RefusalKeeps }
+    ensures alone { RefusalIsCodeAlone }
     ensures frame { RequestsKeepFrame }
+{}
+
+/// Which rule decides where two refuse a request: a law for each two neighbours, whatever the operation.
+pub fn refusals_come_in_order()
+    ensures options { OptionsComeFirst }
+    ensures paths { PathsPrecedeMethods }
+    ensures methods { MethodsPrecedeObjects }
+    ensures security { SecurityPrecedesTargets }
+    ensures targets { TargetsPrecedeRights }
+    ensures rights { RightsPrecedeOperations }
+    ensures operations { OperationsPrecedeFormats }
+    ensures formats { FormatsPrecedePayloads }
+    ensures payloads { PayloadsPrecedeStates }
+{}
+
+/// All operations have one table of rules, and none is refused without the reason that the code of the answer gives.
+pub fn refusals_have_reasons()
+    ensures table { OneTable }
+    ensures reason { RefusalsHaveReasons }
+{}
+
+/// Only a request that the first three rules leave as a Read asks anything of an observation.
+pub fn only_reads_observe()
+    ensures { OnlyReadsObserve }
 {}
 
 /// A Read of a single resource answers what was written there.

@@ -22,8 +22,9 @@ mod write_attributes;
 pub use answer::{Act, Answer, Code};
 pub use client::Client;
 pub use laws::{
-    arguments_are_tested, first_line_answers, links_what_exists, reads_what_was_written,
-    refusals_change_nothing, unreadable_is_hidden,
+    arguments_are_tested, first_line_answers, links_what_exists, only_reads_observe,
+    reads_what_was_written, refusals_change_nothing, refusals_come_in_order, refusals_have_reasons,
+    unreadable_is_hidden,
 };
 pub use observe::{Interest, interest_of};
 pub use operation::Operation;

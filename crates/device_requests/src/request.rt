@@ -2,7 +2,7 @@
 
 ghost use Rattle.std.specs.Prelude.{◌≡◌, true, false, IfOk, OnErr};
 ghost use Rattle.device_requests.specs.Answer.{Leaves, takes_memory};
-ghost use Rattle.device_requests.specs.Managed.{with_stored};
+ghost use Rattle.device_requests.specs.Client.{with_stored};
 ghost use Rattle.device_requests.specs.Options.{has_unrecognized_critical, path_of, segments_of};
 ghost use Rattle.device_requests.specs.Request.{has_operation, outcome_at, outcome_of, outcome_on};
 

@@ -7,7 +7,7 @@ ghost use Rattle.instance_store.specs.Stored.{has_instance, instance_of};
 ghost use Rattle.lwm2m_payloads.specs.Changes.{has_too_many, instance_written, is_kept_as};
 ghost use Rattle.object_defs.specs.Lines.{first_line};
 ghost use Rattle.device_requests.specs.Answer.{Leaves, takes_memory};
-ghost use Rattle.device_requests.specs.Managed.{with_stored};
+ghost use Rattle.device_requests.specs.Client.{with_stored};
 ghost use Rattle.device_requests.specs.Options.{content_format_of};
 ghost use Rattle.device_requests.specs.Read.{format_at};
 ghost use Rattle.device_requests.specs.Inside.{has_place};

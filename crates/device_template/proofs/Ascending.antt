@@ -1,5 +1,6 @@
 -- The accounts of a class ascend.
-use Rattle.std.proofs.Common.{◌≡◌, ℕ, ◌<◌, Bool, true, false, cond, ◌||◌, eqb, ltb, List, [], ◌∷◌, None, Some, refl, sym, arith}
+use Rattle.std.proofs.Common.{◌≡◌, ℕ, ◌<◌, Bool, true, false, cond, ◌||◌, eqb, ltb, List, [], ◌∷◌, None, Some, refl}
+use Rattle.std.proofs.Common.{sym, arith}
 use Rattle.std.specs.List.{AllByRecursion, list_any}
 use Rattle.std.specs.List.Sorted.{IsStrictlyIncreasing, IsStrictlySortedBy}
 use Rattle.std.specs.Ordering.{nat_cmp}
@@ -9,7 +10,7 @@ use Rattle.std.proofs.lemmas.Bool.Decides.{nat_tests}
 use Rattle.std.proofs.lemmas.Map.Keys.{IsStrictlyIncreasing-from_sorted}
 use Rattle.object_defs.specs.Lines.{first_line}
 use Rattle.object_defs.specs.Vendor.{inserted}
-use Rattle.device_template.specs.Class.{Class}
+use Rattle.device_template.specs.Template.{Template}
 use Rattle.device_template.specs.Built.{IsBuilt}
 use Rattle.device_template.specs.Built.IsBuilt.{nothing, account, object, resource, instance, value}
 use Rattle.device_template.specs.declared.fault.TemplateFault.TheVariants.{Range, Duplicate, Full}
@@ -32,7 +33,8 @@ below_all : (x y : ℕ) (ys : List ℕ) → x < y → AllByRecursion (λ z. y < 
 below_all x y [] h k = tt
 below_all x y (z ∷ zs) h k = (omega (arith, h, k.0), below_all x y zs h k.1)
 
-all_inserted : (P : ℕ → Type 0) (x : ℕ) (ys : List ℕ) → P x → AllByRecursion P ys → AllByRecursion P (inserted (λ a. a) x ys)
+all_inserted : (P : ℕ → Type 0) (x : ℕ) (ys : List ℕ) → P x → AllByRecursion P ys
+    → AllByRecursion P (inserted (λ a. a) x ys)
 all_inserted P x [] h k = (h, tt)
 all_inserted P x (y ∷ ys) h k =
     elim (ltb x y) as (λ b. AllByRecursion P (cond b (x ∷ y ∷ ys) (y ∷ inserted (λ a. a) x ys))) [
@@ -54,12 +56,16 @@ second_of : (a b : Bool) → (a || b) ≡ false → b ≡ false
 second_of true b h = let e : true ≡ false = h in cc
 second_of false b h = h
 
-pub rises-inserted : (x : ℕ) (xs : List ℕ) → list_any (λ a. eqb a x) xs ≡ false → Rises xs → Rises (inserted (λ a. a) x xs)
+pub rises-inserted : (x : ℕ) (xs : List ℕ) → list_any (λ a. eqb a x) xs ≡ false → Rises xs
+    → Rises (inserted (λ a. a) x xs)
 rises-inserted x [] new h = (tt, tt)
 rises-inserted x (y ∷ ys) new h =
     elim (ltb x y) as (λ b. ltb x y ≡ b → Rises (cond b (x ∷ y ∷ ys) (y ∷ inserted (λ a. a) x ys))) [
       | true ↦ λ e. let l = below x y e in ((l, below_all x y ys l h.0), h)
-      | false ↦ λ e. (all_inserted (λ z. y < z) x ys (above x y e (first_of (eqb y x) _ new)) h.0, rises-inserted x ys (second_of (eqb y x) _ new) h.1)
+      | false ↦ λ e. (
+        all_inserted (λ z. y < z) x ys (above x y e (first_of (eqb y x) _ new)) h.0,
+        rises-inserted x ys (second_of (eqb y x) _ new) h.1,
+      )
     ] refl
 
 is_new : (a b c : Bool) → first_line ((a, Range) ∷ (b, Duplicate) ∷ (c, Full) ∷ []) ≡ None → b ≡ false
@@ -67,13 +73,14 @@ is_new true b c h = let e : Some Range ≡ None = h in cc
 is_new false true c h = let e : Some Duplicate ≡ None = h in cc
 is_new false false c h = refl
 
-pub rises : (class : Class) → IsBuilt class → Rises class.accounts
+pub rises : (class : Template) → IsBuilt class → Rises class.accounts
 rises _ nothing = tt
-rises _ (account {class} server built free) = rises-inserted server class.accounts (is_new _ _ _ free) (rises class built)
+rises _ (account {class} server built free) =
+    rises-inserted server class.accounts (is_new _ _ _ free) (rises class built)
 rises _ (object {class} id built free) = rises class built
 rises _ (resource {class} id d short built free) = rises class built
 rises _ (instance {class} place short built free) = rises class built
 rises _ (value {class} p v short good built free) = rises class built
 
-pub ascending : (class : Class) → IsBuilt class → IsStrictlyIncreasing class.accounts
+pub ascending : (class : Template) → IsBuilt class → IsStrictlyIncreasing class.accounts
 ascending class built = IsStrictlyIncreasing-from_sorted class.accounts (sorted class.accounts (rises class built))

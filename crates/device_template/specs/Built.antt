@@ -7,20 +7,28 @@ use Rattle.object_defs.specs.declared.definition.ResourceDef.{ResourceDef}
 use Rattle.object_defs.specs.declared.path.FullPath.{FullPath}
 use Rattle.object_defs.specs.declared.path.InstancePath.{InstancePath}
 use Rattle.instance_store.specs.Stored.{with_instance, with_value}
-use Rattle.device_template.specs.Class.{Class, empty_class, with_account, with_catalogue, with_store, account_fault, object_fault, definition_fault, instance_fault, value_fault_at}
+use Rattle.device_template.specs.Template.{Template, empty_class, with_account, with_catalogue, with_store}
+use Rattle.device_template.specs.Template.{account_fault, object_fault, definition_fault, instance_fault}
+use Rattle.device_template.specs.Template.{value_fault_at}
 
 -- each number of the path is one of 16 bits
 abbrev pub IsShort : FullPath → Type 0
 IsShort p = (p.object < 65536) × (p.instance < 65536) × (p.resource < 65536) × IfSome p.part (λ n. n < 65536)
 
-pub data IsBuilt : Class → Type 0 where
+pub data IsBuilt : Template → Type 0 where
   nothing : IsBuilt empty_class
-  -- each addition is one that the class before it does not refuse; its numbers are of 16 bits, and its value is a good one
-  account : {class : Class} (server : ℕ) → IsBuilt class → account_fault class server ≡ None → IsBuilt (with_account class server)
-  object : {class : Class} (id : ℕ) → IsBuilt class → object_fault class id ≡ None → IsBuilt (with_catalogue class (with_object class.catalogue id))
-  resource : {class : Class} (object : ℕ) (definition : ResourceDef) → definition.id < 65536 → IsBuilt class → definition_fault class object definition ≡ None
+  -- each addition is one that the class before it does not refuse; its numbers are of 16 bits, and its value is a good
+  -- one
+  account : {class : Template} (server : ℕ) → IsBuilt class → account_fault class server ≡ None
+      → IsBuilt (with_account class server)
+  object : {class : Template} (id : ℕ) → IsBuilt class → object_fault class id ≡ None
+      → IsBuilt (with_catalogue class (with_object class.catalogue id))
+  resource : {class : Template} (object : ℕ) (definition : ResourceDef) → definition.id < 65536 → IsBuilt class
+      → definition_fault class object definition ≡ None
       → IsBuilt (with_catalogue class (with_resource class.catalogue object definition))
-  instance : {class : Class} (place : InstancePath) → place.object < 65536 → IsBuilt class → instance_fault class place ≡ None
+  instance : {class : Template} (place : InstancePath) → place.object < 65536 → IsBuilt class
+      → instance_fault class place ≡ None
       → IsBuilt (with_store class (with_instance class.store place))
-  value : {class : Class} (p : FullPath) (value : Value) → IsShort p → IsGood value → IsBuilt class → value_fault_at class p value ≡ None
+  value : {class : Template} (p : FullPath) (value : Value) → IsShort p → IsGood value → IsBuilt class
+      → value_fault_at class p value ≡ None
       → IsBuilt (with_store class (with_value class.store p value))

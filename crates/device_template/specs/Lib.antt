@@ -1,3 +1,3 @@
 pub mod Built
-pub mod Class
+pub mod Template
 pub mod Values

@@ -1,5 +1,6 @@
 -- When a value may stand at a path.
-use Rattle.std.specs.Prelude.{◌==◌, nat_le, Bool, true, false, not, ◌&&◌, ◌||◌, List, length, Option, None, Some, is_some, if◌then◌else◌}
+use Rattle.std.specs.Prelude.{◌==◌, nat_le, Bool, true, false, not, ◌&&◌, ◌||◌, List, length, Option, None, Some}
+use Rattle.std.specs.Prelude.{is_some, if◌then◌else◌}
 use Rattle.lwm2m_values.specs.declared.kind.ValueKind.{ValueKind}
 use Rattle.lwm2m_values.specs.declared.kind.ValueKind.TheVariants as kind
 use Rattle.lwm2m_values.specs.declared.value.Value.{Value}
@@ -39,7 +40,8 @@ is_set_at_start p = p.object == 5 && (p.instance == 0 && (p.resource == 1 || (p.
 -- a resource that can be read, of the value's kind, which has parts exactly where the path names one
 abbrev pub fits_resource : FullPath → Value → Option ResourceDef → Bool
 fits_resource p value None = false
-fits_resource p value (Some d) = can_read d.ops && (has_kind value d.kind && (if d.multiple then is_some p.part else not (is_some p.part)))
+fits_resource p value (Some d) =
+    can_read d.ops && (has_kind value d.kind && (if d.multiple then is_some p.part else not (is_some p.part)))
 
 -- where the object is not known, nothing is asked of the resource
 abbrev pub fits_object : FullPath → Value → Option ObjectDef → Bool

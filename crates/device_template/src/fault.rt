@@ -47,7 +47,7 @@ impl<T: Drop> From<AllocFailed<T>> for TemplateFault {
 
 impl From<CatalogFault> for TemplateFault {
     ghost use Rattle.std.specs.Prelude.{◌≡◌};
-    ghost use Rattle.device_template.specs.Class.{fault_of};
+    ghost use Rattle.device_template.specs.Template.{fault_of};
 
     ghost from_gives = { λ f e. e ≡ fault_of f };
 

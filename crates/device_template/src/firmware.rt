@@ -2,7 +2,7 @@
 
 ghost use Rattle.std.specs.Prelude.{◌≡◌, true, OnOk};
 ghost use Rattle.instance_store.specs.Stored.{has_instance, with_value};
-ghost use Rattle.device_template.specs.Class.{firmware, with_idle_firmware};
+ghost use Rattle.device_template.specs.Template.{firmware, with_idle_firmware};
 
 use instance_store::{Store, StoreFault};
 use lwm2m_values::{Text, Value};

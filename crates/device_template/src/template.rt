@@ -2,7 +2,9 @@ ghost use Rattle.std.specs.Prelude.{◌≡◌, ◌≢◌, ◌==◌, [], true, fa
 ghost use Rattle.std.specs.List.Sorted.{IsStrictlyIncreasing};
 ghost use Rattle.instance_store.specs.Stored.{empty, has_instance, with_instance, with_value};
 ghost use Rattle.object_defs.specs.Path.{full_path};
-ghost use Rattle.device_template.specs.Class.{account_fault, definition_fault, empty_class, instance_fault, kind_taken, may_stand, object_fault, value_fault, value_fault_at, with_account, with_catalogue, with_idle_firmware, with_store};
+ghost use Rattle.device_template.specs.Template.{account_fault, definition_fault, empty_class, instance_fault};
+ghost use Rattle.device_template.specs.Template.{kind_taken, may_stand, object_fault, value_fault, value_fault_at};
+ghost use Rattle.device_template.specs.Template.{with_account, with_catalogue, with_idle_firmware, with_store};
 ghost use Rattle.device_template.specs.Built.{IsBuilt, IsShort};
 ghost use Rattle.lwm2m_values.specs.Value.{IsGood};
 ghost use Rattle.device_template.specs.Values.{has_kind, instance_at, is_one_too_many, is_within_limits, with_value_at};
@@ -42,9 +44,9 @@ impl Model for Template {
     ghost use Rattle.std.specs.Coded.{codes};
     ghost use Rattle.instance_store.specs.Stored.{stored_code};
     ghost use Rattle.device_template.specs.Built.{IsBuilt};
-    ghost use Rattle.device_template.specs.Class.{Class};
+    ghost use Rattle.device_template.specs.Template.{Template};
 
-    ghost Value = { Class };
+    ghost Value = { Template };
 
     ghost coded = { Prim.hlevel (codes, stored_code) };
 
@@ -162,8 +164,10 @@ impl Template {
         object: u16,
         definition: ResourceDef,
     ) -> Result<(), TemplateFault>
-        ensures added { OnOk result (self.new ≡ with_catalogue self.old (with_resource self.old.catalogue object definition)) }
-        ensures refused { IfErr result (λ f. f ≢ TemplateFault.Memory → definition_fault self.old object definition ≡ Some f) }
+        ensures added { OnOk result (self.new ≡ with_catalogue self.old
+            (with_resource self.old.catalogue object definition)) }
+        ensures refused { IfErr result (λ f. f ≢ TemplateFault.Memory
+            → definition_fault self.old object definition ≡ Some f) }
         ensures refuses { (f : TemplateFault) → definition_fault self.old object definition ≡ Some f → result ≡ Err f }
         ensures unchanged { OnErr result (self.new ≡ self.old) }
     {
@@ -177,10 +181,13 @@ impl Template {
     /// `Missing` (no such object), `Duplicate`, `Full` (64 instances of the object).
     pub fn add_instance(&mut self, object: u16, instance: u16) -> Result<(), TemplateFault>
         ensures added { OnOk result
-            (self.new ≡ with_store self.old (with_instance self.old.store (record { object = object; instance = instance }))) }
+            (self.new ≡ with_store self.old (with_instance self.old.store
+            (record { object = object; instance = instance }))) }
         ensures refused { IfErr result
-            (λ f. f ≢ TemplateFault.Memory → instance_fault self.old (record { object = object; instance = instance }) ≡ Some f) }
-        ensures refuses { (f : TemplateFault) → instance_fault self.old (record { object = object; instance = instance }) ≡ Some f → result ≡ Err f }
+            (λ f. f ≢ TemplateFault.Memory
+            → instance_fault self.old (record { object = object; instance = instance }) ≡ Some f) }
+        ensures refuses { (f : TemplateFault)
+            → instance_fault self.old (record { object = object; instance = instance }) ≡ Some f → result ≡ Err f }
         ensures unchanged { OnErr result (self.new ≡ self.old) }
     {
         let place = InstancePath { object, instance };
@@ -224,7 +231,8 @@ impl Template {
         ensures kind { result ≡ kind_taken self.now path }
 
         // A value of that kind, within the limits of its length, is not refused.
-        ensures taken { (kind : ValueKind) (value : Value) → result ≡ Some kind → has_kind value kind ≡ true → is_within_limits value ≡ true
+        ensures taken { (kind : ValueKind) (value : Value) → result ≡ Some kind → has_kind value kind ≡ true
+            → is_within_limits value ≡ true
             → value_fault_at self.now path value ≡ None }
     {
         let definition = self.catalog.resource(path.object, path.resource)?;
@@ -241,8 +249,10 @@ impl Template {
     /// (the object or the instance is not there), `Duplicate`, `Full` (65,535 values, or 32 parts of
     /// the resource).
     pub fn add_value(&mut self, path: Path, value: Value) -> Result<(), TemplateFault>
-        ensures added { OnOk result (self.new ≡ with_store self.old (with_value_at self.old.store (full_path path) value)) }
-        ensures refused { IfErr result (λ f. f ≢ TemplateFault.Memory → value_fault self.old (full_path path) value ≡ Some f) }
+        ensures added { OnOk result (self.new ≡ with_store self.old
+            (with_value_at self.old.store (full_path path) value)) }
+        ensures refused { IfErr result (λ f. f ≢ TemplateFault.Memory
+            → value_fault self.old (full_path path) value ≡ Some f) }
         ensures refuses { (f : TemplateFault) → value_fault self.old (full_path path) value ≡ Some f → result ≡ Err f }
         ensures unchanged { OnErr result (self.new ≡ self.old) }
     {

@@ -3,8 +3,9 @@
 ghost use Rattle.std.specs.Prelude.{◌≡◌, ◌≢◌, ◌↔◌, IsErrOf, IsFalse, IsTrue, Err, OnOk, OnErr, Some};
 ghost use Rattle.lwm2m_values.specs.Value.{IsGood};
 ghost use Rattle.instance_store.specs.Stored.{has_instance, with_value};
-ghost use Rattle.device_template.specs.Class.{plain};
-ghost use Rattle.device_template.specs.Values.{fits, fits_resource, has_all_parts, has_kind, has_place, instance_at, is_one_too_many, is_set_at_start, is_within_limits, misses, resource_at};
+ghost use Rattle.device_template.specs.Template.{plain};
+ghost use Rattle.device_template.specs.Values.{fits, fits_resource, has_all_parts, has_kind, has_place, instance_at};
+ghost use Rattle.device_template.specs.Values.{is_one_too_many, is_set_at_start, is_within_limits, misses, resource_at};
 
 use instance_store::{Store, StoreFault};
 use lwm2m_values::{Text, Value, ValueKind};
@@ -142,7 +143,8 @@ fn resource_at(path: FullPath) -> ResourcePath
 pub fn put(store: &mut Store, path: FullPath, value: Value) -> Result<(), StoreFault>
     ensures ok { OnOk result (store.new ≡ with_value store.old path value) }
     ensures absent { IsErrOf result StoreFault.Absent ↔ IsFalse (has_instance store.old (instance_at path)) }
-    ensures full { IsErrOf result StoreFault.Full ↔ (IsTrue (has_instance store.old (instance_at path)) × IsTrue (is_one_too_many store.old path)) }
+    ensures full { IsErrOf result StoreFault.Full
+        ↔ (IsTrue (has_instance store.old (instance_at path)) × IsTrue (is_one_too_many store.old path)) }
     ensures never_exists { result ≢ Err StoreFault.Exists }
     ensures err { OnErr result (store.new ≡ store.old) }
 {

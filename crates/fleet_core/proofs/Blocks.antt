@@ -1,10 +1,11 @@
 -- Entries of one device that continue a run.
-use Rattle.std.proofs.Common.{◌≡◌, ℕ, suc, ◌+◌, ◌<◌, ◌≤◌, ◌⊎◌, inl, inr, List, [], ◌∷◌, ◌++◌, length, slice_index, slice_set, refl, sym, ap, ◌∙◌, arith, get_or-set_same, get_or-set_other}
+use Rattle.std.proofs.Common.{◌≡◌, ℕ, suc, ◌+◌, ◌<◌, ◌≤◌, ◌⊎◌, inl, inr, List, [], ◌∷◌, ◌++◌, length, slice_index}
+use Rattle.std.proofs.Common.{slice_set, refl, sym, ap, ◌∙◌, arith, get_or-set_same, get_or-set_other}
 use Rattle.std.proofs.lemmas.Bool.{cases_eq}
 use Rattle.std.proofs.lemmas.List.{length-set}
 use Rattle.scenario_image.specs.declared.step.Step.{Step}
 use Rattle.scenario_image.specs.declared.step.Step.TheVariants.{Event, Post, Need}
-use Rattle.scenario_image.specs.Script.{Script}
+use Rattle.scenario_image.specs.Scenario.{Scenario}
 use Rattle.trace_file.specs.declared.entry.Entry.{Entry}
 use Rattle.fleet_core.specs.Along.{Along}
 use Rattle.fleet_core.specs.Run.{made_by, posts_of, IsMet, Fits, IsRun}
@@ -21,7 +22,7 @@ met_more p q (Event event) h met = tt
 met_more p q (Post group) h met = tt
 met_more p q (Need group count) h met = omega (arith, h group, met)
 
-along_moves : (s : Script) (d : ℕ) (a b block : List Entry) → Along (Fits s) a block → AreOf d block
+along_moves : (s : Scenario) (d : ℕ) (a b block : List Entry) → Along (Fits s) a block → AreOf d block
     → made_by d a ≡ made_by d b
     → ((g : ℕ) → posts_of s g a ≤ posts_of s g b) → Along (Fits s) b block
 along_moves s d a b [] run own count posts = tt
@@ -39,14 +40,14 @@ along_moves s d a b (e ∷ block) run own count posts = (
 )
 
 -- after a run with as many entries of the device, and at least the posts
-pub block_follows : (s : Script) (d : ℕ) (a b block : List Entry) → IsRun s (a ++ block) → IsRun s b → AreOf d block
+pub block_follows : (s : Scenario) (d : ℕ) (a b block : List Entry) → IsRun s (a ++ block) → IsRun s b → AreOf d block
     → made_by d a ≡ made_by d b → ((g : ℕ) → posts_of s g a ≤ posts_of s g b) → IsRun s (b ++ block)
 block_follows s d a b block made run own count posts =
     let moved = along_moves s d a b block (along-right (Fits s) [] a block made.along) own count posts in
     record { along = along-append (Fits s) [] b block run.along moved }
 
 -- after a longer run, to which no entry of the device was added
-pub block_later : (s : Script) (d : ℕ) (a after block : List Entry) → IsRun s (a ++ block) → IsRun s (a ++ after)
+pub block_later : (s : Scenario) (d : ℕ) (a after block : List Entry) → IsRun s (a ++ block) → IsRun s (a ++ after)
     → AreOf d block
     → made_by d after ≡ 0 → IsRun s ((a ++ after) ++ block)
 block_later s d a after block made run own none =
@@ -86,7 +87,7 @@ own_push d (x ∷ block) e own is = (own.0, own_push d block e own.1 is)
 
 -- ---- the board after a block
 
-made_then : (s : Script) (d : ℕ) (es block : List Entry) (made : List ℕ) → length made ≡ length s.rows
+made_then : (s : Scenario) (d : ℕ) (es block : List Entry) (made : List ℕ) → length made ≡ length s.rows
     → ((i : ℕ) → i < length s.rows → slice_index made i ≡ made_by i es) → AreOf d block → (i : ℕ) → i < length s.rows
     → (d ≡ i) ⊎ (d ≡ i → ⊥) → slice_index (slice_set made d (made_by d es + length block)) i ≡ made_by i (es ++ block)
 made_then s d es block made rows made_is own i within (inl same) =
@@ -99,7 +100,7 @@ made_then s d es block made rows made_is own i within (inr other) =
     ∙ (made_is i within ∙ sym (block_others d i es block own other))
 
 -- the device has the block's entries more, and each group the block's posts
-pub board_block : (s : Script) (d : ℕ) (es block : List Entry) (made posts then counted : List ℕ)
+pub board_block : (s : Scenario) (d : ℕ) (es block : List Entry) (made posts then counted : List ℕ)
     → IsBoard s es made posts
     → IsRun s (es ++ block) → AreOf d block → then ≡ slice_set made d (made_by d es + length block)
     → length counted ≡ 256

@@ -1,17 +1,20 @@
 -- What a fleet keeps, behind one entry more.
-use Rattle.std.proofs.Common.{◌≡◌, ℕ, zero, suc, ◌+◌, ◌<◌, ◌≤◌, eqb, Bool, true, false, ◌⊎◌, inl, inr, List, [], ◌∷◌, ◌++◌, length, get_or, None, Some, slice_get, slice_index, slice_set, replicate, refl, sym, ap, subst, ◌∙◌, arith, add-one, get_or-set_same, get_or-set_other}
+use Rattle.std.proofs.Common.{◌≡◌, ℕ, zero, suc, ◌+◌, ◌<◌, ◌≤◌, eqb, Bool, true, false, ◌⊎◌, inl, inr, List, [], ◌∷◌}
+use Rattle.std.proofs.Common.{◌++◌, length, get_or, None, Some, slice_get, slice_index, slice_set, replicate, refl, sym}
+use Rattle.std.proofs.Common.{ap, subst, ◌∙◌, arith, add-one, get_or-set_same, get_or-set_other}
 use Rattle.std.proofs.lemmas.List.{length-set, length-replicate, get_or_past}
 use Rattle.std.proofs.lemmas.Bool.{cases_eq, cases_lt, eq-eqb, ne_eqb}
 use Rattle.std.proofs.lemmas.Option.{slice_get_read}
-use Rattle.device_template.specs.Class.{Class}
-use Rattle.device_machine.specs.State.{Flat, Shown, Shows}
+use Rattle.device_template.specs.Template.{Template}
+use Rattle.device_machine.specs.State.{Machine, Device, Shows}
 use Rattle.scenario_image.specs.declared.step.Step.{Step}
 use Rattle.scenario_image.specs.declared.step.Step.TheVariants.{Event, Post, Need}
-use Rattle.scenario_image.specs.Script.{Script, IsValid}
+use Rattle.scenario_image.specs.Scenario.{Scenario, IsValid}
 use Rattle.device_machine.specs.declared.output.Output.{Output}
 use Rattle.scenario_image.specs.Play.{start, step_after, step_outputs, state_at, IsRowOf, PutsOut, is_step_refused}
 use Rattle.trace_file.specs.declared.entry.Entry.{Entry}
-use Rattle.fleet_core.specs.Run.{step_at, made_by, posts_to, is_post, posts_of, is_enabled, entry_of, out_at, outputs_before, outputs_with, outputs_in_row}
+use Rattle.fleet_core.specs.Run.{step_at, made_by, posts_to, is_post, posts_of, is_enabled, entry_of, out_at}
+use Rattle.fleet_core.specs.Run.{outputs_before, outputs_with, outputs_in_row}
 use Rattle.fleet_core.specs.Board.{Seen, IsBoard, AreParked, AreStarted, IsFleet, posts_after}
 use Rattle.fleet_core.proofs.Posts.{one, run_push, made_same, made_other, posts-push, enabled_fits}
 use Rattle.fleet_core.proofs.Valid.{IsStep, step_is, step_stands, state-more, takes_step, posts_within}
@@ -23,7 +26,8 @@ get-set_same [] i y x h = let e : None ≡ Some x = h in absurd cc
 get-set_same (z ∷ zs) zero y x h = let e : Some y ≡ Some x = h in cc
 get-set_same (z ∷ zs) (suc i) y x h = get-set_same zs i y x h
 
-get-set_other : {X : Type 0} (xs : List X) (i j : ℕ) (y : X) → (i ≡ j → ⊥) → slice_get (slice_set xs i y) j ≡ slice_get xs j
+get-set_other : {X : Type 0} (xs : List X) (i j : ℕ) (y : X) → (i ≡ j → ⊥)
+    → slice_get (slice_set xs i y) j ≡ slice_get xs j
 get-set_other [] i j y h = refl
 get-set_other (z ∷ zs) zero zero y h = absurd (h refl)
 get-set_other (z ∷ zs) zero (suc j) y h = refl
@@ -41,8 +45,10 @@ post_at : (posts : List ℕ) (group g : ℕ) → length posts ≡ 256 → g < 25
     → slice_index (slice_set posts group (slice_index posts group + 1)) g ≡ slice_index posts g + one (eqb group g)
 post_at posts group g len within (inl same) =
     let h : g < length posts = omega arith in
-    subst (λ i. slice_index (slice_set posts i (slice_index posts i + 1)) g ≡ slice_index posts g + one (eqb i g)) (sym same)
-    (get_or-set_same posts g (slice_index posts g + 1) 0 h ∙ ap (λ b. slice_index posts g + one b) (sym (eq-eqb g g refl)))
+    subst (λ i. slice_index (slice_set posts i (slice_index posts i + 1)) g ≡ slice_index posts g + one (eqb i g))
+    (sym same)
+    (get_or-set_same posts g (slice_index posts g + 1) 0 h
+    ∙ ap (λ b. slice_index posts g + one b) (sym (eq-eqb g g refl)))
 post_at posts group g len within (inr other) =
     get_or-set_other posts group g (slice_index posts group + 1) 0 (λ e. other (sym e))
     ∙ (sym (omega arith) ∙ ap (λ b. slice_index posts g + one b) (sym (ne_eqb group g other)))
@@ -55,17 +61,19 @@ noted posts (Need group count) g len within = omega arith
 
 -- ---- the board
 
-made_at : (s : Script) (es : List Entry) (e : Entry) (made : List ℕ) (d : ℕ) → length made ≡ length s.rows
-    → ((i : ℕ) → i < length s.rows → slice_index made i ≡ made_by i es) → (i : ℕ) → i < length s.rows → (e.device ≡ i) ⊎ (e.device ≡ i → ⊥)
+made_at : (s : Scenario) (es : List Entry) (e : Entry) (made : List ℕ) (d : ℕ) → length made ≡ length s.rows
+    → ((i : ℕ) → i < length s.rows → slice_index made i ≡ made_by i es) → (i : ℕ) → i < length s.rows → (e.device ≡ i)
+    ⊎ (e.device ≡ i → ⊥)
     → slice_index (slice_set made e.device (made_by e.device es + 1)) i ≡ made_by i (es ++ e ∷ [])
 made_at s es e made d rows made_is i within (inl own) =
     let h : i < length made = omega arith in
     subst (λ j. slice_index (slice_set made j (made_by j es + 1)) i ≡ made_by i (es ++ e ∷ [])) (sym own)
     (get_or-set_same made i (made_by i es + 1) 0 h ∙ (add-one (made_by i es) ∙ sym (made_same i es e own)))
 made_at s es e made d rows made_is i within (inr other) =
-    get_or-set_other made e.device i (made_by e.device es + 1) 0 (λ h. other (sym h)) ∙ (made_is i within ∙ sym (made_other i es e other))
+    get_or-set_other made e.device i (made_by e.device es + 1) 0 (λ h. other (sym h))
+    ∙ (made_is i within ∙ sym (made_other i es e other))
 
-pub board_push : (s : Script) (es : List Entry) (made posts : List ℕ) (worker d : ℕ) (step : Step)
+pub board_push : (s : Scenario) (es : List Entry) (made posts : List ℕ) (worker d : ℕ) (step : Step)
     → IsBoard s es made posts → step_at s d (made_by d es) ≡ Some step → is_enabled s es d ≡ true
     → IsBoard s (es ++ entry_of s worker d es ∷ []) (slice_set made d (made_by d es + 1)) (posts_after posts step)
 board_push s es made posts worker d step board at go =
@@ -74,7 +82,8 @@ board_push s es made posts worker d step board at go =
       run = run_push s es (entry_of s worker d es) board.run (enabled_fits s es worker d go);
       rows = length-set made d (made_by d es + 1) ∙ board.rows;
       groups = posts_length posts step ∙ board.groups;
-      made_is = λ i within. made_at s es (entry_of s worker d es) made d board.rows board.made_is i within (cases_eq d i);
+      made_is = λ i within. made_at s es (entry_of s worker d es) made d board.rows board.made_is i within
+          (cases_eq d i);
       posts_is = λ g within.
           noted posts step g board.groups within
           ∙ (ap (λ n. n + one (posts_to g step)) (board.posts_is g within)
@@ -84,36 +93,46 @@ board_push s es made posts worker d step board at go =
 
 -- ---- the devices
 
-device_at : (s : Script) (es : List Entry) (e : Entry) (devices : List Shown) (new : Shown) (step : Step)
+device_at : (s : Scenario) (es : List Entry) (e : Entry) (devices : List Device) (new : Device) (step : Step)
     → AreParked s es devices → step_at s e.device (made_by e.device es) ≡ Some step
-    → ((class : Class) (steps : List Step) → IsRowOf s e.device class steps → Shows new (step_after (state_at class steps (made_by e.device es)) step))
-    → (i : ℕ) (x : Shown) → slice_get (slice_set devices e.device new) i ≡ Some x → (class : Class) (steps : List Step) → IsRowOf s i class steps
+    → ((class : Template) (steps : List Step) → IsRowOf s e.device class steps
+    → Shows new (step_after (state_at class steps (made_by e.device es)) step))
+    → (i : ℕ) (x : Device) → slice_get (slice_set devices e.device new) i ≡ Some x
+    → (class : Template) (steps : List Step) → IsRowOf s i class steps
     → (e.device ≡ i) ⊎ (e.device ≡ i → ⊥) → Shows x (state_at class steps (made_by i (es ++ e ∷ [])))
 device_at s es e devices new step parked at here i x got class steps row (inl own) =
     let mine : IsRowOf s e.device class steps = subst (λ j. IsRowOf s j class steps) (sym own) row in
-    let is : new ≡ x = get-set_same devices e.device new x (subst (λ j. slice_get (slice_set devices e.device new) j ≡ Some x) (sym own) got) in
+    let is : new ≡ x =
+    get-set_same devices e.device new x (subst (λ j. slice_get (slice_set devices e.device new) j ≡ Some x)
+    (sym own) got) in
     let stands = step_stands s e.device (made_by e.device es) step class steps mine at in
-    let count : suc (made_by e.device es) ≡ made_by i (es ++ e ∷ []) = sym (made_same e.device es e refl) ∙ ap (λ j. made_by j (es ++ e ∷ [])) own in
+    let count : suc (made_by e.device es) ≡ made_by i (es ++ e ∷ []) =
+    sym (made_same e.device es e refl) ∙ ap (λ j. made_by j (es ++ e ∷ [])) own in
     subst (λ k. Shows x (state_at class steps k)) count
-    (subst (λ f. Shows x f) (sym (state-more steps (made_by e.device es) step (start class) stands)) (subst (λ y. Shows y (step_after (state_at class steps (made_by e.device es)) step)) is (here class steps mine)))
+    (subst (λ f. Shows x f) (sym (state-more steps (made_by e.device es) step (start class) stands))
+    (subst (λ y. Shows y (step_after (state_at class steps (made_by e.device es)) step)) is
+    (here class steps mine)))
 device_at s es e devices new step parked at here i x got class steps row (inr other) =
     subst (λ k. Shows x (state_at class steps k)) (sym (made_other i es e other))
     (parked.each i x (sym (get-set_other devices e.device i new other) ∙ got) class steps row)
 
-pub parked_push : (s : Script) (es : List Entry) (devices : List Shown) (worker d : ℕ) (old new : Shown) (step : Step)
+pub parked_push : (s : Scenario) (es : List Entry) (devices : List Device) (worker d : ℕ) (old new : Device)
+    (step : Step)
     → AreParked s es devices → slice_get devices d ≡ Some old → step_at s d (made_by d es) ≡ Some step
-    → ((f : Flat) → Shows old f → Shows new (step_after f step))
+    → ((f : Machine) → Shows old f → Shows new (step_after f step))
     → AreParked s (es ++ entry_of s worker d es ∷ []) (slice_set devices d new)
 parked_push s es devices worker d old new step parked was at shows =
     record {
       each = λ i x got class steps row.
           device_at s es (entry_of s worker d es) devices new step parked at
-          (λ class steps row. shows (state_at class steps (made_by d es)) (parked.each d old was class steps row)) i x got class steps row (cases_eq d i);
+          (λ class steps row. shows (state_at class steps (made_by d es)) (parked.each d old was class steps row)) i x
+          got class steps row (cases_eq d i);
     }
 
 -- what a device puts out at its next step
-pub puts_out : (s : Script) (d k : ℕ) (step : Step) (out : List Output) → IsStep s d k step
-    → ((class : Class) (steps : List Step) → IsRowOf s d class steps → out ≡ step_outputs (state_at class steps k) step) → out ≡ out_at s d k
+pub puts_out : (s : Scenario) (d k : ℕ) (step : Step) (out : List Output) → IsStep s d k step
+    → ((class : Template) (steps : List Step) → IsRowOf s d class steps
+    → out ≡ step_outputs (state_at class steps k) step) → out ≡ out_at s d k
 puts_out s d k step out is puts =
     puts is.class is.steps is.row
     ∙ (ap (outputs_before (state_at is.class is.steps k)) (sym is.stands)
@@ -127,7 +146,8 @@ zeros zero i = refl
 zeros (suc n) zero = refl
 zeros (suc n) (suc i) = zeros n i
 
-pub starts : (s : Script) (es : List Entry) (made posts : List ℕ) (devices : List Shown) → IsValid s → es ≡ [] → made ≡ replicate (length s.rows) 0 → posts ≡ replicate 256 0
+pub starts : (s : Scenario) (es : List Entry) (made posts : List ℕ) (devices : List Device) → IsValid s → es ≡ []
+    → made ≡ replicate (length s.rows) 0 → posts ≡ replicate 256 0
     → length devices ≡ length s.rows → AreStarted s devices → IsFleet s es made posts devices false
 starts s es made posts devices valid none m p count started =
     subst (λ l. IsFleet s l made posts devices false) (sym none)
@@ -154,7 +174,8 @@ get_or_any (z ∷ zs) zero x y h = refl
 get_or_any (z ∷ zs) (suc i) x y h = get_or_any zs i x y (omega (arith, h))
 
 -- what a fleet that may go on knows of the next step of a device
-pub record Reads (s : Script) (es : List Entry) (devices : List Shown) (d place : ℕ) (step : Step) (old : Shown) : Type 0 where
+pub record Reads (s : Scenario) (es : List Entry) (devices : List Device) (d place : ℕ) (step : Step)
+    (old : Device) : Type 0 where
   pub at : step_at s d (made_by d es) ≡ Some step
   pub is : IsStep s d (made_by d es) step
   pub go : is_enabled s es d ≡ true
@@ -162,12 +183,14 @@ pub record Reads (s : Script) (es : List Entry) (devices : List Shown) (d place 
   pub was : slice_get devices d ≡ Some old
   pub parked : AreParked s es devices
 
-pub reads : (v : Seen) (s : Script) (es : List Entry) (spent : Bool) (made posts : List ℕ) (devices : List Shown) (d at place : ℕ) (step : Step) (old : Shown)
+pub reads : (v : Seen) (s : Scenario) (es : List Entry) (spent : Bool) (made posts : List ℕ) (devices : List Device)
+    (d at place : ℕ) (step : Step) (old : Device)
     → record { scenario = s; entries = es; spent = spent } ≡ v → IsFleet s es made posts devices spent → spent ≡ false
     → Some step ≡ step_at v.scenario d (made_by d v.entries) → true ≡ is_enabled v.scenario v.entries d → at ≡ d
     → place ≡ get_or made at place → old ≡ get_or devices at old → Reads s es devices d place step old
 reads v s es spent made posts devices d at place step old view fleet ready next go from read got =
-    let next_is : step_at s d (made_by d es) ≡ Some step = subst (λ w. step_at w.scenario d (made_by d w.entries) ≡ Some step) (sym view) (sym next) in
+    let next_is : step_at s d (made_by d es) ≡ Some step =
+    subst (λ w. step_at w.scenario d (made_by d w.entries) ≡ Some step) (sym view) (sym next) in
     let is : IsStep s d (made_by d es) step = step_is s d (made_by d es) step fleet.board.valid next_is in
     let within : d < length made = omega (arith, is.within, fleet.board.rows) in
     let here : place ≡ get_or made d place = read ∙ ap (λ i. get_or made i place) from in
@@ -176,49 +199,62 @@ reads v s es spent made posts devices d at place step old view fleet ready next 
       is = is;
       go = subst (λ w. is_enabled w.scenario w.entries d ≡ true) (sym view) (sym go);
       place_is = here ∙ (get_or_any made d place 0 within ∙ fleet.board.made_is d is.within);
-      was = slice_get_read devices (length devices) d old refl (omega (arith, is.within, fleet.count)) (got ∙ ap (λ i. get_or devices i old) from);
+      was = slice_get_read devices (length devices) d old refl (omega (arith, is.within, fleet.count))
+          (got ∙ ap (λ i. get_or devices i old) from);
       parked = fleet.parked ready;
     }
 
-pub not_refused_here : (s : Script) (es : List Entry) (devices : List Shown) (d place : ℕ) (step : Step) (old : Shown) → Reads s es devices d place step old
+pub not_refused_here : (s : Scenario) (es : List Entry) (devices : List Device) (d place : ℕ) (step : Step)
+    (old : Device) → Reads s es devices d place step old
     → is_step_refused old step ≡ false
 not_refused_here s es devices d place step old r =
     takes_step s d (made_by d es) step old r.is (λ class steps row. r.parked.each d old r.was class steps row)
 
-pub place_early : (s : Script) (es : List Entry) (devices : List Shown) (d place : ℕ) (step : Step) (old : Shown) → Reads s es devices d place step old → place < 4096
+pub place_early : (s : Scenario) (es : List Entry) (devices : List Device) (d place : ℕ) (step : Step) (old : Device)
+    → Reads s es devices d place step old → place < 4096
 place_early s es devices d place step old r = omega (arith, r.is.early, r.place_is)
 
-room_at : (s : Script) (es : List Entry) (made posts : List ℕ) (g : ℕ) → IsBoard s es made posts → (g < 256) ⊎ (256 ≤ g) → slice_index posts g + 1 < 4294967296
-room_at s es made posts g board (inl low) = omega (arith, board.posts_is g low, posts_within s g es board.valid board.run)
+room_at : (s : Scenario) (es : List Entry) (made posts : List ℕ) (g : ℕ) → IsBoard s es made posts → (g < 256)
+    ⊎ (256 ≤ g) → slice_index posts g + 1 < 4294967296
+room_at s es made posts g board (inl low) =
+    omega (arith, board.posts_is g low, posts_within s g es board.valid board.run)
 room_at s es made posts g board (inr high) = omega (arith, get_or_past posts g 0 (omega (arith, board.groups, high)))
 
-pub posts_room : (s : Script) (es : List Entry) (made posts : List ℕ) → IsBoard s es made posts → (g : ℕ) → slice_index posts g + 1 < 4294967296
+pub posts_room : (s : Scenario) (es : List Entry) (made posts : List ℕ) → IsBoard s es made posts → (g : ℕ)
+    → slice_index posts g + 1 < 4294967296
 posts_room s es made posts board g = room_at s es made posts g board (cases_lt g 256)
 
 -- the entry that is added is the device's next
-pub entry_is : (s : Script) (es : List Entry) (devices : List Shown) (worker d place : ℕ) (step : Step) (old : Shown) (out : List Output) → Reads s es devices d place step old
-    → ((f : Flat) → Shows old f → out ≡ step_outputs f step)
+pub entry_is : (s : Scenario) (es : List Entry) (devices : List Device) (worker d place : ℕ) (step : Step)
+    (old : Device) (out : List Output) → Reads s es devices d place step old
+    → ((f : Machine) → Shows old f → out ≡ step_outputs f step)
     → record { worker = worker; device = d; step = place; outputs = out } ≡ entry_of s worker d es
 entry_is s es devices worker d place step old out r puts =
     let put : out ≡ out_at s d (made_by d es) =
-    puts_out s d (made_by d es) step out r.is (λ class steps row. puts (state_at class steps (made_by d es)) (r.parked.each d old r.was class steps row)) in
+    puts_out s d (made_by d es) step out r.is
+    (λ class steps row. puts (state_at class steps (made_by d es)) (r.parked.each d old r.was class steps row)) in
     ap (λ k. record { worker = worker; device = d; step = k; outputs = out }) r.place_is
     ∙ ap (λ o. record { worker = worker; device = d; step = made_by d es; outputs = o }) put
 
-pub added : (v : Seen) (s : Script) (es new : List Entry) (spent : Bool) (worker d : ℕ) (e : Entry) → record { scenario = s; entries = es; spent = spent } ≡ v
+pub added : (v : Seen) (s : Scenario) (es new : List Entry) (spent : Bool) (worker d : ℕ) (e : Entry)
+    → record { scenario = s; entries = es; spent = spent } ≡ v
     → new ≡ es ++ e ∷ [] → e ≡ entry_of s worker d es → new ≡ v.entries ++ entry_of v.scenario worker d v.entries ∷ []
 added v s es new spent worker d e view is same =
     subst (λ w. new ≡ w.entries ++ entry_of w.scenario worker d w.entries ∷ []) view (is ∙ ap (λ x. es ++ x ∷ []) same)
 
-pub fleet_push : (s : Script) (es new : List Entry) (made posts posts_then : List ℕ) (devices : List Shown) (worker d at place : ℕ) (step : Step) (old then : Shown) (e : Entry)
-    → IsBoard s es made posts → length devices ≡ length s.rows → Reads s es devices d place step old → at ≡ d → new ≡ es ++ e ∷ [] → e ≡ entry_of s worker d es
-    → posts_then ≡ posts_after posts step → ((f : Flat) → Shows old f → Shows then (step_after f step))
+pub fleet_push : (s : Scenario) (es new : List Entry) (made posts posts_then : List ℕ) (devices : List Device)
+    (worker d at place : ℕ) (step : Step) (old then : Device) (e : Entry)
+    → IsBoard s es made posts → length devices ≡ length s.rows → Reads s es devices d place step old → at ≡ d
+    → new ≡ es ++ e ∷ [] → e ≡ entry_of s worker d es
+    → posts_then ≡ posts_after posts step → ((f : Machine) → Shows old f → Shows then (step_after f step))
     → IsFleet s new (slice_set made at (place + 1)) posts_then (slice_set devices at then) false
-fleet_push s es new made posts posts_then devices worker d at place step old then e board count r from is same noted_is shows =
+fleet_push s es new made posts posts_then devices worker d at place step old
+    then e board count r from is same noted_is shows =
     subst (λ i. IsFleet s new (slice_set made i (place + 1)) posts_then (slice_set devices i then) false) (sym from)
     (subst (λ k. IsFleet s new (slice_set made d (k + 1)) posts_then (slice_set devices d then) false) (sym r.place_is)
     (subst (λ p. IsFleet s new (slice_set made d (made_by d es + 1)) p (slice_set devices d then) false) (sym noted_is)
-    (subst (λ l. IsFleet s l (slice_set made d (made_by d es + 1)) (posts_after posts step) (slice_set devices d then) false) (sym (is ∙ ap (λ x. es ++ x ∷ []) same))
+    (subst (λ l. IsFleet s l (slice_set made d (made_by d es + 1)) (posts_after posts step)
+    (slice_set devices d then) false) (sym (is ∙ ap (λ x. es ++ x ∷ []) same))
     (record {
       board = board_push s es made posts worker d step board r.at r.go;
       count = length-set devices d then ∙ count;
@@ -226,7 +262,8 @@ fleet_push s es new made posts posts_then devices worker d at place step old the
     }))))
 
 -- what a step puts out in the device's row
-pub row_puts_out : (s : Script) (d k : ℕ) (class : Class) (steps : List Step) (outputs : List Output) → IsRowOf s d class steps → PutsOut (start class) steps k outputs
+pub row_puts_out : (s : Scenario) (d k : ℕ) (class : Template) (steps : List Step) (outputs : List Output)
+    → IsRowOf s d class steps → PutsOut (start class) steps k outputs
     → out_at s d k ≡ outputs
 row_puts_out s d k class steps outputs row puts =
     ap (λ r. outputs_in_row s r k) row.row

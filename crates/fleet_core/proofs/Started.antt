@@ -1,47 +1,58 @@
 -- Devices that start, one row after another.
-use Rattle.std.proofs.Common.{◌≡◌, ℕ, zero, suc, ◌+◌, ◌⊎◌, inl, inr, List, [], ◌∷◌, ◌++◌, length, None, Some, slice_get, refl, sym, ap, subst, ◌∙◌, arith, length-append}
-use Rattle.device_template.specs.Class.{Class}
-use Rattle.device_machine.specs.State.{Shown, Shows}
+use Rattle.std.proofs.Common.{◌≡◌, ℕ, zero, suc, ◌+◌, ◌⊎◌, inl, inr, List, [], ◌∷◌, ◌++◌, length, None, Some, slice_get}
+use Rattle.std.proofs.Common.{refl, sym, ap, subst, ◌∙◌, arith, length-append}
+use Rattle.device_template.specs.Template.{Template}
+use Rattle.device_machine.specs.State.{Device, Shows}
 use Rattle.scenario_image.specs.declared.step.Step.{Step}
-use Rattle.scenario_image.specs.Script.{Script}
+use Rattle.scenario_image.specs.Scenario.{Scenario}
 use Rattle.scenario_image.specs.Play.{start, IsRowOf}
 use Rattle.fleet_core.specs.Board.{AreStarted}
 
 -- the devices of the first rows
-pub record AreFirst (s : Script) (n : ℕ) (devices : List Shown) : Type 0 where
+pub record AreFirst (s : Scenario) (n : ℕ) (devices : List Device) : Type 0 where
   pub count : length devices ≡ n
   pub started : AreStarted s devices
 
 never : {X : Type 0} (k : ℕ) (x : X) → slice_get [] k ≡ Some x → ⊥
 never k x h = let e : None ≡ Some x = h in cc
 
-cases_pushed : {X : Type 0} (z : X) (xs : List X) (k : ℕ) (x y : X) → (slice_get xs k ≡ Some x) ⊎ ((k ≡ length xs) × (y ≡ x))
+cases_pushed : {X : Type 0} (z : X) (xs : List X) (k : ℕ) (x y : X) → (slice_get xs k ≡ Some x)
+    ⊎ ((k ≡ length xs) × (y ≡ x))
     → (slice_get (z ∷ xs) (suc k) ≡ Some x) ⊎ ((suc k ≡ length (z ∷ xs)) × (y ≡ x))
 cases_pushed z xs k x y (inl h) = inl h
 cases_pushed z xs k x y (inr h) = inr (ap suc h.0, h.1)
 
 -- an element of a list with one more is one of the list, or the one more
-pushed : {X : Type 0} (xs : List X) (y : X) (k : ℕ) (x : X) → slice_get (xs ++ y ∷ []) k ≡ Some x → (slice_get xs k ≡ Some x) ⊎ ((k ≡ length xs) × (y ≡ x))
+pushed : {X : Type 0} (xs : List X) (y : X) (k : ℕ) (x : X) → slice_get (xs ++ y ∷ []) k ≡ Some x
+    → (slice_get xs k ≡ Some x) ⊎ ((k ≡ length xs) × (y ≡ x))
 pushed [] y zero x h = let e : Some y ≡ Some x = h in inr (refl, cc)
 pushed [] y (suc k) x h = let e : None ≡ Some x = h in absurd cc
 pushed (z ∷ xs) y zero x h = inl h
 pushed (z ∷ xs) y (suc k) x h = cases_pushed z xs k x y (pushed xs y k x h)
 
-pub none_started : (s : Script) → AreFirst s 0 []
+pub none_started : (s : Scenario) → AreFirst s 0 []
 none_started s = record { count = refl; started = record { each = λ d x e. absurd (never d x e) } }
 
-by_place : (s : Script) (n d : ℕ) (devices : List Shown) (x y : Shown) → length devices ≡ n
-    → ((class : Class) (steps : List Step) → IsRowOf s n class steps → Shows y (start class))
-    → (slice_get devices d ≡ Some x → (class : Class) (steps : List Step) → IsRowOf s d class steps → Shows x (start class))
-    → (slice_get devices d ≡ Some x) ⊎ ((d ≡ length devices) × (y ≡ x)) → (class : Class) (steps : List Step) → IsRowOf s d class steps → Shows x (start class)
+by_place : (s : Scenario) (n d : ℕ) (devices : List Device) (x y : Device) → length devices ≡ n
+    → ((class : Template) (steps : List Step) → IsRowOf s n class steps → Shows y (start class))
+    → (slice_get devices d ≡ Some x → (class : Template) (steps : List Step) → IsRowOf s d class steps
+    → Shows x (start class))
+    → (slice_get devices d ≡ Some x) ⊎ ((d ≡ length devices) × (y ≡ x)) → (class : Template) (steps : List Step)
+    → IsRowOf s d class steps → Shows x (start class)
 by_place s n d devices x y count here before (inl h) = before h
 by_place s n d devices x y count here before (inr h) = λ class steps row.
     subst (λ z. Shows z (start class)) h.1 (here class steps (subst (λ i. IsRowOf s i class steps) (h.0 ∙ count) row))
 
 -- with the device of one row more
-pub more_started : (s : Script) (n : ℕ) (devices more : List Shown) (y : Shown) → AreFirst s n devices → more ≡ devices ++ y ∷ []
-    → ((class : Class) (steps : List Step) → IsRowOf s n class steps → Shows y (start class)) → AreFirst s (n + 1) more
+pub more_started : (s : Scenario) (n : ℕ) (devices more : List Device) (y : Device) → AreFirst s n devices
+    → more ≡ devices ++ y ∷ []
+    → ((class : Template) (steps : List Step) → IsRowOf s n class steps → Shows y (start class))
+    → AreFirst s (n + 1) more
 more_started s n devices more y first e here = record {
   count = omega (arith, first.count, ap length e, length-append devices (y ∷ []));
-  started = record { each = λ d x at. by_place s n d devices x y first.count here (first.started.each d x) (pushed devices y d x (ap (λ l. slice_get l d) (sym e) ∙ at)) };
+  started = record {
+    each =
+        λ d x at. by_place s n d devices x y first.count here (first.started.each d x)
+        (pushed devices y d x (ap (λ l. slice_get l d) (sym e) ∙ at));
+  };
 }

@@ -1,22 +1,23 @@
 -- What contracts see of a fleet, and what it keeps.
-use Rattle.std.specs.Prelude.{◌≡◌, ℕ, ◌+◌, ◌<◌, Bool, true, false, List, [], ◌∷◌, ◌++◌, length, min, Option, None, Some, slice_get, slice_index, slice_set}
-use Rattle.device_template.specs.Class.{Class}
-use Rattle.device_machine.specs.State.{Shown, Shows}
+use Rattle.std.specs.Prelude.{◌≡◌, ℕ, ◌+◌, ◌<◌, Bool, true, false, List, [], ◌∷◌, ◌++◌, length, min, Option, None, Some}
+use Rattle.std.specs.Prelude.{slice_get, slice_index, slice_set}
+use Rattle.device_template.specs.Template.{Template}
+use Rattle.device_machine.specs.State.{Device, Shows}
 use Rattle.scenario_image.specs.declared.step.Step.{Step}
 use Rattle.scenario_image.specs.declared.step.Step.TheVariants.{Event, Post, Need}
-use Rattle.scenario_image.specs.Script.{Script, IsValid}
+use Rattle.scenario_image.specs.Scenario.{Scenario, IsValid}
 use Rattle.scenario_image.specs.Play.{start, state_at, IsRowOf}
 use Rattle.trace_file.specs.declared.entry.Entry.{Entry}
 use Rattle.fleet_core.specs.Run.{made_by, posts_of, entry_of, Fits, IsRun}
 
 -- what contracts see of a fleet: the scenario, the entries, and whether want of memory has spent it
 pub record Seen : Type 0 where
-  pub scenario : Script
+  pub scenario : Scenario
   pub entries : List Entry
   pub spent : Bool
 
 -- the entries are a run of a valid scenario, and the counters are its counts
-pub record IsBoard (s : Script) (es : List Entry) (made posts : List ℕ) : Type 0 where
+pub record IsBoard (s : Scenario) (es : List Entry) (made posts : List ℕ) : Type 0 where
   pub valid : IsValid s
   pub run : IsRun s es
   pub rows : length made ≡ length s.rows
@@ -25,23 +26,26 @@ pub record IsBoard (s : Script) (es : List Entry) (made posts : List ℕ) : Type
   pub posts_is : (g : ℕ) → g < 256 → slice_index posts g ≡ posts_of s g es
 
 -- each device shows the state behind the steps that it has made
-pub record AreParked (s : Script) (es : List Entry) (devices : List Shown) : Type 0 where
-  pub each : (d : ℕ) (x : Shown) → slice_get devices d ≡ Some x → (class : Class) (steps : List Step) → IsRowOf s d class steps
+pub record AreParked (s : Scenario) (es : List Entry) (devices : List Device) : Type 0 where
+  pub each : (d : ℕ) (x : Device) → slice_get devices d ≡ Some x → (class : Template) (steps : List Step)
+      → IsRowOf s d class steps
       → Shows x (state_at class steps (made_by d es))
 
 -- the devices of a fleet that memory has spent are open
-pub record IsFleet (s : Script) (es : List Entry) (made posts : List ℕ) (devices : List Shown) (spent : Bool) : Type 0 where
+pub record IsFleet (s : Scenario) (es : List Entry) (made posts : List ℕ) (devices : List Device)
+    (spent : Bool) : Type 0 where
   pub board : IsBoard s es made posts
   pub count : length devices ≡ length s.rows
   pub parked : spent ≡ false → AreParked s es devices
 
 -- each device is at the start of its row
-pub record AreStarted (s : Script) (devices : List Shown) : Type 0 where
-  pub each : (d : ℕ) (x : Shown) → slice_get devices d ≡ Some x → (class : Class) (steps : List Step) → IsRowOf s d class steps → Shows x (start class)
+pub record AreStarted (s : Scenario) (devices : List Device) : Type 0 where
+  pub each : (d : ℕ) (x : Device) → slice_get devices d ≡ Some x → (class : Template) (steps : List Step)
+      → IsRowOf s d class steps → Shows x (start class)
 
 -- the device shows the state after the first k steps of row d
-abbrev pub ShowsAfter : Script → ℕ → ℕ → Shown → Type 0
-ShowsAfter s d k x = (class : Class) (steps : List Step) → IsRowOf s d class steps → Shows x (state_at class steps k)
+abbrev pub ShowsAfter : Scenario → ℕ → ℕ → Device → Type 0
+ShowsAfter s d k x = (class : Template) (steps : List Step) → IsRowOf s d class steps → Shows x (state_at class steps k)
 
 -- the posts to each group behind a step
 abbrev pub posts_after : List ℕ → Step → List ℕ
@@ -51,9 +55,11 @@ posts_after posts (Need group count) = posts
 
 -- with the device's next entry, under this worker
 abbrev pub with_entry : Seen → ℕ → ℕ → Seen
-with_entry v worker d = record { scenario = v.scenario; entries = v.entries ++ entry_of v.scenario worker d v.entries ∷ []; spent = false }
+with_entry v worker d =
+    record { scenario = v.scenario; entries = v.entries ++ entry_of v.scenario worker d v.entries ∷ []; spent = false }
 
--- behind a post a device may be able to go that waits for its group, so none below the group's mark; behind another step of a device none that couldn't before
+-- behind a post a device may be able to go that waits for its group, so none below the group's mark; behind another
+-- step of a device none that couldn't before
 abbrev pub cursor_after : List ℕ → Option Step → ℕ → ℕ
 cursor_after wake None low = low
 cursor_after wake (Some (Event event)) low = low

@@ -1,4 +1,5 @@
-ghost use Rattle.std.specs.Prelude.{◌≡◌, ℕ, ◌<◌, ◌++◌, ◌∷◌, ◌↔◌, [], length, true, false, Err, IfOk, OnOk, OnErr, IsSome, IsTrue};
+ghost use Rattle.std.specs.Prelude.{◌≡◌, ℕ, ◌<◌, ◌++◌, ◌∷◌, ◌↔◌, [], length, true, false, Err, IfOk, OnOk, OnErr};
+ghost use Rattle.std.specs.Prelude.{IsSome, IsTrue};
 ghost use Rattle.std.specs.Option.{option_copied};
 ghost use Rattle.fleet_core.specs.Run.{made_by, step_at, posts_of, is_enabled, entry_of, IsRun, CanGo};
 
@@ -10,8 +11,8 @@ use std::alloc::{AllocError, Global};
 use std::marker::Model;
 use trace_file::{Entries, Entry};
 
-/// The devices of a scenario, and the entries that they have made: a run. Contracts see the scenario, the entries, and whether want of memory has spent
-/// the fleet.
+/// The devices of a scenario, and the entries that they have made: a run. Contracts see the scenario, the entries, and
+/// whether want of memory has spent the fleet.
 #[derive(Drop)]
 pub struct Fleet<'a> {
     alloc: Global,
@@ -80,7 +81,8 @@ impl<'a> Fleet<'a> {
         }
     }
 
-    /// Whether an entry of the device can be added: its row has a next step, and this is no need of more posts than there were so far.
+    /// Whether an entry of the device can be added: its row has a next step, and this is no need of more posts than
+    /// there were so far.
     pub fn enabled(&self, device: u16) -> bool
         ensures is { result ≡ is_enabled self.now.scenario self.now.entries device }
         ensures can { IsTrue result ↔ CanGo self.now.scenario self.now.entries device }
@@ -105,20 +107,25 @@ impl<'a> Fleet<'a> {
 
     /// Lets the device make its next step, under the worker's number, and adds the entry.
     ///
-    /// `NotEnabled`: no entry of the device can be added. `Memory` leaves the fleet spent, with the entries as they were; `Spent` says that it was spent.
+    /// `NotEnabled`: no entry of the device can be added. `Memory` leaves the fleet spent, with the entries as they
+    /// were; `Spent` says that it was spent.
     pub fn commit(&mut self, worker: u16, device: u16) -> Result<(), CommitFault>
-        ensures added { OnOk result (self.new.entries ≡ self.old.entries ++ entry_of self.old.scenario worker device self.old.entries ∷ []) }
+        ensures added { OnOk result (self.new.entries ≡ self.old.entries
+            ++ entry_of self.old.scenario worker device self.old.entries ∷ []) }
         ensures scenario { self.new.scenario ≡ self.old.scenario }
         ensures enabled { OnOk result (is_enabled self.old.scenario self.old.entries device ≡ true) }
         ensures ready { OnOk result (self.new.spent ≡ false) }
-        ensures not_enabled { result ≡ Err CommitFault.NotEnabled → is_enabled self.old.scenario self.old.entries device ≡ false }
+        ensures not_enabled { result ≡ Err CommitFault.NotEnabled
+            → is_enabled self.old.scenario self.old.entries device ≡ false }
         ensures spent { result ≡ Err CommitFault.Spent → IsTrue self.old.spent }
         ensures unchanged { OnErr result (self.new.entries ≡ self.old.entries) }
         ensures memory { result ≡ Err CommitFault.Memory → IsTrue self.new.spent }
         ensures not_enabled_same { result ≡ Err CommitFault.NotEnabled → self.new ≡ self.old }
         ensures spent_same { result ≡ Err CommitFault.Spent → self.new ≡ self.old }
-        ensures refuses { is_enabled self.old.scenario self.old.entries device ≡ false → result ≡ Err CommitFault.NotEnabled }
-        ensures stays_spent { is_enabled self.old.scenario self.old.entries device ≡ true → IsTrue self.old.spent → result ≡ Err CommitFault.Spent }
+        ensures refuses { is_enabled self.old.scenario self.old.entries device ≡ false
+            → result ≡ Err CommitFault.NotEnabled }
+        ensures stays_spent { is_enabled self.old.scenario self.old.entries device ≡ true → IsTrue self.old.spent
+            → result ≡ Err CommitFault.Spent }
     {
         if !self.enabled(device) {
             return Err(CommitFault::NotEnabled);

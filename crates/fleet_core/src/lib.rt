@@ -15,8 +15,8 @@ pub use checking::check;
 pub use fault::CommitFault;
 pub use fleet::Fleet;
 pub use laws::{
-    blocks_follow, counts_add_up, outputs_are_the_rows, runs_agree, runs_end, runs_grow,
-    steps_are_taken,
+    blocks_follow, counts_add_up, devices_stand_alone, outputs_are_the_rows, runs_agree, runs_end,
+    runs_grow, steps_are_taken,
 };
 pub use performing::{make_step, note_post, start_devices, step_of};
 pub use serial::run_serial;

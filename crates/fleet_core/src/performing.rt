@@ -1,11 +1,12 @@
 //! One step of one device, and the posts behind it.
 
-ghost use Rattle.std.specs.Prelude.{◌≡◌, ℕ, ◌+◌, ◌^◌, ◌<◌, List, false, Some, length, slice_get, slice_index, IfOk, OnOk, IfSome};
+ghost use Rattle.std.specs.Prelude.{◌≡◌, ℕ, ◌+◌, ◌^◌, ◌<◌, List, false, Some, length, slice_get, slice_index, IfOk};
+ghost use Rattle.std.specs.Prelude.{OnOk, IfSome};
 ghost use Rattle.std.specs.Option.{option_copied};
 ghost use Rattle.std.specs.Result.{IsOk};
-ghost use Rattle.device_template.specs.Class.{Class};
-ghost use Rattle.device_machine.specs.State.{Flat, Shows};
-ghost use Rattle.scenario_image.specs.Script.{Script};
+ghost use Rattle.device_template.specs.Template.{Template};
+ghost use Rattle.device_machine.specs.State.{Machine, Shows};
+ghost use Rattle.scenario_image.specs.Scenario.{Scenario};
 ghost use Rattle.scenario_image.specs.Play.{start, step_outputs, step_after, is_event, is_step_refused, IsRowOf};
 ghost use Rattle.fleet_core.specs.Run.{step_at, out_at};
 ghost use Rattle.fleet_core.specs.Board.{AreStarted, ShowsAfter, posts_after};
@@ -27,7 +28,7 @@ pub fn step_of(scenario: &Scenario, device: u16, place: u32) -> Option<&Step>
 /// A device at the start of a row.
 fn start_of_row(scenario: &Scenario, device: u16) -> Result<Device, AllocError>
     requires { device < length scenario.now.rows }
-    ensures { IfOk result (λ x. (class : Class) (steps : List Step) → IsRowOf scenario.now device class steps
+    ensures { IfOk result (λ x. (class : Template) (steps : List Step) → IsRowOf scenario.now device class steps
         → Shows x (start class)) }
 {
     let _rows = scenario.rows();
@@ -60,8 +61,8 @@ pub(crate) fn perform(
     step: &Step,
 ) -> Result<OutputList, AllocError>
     requires { is_step_refused device.old step.now ≡ false }
-    ensures outputs { (f : Flat) → Shows device.old f → IfOk result (λ o. o ≡ step_outputs f step.now) }
-    ensures shows { (f : Flat) → Shows device.old f → OnOk result (Shows device.new (step_after f step.now)) }
+    ensures outputs { (f : Machine) → Shows device.old f → IfOk result (λ o. o ≡ step_outputs f step.now) }
+    ensures shows { (f : Machine) → Shows device.old f → OnOk result (Shows device.new (step_after f step.now)) }
     ensures silent { is_event step.now ≡ false → IsOk result }
 {
     match take_step(device, step) {

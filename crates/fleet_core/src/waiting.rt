@@ -40,7 +40,8 @@ fn steps_of(scenario: &Scenario, device: u16) -> usize
     }
 }
 
-/// The devices that have fewer entries than their rows have steps, in ascending order. Whether the entries are a run is not asked.
+/// The devices that have fewer entries than their rows have steps, in ascending order. Whether the entries are a run is
+/// not asked.
 pub fn unfinished(
     alloc: Global,
     scenario: &Scenario,

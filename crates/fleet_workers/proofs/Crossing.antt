@@ -65,7 +65,20 @@ recorded_send : IsSend Recorded.the_row
 recorded_send = search (sendable, std.crosses, bytes_send) depth 30
 
 observation_send : IsSend Observation.the_row
-observation_send = declared_send Observation.the_type (search sendable, (bytes_send, (path_send, (search sendable depth 20, (report_send, (search sendable, (search sendable, (search sendable, (search sendable, tt)))))))))
+observation_send =
+    declared_send Observation.the_type (
+      search sendable,
+      (
+        bytes_send,
+        (
+          path_send,
+          (
+            search sendable depth 20,
+            (report_send, (search sendable, (search sendable, (search sendable, (search sendable, tt))))),
+          ),
+        ),
+      ),
+    )
 
 observations_send : IsSend Observations.the_row
 observations_send = search (sendable, std.crosses, maps.crosses, observation_send) depth 30 parts 12
@@ -83,7 +96,8 @@ next_send : IsSend Next.the_row
 next_send = search sendable depth 30
 
 station_send : IsSend Station.the_row
-station_send = declared_send Station.the_type (place_send, (search sendable depth 20, (next_send, (search (sendable, std.crosses) depth 20, tt))))
+station_send = declared_send Station.the_type
+    (place_send, (search sendable depth 20, (next_send, (search (sendable, std.crosses) depth 20, tt))))
 
 pub trace_send : IsSend Trace.the_row
 trace_send = search (sendable, std.crosses, entry_send, station_send) depth 30 parts 12
@@ -118,16 +132,23 @@ value_field_sync : IsSync (Value.the_field).row
 value_field_sync = search (sendable, std.crosses, bytes_sync) depth 30
 
 event_parts : EachSync (E.shape Event.the_type).variants
-event_parts = ((search sendable depth 20, (bytes_sync, tt)), ((path_field_sync, (value_field_sync, tt)), ((search sendable depth 20, tt), ((search sendable depth 20, tt), tt))))
+event_parts = (
+  (search sendable depth 20, (bytes_sync, tt)),
+  ((path_field_sync, (value_field_sync, tt)), ((search sendable depth 20, tt), ((search sendable depth 20, tt), tt))),
+)
 
 event_sync : IsSync (Event.the_field).row
 event_sync = enum_sync (E.shape Event.the_type) event_parts
 
 step_parts : EachSync (E.shape Step.the_type).variants
-step_parts = ((event_sync, tt), ((search sendable depth 20, tt), ((search sendable depth 20, (search sendable depth 20, tt)), tt)))
+step_parts = (
+  (event_sync, tt),
+  ((search sendable depth 20, tt), ((search sendable depth 20, (search sendable depth 20, tt)), tt)),
+)
 
 step_sync : IsSync Step.the_row
-step_sync = recorded_sync (Enum (E.shape Step.the_type)) (Step.the_type).D (Step.the_type).to (Step.the_type).to_one (enum_sync (E.shape Step.the_type) step_parts)
+step_sync = recorded_sync (Enum (E.shape Step.the_type)) (Step.the_type).D (Step.the_type).to (Step.the_type).to_one
+    (enum_sync (E.shape Step.the_type) step_parts)
 
 row_sync : IsSync Row.the_row
 row_sync = search (sendable, std.crosses, step_sync) depth 30 parts 12

@@ -1,8 +1,9 @@
 -- What two workers leave.
-use Rattle.std.proofs.Common.{◌≡◌, ◌+◌, true, false, cond, List, [], ◌∷◌, ◌++◌, Some, refl, sym, ap, subst, ◌∙◌, ◌-◌, arith, append-nil}
+use Rattle.std.proofs.Common.{◌≡◌, ◌+◌, true, false, cond, List, [], ◌∷◌, ◌++◌, Some, refl, sym, ap, subst, ◌∙◌, ◌-◌}
+use Rattle.std.proofs.Common.{arith, append-nil}
 use Rattle.std.specs.Prelude.{nat_lt, length}
 use Rattle.std.specs.List.{AllByRecursion}
-use Rattle.scenario_image.specs.Script.{Script}
+use Rattle.scenario_image.specs.Scenario.{Scenario}
 use Rattle.trace_file.specs.declared.entry.Entry.{Entry}
 use Rattle.fleet_core.specs.Run.{Fits, IsRun, IsComplete}
 use Rattle.fleet_core.proofs.Along.{along-right}
@@ -19,19 +20,23 @@ use Rattle.fleet_workers.specs.Knowing.{Seen, IsByOne, Follows, IsDone, IsStalle
 use Rattle.fleet_workers.specs.Fleet.{IsByWorker, IsEndOf, IsFleetRun, HasEnded, IsLeft}
 
 -- nothing can follow a complete run
-nothing_more : (s : Script) (es after : List Entry) → IsComplete s es → IsRun s (es ++ after) → after ≡ []
+nothing_more : (s : Scenario) (es after : List Entry) → IsComplete s es → IsRun s (es ++ after) → after ≡ []
 nothing_more s es [] complete run = refl
-nothing_more s es (e ∷ after) complete run = absurd (complete.ended e (along-right (Fits s) [] es (e ∷ after) run.along).0)
+nothing_more s es (e ∷ after) complete run =
+    absurd (complete.ended e (along-right (Fits s) [] es (e ∷ after) run.along).0)
 
-complete_whole : (s : Script) (front es : List Entry) → IsComplete s front → Begins front es → IsRun s es → front ≡ es
+complete_whole : (s : Scenario) (front es : List Entry) → IsComplete s front → Begins front es → IsRun s es → front ≡ es
 complete_whole s front es complete begins run =
     let none : begins.0 ≡ [] = nothing_more s front begins.0 complete (subst (IsRun s) begins.1 run) in
     sym (begins.1 ∙ (ap (λ l. front ++ l) none ∙ append-nil front))
 
 -- what a worker knows by its front holds of the whole run
-ended_so : (s : Script) (w : Seen) (es : List Entry) (end : LoopEnd) → w.subject ≡ Some s → EndsAs w end → Begins w.front es → IsRun s es → HasEnded s es end
-ended_so s w es Done subject ends begins run = let done = ends s subject in subst (IsDone s) (complete_whole s w.front es done.complete begins run) done
-ended_so s w es Stalled subject ends begins run = let stalled = ends s subject in subst (IsStalled s) (complete_whole s w.front es stalled.complete begins run) stalled
+ended_so : (s : Scenario) (w : Seen) (es : List Entry) (end : LoopEnd) → w.subject ≡ Some s → EndsAs w end
+    → Begins w.front es → IsRun s es → HasEnded s es end
+ended_so s w es Done subject ends begins run = let done =
+    ends s subject in subst (IsDone s) (complete_whole s w.front es done.complete begins run) done
+ended_so s w es Stalled subject ends begins run = let stalled =
+    ends s subject in subst (IsStalled s) (complete_whole s w.front es stalled.complete begins run) stalled
 ended_so s w es Stopped subject ends begins run = tt
 ended_so s w es Memory subject ends begins run = tt
 ended_so s w es Spent subject ends begins run = tt
@@ -45,12 +50,14 @@ by_workers v w empty follows =
     subst (AllByRecursion IsByWorker) (sym (follows.front ∙ ap (λ l. l ++ follows.added) empty))
     (every_one (IsByOne v) IsByWorker (λ e by. (by.0, omega (arith, by.1))) follows.added follows.workers)
 
-first_run : (s : Script) (v w : Seen) → v.front ≡ [] → v.subject ≡ Some s → Follows v w → IsRun s w.front
+first_run : (s : Scenario) (v w : Seen) → v.front ≡ [] → v.subject ≡ Some s → Follows v w → IsRun s w.front
 first_run s v w empty subject follows = follows.run s subject (subst (IsRun s) (sym empty) (record { along = tt }))
 
-pub is_left : (s : Script) (v : Seen) (x : Traced) (one two a b all : Seen) (es : List Entry) (first second : LoopEnd) → v ≡ whole trace_log x 0 → x.subject ≡ s → x.entries ≡ []
+pub is_left : (s : Scenario) (v : Seen) (x : Traced) (one two a b all : Seen) (es : List Entry) (first second : LoopEnd)
+    → v ≡ whole trace_log x 0 → x.subject ≡ s → x.entries ≡ []
     → one ≡ lower v → two ≡ upper v → Follows one a → Follows two b → EndsAs a first → EndsAs b second
-    → all ≡ record (joined a b) { end = all.end } → Begins a.front all.front × Begins b.front all.front → es ≡ all.front → IsLeft s es first second
+    → all ≡ record (joined a b) { end = all.end } → Begins a.front all.front × Begins b.front all.front → es ≡ all.front
+    → IsLeft s es first second
 is_left s v x one two a b all es first second opened subject empty is_one is_two fa fb ea eb glued fronts log =
     let front : v.front ≡ [] = ap (λ u. u.front) opened ∙ empty in
     let about : v.subject ≡ Some s = ap (λ u. u.subject) opened ∙ ap Some subject in
@@ -59,16 +66,21 @@ is_left s v x one two a b all es first second opened subject empty is_one is_two
     let about1 : one.subject ≡ Some s = ap (λ u. u.subject) is_one ∙ about in
     let about2 : two.subject ≡ Some s = ap (λ u. u.subject) is_two ∙ about in
     let long : longer a.front b.front ≡ es = sym (log ∙ ap (λ u. u.front) glued) in
-    let run : IsRun s es = subst (IsRun s) long (either (IsRun s) a.front b.front (first_run s one a front1 about1 fa) (first_run s two b front2 about2 fb)) in
+    let run : IsRun s es =
+    subst (IsRun s) long (either (IsRun s) a.front b.front (first_run s one a front1 about1 fa)
+    (first_run s two b front2 about2 fb)) in
     record {
       run = run;
-      workers = subst (AllByRecursion IsByWorker) long (either (AllByRecursion IsByWorker) a.front b.front (by_workers one a front1 fa) (by_workers two b front2 fb));
+      workers = subst (AllByRecursion IsByWorker) long
+          (either (AllByRecursion IsByWorker) a.front b.front (by_workers one a front1 fa)
+          (by_workers two b front2 fb));
       ended = ended_so s a es first (fa.subject ∙ about1) ea (subst (Begins a.front) (sym log) fronts.0) run;
       other = ended_so s b es second (fb.subject ∙ about2) eb (subst (Begins b.front) (sym log) fronts.1) run;
     }
 
 -- the passes are neighbours again
-pub neighbours : (v : Seen) (x : Traced) (one two a b : Seen) → v ≡ whole trace_log x 0 → one ≡ lower v → two ≡ upper v → Follows one a → Follows two b → a.low + a.count ≡ b.low
+pub neighbours : (v : Seen) (x : Traced) (one two a b : Seen) → v ≡ whole trace_log x 0 → one ≡ lower v → two ≡ upper v
+    → Follows one a → Follows two b → a.low + a.count ≡ b.low
 neighbours v x one two a b opened is_one is_two fa fb =
     let low : v.low ≡ 1 = ap (λ u. u.low) opened in
     let low1 : a.low ≡ v.low = fa.low ∙ ap (λ u. u.low) is_one in
@@ -77,7 +89,8 @@ neighbours v x one two a b opened is_one is_two fa fb =
     omega (arith, low1, count1, low2)
 
 -- all numbers are there again
-pub all_back : (v : Seen) (x : Traced) (one two a b : Seen) → v ≡ whole trace_log x 0 → one ≡ lower v → two ≡ upper v → Follows one a → Follows two b → a.count + b.count ≡ NUMBERS
+pub all_back : (v : Seen) (x : Traced) (one two a b : Seen) → v ≡ whole trace_log x 0 → one ≡ lower v → two ≡ upper v
+    → Follows one a → Follows two b → a.count + b.count ≡ NUMBERS
 all_back v x one two a b opened is_one is_two fa fb =
     let count : v.count ≡ NUMBERS = ap (λ u. u.count) opened in
     let count1 : a.count ≡ 1 = fa.count ∙ ap (λ u. u.count) is_one in
@@ -85,7 +98,8 @@ all_back v x one two a b opened is_one is_two fa fb =
     omega (arith, count, count1, count2)
 
 -- a complete run of the workers is that of a fleet
-pub fleet_run : (s : Script) (es : List Entry) (how : FleetEnd) → AllByRecursion IsByWorker es → IsComplete s es → IsEndOf s es how → IsFleetRun s (record { entries = es; end = how })
+pub fleet_run : (s : Scenario) (es : List Entry) (how : FleetEnd) → AllByRecursion IsByWorker es → IsComplete s es
+    → IsEndOf s es how → IsFleetRun s (record { entries = es; end = how })
 fleet_run s es how workers complete is = record {
   complete = complete;
   workers = workers;

@@ -1,5 +1,6 @@
 -- What a visit to the trace leaves a pass with.
-use Rattle.std.proofs.Common.{◌≡◌, ℕ, ◌+◌, ◌<◌, ◌≤◌, false, [], ◌++◌, Some, refl, sym, ap, subst, ◌∙◌, arith, append_assoc, append-nil}
+use Rattle.std.proofs.Common.{◌≡◌, ℕ, ◌+◌, ◌<◌, ◌≤◌, false, [], ◌++◌, Some, refl, sym, ap, subst, ◌∙◌, arith}
+use Rattle.std.proofs.Common.{append_assoc, append-nil}
 use Rattle.std.specs.Prelude.{Contains}
 use Rattle.trace_file.specs.declared.entry.Entry.{Entry}
 use Rattle.fleet_core.specs.Run.{IsRun, made_by, posts_of}
@@ -55,12 +56,14 @@ follows_both u v w a b = record {
   subject = b.subject ∙ a.subject;
   added = a.added ++ b.added;
   front = b.front ∙ (ap (λ l. l ++ b.added) a.front ∙ append_assoc u.front a.added b.added);
-  workers = every-append (IsByOne u) a.added b.added a.workers (every_one (IsByOne v) (IsByOne u) (same_numbers u v a.low a.count) b.added b.workers);
+  workers = every-append (IsByOne u) a.added b.added a.workers
+      (every_one (IsByOne v) (IsByOne u) (same_numbers u v a.low a.count) b.added b.workers);
   run = λ s subject run. b.run s (a.subject ∙ subject) (a.run s subject run);
 }
 
 -- after a take and a give
-pub follows : (v r inside : Seen) (t : ℕ) (x y : Traced) → IsAware trace_log x v → inside ≡ arrived trace_log v t x → r ≡ given trace_log inside y
+pub follows : (v r inside : Seen) (t : ℕ) (x y : Traced) → IsAware trace_log x v → inside ≡ arrived trace_log v t x
+    → r ≡ given trace_log inside y
     → 1 ≤ v.low → v.low < NUMBERS + 1 → Adds trace_log v.low x y → IsShared y → Follows v r
 follows v r inside t x y aware entered is one within adds shared =
     let there : r ≡ given trace_log (arrived trace_log v t x) y = is ∙ ap (λ w. given trace_log w y) entered in
@@ -71,13 +74,18 @@ follows v r inside t x y aware entered is one within adds shared =
       added = aware.after ++ adds.added;
       front = adds.entries ∙ (ap (λ l. l ++ adds.added) aware.front ∙ append_assoc v.front aware.after adds.added);
       workers = every-append (IsByOne v) aware.after adds.added
-          (every_one (IsOther trace_log v.low v.count) (IsByOne v) (λ e h. (h.0, h.1, λ has. absurd (h.2 has.0 has.1))) aware.after aware.others)
-          (every_one (λ e. e.worker ≡ v.low) (IsByOne v) (λ e by. (subst (λ n. 1 ≤ n) (sym by) one, subst (λ n. n < NUMBERS + 1) (sym by) within, λ has. by)) adds.added adds.by_worker);
-      run = λ s subject run. subst (λ k. IsRun k y.entries) (adds.subject ∙ some_is x.subject s (sym aware.subject ∙ subject)) shared.run;
+          (every_one (IsOther trace_log v.low v.count) (IsByOne v)
+          (λ e h. (h.0, h.1, λ has. absurd (h.2 has.0 has.1))) aware.after aware.others)
+          (every_one (λ e. e.worker ≡ v.low) (IsByOne v)
+          (λ e by. (subst (λ n. 1 ≤ n) (sym by) one, subst (λ n. n < NUMBERS + 1) (sym by) within, λ has. by))
+          adds.added adds.by_worker);
+      run = λ s subject run. subst (λ k. IsRun k y.entries)
+          (adds.subject ∙ some_is x.subject s (sym aware.subject ∙ subject)) shared.run;
     })
 
 -- what a claim tells a pass that has left the lock since
-pub has_claimed : (v r inside : Seen) (t : ℕ) (x y : Traced) (claim : Claim) → IsAware trace_log x v → inside ≡ arrived trace_log v t x → r ≡ given trace_log inside y
+pub has_claimed : (v r inside : Seen) (t : ℕ) (x y : Traced) (claim : Claim) → IsAware trace_log x v
+    → inside ≡ arrived trace_log v t x → r ≡ given trace_log inside y
     → lowest_work r [] ≡ open_by y v.low → Claims x y v.low claim → ClaimStands y v.low claim → HasClaimed r claim
 has_claimed v r inside t x y (Got job) aware entered is work claims stands =
     let there : r ≡ given trace_log (arrived trace_log v t x) y = is ∙ ap (λ w. given trace_log w y) entered in
@@ -102,11 +110,13 @@ has_claimed v r inside t x y Stalled aware entered is work claims stands = λ s 
     let there : r ≡ given trace_log (arrived trace_log v t x) y = is ∙ ap (λ w. given trace_log w y) entered in
     let front : x.entries ≡ r.front = sym (ap (λ w. w.front) there ∙ ap (λ z. z.entries) claims.0.same) in
     let same : x.subject ≡ s = some_is x.subject s (sym aware.subject ∙ (sym (ap (λ w. w.subject) there) ∙ subject)) in
-    subst (IsStalled s) front (subst (λ k. IsStalled k x.entries) same (record { complete = claims.1; device = claims.2.device; waits = claims.2.waits }))
+    subst (IsStalled s) front (subst (λ k. IsStalled k x.entries) same
+    (record { complete = claims.1; device = claims.2.device; waits = claims.2.waits }))
 has_claimed v r inside t x y Stopped aware entered is work claims stands = tt
 
 -- the trace that a worker finds takes the job that its pass knows
-pub may_put : (v : Seen) (x : Traced) (job : Task) → IsAware trace_log x v → Knows v job → lowest_work v [] ≡ open_by x v.low → job.spent ≡ false → MayPut x v.low job
+pub may_put : (v : Seen) (x : Traced) (job : Task) → IsAware trace_log x v → Knows v job
+    → lowest_work v [] ≡ open_by x v.low → job.spent ≡ false → MayPut x v.low job
 may_put v x job aware knows work ready =
     let log : x.entries ≡ job.front ++ (knows.front.0 ++ aware.after) =
     aware.front ∙ (ap (λ l. l ++ aware.after) knows.front.1 ∙ append_assoc job.front knows.front.0 aware.after) in
@@ -114,16 +124,23 @@ may_put v x job aware knows work ready =
       subject = some_is job.subject x.subject (sym knows.subject ∙ aware.subject);
       worker = knows.worker;
       stands = subst (λ l. StandsIn l job) work knows.stands;
-      posts = λ g. subst (λ l. posts_of x.subject g job.front ≤ posts_of x.subject g l) (sym log) (posts_later x.subject g job.front (knows.front.0 ++ aware.after));
+      posts = λ g. subst (λ l. posts_of x.subject g job.front ≤ posts_of x.subject g l) (sym log)
+          (posts_later x.subject g job.front (knows.front.0 ++ aware.after));
       ready = ready;
     }
 
 -- after the job was put
-pub is_put : (v r inside : Seen) (t : ℕ) (x y : Traced) (job : Task) → IsAware trace_log x v → inside ≡ arrived trace_log v t x → r ≡ given trace_log inside y
+pub is_put : (v r inside : Seen) (t : ℕ) (x y : Traced) (job : Task) → IsAware trace_log x v
+    → inside ≡ arrived trace_log v t x → r ≡ given trace_log inside y
     → y ≡ with_block x job.device job.shown job.entries → IsPut v.front job.entries r.front
 is_put v r inside t x y job aware entered is put =
     let there : r ≡ given trace_log (arrived trace_log v t x) y = is ∙ ap (λ w. given trace_log w y) entered in
-    record { before = x.entries; begins = (aware.after, aware.front); ends = ap (λ w. w.front) there ∙ ap (λ z. z.entries) put }
+    record {
+      before = x.entries;
+      begins = (aware.after, aware.front);
+      ends =
+          ap (λ w. w.front) there ∙ ap (λ z. z.entries) put;
+    }
 
 -- the job has made steps
 pub still_knows : (v : Seen) (old new : Task) → IsSameJob old new → Knows v old → Knows v new

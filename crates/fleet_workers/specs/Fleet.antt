@@ -1,7 +1,7 @@
 -- The run that workers make together.
 use Rattle.std.specs.Prelude.{◌≡◌, ℕ, ◌≤◌, Bool, true, false, List}
 use Rattle.std.specs.List.{AllByRecursion}
-use Rattle.scenario_image.specs.Script.{Script}
+use Rattle.scenario_image.specs.Scenario.{Scenario}
 use Rattle.trace_file.specs.declared.entry.Entry.{Entry}
 use Rattle.fleet_core.specs.Run.{IsRun, IsComplete, IsSerial, IsSame}
 use Rattle.fleet_core.specs.Waiting.{is_waiting, waiting}
@@ -19,26 +19,26 @@ abbrev pub IsByWorker : Entry → Type 0
 IsByWorker e = (1 ≤ e.worker) × (e.worker ≤ 2)
 
 -- these devices, in ascending order, are not at the end of their rows; there is one
-pub record IsUnfinished (s : Script) (es : List Entry) (devices : List ℕ) : Type 0 where
+pub record IsUnfinished (s : Scenario) (es : List Entry) (devices : List ℕ) : Type 0 where
   pub exactly : devices ≡ waiting s es
   pub device : ℕ
   pub waits : is_waiting s es device ≡ true
 
 -- at the end of the run each row is at its end, or exactly these devices are not at the end of theirs
-abbrev pub IsEndOf : Script → List Entry → FleetEnd → Type 0
+abbrev pub IsEndOf : Scenario → List Entry → FleetEnd → Type 0
 IsEndOf s es ends.Done = (d : ℕ) → is_waiting s es d ≡ false
 IsEndOf s es (ends.Stalled devices) = IsUnfinished s es devices.items
 
 -- the run is complete, and each entry is a worker's. Whatever the order in which the workers took the lock, each device
 -- has as many entries as in the serial run, and these output the same, one after another
-pub record IsFleetRun (s : Script) (r : FleetRun) : Type 0 where
+pub record IsFleetRun (s : Scenario) (r : FleetRun) : Type 0 where
   pub complete : IsComplete s r.entries
   pub workers : AllByRecursion IsByWorker r.entries
   pub serial : (es : List Entry) → IsSerial s es → (d : ℕ) → IsSame d r.entries es
   pub end : IsEndOf s r.entries r.end
 
 -- what the workers made until memory or the tickets ran out is a run
-abbrev pub Leaves : Script → RunFault → Type 0
+abbrev pub Leaves : Scenario → RunFault → Type 0
 Leaves s (faults.Memory es) = IsRun s es
 Leaves s (faults.Spent es) = IsRun s es
 Leaves s faults.Workers = Unit {0}
@@ -47,14 +47,14 @@ Leaves s faults.Batch = Unit {0}
 -- ---- what two workers leave
 
 -- what a worker that ended so says of the whole run
-abbrev pub HasEnded : Script → List Entry → LoopEnd → Type 0
+abbrev pub HasEnded : Scenario → List Entry → LoopEnd → Type 0
 HasEnded s es loops.Done = IsDone s es
 HasEnded s es loops.Stalled = IsStalled s es
 HasEnded s es loops.Stopped = Unit {0}
 HasEnded s es loops.Memory = Unit {0}
 HasEnded s es loops.Spent = Unit {0}
 
-pub record IsLeft (s : Script) (es : List Entry) (first second : LoopEnd) : Type 0 where
+pub record IsLeft (s : Scenario) (es : List Entry) (first second : LoopEnd) : Type 0 where
   pub run : IsRun s es
   pub workers : AllByRecursion IsByWorker es
   pub ended : HasEnded s es first

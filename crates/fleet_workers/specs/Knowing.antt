@@ -1,7 +1,7 @@
 -- What a worker knows by its pass, which has seen the log of a trace.
 use Rattle.std.specs.Prelude.{◌≡◌, ℕ, ◌+◌, ◌<◌, ◌≤◌, true, false, List, [], ◌++◌, length, Some}
 use Rattle.std.specs.List.{AllByRecursion}
-use Rattle.scenario_image.specs.Script.{Script}
+use Rattle.scenario_image.specs.Scenario.{Scenario}
 use Rattle.trace_file.specs.declared.entry.Entry.{Entry}
 use Rattle.fleet_core.specs.Run.{IsRun, IsComplete}
 use Rattle.fleet_core.specs.Waiting.{is_waiting}
@@ -19,7 +19,7 @@ use Rattle.fleet_workers.specs.declared.loops.LoopEnd.TheVariants as ends
 
 -- what a pass knows of a trace
 abbrev pub Seen : Type 0
-Seen = View Traced Entry Script (List (ℕ × ℕ))
+Seen = View Traced Entry Scenario (List (ℕ × ℕ))
 
 -- the entry is under a number of the lock; of the pass's own, it is the lowest
 abbrev pub IsByOne : Seen → Entry → Type 0
@@ -34,7 +34,7 @@ pub record Follows (v w : Seen) : Type 0 where
   pub added : List Entry
   pub front : w.front ≡ v.front ++ added
   pub workers : AllByRecursion (IsByOne v) added
-  pub run : (s : Script) → v.subject ≡ Some s → IsRun s v.front → IsRun s w.front
+  pub run : (s : Scenario) → v.subject ≡ Some s → IsRun s v.front → IsRun s w.front
 
 -- the job was claimed under the pass's lowest number, and the pass has left the lock since
 pub record Knows (v : Seen) (job : Task) : Type 0 where
@@ -44,12 +44,12 @@ pub record Knows (v : Seen) (job : Task) : Type 0 where
   pub stands : StandsIn (lowest_work v []) job
 
 -- the run is complete, and each row is at its end
-pub record IsDone (s : Script) (es : List Entry) : Type 0 where
+pub record IsDone (s : Scenario) (es : List Entry) : Type 0 where
   pub complete : IsComplete s es
   pub ended : (d : ℕ) → is_waiting s es d ≡ false
 
 -- the run is complete, and a row is not at its end
-pub record IsStalled (s : Script) (es : List Entry) : Type 0 where
+pub record IsStalled (s : Scenario) (es : List Entry) : Type 0 where
   pub complete : IsComplete s es
   pub device : ℕ
   pub waits : is_waiting s es device ≡ true
@@ -58,8 +58,8 @@ pub record IsStalled (s : Script) (es : List Entry) : Type 0 where
 abbrev pub HasClaimed : Seen → Claim → Type 0
 HasClaimed v (claims.Got job) = Knows v job × (job.entries ≡ []) × (job.spent ≡ false)
 HasClaimed v claims.Busy = Unit {0}
-HasClaimed v claims.Done = (s : Script) → v.subject ≡ Some s → IsDone s v.front
-HasClaimed v claims.Stalled = (s : Script) → v.subject ≡ Some s → IsStalled s v.front
+HasClaimed v claims.Done = (s : Scenario) → v.subject ≡ Some s → IsDone s v.front
+HasClaimed v claims.Stalled = (s : Scenario) → v.subject ≡ Some s → IsStalled s v.front
 HasClaimed v claims.Stopped = Unit {0}
 
 -- the block stands at the end of the new log, after all that was in the old one
@@ -77,8 +77,8 @@ pub record HasMade (old new : List Entry) (batch : ℕ) : Type 0 where
 
 -- what a pass knows at the end of its worker's loop
 abbrev pub EndsAs : Seen → LoopEnd → Type 0
-EndsAs v ends.Done = (s : Script) → v.subject ≡ Some s → IsDone s v.front
-EndsAs v ends.Stalled = (s : Script) → v.subject ≡ Some s → IsStalled s v.front
+EndsAs v ends.Done = (s : Scenario) → v.subject ≡ Some s → IsDone s v.front
+EndsAs v ends.Stalled = (s : Scenario) → v.subject ≡ Some s → IsStalled s v.front
 EndsAs v ends.Stopped = Unit {0}
 EndsAs v ends.Memory = Unit {0}
 EndsAs v ends.Spent = v.end ≡ true

@@ -8,7 +8,8 @@ ghost use Rattle.ticket_lock.specs.Changes.{whole};
 ghost use Rattle.ticket_lock.specs.Names.{lock_id, opening_value, pass_view, IsPass};
 ghost use Rattle.shared_trace.specs.Trace.{trace_log};
 ghost use Rattle.fleet_workers.specs.Knowing.{Follows, EndsAs, IsStalled};
-ghost use Rattle.fleet_workers.specs.Fleet.{IsByWorker, IsFleetRun, IsEndOf, Leaves, IsLeft, HasEnded, Keeps, is_cut, is_spent};
+ghost use Rattle.fleet_workers.specs.Fleet.{IsByWorker, IsFleetRun, IsEndOf, Leaves, IsLeft, HasEnded, Keeps, is_cut};
+ghost use Rattle.fleet_workers.specs.Fleet.{is_spent};
 
 use crate::gate::Gate;
 use crate::loops::{LoopEnd, worker_loop};

@@ -9,3 +9,4 @@ mod visits;
 pub use fleet::{FleetEnd, FleetRun, RunFault, run_fleet};
 pub use gate::{Gate, OpenGate};
 pub use loops::{LoopEnd, worker_loop};
+pub use visits::{Put, claim_job, put_job, stop_trace};

@@ -12,7 +12,7 @@ use std::sync::Wait;
 use ticket_lock::{Pass, TicketLock};
 
 /// Claims under the lowest number of the pass. There is no answer if no ticket is left.
-pub(crate) fn claim_job<R: Wait>(
+pub fn claim_job<R: Wait>(
     rt: &R,
     lock: &TicketLock<Trace>,
     pass: Pass<Trace>,
@@ -52,7 +52,8 @@ fn put_or_stop(trace: &mut Trace, worker: u16, job: Job) -> bool
 }
 
 /// What became of a job that was to be put.
-pub(crate) enum Put {
+#[derive(Clone, Copy, Debug, PartialEq, Eq)]
+pub enum Put {
     /// Its entries stand in the trace.
     Made,
     /// Memory ran out; the trace was stopped.
@@ -62,7 +63,7 @@ pub(crate) enum Put {
 }
 
 /// Puts the job under the lowest number of the pass.
-pub(crate) fn put_job<R: Wait>(
+pub fn put_job<R: Wait>(
     rt: &R,
     lock: &TicketLock<Trace>,
     pass: Pass<Trace>,
@@ -90,11 +91,7 @@ pub(crate) fn put_job<R: Wait>(
 }
 
 /// Stops the trace, if a ticket is left for it.
-pub(crate) fn stop_trace<R: Wait>(
-    rt: &R,
-    lock: &TicketLock<Trace>,
-    pass: Pass<Trace>,
-) -> Pass<Trace>
+pub fn stop_trace<R: Wait>(rt: &R, lock: &TicketLock<Trace>, pass: Pass<Trace>) -> Pass<Trace>
     requires { IsPass (lock_id lock.now) pass }
     ensures pass { IsPass (lock_id lock.now) result }
     ensures follows { Follows (pass_view pass) (pass_view result) }

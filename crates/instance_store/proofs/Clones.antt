@@ -7,7 +7,8 @@ use Rattle.instance_store.specs.Numbers.{NumberSet, set_of}
 use Rattle.instance_store.specs.contracts.numbers.NumbersClone.TheImpl.{is_clone-value}
 use Rattle.lwm2m_values.specs.contracts.value.ValueClone.TheImpl.{by_variants}
 
-pub same_list : {X : Type 0} (C : X → X → Type 0) → ((x y : X) → C x y → y ≡ x) → (xs ys : List X) → AllZip C xs ys → ys ≡ xs
+pub same_list : {X : Type 0} (C : X → X → Type 0) → ((x y : X) → C x y → y ≡ x) → (xs ys : List X) → AllZip C xs ys
+    → ys ≡ xs
 same_list C same [] [] h = refl
 same_list C same [] (y ∷ ys) h = absurd h
 same_list C same (x ∷ xs) [] h = absurd h

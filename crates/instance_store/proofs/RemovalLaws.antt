@@ -1,5 +1,6 @@
 -- The values at or below a path, taken out one by one.
-use Rattle.std.proofs.Common.{◌≡◌, Bool, true, false, cond, not, List, [], ◌∷◌, Option, None, Some, Ordering, refl, sym, ap, ◌∙◌}
+use Rattle.std.proofs.Common.{◌≡◌, Bool, true, false, cond, not, List, [], ◌∷◌, Option, None, Some, Ordering, refl, sym}
+use Rattle.std.proofs.Common.{ap, ◌∙◌}
 use Rattle.std.specs.Option.{IsSome}
 use Rattle.std.specs.List.{filter}
 use Rattle.std.specs.Ordering.{is_eq}
@@ -34,27 +35,37 @@ some_below false None v h = cc
 some_below false (Some x) v h = refl
 
 -- the first of a range is in the map
-pub first_found : {X : Type 0} (path : Path) (es its rest : List (FullPath × X)) (k : FullPath) (v : X) → its ≡ filter (λ e. from path e.0) es → its ≡ (k, v) ∷ rest → IsSome (lookup (is_at (path_cmp k)) es)
+pub first_found : {X : Type 0} (path : Path) (es its rest : List (FullPath × X)) (k : FullPath) (v : X)
+    → its ≡ filter (λ e. from path e.0) es → its ≡ (k, v) ∷ rest → IsSome (lookup (is_at (path_cmp k)) es)
 first_found path es its rest k v is first =
     some_below (from path k) (lookup (is_at (path_cmp k)) es) v
-    (sym (cond-true (is_at (path_cmp k) k) (Some v) (lookup (is_at (path_cmp k)) rest) ((eq_by_cmp_equiv path_total).refl k))
+    (sym (cond-true (is_at (path_cmp k) k) (Some v) (lookup (is_at (path_cmp k)) rest)
+    ((eq_by_cmp_equiv path_total).refl k))
     ∙ ap (lookup (is_at (path_cmp k))) (sym first ∙ is)
     ∙ lookup-filter-keys (is_at (path_cmp k)) (from path) (from path k) (λ q h. ap (from path) (sym (at_key k q h))) es)
 
 -- what lies elsewhere is not at a key that lies here
-pub elsewhere : (path : Path) (k q : FullPath) → lies_in path k ≡ true → lies_in path q ≡ false → is_at (path_cmp k) q ≡ false
-elsewhere path k q here there = false_from_ne_true _ (λ h. false≢true (sym there ∙ ap (lies_in path) (sym (at_key k q h)) ∙ here))
+pub elsewhere : (path : Path) (k q : FullPath) → lies_in path k ≡ true → lies_in path q ≡ false
+    → is_at (path_cmp k) q ≡ false
+elsewhere path k q here there =
+    false_from_ne_true _ (λ h. false≢true (sym there ∙ ap (lies_in path) (sym (at_key k q h)) ∙ here))
 
 -- nothing at or below the path is left
-pub none_left : {X : Type 0} (path : Path) (es : List (FullPath × X)) (q : FullPath) → filter (λ e. lies_in path e.0) es ≡ [] → lies_in path q ≡ true → lookup (is_at (path_cmp q)) es ≡ None
+pub none_left : {X : Type 0} (path : Path) (es : List (FullPath × X)) (q : FullPath)
+    → filter (λ e. lies_in path e.0) es ≡ [] → lies_in path q ≡ true → lookup (is_at (path_cmp q)) es ≡ None
 none_left path es q none here =
-    sym (lookup-filter-keys (is_at (path_cmp q)) (lies_in path) true (λ k h. ap (lies_in path) (sym (at_key q k h)) ∙ here) es)
+    sym (lookup-filter-keys (is_at (path_cmp q)) (lies_in path) true
+    (λ k h. ap (lies_in path) (sym (at_key q k h)) ∙ here) es)
     ∙ ap (lookup (is_at (path_cmp q))) none
 
 -- the map of what is left
-pub all_removed : {X : Type 0} (path : Path) (es fs : List (FullPath × X)) → ((q : FullPath) → lies_in path q ≡ false → lookup (is_at (path_cmp q)) fs ≡ lookup (is_at (path_cmp q)) es) → filter (λ e. lies_in path e.0) fs ≡ [] → map.from_entries {R = path_cmp} fs ≡ map.retain_keys (map.from_entries es) (λ q. not (lies_in path q))
+pub all_removed : {X : Type 0} (path : Path) (es fs : List (FullPath × X))
+    → ((q : FullPath) → lies_in path q ≡ false → lookup (is_at (path_cmp q)) fs ≡ lookup (is_at (path_cmp q)) es)
+    → filter (λ e. lies_in path e.0) fs ≡ []
+    → map.from_entries {R = path_cmp} fs ≡ map.retain_keys (map.from_entries es) (λ q. not (lies_in path q))
 all_removed path es fs others none = kept_keys path_total path_exact (λ q. not (lies_in path q)) es fs (λ q.
-    elim (lies_in path q) as (λ b. lies_in path q ≡ b → lookup (is_at (path_cmp q)) fs ≡ cond (not b) (lookup (is_at (path_cmp q)) es) None) [
+    elim (lies_in path q) as (λ b. lies_in path q ≡ b
+    → lookup (is_at (path_cmp q)) fs ≡ cond (not b) (lookup (is_at (path_cmp q)) es) None) [
       | true ↦ λ h. none_left path fs q none h
       | false ↦ λ h. others q h
     ] refl)

@@ -1,4 +1,5 @@
--- Which resources exist in a store, by their definitions (OMA LwM2M 1.1 Core; which of them count as existing is this profile's).
+-- Which resources exist in a store, by their definitions (OMA LwM2M 1.1 Core; which of them count as existing is this
+-- profile's).
 use Rattle.std.specs.Prelude.{ℕ, nat_lt, Bool, true, false, not, ◌&&◌, ◌||◌, length, Option, None, Some, is_some}
 use Rattle.object_defs.specs.Operations.{can_read}
 use Rattle.object_defs.specs.Path.{single_of}

@@ -1,5 +1,7 @@
--- What a store holds, and how a call changes it (OMA LwM2M 1.1 Core: objects, instances, resources and resource instances).
-use Rattle.std.specs.Prelude.{ℕ, ◌==◌, ◌&&◌, not, Bool, false, List, map, Option, None, Some, is_some, nat_le, length, refl}
+-- What a store holds, and how a call changes it (OMA LwM2M 1.1 Core: objects, instances, resources and resource
+-- instances).
+use Rattle.std.specs.Prelude.{ℕ, ◌==◌, ◌&&◌, not, Bool, false, List, map, Option, None, Some, is_some, nat_le, length}
+use Rattle.std.specs.Prelude.{refl}
 use Rattle.std.specs.List.{filter, filter_map, dedup}
 use Rattle.std.specs.Coded.{Coded, code_by, coded×}
 use Rattle.std.specs.FinMap as map
@@ -21,7 +23,8 @@ pub record Stored : Type 0 where
 
 abbrev pub stored_code : Coded Stored
 stored_code =
-    code_by (map.FinMap path_cmp Value × map.FinMap instance_cmp (Unit {0})) (coded× (map.code path_code value_code) (set.code instance_code))
+    code_by (map.FinMap path_cmp Value × map.FinMap instance_cmp (Unit {0}))
+    (coded× (map.code path_code value_code) (set.code instance_code))
     (λ s. (s.values, s.instances)) (λ p. record { values = p.0; instances = p.1 }) (λ _. refl)
 
 -- nothing
@@ -76,7 +79,8 @@ parts_of stored resource = filter_map (λ e. e.0.part) (values_in stored (resour
 
 -- whether a part is new to a resource that has 32
 abbrev pub is_full : Stored → ResourcePath → ℕ → Bool
-is_full stored resource part = not (is_some (value_at stored (part_of resource part))) && nat_le 32 (length (parts_of stored resource))
+is_full stored resource part =
+    not (is_some (value_at stored (part_of resource part))) && nat_le 32 (length (parts_of stored resource))
 
 -- the numbers of an instance's resources that have a value, single or in parts: ascending, each once
 abbrev pub resources_of : Stored → InstancePath → List ℕ
@@ -88,7 +92,8 @@ with_value stored place value = record { values = map.insert stored.values place
 
 -- without the values at or below a path
 abbrev pub without_values : Stored → Path → Stored
-without_values stored place = record { values = map.retain_keys stored.values (λ q. not (lies_in place q)); instances = stored.instances }
+without_values stored place =
+    record { values = map.retain_keys stored.values (λ q. not (lies_in place q)); instances = stored.instances }
 
 -- with this instance
 abbrev pub with_instance : Stored → InstancePath → Stored
@@ -97,4 +102,8 @@ with_instance stored place = record { values = stored.values; instances = map.in
 -- without this instance and without the values below it
 abbrev pub without_instance : Stored → InstancePath → Stored
 without_instance stored place =
-    record { values = (without_values stored (instance_path place)).values; instances = map.remove stored.instances place }
+    record {
+      values = (without_values stored (instance_path place)).values;
+      instances =
+          map.remove stored.instances place;
+    }

@@ -13,7 +13,8 @@ pub(crate) fn add_number(
     instances: &mut BTreeMap<u16, Numbers>,
     place: InstancePath,
 ) -> Result<(), AllocError>
-    ensures ok { OnOk result (instances_from instances.new.entries ≡ map.insert (instances_from instances.old.entries) place tt) }
+    ensures ok { OnOk result (instances_from instances.new.entries
+        ≡ map.insert (instances_from instances.old.entries) place tt) }
     ensures err { OnErr result (instances_from instances.new.entries ≡ instances_from instances.old.entries) }
 {
     if let Some(numbers) = instances.get_mut(&place.object) {

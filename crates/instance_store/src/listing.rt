@@ -93,7 +93,8 @@ pub(crate) fn parts_in(
     values: &BTreeMap<FullPath, Value>,
     resource: ResourcePath,
 ) -> Result<Vec<u16>, AllocError>
-    ensures { IfOk result (λ v. v.items ≡ filter_map (λ e. e.0.part) (listed_in (resource_path resource) values.now.entries)) }
+    ensures { IfOk result (λ v. v.items ≡ filter_map (λ e. e.0.part)
+        (listed_in (resource_path resource) values.now.entries)) }
 {
     let path = path_of(resource);
     let mut found = Vec::new(alloc);

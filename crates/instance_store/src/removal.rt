@@ -13,7 +13,8 @@ use std::collections::BTreeMap;
 
 /// The first full path at or below a path that has a value.
 fn first_in(values: &BTreeMap<FullPath, Value>, path: Path) -> Option<FullPath>
-    ensures { MatchOption result (filter (λ e. lies_in path e.0) values.now.entries ≡ []) (λ p. (lies_in path p ≡ true) × IsSome (get path_cmp values.now p)) }
+    ensures { MatchOption result (filter (λ e. lies_in path e.0) values.now.entries ≡ [])
+        (λ p. (lies_in path p ≡ true) × IsSome (get path_cmp values.now p)) }
 {
     let mut range = values.range(lowest(path)..);
     let Some((place, _)) = range.next() else {
@@ -28,7 +29,8 @@ fn first_in(values: &BTreeMap<FullPath, Value>, path: Path) -> Option<FullPath>
 
 /// Removes the value at a full path, if there is one.
 fn remove_at(values: &mut BTreeMap<FullPath, Value>, place: &FullPath)
-    ensures others { (q : FullPath) → is_at (path_cmp place.now) q ≡ false → get path_cmp values.new q ≡ get path_cmp values.old q }
+    ensures others { (q : FullPath) → is_at (path_cmp place.now) q ≡ false
+        → get path_cmp values.new q ≡ get path_cmp values.old q }
     ensures fewer { IsSome (get path_cmp values.old place.now) → btree_map_len values.new < btree_map_len values.old }
 {
     values.remove(place);
@@ -36,7 +38,8 @@ fn remove_at(values: &mut BTreeMap<FullPath, Value>, place: &FullPath)
 
 /// Removes the values at or below a path, and looks at no other.
 pub(crate) fn remove_in(values: &mut BTreeMap<FullPath, Value>, path: Path)
-    ensures { map.from_entries {R = path_cmp} values.new.entries ≡ map.retain_keys (map.from_entries values.old.entries) (λ q. not (lies_in path q)) }
+    ensures { map.from_entries {R = path_cmp} values.new.entries
+        ≡ map.retain_keys (map.from_entries values.old.entries) (λ q. not (lies_in path q)) }
 {
     while let Some(place) = first_in(values, path) {
         remove_at(values, &place);

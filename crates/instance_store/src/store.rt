@@ -1,10 +1,13 @@
-ghost use Rattle.std.specs.Prelude.{◌≡◌, ◌≤◌, ◌<◌, ◌↔◌, length, IsTrue, IsFalse, IsErrOf, ◌≢◌, None, Ok, Err, if◌then◌else◌, IfOk, OnOk, OnErr};
+ghost use Rattle.std.specs.Prelude.{◌≡◌, ◌≤◌, ◌<◌, ◌↔◌, length, IsTrue, IsFalse, IsErrOf, ◌≢◌, None, Ok, Err};
+ghost use Rattle.std.specs.Prelude.{if◌then◌else◌, IfOk, OnOk, OnErr};
 ghost use Rattle.std.specs.FinMap as map;
 ghost use Rattle.std.specs.Option.{option_copied, is_some};
 ghost use Rattle.instance_store.specs.Existence.{is_held, has_resource};
 ghost use Rattle.instance_store.specs.Listing.{shown_pairs};
 ghost use Rattle.object_defs.specs.Path.{single_of, part_of};
-ghost use Rattle.instance_store.specs.Stored.{value_at, value_count, has_instance, instances_of, instance_of, resource_path, parts_of, resources_of, values_in, is_full, with_value, without_values, without_instance, with_instance, empty};
+ghost use Rattle.instance_store.specs.Stored.{value_at, value_count, has_instance, instances_of, instance_of};
+ghost use Rattle.instance_store.specs.Stored.{resource_path, parts_of, resources_of, values_in, is_full, with_value};
+ghost use Rattle.instance_store.specs.Stored.{without_values, without_instance, with_instance, empty};
 
 use crate::contents::{all_pairs, all_places};
 use crate::fault::StoreFault;
@@ -35,7 +38,11 @@ impl Model for Store {
 
     ghost coded = { stored_code };
 
-    ghost view = { λ s. record { values = map.from_entries s.values.entries; instances = instances_from s.instances.entries } };
+    ghost view = { λ s. record {
+      values = map.from_entries s.values.entries;
+      instances =
+          instances_from s.instances.entries;
+    } };
 }
 
 /// The instance of a resource.
@@ -104,7 +111,8 @@ impl Store {
 
         // There is such an instance; or else the object has 64.
         ensures exists { IsErrOf result StoreFault.Exists ↔ IsTrue (has_instance self.old place) }
-        ensures full { IsErrOf result StoreFault.Full ↔ (IsFalse (has_instance self.old place) × (64 ≤ length (instances_of self.old place.object))) }
+        ensures full { IsErrOf result StoreFault.Full
+            ↔ (IsFalse (has_instance self.old place) × (64 ≤ length (instances_of self.old place.object))) }
         ensures never_absent { result ≢ Err StoreFault.Absent }
         ensures unchanged { OnErr result (self.new ≡ self.old) }
     {
@@ -147,7 +155,8 @@ impl Store {
 
         // There is no such instance; or else the part is new and the resource has 32.
         ensures absent { IsErrOf result StoreFault.Absent ↔ IsFalse (has_instance self.old (instance_of path)) }
-        ensures full { IsErrOf result StoreFault.Full ↔ (IsTrue (has_instance self.old (instance_of path)) × IsTrue (is_full self.old path part)) }
+        ensures full { IsErrOf result StoreFault.Full
+            ↔ (IsTrue (has_instance self.old (instance_of path)) × IsTrue (is_full self.old path part)) }
         ensures never_exists { result ≢ Err StoreFault.Exists }
         ensures grows { IsErrOf result StoreFault.Memory → value_at self.old (part_of path part) ≡ None }
         ensures unchanged { OnErr result (self.new ≡ self.old) }

@@ -1,6 +1,6 @@
 -- The canonical text of a scenario denotes it, where its statements lead to it.
 use Rattle.std.proofs.Common.{◌≡◌, ℕ, true, List, [], ◌∷◌, ◌++◌, Option, None, Some, Result, Ok, Err, refl, sym, subst}
-use Rattle.scenario_image.specs.Script.{Script}
+use Rattle.scenario_image.specs.Scenario.{Scenario}
 use Rattle.scenario_words.specs.declared.cause.Cause.{Cause}
 use Rattle.scenario_words.specs.Reading.{◌>>=◌}
 use Rattle.scenario_words.specs.Words.{lines, words}
@@ -37,7 +37,7 @@ pub said_are : (ls : List (List ℕ)) (ss : List Statement) → said_in ls ≡ O
 said_are [] ss h = let same : [] ≡ ss = cc in subst (AreSaid []) same done
 said_are (line ∷ ls) ss h = by_line line ls ss (statement_of (words line)) (said_in ls) refl refl h (λ rest g. said_are ls rest g)
 
-pub canonical : (s : Script) (d : Draft) → IsScenario s → Lead nothing (statements s) d → d.begun ≡ true → closed d ≡ s → assembled (printed s) ≡ Ok s
+pub canonical : (s : Scenario) (d : Draft) → IsScenario s → Lead nothing (statements s) d → d.begun ≡ true → closed d ≡ s → assembled (printed s) ≡ Ok s
 canonical s d is lead begun same =
     denotes_so (printed s) s (record {
       statements = statements s;

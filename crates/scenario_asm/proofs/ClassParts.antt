@@ -16,7 +16,7 @@ use Rattle.object_defs.proofs.PathOrder.{path_total, instance_total}
 use Rattle.instance_store.specs.Stored.{has_instance, instances_of}
 use Rattle.device_template.specs.declared.fault.TemplateFault.{TemplateFault}
 use Rattle.device_template.specs.declared.fault.TemplateFault.TheVariants.{Range, Missing, Duplicate, Full}
-use Rattle.device_template.specs.Class.{Class, most_accounts, account_fault, instance_fault, may_stand}
+use Rattle.device_template.specs.Template.{Template, most_accounts, account_fault, instance_fault, may_stand}
 use Rattle.device_template.specs.Built.{IsBuilt, IsShort}
 use Rattle.device_template.specs.Built.IsBuilt.{nothing, account, object, resource, instance, value}
 use Rattle.scenario_layout.proofs.Items.{object_vendor}
@@ -29,7 +29,7 @@ abbrev pub IsPlace : InstancePath → Type 0
 IsPlace p = (p.object < 65536) × (p.instance ≤ 65534)
 
 -- a class whose accounts, objects, instances and values words can say
-pub record HasWords (c : Class) : Type 0 where
+pub record HasWords (c : Template) : Type 0 where
   pub accounts : AllByRecursion (IsWithin 1 65534) c.accounts
   pub objects : HasOwn c.catalogue
   pub instances : AllByRecursion (λ (e : InstancePath × Unit {0}). IsPlace e.0 × Unit {0}) (finite.entries c.store.instances)
@@ -40,20 +40,20 @@ first : (b : Bool) (fault : TemplateFault) (ls : List (Bool × TemplateFault)) �
 first true fault ls h = refl
 first false fault ls h = absurd cc
 
-abbrev account_lines : Class → ℕ → List (Bool × TemplateFault)
+abbrev account_lines : Template → ℕ → List (Bool × TemplateFault)
 account_lines c s = (list_any (λ account. account == s) c.accounts, Duplicate) ∷ (nat_le most_accounts (length c.accounts), Full) ∷ []
 
-abbrev instance_lines : Class → InstancePath → List (Bool × TemplateFault)
+abbrev instance_lines : Template → InstancePath → List (Bool × TemplateFault)
 instance_lines c p =
     (not (is_some (object_of c.catalogue p.object)), Missing)
     ∷ (has_instance c.store p, Duplicate)
     ∷ (nat_le 64 (length (instances_of c.store p.object)), Full)
     ∷ []
 
-account_range : (c : Class) (s : ℕ) → account_fault c s ≡ None → IsWithin 1 65534 s
+account_range : (c : Template) (s : ℕ) → account_fault c s ≡ None → IsWithin 1 65534 s
 account_range c s h = let both = and_parts (leb 1 s) (leb s 65534) (first (leb 1 s && leb s 65534) Range (account_lines c s) h) in (leb-true 1 s both.0, leb-true s 65534 both.1)
 
-instance_range : (c : Class) (p : InstancePath) → instance_fault c p ≡ None → p.instance ≤ 65534
+instance_range : (c : Template) (p : InstancePath) → instance_fault c p ≡ None → p.instance ≤ 65534
 instance_range c p h =
     let both = and_parts _ _ (first (may_stand p) Range (instance_lines c p) h) in
     leb-true p.instance 65534 (and_parts (leb p.instance 65534) _ both.1).0
@@ -65,7 +65,7 @@ no_length (x ∷ xs) h = absurd (omega (arith, h))
 each_empty : {K X : Type 0} (R : K → K → Ordering) (P : K × X → Type 0) → AllByRecursion P (finite.entries (finite.empty {X = X} {R = R}))
 each_empty R P = subst (AllByRecursion P) (sym (no_length (finite.entries finite.empty) (sym (finite.len-entries finite.empty) ∙ finite.len-empty _ _))) tt
 
-pub has_words : (c : Class) → IsBuilt c → HasWords c
+pub has_words : (c : Template) → IsBuilt c → HasWords c
 has_words _ nothing =
     record {
       accounts = tt;

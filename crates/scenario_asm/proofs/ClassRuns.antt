@@ -27,7 +27,7 @@ use Rattle.instance_store.specs.Stored.{has_instance, instances_of, value_at, va
 use Rattle.scenario_layout.specs.Value.{kind_numbered, number_of, of_kind, opaque, text, value}
 use Rattle.std.specs.Int.{w8}
 use Rattle.scenario_layout.specs.Definition.{resource, resources}
-use Rattle.device_template.specs.Class.{Class, account_fault, empty_class, instance_fault, kind_taken, kind_taken_by, object_fault, plain, value_fault, value_fault_at, may_stand, with_account, with_catalogue, with_store}
+use Rattle.device_template.specs.Template.{Template, account_fault, empty_class, instance_fault, kind_taken, kind_taken_by, object_fault, plain, value_fault, value_fault_at, may_stand, with_account, with_catalogue, with_store}
 use Rattle.device_template.specs.Values.{fits_object, has_all_parts, has_place, is_within_limits, with_value_at}
 use Rattle.device_template.specs.Built.{IsBuilt}
 use Rattle.device_template.specs.declared.fault.TemplateFault.{TemplateFault}
@@ -39,7 +39,7 @@ use Rattle.scenario_layout.proofs.GoodClass.{class_good}
 use Rattle.scenario_layout.proofs.Items.{instance_made, object_vendor, value_made}
 use Rattle.scenario_layout.proofs.Ordered.{both_true, inserted_end}
 use Rattle.scenario_image.specs.Layout.{path_to, path_with}
-use Rattle.scenario_image.specs.Script.{Script, class_fault}
+use Rattle.scenario_image.specs.Scenario.{Scenario, class_fault}
 use Rattle.scenario_image.specs.declared.fault.ScenarioFault.TheVariants as scenario
 use Rattle.scenario_words.specs.Reading.{◌>>=◌}
 use Rattle.scenario_statements.specs.declared.statement.Statement.{Statement}
@@ -54,7 +54,7 @@ use Rattle.scenario_asm.proofs.Canonical.{lead_append}
 use Rattle.scenario_asm.proofs.ClassValues.{plain_short, same_fit, short_told, too_long}
 
 -- a draft whose open class is this one, and whose object was stated last
-abbrev pub opened : Script → Class → Option ℕ → Draft
+abbrev pub opened : Scenario → Template → Option ℕ → Draft
 opened s c o = record { begun = true; scenario = s; open_class = Some c; object = o }
 
 taken_is : (o : Option TemplateFault) → is_taken o ≡ true → o ≡ None
@@ -62,7 +62,7 @@ taken_is None h = refl
 taken_is (Some f) h = absurd cc
 
 -- items that are added one after another, each behind those before it
-items_lead : {A : Type 0} (say : A → Statement) (part : List A → Part A) (state : List A → Class) (P : List A → Type 0) (s : Script) (o : Option ℕ)
+items_lead : {A : Type 0} (say : A → Statement) (part : List A → Part A) (state : List A → Template) (P : List A → Type 0) (s : Scenario) (o : Option ℕ)
     → ((before : List A) (a : A) → P before → (part before).Good a → (effect (say a) (opened s (state before) o) ≡ Ok (opened s (state (before ++ a ∷ [])) o)) × P (before ++ a ∷ []))
     → (n : ℕ) (before xs : List A) → P before → (each part n before).Good xs → Lead (opened s (state before) o) (map say xs) (opened s (state (before ++ xs)) o)
 unfolding each
@@ -79,14 +79,14 @@ items_lead say part state P s o item (suc n) before (x ∷ xs) p good =
 
 -- ---- accounts
 
-account_lead : (s : Script) (o : Option ℕ) (before : List ℕ) (n : ℕ) → (account before).Good n → effect (says.Account n) (opened s (with_accounts before) o) ≡ Ok (opened s (with_accounts (before ++ n ∷ [])) o)
+account_lead : (s : Scenario) (o : Option ℕ) (before : List ℕ) (n : ℕ) → (account before).Good n → effect (says.Account n) (opened s (with_accounts before) o) ≡ Ok (opened s (with_accounts (before ++ n ∷ [])) o)
 unfolding account
 account_lead s o before n good =
     let both = both_true (list_all (λ m. nat_lt m n) before) (is_taken (account_fault (with_accounts before) n)) good.1 in
     ap (λ f. unless (option_map template_cause f) (with_account (with_accounts before) n) >>= (λ e. Ok (opened s e o))) (taken_is _ both.1)
     ∙ ap (λ xs. Ok (opened s (with_accounts xs) o)) (inserted_end (λ a. a) n before both.0)
 
-accounts_lead : (s : Script) (xs : List ℕ) → accounts.Good xs → Lead (opened s empty_class None) (map (λ n. says.Account n) xs) (opened s (with_accounts xs) None)
+accounts_lead : (s : Scenario) (xs : List ℕ) → accounts.Good xs → Lead (opened s empty_class None) (map (λ n. says.Account n) xs) (opened s (with_accounts xs) None)
 unfolding accounts
 accounts_lead s xs good = items_lead (λ n. says.Account n) account with_accounts (λ before. Unit {0}) s None (λ before n p good. (account_lead s None before n good, tt)) (length xs) [] xs tt good.1
 
@@ -97,10 +97,10 @@ four_lines a true c d h = refl
 four_lines true false c d h = absurd cc
 four_lines false false c d h = absurd cc
 
-object_there : (k : Class) (p : InstancePath) → instance_fault k p ≡ None → has_object k p.object ≡ true
+object_there : (k : Template) (p : InstancePath) → instance_fault k p ≡ None → has_object k p.object ≡ true
 object_there k p h = four_lines (not (may_stand p)) (is_some (object_of k.catalogue p.object)) (has_instance k.store p) (nat_le 64 (length (instances_of k.store p.object))) h
 
-instance_lead : (s : Script) (o : Option ℕ) (c : Class) (before : List InstancePath) (p : InstancePath) → instances_in (with_instances c before) ≡ before → (instance c before).Good p
+instance_lead : (s : Scenario) (o : Option ℕ) (c : Template) (before : List InstancePath) (p : InstancePath) → instances_in (with_instances c before) ≡ before → (instance c before).Good p
     → (effect (says.Instance p) (opened s (with_instances c before) o) ≡ Ok (opened s (with_instances c (before ++ p ∷ [])) o)) × (instances_in (with_instances c (before ++ p ∷ [])) ≡ before ++ p ∷ [])
 unfolding instance
 instance_lead s o c before p same good =
@@ -116,11 +116,11 @@ instance_lead s o c before p same good =
       sym (ap instances_in made) ∙ more,
     )
 
-instances_lead : (s : Script) (o : Option ℕ) (c : Class) (xs : List InstancePath) → instances_in c ≡ [] → (instances c).Good xs → Lead (opened s c o) (map (λ p. says.Instance p) xs) (opened s (with_instances c xs) o)
+instances_lead : (s : Scenario) (o : Option ℕ) (c : Template) (xs : List InstancePath) → instances_in c ≡ [] → (instances c).Good xs → Lead (opened s c o) (map (λ p. says.Instance p) xs) (opened s (with_instances c xs) o)
 unfolding instances
 instances_lead s o c xs none good =
     let start : with_instances c [] ≡ c = sym (instances_itself c ∙ ap (with_instances c) none) in
-    subst (λ (k : Class). Lead (opened s k o) (map (λ p. says.Instance p) xs) (opened s (with_instances c xs) o)) start
+    subst (λ (k : Template). Lead (opened s k o) (map (λ p. says.Instance p) xs) (opened s (with_instances c xs) o)) start
     (items_lead (λ p. says.Instance p) (instance c) (with_instances c) (λ before. instances_in (with_instances c before) ≡ before) s o (λ before p q good. instance_lead s o c before p q good) (length xs) [] xs (ap instances_in start ∙ none) good.1)
 
 -- ---- values
@@ -172,20 +172,20 @@ some_kind : (o : Option ValueKind) → is_some o ≡ true → (j : ValueKind) ×
 some_kind None h = absurd cc
 some_kind (Some j) h = (j, refl)
 
-by_fault : (k : Class) (p : FullPath) (d : ResourceDef) (j : ValueKind) (f : Option TemplateFault) → value_fault_at k p (plain d.kind) ≡ f → cond (is_some f) None (Some d.kind) ≡ Some j → value_fault_at k p (plain j) ≡ None
+by_fault : (k : Template) (p : FullPath) (d : ResourceDef) (j : ValueKind) (f : Option TemplateFault) → value_fault_at k p (plain d.kind) ≡ f → cond (is_some f) None (Some d.kind) ≡ Some j → value_fault_at k p (plain j) ≡ None
 by_fault k p d j None is h = let same : d.kind ≡ j = cc in ap (λ q. value_fault_at k p (plain q)) (sym same) ∙ is
 by_fault k p d j (Some f) is h = absurd cc
 
-by_definition : (k : Class) (p : FullPath) (o : Option ResourceDef) (j : ValueKind) → kind_taken_by k p o ≡ Some j → value_fault_at k p (plain j) ≡ None
+by_definition : (k : Template) (p : FullPath) (o : Option ResourceDef) (j : ValueKind) → kind_taken_by k p o ≡ Some j → value_fault_at k p (plain j) ≡ None
 by_definition k p None j h = absurd cc
 by_definition k p (Some d) j h = by_fault k p d j (value_fault_at k p (plain d.kind)) refl h
 
 -- the refusals of a value, by whether it is short and whether it fits
-abbrev judged_so : Class → FullPath → Bool → Bool → Option TemplateFault
+abbrev judged_so : Template → FullPath → Bool → Bool → Option TemplateFault
 judged_so k p w a =
     first_line ((not (w && a), template.Range) ∷ (not (has_place k.catalogue k.store p), template.Missing) ∷ (is_some (value_at k.store p), template.Duplicate) ∷ (nat_le 65535 (value_count k.store), template.Full) ∷ (has_all_parts k.store p, template.Full) ∷ [])
 
-value_free : (k : Class) (p : FullPath) (v : Value) (j : ValueKind) → kind_taken k p ≡ Some j → kind_of v ≡ j → is_within_limits v ≡ true → value_fault_at k p v ≡ None
+value_free : (k : Template) (p : FullPath) (v : Value) (j : ValueKind) → kind_taken k p ≡ Some j → kind_of v ≡ j → is_within_limits v ≡ true → value_fault_at k p v ≡ None
 value_free k p v j taken is short =
     let o = object_of k.catalogue p.object in
     ap (λ w. judged_so k p w (fits_object p v o)) short
@@ -198,7 +198,7 @@ full_again : (o i r : ℕ) (part : Option ℕ) → full_path (path_with o i r pa
 full_again o i r None = refl
 full_again o i r (Some n) = refl
 
-stated_at : (k : Class) (o i r : ℕ) (part : Option ℕ) → is_stated k (path_with o i r part) ≡ (has_object k o && has_instance k.store (record { object = o; instance = i }))
+stated_at : (k : Template) (o i r : ℕ) (part : Option ℕ) → is_stated k (path_with o i r part) ≡ (has_object k o && has_instance k.store (record { object = o; instance = i }))
 stated_at k o i r None = refl
 stated_at k o i r (Some n) = refl
 
@@ -206,7 +206,7 @@ not_both : (b : Bool) → b ≡ true → b ≡ false → ⊥
 not_both true h k = let e : true ≡ false = k in cc
 not_both false h k = let e : false ≡ true = h in cc
 
-value_taken : (s : Script) (o : Option ℕ) (k : Class) (p : FullPath) (v : Value) → value_fault_at k p v ≡ None → is_within_limits v ≡ true → effect (says.Value (path_to p) v) (opened s k o) ≡ Ok (opened s (with_store k (with_value k.store p v)) o)
+value_taken : (s : Scenario) (o : Option ℕ) (k : Template) (p : FullPath) (v : Value) → value_fault_at k p v ≡ None → is_within_limits v ≡ true → effect (says.Value (path_to p) v) (opened s k o) ≡ Ok (opened s (with_store k (with_value k.store p v)) o)
 value_taken s o k p v free short =
     let full : full_path (path_to p) ≡ Some p = full_again p.object p.instance p.resource p.part in
     let placed = (five_lines (is_within_limits v && fits_object p v (object_of k.catalogue p.object)) (has_place k.catalogue k.store p) (is_some (value_at k.store p)) (nat_le 65535 (value_count k.store)) (has_all_parts k.store p) free).1 in
@@ -219,7 +219,7 @@ value_taken s o k p v free short =
     ∙ ap (λ f. unless f (with_store k (with_value_at k.store (full_path (path_to p)) v)) >>= (λ e. Ok (opened s e o))) cause
     ∙ ap (λ q. Ok (opened s (with_store k (with_value_at k.store q v)) o)) full
 
-value_lead : (s : Script) (o : Option ℕ) (c : Class) (before : List (FullPath × Value)) (e : FullPath × Value) → values_in (with_values c before) ≡ before → (entry c before).Good e
+value_lead : (s : Scenario) (o : Option ℕ) (c : Template) (before : List (FullPath × Value)) (e : FullPath × Value) → values_in (with_values c before) ≡ before → (entry c before).Good e
     → (effect (of_value e) (opened s (with_values c before) o) ≡ Ok (opened s (with_values c (before ++ e ∷ [])) o)) × (values_in (with_values c (before ++ e ∷ [])) ≡ before ++ e ∷ [])
 unfolding entry value_path
 value_lead s o c before e same good =
@@ -235,11 +235,11 @@ value_lead s o c before e same good =
     let made : u ≡ with_values c (before ++ e ∷ []) = value_made k u p v refl ∙ ap (with_values c) more in
     (value_taken s o k p v free fit.1 ∙ ap (λ t. Ok (opened s t o)) made, sym (ap values_in made) ∙ more)
 
-values_lead : (s : Script) (o : Option ℕ) (c : Class) (xs : List (FullPath × Value)) → values_in c ≡ [] → (values c).Good xs → Lead (opened s c o) (map of_value xs) (opened s (with_values c xs) o)
+values_lead : (s : Scenario) (o : Option ℕ) (c : Template) (xs : List (FullPath × Value)) → values_in c ≡ [] → (values c).Good xs → Lead (opened s c o) (map of_value xs) (opened s (with_values c xs) o)
 unfolding values
 values_lead s o c xs none good =
     let start : with_values c [] ≡ c = sym (values_itself c ∙ ap (with_values c) none) in
-    subst (λ (k : Class). Lead (opened s k o) (map of_value xs) (opened s (with_values c xs) o)) start
+    subst (λ (k : Template). Lead (opened s k o) (map of_value xs) (opened s (with_values c xs) o)) start
     (items_lead of_value (entry c) (with_values c) (λ before. values_in (with_values c before) ≡ before) s o (λ before e p good. value_lead s o c before e p good) (length xs) [] xs (ap values_in start ∙ none) good.1)
 
 -- ---- objects and their resources
@@ -267,7 +267,7 @@ one_less m n k h = omega (arith, h)
 is_below : (m n k : ℕ) → m + suc n ≤ k → m < k
 is_below m n k h = omega (arith, h)
 
-definitions_lead : (s : Script) (c : Class) (front : List ObjectDef) (id : ℕ) (n : ℕ) (before ds : List ResourceDef) → is_vendor id ≡ true → list_all (λ o. nat_lt o.id id) front ≡ true → length before + n ≤ 64 → (each resource n before).Good ds
+definitions_lead : (s : Scenario) (c : Template) (front : List ObjectDef) (id : ℕ) (n : ℕ) (before ds : List ResourceDef) → is_vendor id ≡ true → list_all (λ o. nat_lt o.id id) front ≡ true → length before + n ≤ 64 → (each resource n before).Good ds
     → Lead (opened s (with_catalogue c (front ++ defined id before ∷ [])) (Some id)) (map (λ d. says.Def d) ds) (opened s (with_catalogue c (front ++ defined id (before ++ ds) ∷ [])) (Some id))
 unfolding each
 definitions_lead s c front id zero before ds vendor low few good =
@@ -286,7 +286,7 @@ definitions_lead s c front id (suc n) before (d ∷ ds) vendor low few good =
 short_list : (n : ℕ) → nat_lt n 65 ≡ true → 0 + n ≤ 64
 short_list n h = grind (arith, nat_tests)
 
-object_lead : (s : Script) (c : Class) (before : List ObjectDef) (o : ObjectDef) (num : Option ℕ) → (object c before).Good o → Lead (opened s (with_objects c before) num) (of_object o) (opened s (with_objects c (before ++ o ∷ [])) (Some o.id))
+object_lead : (s : Scenario) (c : Template) (before : List ObjectDef) (o : ObjectDef) (num : Option ℕ) → (object c before).Good o → Lead (opened s (with_objects c before) num) (of_object o) (opened s (with_objects c (before ++ o ∷ [])) (Some o.id))
 unfolding object object_id resources
 object_lead s c before o num good =
     let k = with_objects c before in
@@ -299,7 +299,7 @@ object_lead s c before o num good =
           (definitions_lead s c (base ++ before) o.id (length o.resources) [] o.resources (object_vendor k o.id free) both.0 (short_list (length o.resources) good.1.0.0.1) good.1.0.1),
     )
 
-objects_each : (s : Script) (c : Class) (n : ℕ) (before xs : List ObjectDef) (num : Option ℕ) → (each (object c) n before).Good xs → (m : Option ℕ) × Lead (opened s (with_objects c before) num) (flat_map of_object xs) (opened s (with_objects c (before ++ xs)) m)
+objects_each : (s : Scenario) (c : Template) (n : ℕ) (before xs : List ObjectDef) (num : Option ℕ) → (each (object c) n before).Good xs → (m : Option ℕ) × Lead (opened s (with_objects c before) num) (flat_map of_object xs) (opened s (with_objects c (before ++ xs)) m)
 unfolding each
 objects_each s c zero before xs num good = (
   num,
@@ -313,19 +313,19 @@ objects_each s c (suc n) before (o ∷ xs) num good =
           (subst (λ ys. Lead (opened s (with_objects c (before ++ o ∷ [])) (Some o.id)) (flat_map of_object xs) (opened s (with_objects c ys) rest.0)) (append_assoc before (o ∷ []) xs) rest.1),
     )
 
-objects_lead : (s : Script) (c : Class) (xs : List ObjectDef) (num : Option ℕ) → c.catalogue ≡ base → (objects c).Good xs → (m : Option ℕ) × Lead (opened s c num) (flat_map of_object xs) (opened s (with_objects c xs) m)
+objects_lead : (s : Scenario) (c : Template) (xs : List ObjectDef) (num : Option ℕ) → c.catalogue ≡ base → (objects c).Good xs → (m : Option ℕ) × Lead (opened s c num) (flat_map of_object xs) (opened s (with_objects c xs) m)
 unfolding objects
 objects_lead s c xs num none good =
     let start : with_objects c [] ≡ c = ap (with_catalogue c) (append-nil base ∙ sym none) in
     let all = objects_each s c (length xs) [] xs num good.1 in
-    (all.0, subst (λ (k : Class). Lead (opened s k num) (flat_map of_object xs) (opened s (with_objects c xs) all.0)) start all.1)
+    (all.0, subst (λ (k : Template). Lead (opened s k num) (flat_map of_object xs) (opened s (with_objects c xs) all.0)) start all.1)
 
 -- ---- a class
 
 few : (n m : ℕ) → n < m → nat_le m n ≡ false
 few n m h = grind (arith, nat_tests)
 
-begin_lead : (s : Script) (d : Draft) → d.begun ≡ true → closed d ≡ s → length s.classes < 256 → effect says.Class d ≡ Ok (opened s empty_class None)
+begin_lead : (s : Scenario) (d : Draft) → d.begun ≡ true → closed d ≡ s → length s.classes < 256 → effect says.Class d ≡ Ok (opened s empty_class None)
 begin_lead s d begun same room =
     ap (λ b. needs b (class_begun d)) begun
     ∙ ap (λ t. unless (option_map scenario_cause (class_fault t)) (record { begun = d.begun; scenario = t; open_class = Some empty_class; object = None })) same
@@ -333,7 +333,7 @@ begin_lead s d begun same room =
     ∙ ap (λ b. Ok (record { begun = b; scenario = s; open_class = Some empty_class; object = None })) begun
 
 -- the statements of a class make it, from a draft that has room for it
-pub class_lead : (s : Script) (c : Class) (d : Draft) → IsBuilt c → d.begun ≡ true → closed d ≡ s → length s.classes < 256 → (m : Option ℕ) × Lead d (of_class c) (opened s c m)
+pub class_lead : (s : Scenario) (c : Template) (d : Draft) → IsBuilt c → d.begun ≡ true → closed d ≡ s → length s.classes < 256 → (m : Option ℕ) × Lead d (of_class c) (opened s c m)
 unfolding class behind_accounts behind_objects behind_instances
 class_lead s c d built begun same room =
     let good = class_good c built in
@@ -350,15 +350,15 @@ class_lead s c d built begun same room =
         lead_append (opened s empty_class None) (opened s k1 None) _ (map (λ n. says.Account n) c.accounts) _ (accounts_lead s c.accounts good.0)
             (lead_append (opened s k1 None) (opened s k2 objs.0) _ (flat_map of_object (objects_in c)) _ objs.1
             (lead_append (opened s k2 objs.0) (opened s k3 objs.0) _ (map (λ p. says.Instance p) (instances_in c)) _ places
-            (subst (λ (t : Class). Lead (opened s k3 objs.0) (map of_value (values_in c)) (opened s t objs.0)) (sym good.1.1.1.1) last))),
+            (subst (λ (t : Template). Lead (opened s k3 objs.0) (map of_value (values_in c)) (opened s t objs.0)) (sym good.1.1.1.1) last))),
       ),
     )
 
-abbrev script : List Class → Script
+abbrev script : List Template → Scenario
 script cs = record { classes = cs; rows = [] }
 
 -- the statements of classes make them
-pub classes_lead : (cs todo : List Class) (d : Draft) → d.begun ≡ true → closed d ≡ script cs → AllByRecursion IsBuilt todo → length cs + length todo ≤ 256
+pub classes_lead : (cs todo : List Template) (d : Draft) → d.begun ≡ true → closed d ≡ script cs → AllByRecursion IsBuilt todo → length cs + length todo ≤ 256
     → (e : Draft) × Lead d (flat_map of_class todo) e × (e.begun ≡ true) × (closed e ≡ script (cs ++ todo))
 classes_lead cs [] d begun same built room = (d, refl, begun, same ∙ ap script (sym (append-nil cs)))
 classes_lead cs (c ∷ todo) d begun same built room =

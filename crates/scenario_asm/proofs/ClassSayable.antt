@@ -10,7 +10,7 @@ use Rattle.object_defs.specs.declared.definition.ObjectDef.{ObjectDef}
 use Rattle.object_defs.specs.declared.definition.ResourceDef.{ResourceDef}
 use Rattle.object_defs.specs.declared.path.FullPath.{FullPath}
 use Rattle.object_defs.specs.declared.path.InstancePath.{InstancePath}
-use Rattle.device_template.specs.Class.{Class}
+use Rattle.device_template.specs.Template.{Template}
 use Rattle.device_template.specs.Built.{IsBuilt, IsShort}
 use Rattle.scenario_layout.specs.Class.{objects_in, instances_in, values_in}
 use Rattle.scenario_image.specs.Layout.{path_with}
@@ -26,7 +26,7 @@ use Rattle.scenario_asm.proofs.ClassParts.{IsPlace, has_words}
 object_said : (o : ObjectDef) → IsOwn o → AllByRecursion IsSayable (of_object o)
 object_said o h = (h.0, each_map (λ (d : ResourceDef). d.id < 65536) IsSayable (λ d. says.Def d) (λ d k. k) o.resources h.1)
 
-own_said : (c : Class) → HasOwn c.catalogue → AllByRecursion IsSayable (flat_map of_object (objects_in c))
+own_said : (c : Template) → HasOwn c.catalogue → AllByRecursion IsSayable (flat_map of_object (objects_in c))
 own_said c has =
     subst (λ k. AllByRecursion IsSayable (flat_map of_object (drop (length base) k))) (sym has.are)
     (each_flat IsOwn IsSayable of_object object_said has.own has.each)
@@ -38,7 +38,7 @@ path_said o i r (Some n) h k l m = (h, k, l, m)
 value_said : (e : FullPath × Value) → IsShort e.0 × IsGood e.1 → IsSayable (of_value e)
 value_said e h = (path_said e.0.object e.0.instance e.0.resource e.0.part h.0.0 h.0.1 h.0.2 h.0.3, good_value e.1 h.1)
 
-pub class_said : (c : Class) → IsBuilt c → AllByRecursion IsSayable (of_class c)
+pub class_said : (c : Template) → IsBuilt c → AllByRecursion IsSayable (of_class c)
 class_said c built =
     let has = has_words c built in
     let places = each_map (λ (e : InstancePath × Unit {0}). IsPlace e.0 × Unit {0}) IsPlace (λ (e : InstancePath × Unit {0}). e.0) (λ e k. k.0) (finite.entries c.store.instances) has.instances in (

@@ -18,7 +18,7 @@ use Rattle.object_defs.specs.declared.path.FullPath.{FullPath}
 use Rattle.object_defs.specs.declared.path.Path.{Path}
 use Rattle.object_defs.specs.declared.path.Path.TheVariants.{Object, Instance, Resource, Part}
 use Rattle.instance_store.specs.Stored.{value_at, value_count}
-use Rattle.device_template.specs.Class.{Class, plain, value_fault, value_fault_at, with_store}
+use Rattle.device_template.specs.Template.{Template, plain, value_fault, value_fault_at, with_store}
 use Rattle.device_template.specs.Values.{fits_object, fits_resource, has_all_parts, has_kind, has_place, is_set_at_start, is_within_limits, with_value_at}
 use Rattle.device_template.specs.declared.fault.TemplateFault.{TemplateFault}
 use Rattle.device_template.specs.declared.fault.TemplateFault.TheVariants as template
@@ -144,24 +144,24 @@ told_long false a b d s e g hw hb hs = absurd cc
 told_long true a false d s e g hw hb hs = absurd cc
 told_long true a true d true e g hw hb hs = absurd cc
 
-short_cause : (c : Class) (q : FullPath) (v : Value) → has_place c.catalogue c.store q ≡ true → (IsTooLong v → ⊥) → value_cause c (Some q) v ≡ option_map template_cause (value_fault_at c q v)
+short_cause : (c : Template) (q : FullPath) (v : Value) → has_place c.catalogue c.store q ≡ true → (IsTooLong v → ⊥) → value_cause c (Some q) v ≡ option_map template_cause (value_fault_at c q v)
 short_cause c q v placed fits =
     told_short (is_within_limits v) (fits_object q v (object_of c.catalogue q.object)) (has_place c.catalogue c.store q) (is_some (value_at c.store q)) (nat_le 65535 (value_count c.store)) (has_all_parts c.store q) (not_long v fits) placed
 
-long_cause : (c : Class) (q : FullPath) (v : Value) → has_place c.catalogue c.store q ≡ true → IsTooLong v → value_cause c (Some q) v ≡ else_long (value_fault_at c q (plain (kind_of v)))
+long_cause : (c : Template) (q : FullPath) (v : Value) → has_place c.catalogue c.store q ≡ true → IsTooLong v → value_cause c (Some q) v ≡ else_long (value_fault_at c q (plain (kind_of v)))
 long_cause c q v placed is_long =
     ap (λ a. told a (is_some (value_at c.store q)) (is_within_limits v) (nat_le 65535 (value_count c.store)) (has_all_parts c.store q)) (sym (same_fit q v (object_of c.catalogue q.object)))
     ∙ told_long (is_within_limits (plain (kind_of v))) (fits_object q (plain (kind_of v)) (object_of c.catalogue q.object)) (has_place c.catalogue c.store q) (is_some (value_at c.store q)) (is_within_limits v) (nat_le 65535 (value_count c.store)) (has_all_parts c.store q)
     (plain_short (kind_of v)) placed (too_long v is_long)
 
 -- the same of a path of any count of numbers
-pub short_told : (c : Class) (p : Path) (v : Value) → is_stated c p ≡ true → (IsTooLong v → ⊥) → value_cause c (full_path p) v ≡ option_map template_cause (value_fault c (full_path p) v)
+pub short_told : (c : Template) (p : Path) (v : Value) → is_stated c p ≡ true → (IsTooLong v → ⊥) → value_cause c (full_path p) v ≡ option_map template_cause (value_fault c (full_path p) v)
 short_told c (Object o) v stated fits = refl
 short_told c (Instance o i) v stated fits = refl
 short_told c (Resource o i r) v stated fits = short_cause c (record { object = o; instance = i; resource = r; part = None }) v stated fits
 short_told c (Part o i r n) v stated fits = short_cause c (record { object = o; instance = i; resource = r; part = Some n }) v stated fits
 
-long_told : (c : Class) (p : Path) (v : Value) → is_stated c p ≡ true → IsTooLong v → value_cause c (full_path p) v ≡ else_long (value_fault c (full_path p) (plain (kind_of v)))
+long_told : (c : Template) (p : Path) (v : Value) → is_stated c p ≡ true → IsTooLong v → value_cause c (full_path p) v ≡ else_long (value_fault c (full_path p) (plain (kind_of v)))
 long_told c (Object o) v stated is_long = refl
 long_told c (Instance o i) v stated is_long = refl
 long_told c (Resource o i r) v stated is_long = long_cause c (record { object = o; instance = i; resource = r; part = None }) v stated is_long
@@ -179,19 +179,19 @@ not_memory : (f : TemplateFault) → template_cause f ≢ Memory → f ≢ templ
 not_memory f h e = h (ap template_cause e)
 
 -- what a line adds, where what it needs was stated
-stated_added : (c : Class) (p : Path) (v : Value) (cause : Option Cause) → is_stated c p ≡ true → value_cause c (full_path p) v ≡ cause → value_added p v c ≡ unless cause (with_store c (with_value_at c.store (full_path p) v))
+stated_added : (c : Template) (p : Path) (v : Value) (cause : Option Cause) → is_stated c p ≡ true → value_cause c (full_path p) v ≡ cause → value_added p v c ≡ unless cause (with_store c (with_value_at c.store (full_path p) v))
 stated_added c p v cause stated told =
     ap (λ b. needs b (unless (value_cause c (full_path p) v) (with_store c (with_value_at c.store (full_path p) v)))) stated
     ∙ ap (λ o. unless o (with_store c (with_value_at c.store (full_path p) v))) told
 
-short_at : (c : Class) (p : Path) (v : Value) (added : Result (Unit {0}) TemplateFault) (new : Class) → is_stated c p ≡ true → (IsTooLong v → ⊥) → OnOk added (new ≡ with_store c (with_value_at c.store (full_path p) v))
+short_at : (c : Template) (p : Path) (v : Value) (added : Result (Unit {0}) TemplateFault) (new : Template) → is_stated c p ≡ true → (IsTooLong v → ⊥) → OnOk added (new ≡ with_store c (with_value_at c.store (full_path p) v))
     → IfErr added (λ f. f ≢ template.Memory → value_fault c (full_path p) v ≡ Some f) → ((f : TemplateFault) → value_fault c (full_path p) v ≡ Some f → added ≡ Err f) → Makes (template_result added) new (value_added p v c)
 short_at c p v (Ok u) new stated fits more refused refuses =
     stated_added c p v None stated (short_told c p v stated fits ∙ ap (option_map template_cause) (not_refused _ (Ok u) u refl refuses)) ∙ ap (λ k. Ok k) (sym more)
 short_at c p v (Err f) new stated fits more refused refuses =
     λ no. stated_added c p v (Some (template_cause f)) stated (short_told c p v stated fits ∙ ap (option_map template_cause) (refused (not_memory f no)))
 
-long_at : (c : Class) (p : Path) (v : Value) (added : Result (Unit {0}) TemplateFault) (new : Class) → is_stated c p ≡ true → IsTooLong v
+long_at : (c : Template) (p : Path) (v : Value) (added : Result (Unit {0}) TemplateFault) (new : Template) → is_stated c p ≡ true → IsTooLong v
     → IfErr added (λ f. f ≢ template.Memory → value_fault c (full_path p) (plain (kind_of v)) ≡ Some f) → ((f : TemplateFault) → value_fault c (full_path p) (plain (kind_of v)) ≡ Some f → added ≡ Err f) → Makes (long_result added) new (value_added p v c)
 long_at c p v (Ok u) new stated is_long refused refuses =
     λ no. stated_added c p v (Some Limit) stated (long_told c p v stated is_long ∙ ap else_long (not_refused _ (Ok u) u refl refuses))
@@ -199,12 +199,12 @@ long_at c p v (Err f) new stated is_long refused refuses =
     λ no. stated_added c p v (Some (template_cause f)) stated (long_told c p v stated is_long ∙ ap else_long (refused (not_memory f no)))
 
 -- a value of a length that it may have
-pub short_made : (c : Class) (p : Path) (v : Value) (added : Result (Unit {0}) TemplateFault) (result : Result (Unit {0}) Cause) (new : Class) → is_stated c p ≡ true → (IsTooLong v → ⊥) → OnOk added (new ≡ with_store c (with_value_at c.store (full_path p) v))
+pub short_made : (c : Template) (p : Path) (v : Value) (added : Result (Unit {0}) TemplateFault) (result : Result (Unit {0}) Cause) (new : Template) → is_stated c p ≡ true → (IsTooLong v → ⊥) → OnOk added (new ≡ with_store c (with_value_at c.store (full_path p) v))
     → IfErr added (λ f. f ≢ template.Memory → value_fault c (full_path p) v ≡ Some f) → ((f : TemplateFault) → value_fault c (full_path p) v ≡ Some f → added ≡ Err f) → result ≡ template_result added → Makes result new (value_added p v c)
 short_made c p v added result new stated fits more refused refuses same = subst (λ r. Makes r new (value_added p v c)) (sym same) (short_at c p v added new stated fits more refused refuses)
 
 -- one that is too long
-pub long_made : (c : Class) (p : Path) (v w : Value) (added : Result (Unit {0}) TemplateFault) (result : Result (Unit {0}) Cause) (new : Class) → w ≡ plain (kind_of v) → is_stated c p ≡ true → IsTooLong v
+pub long_made : (c : Template) (p : Path) (v w : Value) (added : Result (Unit {0}) TemplateFault) (result : Result (Unit {0}) Cause) (new : Template) → w ≡ plain (kind_of v) → is_stated c p ≡ true → IsTooLong v
     → IfErr added (λ f. f ≢ template.Memory → value_fault c (full_path p) w ≡ Some f) → ((f : TemplateFault) → value_fault c (full_path p) w ≡ Some f → added ≡ Err f) → result ≡ long_result added → Makes result new (value_added p v c)
 long_made c p v w added result new is stated is_long refused refuses same =
     subst (λ r. Makes r new (value_added p v c)) (sym same)

@@ -1,6 +1,6 @@
 -- A text that assembles to a scenario denotes it, and the other way round.
 use Rattle.std.proofs.Common.{◌≡◌, ℕ, ◌+◌, Bool, true, false, cond, List, [], ◌∷◌, Option, None, Some, Result, Ok, Err, refl, sym, ap, ◌∙◌}
-use Rattle.scenario_image.specs.Script.{Script}
+use Rattle.scenario_image.specs.Scenario.{Scenario}
 use Rattle.scenario_words.specs.declared.cause.Cause.{Cause}
 use Rattle.scenario_words.specs.declared.cause.Cause.TheVariants.{Missing}
 use Rattle.scenario_words.specs.Words.{lines, words}
@@ -57,11 +57,11 @@ lead_on _ _ n d e (stated {ls} {ss} line s is rest) lead =
     ∙ ap (λ r. then_lines (lines_after ls (n + 1)) (at_line (n + 1) r)) lead.1
     ∙ lead_on ls ss (n + 1) lead.0 e rest lead.2
 
-no_scenario : (fault : AsmFault) (s : Script) → Err fault ≡ Ok s → ⊥
+no_scenario : (fault : AsmFault) (s : Scenario) → Err fault ≡ Ok s → ⊥
 no_scenario fault s h = cc
 
 -- a text denotes what its draft states
-whole_is : (text : List ℕ) (s : Script) (d : Draft) (b : Bool) → d.begun ≡ b → Found (lines text) nothing d → whole d ≡ Ok s → Denotes text s
+whole_is : (text : List ℕ) (s : Scenario) (d : Draft) (b : Bool) → d.begun ≡ b → Found (lines text) nothing d → whole d ≡ Ok s → Denotes text s
 whole_is text s d true begun f h =
     let is : Ok (closed d) ≡ Ok s = sym (ap (λ b. cond b (Ok (closed d)) (Err (record { line = 1; cause = Missing }))) begun) ∙ h in
     let same : closed d ≡ s = cc in
@@ -69,14 +69,14 @@ whole_is text s d true begun f h =
 whole_is text s d false begun f h =
     absurd (no_scenario _ s (sym (ap (λ b. cond b (Ok (closed d)) (Err (record { line = 1; cause = Missing }))) begun) ∙ h))
 
-by_all : (text : List ℕ) (s : Script) (r : Result Draft AsmFault) → lines_after (lines text) 0 nothing ≡ r → whole_of r ≡ Ok s → Denotes text s
+by_all : (text : List ℕ) (s : Scenario) (r : Result Draft AsmFault) → lines_after (lines text) 0 nothing ≡ r → whole_of r ≡ Ok s → Denotes text s
 by_all text s (Err fault) is h = absurd cc
 by_all text s (Ok d) is h = whole_is text s d d.begun refl (found (lines text) 0 nothing d is) h
 
-pub so_denotes : (text : List ℕ) (s : Script) → assembled text ≡ Ok s → Denotes text s
+pub so_denotes : (text : List ℕ) (s : Scenario) → assembled text ≡ Ok s → Denotes text s
 so_denotes text s h = by_all text s (lines_after (lines text) 0 nothing) refl h
 
-pub denotes_so : (text : List ℕ) (s : Script) → Denotes text s → assembled text ≡ Ok s
+pub denotes_so : (text : List ℕ) (s : Scenario) → Denotes text s → assembled text ≡ Ok s
 denotes_so text s d =
     ap whole_of (lead_on (lines text) d.statements 0 nothing d.draft d.said d.lead)
     ∙ ap (λ b. cond b (Ok (closed d.draft)) (Err (record { line = 1; cause = Missing }))) d.begun

@@ -1,7 +1,7 @@
 -- Lines that are taken one after another.
 use Rattle.std.proofs.Common.{◌≡◌, ℕ, suc, ◌+◌, List, [], ◌∷◌, ◌++◌, length, Option, None, Some, MatchOption, Result, Ok, Err, option_map, refl, sym, ap, ◌∙◌, append_assoc, length-append, arith}
 use Rattle.std.specs.List.{slice_get}
-use Rattle.scenario_image.specs.Script.{Row}
+use Rattle.scenario_image.specs.Scenario.{Row}
 use Rattle.scenario_words.specs.declared.cause.Cause.{Cause}
 use Rattle.scenario_words.specs.Words.{lines}
 use Rattle.scenario_asm.specs.declared.fault.AsmFault.{AsmFault}

@@ -9,7 +9,7 @@ use Rattle.object_defs.specs.Catalogue.{object_of}
 use Rattle.object_defs.specs.Vendor.{inserted, is_vendor, new_object, resource_fault_in, with_definition, with_object, with_resource}
 use Rattle.object_defs.specs.declared.definition.ObjectDef.{ObjectDef}
 use Rattle.object_defs.specs.declared.definition.ResourceDef.{ResourceDef}
-use Rattle.device_template.specs.Class.{Class, definition_fault, fault_of}
+use Rattle.device_template.specs.Template.{Template, definition_fault, fault_of}
 use Rattle.scenario_statements.specs.Spelling.{IsWithin}
 use Rattle.scenario_asm.proofs.Each.{chosen, each_inserted}
 
@@ -79,5 +79,5 @@ vendor_of : (b : Bool) (d : ResourceDef) (o : Option ObjectDef) → option_map f
 vendor_of true d o h = refl
 vendor_of false d o h = absurd cc
 
-pub definition_vendor : (c : Class) (id : ℕ) (d : ResourceDef) → definition_fault c id d ≡ None → is_vendor id ≡ true
+pub definition_vendor : (c : Template) (id : ℕ) (d : ResourceDef) → definition_fault c id d ≡ None → is_vendor id ≡ true
 definition_vendor c id d h = vendor_of (is_vendor id) d (object_of c.catalogue id) h

@@ -1,7 +1,7 @@
 -- The canonical text of a scenario denotes it.
 use Rattle.std.proofs.Common.{◌≡◌, ℕ, List, [], length, Ok, refl, ap, ◌∙◌}
 use Rattle.std.specs.List.{flat_map}
-use Rattle.scenario_image.specs.Script.{Script}
+use Rattle.scenario_image.specs.Scenario.{Scenario}
 use Rattle.scenario_asm.specs.Canonical.{of_class, of_row, printed}
 use Rattle.scenario_asm.specs.Reading.{IsScenario}
 use Rattle.scenario_asm.specs.Text.{assembled}
@@ -9,7 +9,7 @@ use Rattle.scenario_asm.proofs.Canonical.{canonical, lead_append}
 use Rattle.scenario_asm.proofs.ClassRuns.{classes_lead}
 use Rattle.scenario_asm.proofs.RowRuns.{from_none, rows_lead, shut}
 
-pub canonical_again : (s : Script) → IsScenario s → assembled (printed s) ≡ Ok s
+pub canonical_again : (s : Scenario) → IsScenario s → assembled (printed s) ≡ Ok s
 canonical_again s is =
     let begun = shut (record { classes = []; rows = [] }) in
     let first = classes_lead [] s.classes begun refl refl is.built (from_none (length s.classes) 256 is.valid.classes) in
@@ -17,5 +17,5 @@ canonical_again s is =
     canonical s second.0 is (begun, refl, lead_append begun first.0 second.0 (flat_map of_class s.classes) (flat_map of_row s.rows) first.1 second.1) second.2 second.3
 
 -- and so does that of each that there is
-pub text_again : (s : Script) (text : List ℕ) → IsScenario s → text ≡ printed s → assembled text ≡ Ok s
+pub text_again : (s : Scenario) (text : List ℕ) → IsScenario s → text ≡ printed s → assembled text ≡ Ok s
 text_again s text is same = ap assembled same ∙ canonical_again s is

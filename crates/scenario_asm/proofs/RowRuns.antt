@@ -6,9 +6,9 @@ use Rattle.std.proofs.lemmas.Bool.Decides.{nat_tests}
 use Rattle.std.proofs.lemmas.List.{append-nil}
 use Rattle.std.proofs.lemmas.Option.{slice_get_within}
 use Rattle.object_defs.specs.Lines.{first_line}
-use Rattle.device_template.specs.Class.{Class}
+use Rattle.device_template.specs.Template.{Template}
 use Rattle.device_machine.specs.declared.event.Event.TheVariants as event
-use Rattle.scenario_image.specs.Script.{IsGoodRow, IsGoodStep, Row, Script, accounts_in, accounts_of, fault_in, is_known, is_within_limits, last_row, longer, row_fault, step_fault, with_last, with_row, with_step}
+use Rattle.scenario_image.specs.Scenario.{IsGoodRow, IsGoodStep, Row, Scenario, accounts_in, accounts_of, fault_in, is_known, is_within_limits, last_row, longer, row_fault, step_fault, with_last, with_row, with_step}
 use Rattle.scenario_image.specs.declared.fault.ScenarioFault.TheVariants as scenario
 use Rattle.scenario_image.specs.declared.step.Step.{Step}
 use Rattle.scenario_image.specs.declared.step.Step.TheVariants as step
@@ -28,14 +28,14 @@ use Rattle.scenario_asm.specs.Effect.{device_begun, effect, fitting, has_device,
 use Rattle.scenario_asm.specs.Denotes.{Lead}
 use Rattle.scenario_asm.proofs.Canonical.{lead_append}
 
-abbrev script : List Class → List Row → Script
+abbrev script : List Template → List Row → Scenario
 script cs rows = record { classes = cs; rows = rows }
 
 abbrev row_with : ℕ → List Step → Row
 row_with class steps = record { class = class; steps = steps }
 
 -- a draft without an open class
-abbrev pub shut : Script → Draft
+abbrev pub shut : Scenario → Draft
 shut s = record { begun = true; scenario = s; open_class = None; object = None }
 
 -- ---- the last of some rows
@@ -84,19 +84,19 @@ free_lines true false false h i j = absurd cc
 few : (n m : ℕ) → n < m → nat_le m n ≡ false
 few n m h = grind (arith, nat_tests)
 
-is_free : (cs : List Class) (rows : List Row) (class : ℕ) (past : List Step) (x : Step) (t : Class) → slice_get cs class ≡ Some t → IsGoodStep t.accounts x → length past < 4096 → step_fault (script cs (rows ++ row_with class past ∷ [])) x ≡ None
+is_free : (cs : List Template) (rows : List Row) (class : ℕ) (past : List Step) (x : Step) (t : Template) → slice_get cs class ≡ Some t → IsGoodStep t.accounts x → length past < 4096 → step_fault (script cs (rows ++ row_with class past ∷ [])) x ≡ None
 is_free cs rows class past x t at good short =
     ap (λ b. cond (not b) (Some scenario.Range) (fault_in cs (last_row (rows ++ row_with class past ∷ [])) x)) good.range
     ∙ ap (λ o. fault_in cs o x) (is_last rows (row_with class past))
     ∙ free_lines (is_known (accounts_of cs class) x) (nat_le 4096 (length past)) (is_within_limits x) (ap (λ o. is_known (accounts_in o) x) at ∙ good.known) (few (length past) 4096 short) good.within
 
-added : (cs : List Class) (rows : List Row) (class : ℕ) (past : List Step) (x : Step) (t : Class) → slice_get cs class ≡ Some t → IsGoodStep t.accounts x → length past < 4096
+added : (cs : List Template) (rows : List Row) (class : ℕ) (past : List Step) (x : Step) (t : Template) → slice_get cs class ≡ Some t → IsGoodStep t.accounts x → length past < 4096
     → step_added x (shut (script cs (rows ++ row_with class past ∷ []))) ≡ Ok (shut (script cs (rows ++ row_with class (past ++ x ∷ []) ∷ [])))
 added cs rows class past x t at good short =
     ap (λ f. unless (option_map scenario_cause f) (shut (with_step (script cs (rows ++ row_with class past ∷ [])) x))) (is_free cs rows class past x t at good short)
     ∙ ap (λ rs. Ok (shut (script cs rs))) (last_is rows (row_with class past) x)
 
-known_server : (cs : List Class) (rows : List Row) (class : ℕ) (past : List Step) (server : ℕ) (t : Class) → slice_get cs class ≡ Some t → list_any (λ account. eqb account server) t.accounts ≡ true
+known_server : (cs : List Template) (rows : List Row) (class : ℕ) (past : List Step) (server : ℕ) (t : Template) → slice_get cs class ≡ Some t → list_any (λ account. eqb account server) t.accounts ≡ true
     → has_server (shut (script cs (rows ++ row_with class past ∷ []))) server ≡ true
 known_server cs rows class past server t at known =
     ap (λ o. knows (script cs (rows ++ row_with class past ∷ [])) server (option_map (λ (r : Row). r.class) o)) (is_last rows (row_with class past))
@@ -108,10 +108,10 @@ does_fit (mnemonic.Request r) good = good.fits
 does_fit (mnemonic.Reset mid) good = refl
 
 -- what stands before a step, and behind it
-abbrev here : List Class → List Row → ℕ → List Step → Draft
+abbrev here : List Template → List Row → ℕ → List Step → Draft
 here cs rows class past = shut (script cs (rows ++ row_with class past ∷ []))
 
-of_device : (cs : List Class) (rows : List Row) (class : ℕ) (past : List Step) (x : Step) (e : Draft) → step_added x (here cs rows class past) ≡ Ok e → needs (has_device (here cs rows class past)) (step_added x (here cs rows class past)) ≡ Ok e
+of_device : (cs : List Template) (rows : List Row) (class : ℕ) (past : List Step) (x : Step) (e : Draft) → step_added x (here cs rows class past) ≡ Ok e → needs (has_device (here cs rows class past)) (step_added x (here cs rows class past)) ≡ Ok e
 of_device cs rows class past x e h = ap (λ b. needs b (step_added x (here cs rows class past))) (some_row rows (row_with class past)) ∙ h
 
 of_server : (d e : Draft) (server : ℕ) (x : Result Draft Cause) → has_server d server ≡ true → x ≡ Ok e → needs (has_server d server) x ≡ Ok e
@@ -135,12 +135,12 @@ by_datagram d e server bytes (Some m) is fits begun known h =
     by_mnemonic d e server bytes m begun known said.0 said.1 h
 
 -- a step that needs a device alone
-stepped : (cs : List Class) (rows : List Row) (class : ℕ) (past : List Step) (x : Step) (t : Class) → slice_get cs class ≡ Some t → IsGoodStep t.accounts x → length past < 4096
+stepped : (cs : List Template) (rows : List Row) (class : ℕ) (past : List Step) (x : Step) (t : Template) → slice_get cs class ≡ Some t → IsGoodStep t.accounts x → length past < 4096
     → needs (has_device (here cs rows class past)) (step_added x (here cs rows class past)) ≡ Ok (here cs rows class (past ++ x ∷ []))
 stepped cs rows class past x t at good short = of_device cs rows class past x (here cs rows class (past ++ x ∷ [])) (added cs rows class past x t at good short)
 
 -- a step's statement adds it
-pub step_lead : (cs : List Class) (rows : List Row) (class : ℕ) (past : List Step) (x : Step) (t : Class) → slice_get cs class ≡ Some t → IsGoodStep t.accounts x → length past < 4096
+pub step_lead : (cs : List Template) (rows : List Row) (class : ℕ) (past : List Step) (x : Step) (t : Template) → slice_get cs class ≡ Some t → IsGoodStep t.accounts x → length past < 4096
     → effect (of_step x) (here cs rows class past) ≡ Ok (here cs rows class (past ++ x ∷ []))
 step_lead cs rows class past (step.Event (event.Recv server bytes)) t at good short =
     let x = step.Event (event.Recv server bytes) in
@@ -160,7 +160,7 @@ one_less m n k h = omega (arith, h)
 has_one : (m n k : ℕ) → m + suc n ≤ k → m < k
 has_one m n k h = omega (arith, h)
 
-steps_lead : (cs : List Class) (rows : List Row) (class : ℕ) (past xs : List Step) (t : Class) → slice_get cs class ≡ Some t → AllByRecursion (IsGoodStep t.accounts) xs → length past + length xs ≤ 4096
+steps_lead : (cs : List Template) (rows : List Row) (class : ℕ) (past xs : List Step) (t : Template) → slice_get cs class ≡ Some t → AllByRecursion (IsGoodStep t.accounts) xs → length past + length xs ≤ 4096
     → Lead (here cs rows class past) (map of_step xs) (here cs rows class (past ++ xs))
 steps_lead cs rows class past [] t at good short = ap (λ ys. here cs rows class ys) (sym (append-nil past))
 steps_lead cs rows class past (x ∷ xs) t at good short = (
@@ -177,14 +177,14 @@ row_lines false false h i = refl
 row_lines true b h i = absurd cc
 row_lines false true h i = absurd cc
 
-device_lead : (cs : List Class) (rows : List Row) (class : ℕ) (d : Draft) → d.begun ≡ true → closed d ≡ script cs rows → class < length cs → length rows < 4096 → effect (says.Device class) d ≡ Ok (here cs rows class [])
+device_lead : (cs : List Template) (rows : List Row) (class : ℕ) (d : Draft) → d.begun ≡ true → closed d ≡ script cs rows → class < length cs → length rows < 4096 → effect (says.Device class) d ≡ Ok (here cs rows class [])
 device_lead cs rows class d begun same there short =
     ap (λ b. needs b (device_begun class d)) begun
     ∙ ap (λ s. unless (option_map scenario_cause (row_fault s class)) (record { begun = d.begun; scenario = with_row s class; open_class = None; object = None })) same
     ∙ ap (λ f. unless (option_map scenario_cause f) (record { begun = d.begun; scenario = with_row (script cs rows) class; open_class = None; object = None })) (row_lines (nat_le (length cs) class) (nat_le 4096 (length rows)) (few class (length cs) there) (few (length rows) 4096 short))
     ∙ ap (λ b. Ok (record { begun = b; scenario = with_row (script cs rows) class; open_class = None; object = None })) begun
 
-row_lead : (cs : List Class) (rows : List Row) (r : Row) (d : Draft) → d.begun ≡ true → closed d ≡ script cs rows → IsGoodRow cs r → length rows < 4096 → Lead d (of_row r) (shut (script cs (rows ++ r ∷ [])))
+row_lead : (cs : List Template) (rows : List Row) (r : Row) (d : Draft) → d.begun ≡ true → closed d ≡ script cs rows → IsGoodRow cs r → length rows < 4096 → Lead d (of_row r) (shut (script cs (rows ++ r ∷ [])))
 row_lead cs rows r d begun same good short = (
   here cs rows r.class [],
   device_lead cs rows r.class d begun same (slice_get_within cs r.class good.class good.stated) short,
@@ -192,7 +192,7 @@ row_lead cs rows r d begun same good short = (
 )
 
 -- the statements of rows lead to the scenario that has them
-pub rows_lead : (cs : List Class) (rows todo : List Row) (d : Draft) → d.begun ≡ true → closed d ≡ script cs rows → AllByRecursion (IsGoodRow cs) todo → length rows + length todo ≤ 4096
+pub rows_lead : (cs : List Template) (rows todo : List Row) (d : Draft) → d.begun ≡ true → closed d ≡ script cs rows → AllByRecursion (IsGoodRow cs) todo → length rows + length todo ≤ 4096
     → (e : Draft) × Lead d (flat_map of_row todo) e × (e.begun ≡ true) × (closed e ≡ script cs (rows ++ todo))
 rows_lead cs rows [] d begun same good short = (d, refl, begun, same ∙ ap (script cs) (sym (append-nil rows)))
 rows_lead cs rows (r ∷ todo) d begun same good short =

@@ -7,13 +7,13 @@ use Rattle.std.proofs.lemmas.Option.{slice_get_within}
 use Rattle.object_defs.specs.Path.{full_path}
 use Rattle.object_defs.specs.declared.path.Path.{Path}
 use Rattle.object_defs.specs.declared.path.Path.TheVariants as path
-use Rattle.device_template.specs.Class.{Class}
+use Rattle.device_template.specs.Template.{Template}
 use Rattle.device_template.specs.Built.{IsBuilt}
 use Rattle.device_machine.specs.declared.event.Event.TheVariants.{Recv, Put, Firmware, Tick}
 use Rattle.byte_layout.specs.Exact.{IsBytes}
 use Rattle.scenario_image.specs.declared.step.Step.{Step}
 use Rattle.scenario_image.specs.declared.step.Step.TheVariants.{Event, Post, Need}
-use Rattle.scenario_image.specs.Script.{Row, Script, HasShortNumbers, IsGoodStep, IsGoodRow}
+use Rattle.scenario_image.specs.Scenario.{Row, Scenario, HasShortNumbers, IsGoodStep, IsGoodRow}
 use Rattle.scenario_words.specs.PathWord.{IsPath}
 use Rattle.scenario_mnemonics.specs.declared.mnemonic.Mnemonic.{Mnemonic}
 use Rattle.scenario_mnemonics.specs.Denoting.{mnemonic_of}
@@ -55,14 +55,14 @@ step_said accounts each (Post group) good = good.fields
 step_said accounts each (Need group count) good =
     let both = and_parts (leb 1 count) (leb count 1000000) good.range in (good.fields, (leb-true 1 count both.0, leb-true count 1000000 both.1))
 
-row_said : (classes : List Class) → length classes ≤ 256 → AllByRecursion IsBuilt classes → (row : Row) → IsGoodRow classes row → AllByRecursion IsSayable (of_row row)
+row_said : (classes : List Template) → length classes ≤ 256 → AllByRecursion IsBuilt classes → (row : Row) → IsGoodRow classes row → AllByRecursion IsSayable (of_row row)
 row_said classes few built row good =
     let has = has_words good.class (each_at IsBuilt classes row.class good.class built good.stated) in (
       omega (arith, few, slice_get_within classes row.class good.class good.stated),
       each_map (IsGoodStep good.class.accounts) IsSayable of_step (step_said good.class.accounts has.accounts) row.steps good.each,
     )
 
-pub all_said : (s : Script) → IsScenario s → AllByRecursion IsSayable (statements s)
+pub all_said : (s : Scenario) → IsScenario s → AllByRecursion IsSayable (statements s)
 all_said s h = (
   tt,
   each_append IsSayable (flat_map of_class s.classes) (flat_map of_row s.rows)

@@ -4,13 +4,13 @@ use Rattle.std.specs.List.{flat_map}
 use Rattle.lwm2m_values.specs.declared.value.Value.{Value}
 use Rattle.object_defs.specs.declared.definition.ObjectDef.{ObjectDef}
 use Rattle.object_defs.specs.declared.path.FullPath.{FullPath}
-use Rattle.device_template.specs.Class.{Class}
+use Rattle.device_template.specs.Template.{Template}
 use Rattle.device_machine.specs.declared.event.Event.TheVariants.{Recv, Put, Firmware, Tick}
 use Rattle.scenario_layout.specs.Class.{objects_in, instances_in, values_in}
 use Rattle.scenario_image.specs.declared.step.Step.{Step}
 use Rattle.scenario_image.specs.declared.step.Step.TheVariants.{Event, Post, Need}
 use Rattle.scenario_image.specs.Layout.{path_to}
-use Rattle.scenario_image.specs.Script.{Row, Script}
+use Rattle.scenario_image.specs.Scenario.{Row, Scenario}
 use Rattle.scenario_words.specs.Words.{ended_line}
 use Rattle.scenario_mnemonics.specs.declared.mnemonic.Mnemonic.{Mnemonic}
 use Rattle.scenario_mnemonics.specs.Denoting.{mnemonic_of}
@@ -28,7 +28,7 @@ of_object o = says.Object o.id ∷ map (λ d. says.Def d) o.resources
 abbrev pub of_value : FullPath × Value → Statement
 of_value e = says.Value (path_to e.0) e.1
 
-abbrev pub of_class : Class → List Statement
+abbrev pub of_class : Template → List Statement
 of_class c =
     says.Class
     ∷ (map (λ s. says.Account s) c.accounts
@@ -56,7 +56,7 @@ of_row r = says.Device r.class ∷ map of_step r.steps
 -- ---- the scenario: the classes, then the devices
 
 -- what a scenario says, in canonical order
-abbrev pub statements : Script → List Statement
+abbrev pub statements : Scenario → List Statement
 statements s = says.Scenario ∷ (flat_map of_class s.classes ++ flat_map of_row s.rows)
 
 -- a statement as its line, with the LF that ends it
@@ -68,5 +68,5 @@ abbrev pub printed_lines : List Statement → List ℕ
 printed_lines ss = flat_map printed_line ss
 
 -- the canonical text of a scenario
-abbrev pub printed : Script → List ℕ
+abbrev pub printed : Scenario → List ℕ
 printed s = printed_lines (statements s)

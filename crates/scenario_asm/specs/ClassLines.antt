@@ -12,42 +12,42 @@ use Rattle.object_defs.specs.declared.path.InstancePath.{InstancePath}
 use Rattle.object_defs.specs.declared.path.Path.{Path}
 use Rattle.object_defs.specs.declared.path.Path.TheVariants.{Object, Instance, Resource, Part}
 use Rattle.instance_store.specs.Stored.{has_instance, value_at, value_count, with_instance}
-use Rattle.device_template.specs.Class.{Class, account_fault, definition_fault, instance_fault, object_fault, with_account, with_catalogue, with_store}
+use Rattle.device_template.specs.Template.{Template, account_fault, definition_fault, instance_fault, object_fault, with_account, with_catalogue, with_store}
 use Rattle.device_template.specs.Values.{fits_object, has_all_parts, is_within_limits, with_value_at}
 use Rattle.scenario_words.specs.declared.cause.Cause.{Cause}
 use Rattle.scenario_words.specs.declared.cause.Cause.TheVariants.{Range, Duplicate, Limit}
 use Rattle.scenario_asm.specs.Causes.{needs, template_cause, unless}
 
-abbrev pub account_added : ℕ → Class → Result Class Cause
+abbrev pub account_added : ℕ → Template → Result Template Cause
 account_added server c = unless (option_map template_cause (account_fault c server)) (with_account c server)
 
-abbrev pub object_added : ℕ → Class → Result Class Cause
+abbrev pub object_added : ℕ → Template → Result Template Cause
 object_added id c = unless (option_map template_cause (object_fault c id)) (with_catalogue c (with_object c.catalogue id))
 
-abbrev pub definition_added : ℕ → ResourceDef → Class → Result Class Cause
+abbrev pub definition_added : ℕ → ResourceDef → Template → Result Template Cause
 definition_added object d c = unless (option_map template_cause (definition_fault c object d)) (with_catalogue c (with_resource c.catalogue object d))
 
 -- the object was stated, or is one of the base
-abbrev pub has_object : Class → ℕ → Bool
+abbrev pub has_object : Template → ℕ → Bool
 has_object c object = is_some (object_of c.catalogue object)
 
 -- an instance needs its object
-abbrev pub instance_added : InstancePath → Class → Result Class Cause
+abbrev pub instance_added : InstancePath → Template → Result Template Cause
 instance_added place c =
     needs (has_object c place.object) (unless (option_map template_cause (instance_fault c place)) (with_store c (with_instance c.store place)))
 
-abbrev pub has_place : Class → InstancePath → Bool
+abbrev pub has_place : Template → InstancePath → Bool
 has_place c place = has_object c place.object && has_instance c.store place
 
 -- the instance that a path names was stated; a path of one number names none
-abbrev pub is_stated : Class → Path → Bool
+abbrev pub is_stated : Template → Path → Bool
 is_stated c (Object o) = true
 is_stated c (Instance o i) = has_place c (record { object = o; instance = i })
 is_stated c (Resource o i r) = has_place c (record { object = o; instance = i })
 is_stated c (Part o i r p) = has_place c (record { object = o; instance = i })
 
 -- a value has a path of three or four numbers, to a resource of its kind; it is new, it is not too long, and there is room
-abbrev pub value_cause : Class → Option FullPath → Value → Option Cause
+abbrev pub value_cause : Template → Option FullPath → Value → Option Cause
 value_cause c None value = Some Range
 value_cause c (Some p) value =
     first_line (
@@ -60,5 +60,5 @@ value_cause c (Some p) value =
     )
 
 -- a value needs its instance
-abbrev pub value_added : Path → Value → Class → Result Class Cause
+abbrev pub value_added : Path → Value → Template → Result Template Cause
 value_added p value c = needs (is_stated c p) (unless (value_cause c (full_path p) value) (with_store c (with_value_at c.store (full_path p) value)))

@@ -1,6 +1,6 @@
 -- What it is for a text to denote a scenario, as its reader believes it.
 use Rattle.std.specs.Prelude.{◌≡◌, ℕ, true, List, [], ◌∷◌, Some, Ok}
-use Rattle.scenario_image.specs.Script.{Script}
+use Rattle.scenario_image.specs.Scenario.{Scenario}
 use Rattle.scenario_words.specs.Words.{lines, words}
 use Rattle.scenario_statements.specs.declared.statement.Statement.{Statement}
 use Rattle.scenario_statements.specs.Grammar.{statement_of}
@@ -19,7 +19,7 @@ Lead d [] e = d ≡ e
 Lead d (s ∷ ss) e = (next : Draft) × (effect s d ≡ Ok next) × Lead next ss e
 
 -- there are statements, one for each line that has words, whose effects lead from nothing to the scenario
-pub record Denotes (text : List ℕ) (s : Script) : Type 0 where
+pub record Denotes (text : List ℕ) (s : Scenario) : Type 0 where
   pub statements : List Statement
   pub said : AreSaid (lines text) statements
   pub draft : Draft

@@ -2,9 +2,9 @@
 -- was not stated before comes first, then what does not fit, then what is there already, then limits.
 use Rattle.std.specs.Prelude.{ℕ, ◌==◌, nat_lt, Bool, true, false, length, Option, None, Some, option_map, Result, Ok, Err, if◌then◌else◌}
 use Rattle.std.specs.List.{list_any}
-use Rattle.device_template.specs.Class.{Class, empty_class}
+use Rattle.device_template.specs.Template.{Template, empty_class}
 use Rattle.device_machine.specs.declared.event.Event.TheVariants as event
-use Rattle.scenario_image.specs.Script.{Script, accounts_of, class_fault, last_row, row_fault, step_fault, with_row, with_step}
+use Rattle.scenario_image.specs.Scenario.{Scenario, accounts_of, class_fault, last_row, row_fault, step_fault, with_row, with_step}
 use Rattle.scenario_image.specs.declared.step.Step.{Step}
 use Rattle.scenario_image.specs.declared.step.Step.TheVariants as step
 use Rattle.scenario_words.specs.declared.cause.Cause.{Cause}
@@ -19,20 +19,20 @@ use Rattle.scenario_asm.specs.ClassLines.{account_added, definition_added, insta
 use Rattle.scenario_asm.specs.Draft.{Draft, closed}
 
 -- the draft, whose open class is this one
-abbrev pub reopened : Draft → Class → Draft
+abbrev pub reopened : Draft → Template → Draft
 reopened d c = record { begun = d.begun; scenario = d.scenario; open_class = Some c; object = d.object }
 
 -- the same, where this object was stated last
-abbrev pub reopened_with : ℕ → Draft → Class → Draft
+abbrev pub reopened_with : ℕ → Draft → Template → Draft
 reopened_with object d c = record { begun = d.begun; scenario = d.scenario; open_class = Some c; object = Some object }
 
 -- what is added to the open class, which has to be there
-abbrev pub in_class : Draft → (Class → Result Class Cause) → (Class → Draft) → Option Class → Result Draft Cause
+abbrev pub in_class : Draft → (Template → Result Template Cause) → (Template → Draft) → Option Template → Result Draft Cause
 in_class d add make None = Err Missing
 in_class d add make (Some c) = add c >>= (λ e. Ok (make e))
 
 -- a resource needs an object line before it in its class
-abbrev pub in_object : Option ℕ → (ℕ → Class → Result Class Cause) → Class → Result Class Cause
+abbrev pub in_object : Option ℕ → (ℕ → Template → Result Template Cause) → Template → Result Template Cause
 in_object None add c = Err Missing
 in_object (Some object) add c = add object c
 
@@ -52,10 +52,10 @@ abbrev pub has_device : Draft → Bool
 has_device d = nat_lt 0 (length d.scenario.rows)
 
 -- the class of the device that was stated last, by its place
-abbrev pub last_class : Script → Option ℕ
+abbrev pub last_class : Scenario → Option ℕ
 last_class s = option_map (λ r. r.class) (last_row s.rows)
 
-abbrev pub knows : Script → ℕ → Option ℕ → Bool
+abbrev pub knows : Scenario → ℕ → Option ℕ → Bool
 knows s server None = false
 knows s server (Some class) = list_any (λ account. account == server) (accounts_of s.classes class)
 

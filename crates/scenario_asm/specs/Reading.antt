@@ -2,7 +2,7 @@
 use Rattle.std.specs.Prelude.{ℕ, List, [], ◌∷◌, Option, None, Some, Result, Ok}
 use Rattle.std.specs.List.{AllByRecursion}
 use Rattle.device_template.specs.Built.{IsBuilt}
-use Rattle.scenario_image.specs.Script.{Script, IsValid}
+use Rattle.scenario_image.specs.Scenario.{Scenario, IsValid}
 use Rattle.scenario_words.specs.declared.cause.Cause.{Cause}
 use Rattle.scenario_words.specs.Words.{words, lines}
 use Rattle.scenario_words.specs.Reading.{◌>>=◌}
@@ -27,6 +27,6 @@ abbrev pub said_by : List ℕ → Result (List Statement) Cause
 said_by text = said_in (lines text)
 
 -- a scenario is valid, and each of its classes is what accepted additions made
-pub record IsScenario (s : Script) : Type 0 where
+pub record IsScenario (s : Scenario) : Type 0 where
   pub valid : IsValid s
   pub built : AllByRecursion IsBuilt s.classes

@@ -1,6 +1,6 @@
 -- What a text denotes: the statements of its lines, one after another.
 use Rattle.std.specs.Prelude.{◌≡◌, ℕ, ◌+◌, List, [], ◌∷◌, ◌++◌, length, Option, None, Some, Result, Ok, Err, if◌then◌else◌}
-use Rattle.scenario_image.specs.Script.{Script}
+use Rattle.scenario_image.specs.Scenario.{Scenario}
 use Rattle.scenario_words.specs.declared.cause.Cause.{Cause}
 use Rattle.scenario_words.specs.declared.cause.Cause.TheVariants.{Missing}
 use Rattle.scenario_words.specs.Words.{lines, words}
@@ -34,15 +34,15 @@ lines_after [] n d = Ok d
 lines_after (line ∷ more) n d = then_lines (lines_after more (n + 1)) (at_line (n + 1) (line_after line d))
 
 -- what was stated in all; where nothing was, line 1 has to
-abbrev pub whole : Draft → Result Script AsmFault
+abbrev pub whole : Draft → Result Scenario AsmFault
 whole d = if d.begun then Ok (closed d) else Err (record { line = 1; cause = Missing })
 
-abbrev pub whole_of : Result Draft AsmFault → Result Script AsmFault
+abbrev pub whole_of : Result Draft AsmFault → Result Scenario AsmFault
 whole_of (Ok d) = whole d
 whole_of (Err fault) = Err fault
 
 -- the scenario of a text, or its first fault
-abbrev pub assembled : List ℕ → Result Script AsmFault
+abbrev pub assembled : List ℕ → Result Scenario AsmFault
 assembled text = whole_of (lines_after (lines text) 0 nothing)
 
 -- a line of the text, by its number: those before it are taken

@@ -5,7 +5,7 @@ ghost use Rattle.scenario_words.specs.declared.cause.Cause.{Cause};
 ghost use Rattle.scenario_asm.specs.Causes.{Makes};
 ghost use Rattle.scenario_asm.specs.ClassLines.{account_added, definition_added, has_object, has_place, instance_added, is_stated, object_added, value_added};
 ghost use Rattle.lwm2m_values.specs.Value.{kind_of};
-ghost use Rattle.device_template.specs.Class.{plain};
+ghost use Rattle.device_template.specs.Template.{plain};
 
 use crate::causes::{of_class, of_long};
 use device_template::Template;

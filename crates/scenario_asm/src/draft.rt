@@ -5,7 +5,7 @@ ghost use Rattle.scenario_words.specs.declared.cause.Cause.{Cause};
 ghost use Rattle.scenario_words.specs.declared.cause.Cause.TheVariants.{Memory, Missing};
 ghost use Rattle.device_machine.specs.declared.event.Event.TheVariants as event;
 ghost use Rattle.std.specs.List.{list_any};
-ghost use Rattle.scenario_image.specs.Script.{accounts_of};
+ghost use Rattle.scenario_image.specs.Scenario.{accounts_of};
 ghost use Rattle.scenario_image.specs.declared.step.Step.TheVariants as step;
 ghost use Rattle.scenario_statements.specs.declared.statement.Statement.TheVariants as says;
 ghost use Rattle.scenario_mnemonics.specs.Messages.{datagram_of};

@@ -2,7 +2,7 @@
 
 ghost use Rattle.std.specs.Prelude.{◌≡◌, ◌↔◌, [], ◌∷◌, ◌++◌, ℕ, List, map, Ok};
 ghost use Rattle.std.specs.List.{AllByRecursion};
-ghost use Rattle.scenario_image.specs.Script.{Script};
+ghost use Rattle.scenario_image.specs.Scenario.{Scenario};
 ghost use Rattle.scenario_words.specs.Words.{lines};
 ghost use Rattle.scenario_statements.specs.Spelling.{IsSayable, line_of};
 ghost use Rattle.scenario_asm.specs.Canonical.{printed, statements};
@@ -12,23 +12,23 @@ ghost use Rattle.scenario_asm.specs.Text.{assembled};
 
 /// Each statement of a scenario is one that words can say.
 pub fn statements_are_sayable()
-    ensures { (s : Script) → IsScenario s → AllByRecursion IsSayable (statements s) }
+    ensures { (s : Scenario) → IsScenario s → AllByRecursion IsSayable (statements s) }
 {}
 
 /// The lines of a canonical text are those of its statements, behind whose last LF one more stands, which is empty;
 /// so what they say is these statements, and scenarios that are written alike say the same.
 pub fn canonical_lines()
-    ensures lines { (s : Script) → IsScenario s → lines (printed s) ≡ map line_of (statements s) ++ [] ∷ [] }
-    ensures read { (s : Script) → IsScenario s → said_by (printed s) ≡ Ok (statements s) }
-    ensures one { (s t : Script) → IsScenario s → IsScenario t → printed s ≡ printed t → statements s ≡ statements t }
+    ensures lines { (s : Scenario) → IsScenario s → lines (printed s) ≡ map line_of (statements s) ++ [] ∷ [] }
+    ensures read { (s : Scenario) → IsScenario s → said_by (printed s) ≡ Ok (statements s) }
+    ensures one { (s t : Scenario) → IsScenario s → IsScenario t → printed s ≡ printed t → statements s ≡ statements t }
 {}
 
 /// The law of canonical texts: the canonical text of a scenario denotes it.
 pub fn canonical_text()
-    ensures { (s : Script) → IsScenario s → assembled (printed s) ≡ Ok s }
+    ensures { (s : Scenario) → IsScenario s → assembled (printed s) ≡ Ok s }
 {}
 
 /// The law of texts: a text assembles to a scenario exactly where it denotes it; so it denotes one at most.
 pub fn texts_denote()
-    ensures { (text : List ℕ) (s : Script) → (assembled text ≡ Ok s) ↔ Denotes text s }
+    ensures { (text : List ℕ) (s : Scenario) → (assembled text ≡ Ok s) ↔ Denotes text s }
 {}

@@ -2,10 +2,10 @@
 use Rattle.std.proofs.Common.{◌≡◌, ℕ, zero, suc, ◌<◌, ◌≤◌, ◌⊎◌, inl, inr, List, [], ◌∷◌, ◌++◌, length, take, Option, None, Some, slice_get, refl, sym, ap, subst, ◌∙◌, arith}
 use Rattle.std.proofs.lemmas.List.{take_at}
 use Rattle.std.proofs.lemmas.Option.{slice_get_within}
-use Rattle.device_template.specs.Class.{Class}
+use Rattle.device_template.specs.Template.{Template}
 use Rattle.scenario_image.specs.declared.step.Step.{Step}
 use Rattle.scenario_image.specs.declared.fault.ScenarioFault.{ScenarioFault}
-use Rattle.scenario_image.specs.Script.{one_row, step_fault, AreTaken, IsFirstRefusal}
+use Rattle.scenario_image.specs.Scenario.{one_row, step_fault, AreTaken, IsFirstRefusal}
 use Rattle.scenario_image.proofs.Played.{pushed}
 
 -- the steps of a front stand in the whole
@@ -23,7 +23,7 @@ behind_front : {X : Type 0} (front rest : List X) (x : X) → slice_get (front +
 behind_front [] rest x = refl
 behind_front (y ∷ front) rest x = behind_front front rest x
 
-none_yet : (class : Class) → AreTaken class [] 0
+none_yet : (class : Template) → AreTaken class [] 0
 none_yet class k step lt at = absurd (omega (arith, lt))
 
 pub none_if : (o : Option ScenarioFault) → ((f : ScenarioFault) → o ≡ Some f → ⊥) → o ≡ None
@@ -31,7 +31,7 @@ none_if None never = refl
 none_if (Some f) never = absurd (never f refl)
 
 -- one step more is taken
-pub one_more : (class : Class) (xs : List Step) (x : Step) → AreTaken class xs (length xs) → step_fault (one_row class xs) x ≡ None → AreTaken class (xs ++ x ∷ []) (length (xs ++ x ∷ []))
+pub one_more : (class : Template) (xs : List Step) (x : Step) → AreTaken class xs (length xs) → step_fault (one_row class xs) x ≡ None → AreTaken class (xs ++ x ∷ []) (length (xs ++ x ∷ []))
 one_more class xs x taken ok k step lt at = told (pushed xs x k step at)
   where
     told : (slice_get xs k ≡ Some step) ⊎ ((k ≡ length xs) × (x ≡ step)) → step_fault (one_row class (take k (xs ++ x ∷ []))) step ≡ None
@@ -44,7 +44,7 @@ one_more class xs x taken ok k step lt at = told (pushed xs x k step at)
         ap (λ ys. step_fault (one_row class ys) step) same ∙ ap (λ s. step_fault (one_row class xs) s) (sym h.1) ∙ ok
 
 -- the first that is refused
-pub refused_here : (class : Class) (steps xs rest : List Step) (x : Step) (f : ScenarioFault) → xs ++ x ∷ rest ≡ steps → AreTaken class xs (length xs) → step_fault (one_row class xs) x ≡ Some f → IsFirstRefusal class steps f
+pub refused_here : (class : Template) (steps xs rest : List Step) (x : Step) (f : ScenarioFault) → xs ++ x ∷ rest ≡ steps → AreTaken class xs (length xs) → step_fault (one_row class xs) x ≡ Some f → IsFirstRefusal class steps f
 refused_here class steps xs rest x f all taken refused = subst (λ ys. IsFirstRefusal class ys f) all (record {
   place = length xs;
   step = x;
@@ -56,13 +56,13 @@ refused_here class steps xs rest x f all taken refused = subst (λ ys. IsFirstRe
 })
 
 -- where all are taken, none is refused
-pub none_refused : (class : Class) (steps : List Step) (f : ScenarioFault) → AreTaken class steps (length steps) → IsFirstRefusal class steps f → ⊥
+pub none_refused : (class : Template) (steps : List Step) (f : ScenarioFault) → AreTaken class steps (length steps) → IsFirstRefusal class steps f → ⊥
 none_refused class steps f taken r =
     let e : None ≡ Some f = sym (taken r.place r.step (slice_get_within steps r.place r.step r.stands) r.stands) ∙ r.refused in
     cc
 
 -- of two refusals that are first, neither stands before the other
-not_before : (class : Class) (steps : List Step) (f g : ScenarioFault) (r : IsFirstRefusal class steps f) (q : IsFirstRefusal class steps g) → r.place < q.place → ⊥
+not_before : (class : Template) (steps : List Step) (f g : ScenarioFault) (r : IsFirstRefusal class steps f) (q : IsFirstRefusal class steps g) → r.place < q.place → ⊥
 not_before class steps f g r q lt =
     let e : None ≡ Some f = sym (q.taken r.place r.step lt r.stands) ∙ r.refused in
     cc
@@ -70,7 +70,7 @@ not_before class steps f g r q lt =
 some_is : {X : Type 0} (x y : X) (o : Option X) → o ≡ Some x → o ≡ Some y → x ≡ y
 some_is x y o h k = let e : Some x ≡ Some y = sym h ∙ k in cc
 
-pub one_refusal : (class : Class) (steps : List Step) (f g : ScenarioFault) → IsFirstRefusal class steps f → IsFirstRefusal class steps g → f ≡ g
+pub one_refusal : (class : Template) (steps : List Step) (f g : ScenarioFault) → IsFirstRefusal class steps f → IsFirstRefusal class steps g → f ≡ g
 one_refusal class steps f g r q =
     let no : r.place < q.place → ⊥ = not_before class steps f g r q in
     let nor : q.place < r.place → ⊥ = not_before class steps g f q r in

@@ -3,13 +3,13 @@ use Rattle.std.proofs.Common.{◌≡◌, ℕ, ◌+◌, ◌*◌, ◌<◌, ◌≤�
 use Rattle.std.specs.List.{AllByRecursion, sum_by}
 use Rattle.std.proofs.lemmas.List.{take_more}
 use Rattle.std.proofs.lemmas.List.Sums.{sum_by-cons, sum_by_push, sum_by-take-le}
-use Rattle.device_template.specs.Class.{Class}
-use Rattle.scenario_image.specs.Script.{Row, Script, IsGoodRow, IsValid}
+use Rattle.device_template.specs.Template.{Template}
+use Rattle.scenario_image.specs.Scenario.{Row, Scenario, IsGoodRow, IsValid}
 
 abbrev steps_in : Row → ℕ
 steps_in r = length r.steps
 
-steps_few : (classes : List Class) (rows : List Row) → AllByRecursion (IsGoodRow classes) rows → sum_by steps_in rows ≤ 4096 * length rows
+steps_few : (classes : List Template) (rows : List Row) → AllByRecursion (IsGoodRow classes) rows → sum_by steps_in rows ≤ 4096 * length rows
 steps_few classes [] all = omega arith
 steps_few classes (r ∷ rows) all = omega (arith, sum_by-cons steps_in r rows, all.0.count, steps_few classes rows all.1)
 
@@ -19,7 +19,7 @@ one_row_more rows i row lt item =
     ap (sum_by steps_in) (take_more rows i row lt ∙ ap (λ r. take i rows ++ r ∷ []) (sym item)) ∙ sum_by_push steps_in (take i rows) row
 
 -- they are few
-pub few_steps : (s : Script) (rows : List Row) (i : ℕ) (row : Row) → rows ≡ s.rows → IsValid s → i < length rows → row ≡ get_or rows i row → sum_by (λ r. length r.steps) (take i rows) + length row.steps ≤ 16777216
+pub few_steps : (s : Scenario) (rows : List Row) (i : ℕ) (row : Row) → rows ≡ s.rows → IsValid s → i < length rows → row ≡ get_or rows i row → sum_by (λ r. length r.steps) (take i rows) + length row.steps ≤ 16777216
 few_steps s rows i row lent valid lt item =
     let rows_few : length rows ≤ 4096 = rw lent valid.rows in
     let each : AllByRecursion (IsGoodRow s.classes) rows = subst (λ (rs : List Row). AllByRecursion (IsGoodRow s.classes) rs) (sym lent) valid.each in

@@ -12,13 +12,13 @@ use Rattle.byte_layout.proofs.Parts.{fits_exact, at_most_exact, split_exact, las
 use Rattle.byte_layout.proofs.Lists.{counted_exact}
 use Rattle.scenario_layout.specs.Value.{path, value}
 use Rattle.scenario_layout.proofs.ExactValue.{path_exact, value_exact, short_exact, byte_exact}
-use Rattle.device_template.specs.Class.{Class}
+use Rattle.device_template.specs.Template.{Template}
 use Rattle.device_machine.specs.declared.event.Event.TheVariants.{Recv, Put, Firmware, Tick}
 use Rattle.scenario_image.specs.declared.kind.StepKind.{StepKind}
 use Rattle.scenario_image.specs.declared.kind.StepKind.TheVariants as kinds
 use Rattle.scenario_image.specs.declared.step.Step.{Step}
 use Rattle.scenario_image.specs.declared.step.Step.TheVariants.{Event, Post, Need}
-use Rattle.scenario_image.specs.Script.{accounts_of, most_rows, most_steps}
+use Rattle.scenario_image.specs.Scenario.{accounts_of, most_rows, most_steps}
 use Rattle.scenario_image.specs.Layout.{kind_of, number_of, kind_numbered, kind, server_in, datagram_in, seconds_in, path_in, value_in, code_in, group_in, count_in, path_with, path_to, datagram, recv, tick, put, firmware, post, need, of_kind, step, steps, row_of, row, rows}
 
 abbrev is_number : ℕ → Bool
@@ -130,7 +130,7 @@ pub steps_exact : (accounts : List ℕ) → IsExact (steps accounts)
 unfolding steps
 steps_exact accounts = counted_exact (at_most most_steps (number w16)) (λ before. step accounts) (at_most_exact most_steps (number w16) short_exact) (λ before. step_exact accounts)
 
-pub row_exact : (classes : List Class) → IsExact (row classes)
+pub row_exact : (classes : List Template) → IsExact (row classes)
 unfolding row
 row_exact classes =
     split_exact (λ r. r.class) (judged BadField (λ class. nat_lt class (length classes)) (number w16)) (λ class. last (λ r. r.steps) (row_of class) (steps (accounts_of classes class)))
@@ -138,6 +138,6 @@ row_exact classes =
     (λ class good. last_exact (λ r. r.steps) (row_of class) (steps (accounts_of classes class)) (steps_exact (accounts_of classes class)) (λ xs ok. refl))
     (λ class good r h. ap (λ x. x.class) h.1)
 
-pub rows_exact : (classes : List Class) → IsExact (rows classes)
+pub rows_exact : (classes : List Template) → IsExact (rows classes)
 unfolding rows
 rows_exact classes = counted_exact (at_most most_rows (number w16)) (λ before. row classes) (at_most_exact most_rows (number w16) short_exact) (λ before. row_exact classes)

@@ -20,14 +20,14 @@ use Rattle.scenario_layout.specs.Value.{path, part_number, text, opaque, value}
 use Rattle.std.specs.Str.{IsUtf8}
 use Rattle.std.proofs.lemmas.Str.{IsUtf8-from_is_utf8}
 use Rattle.scenario_layout.proofs.GoodValue.{path_good, value_good, good_value}
-use Rattle.device_template.specs.Class.{Class}
+use Rattle.device_template.specs.Template.{Template}
 use Rattle.device_template.specs.Values.{is_within_limits as is_short}
 use Rattle.device_machine.specs.declared.event.Event.TheVariants.{Recv, Put, Firmware, Tick}
 use Rattle.scenario_image.specs.declared.kind.StepKind.{StepKind}
 use Rattle.scenario_image.specs.declared.kind.StepKind.TheVariants as kinds
 use Rattle.scenario_image.specs.declared.step.Step.{Step}
 use Rattle.scenario_image.specs.declared.step.Step.TheVariants.{Event, Post, Need}
-use Rattle.scenario_image.specs.Script.{Row, HasShortNumbers, IsGoodStep, IsGoodRow, accounts_in, accounts_of, most_rows, most_steps}
+use Rattle.scenario_image.specs.Scenario.{Row, HasShortNumbers, IsGoodStep, IsGoodRow, accounts_in, accounts_of, most_rows, most_steps}
 use Rattle.scenario_image.specs.Layout.{kind, kind_of, datagram, recv, tick, put, firmware, post, need, of_kind, step, steps, row, rows}
 use Rattle.scenario_image.proofs.Valid.{got}
 
@@ -192,7 +192,7 @@ good_steps accounts xs h fits = (
 
 -- ---- rows
 
-row_good : (classes : List Class) → length classes ≤ 256 → (r : Row) → IsGoodRow classes r → (row classes).Good r
+row_good : (classes : List Template) → length classes ≤ 256 → (r : Row) → IsGoodRow classes r → (row classes).Good r
 unfolding row
 row_good classes few r g =
     let lt : r.class < length classes = slice_get_within classes r.class g.class g.stated in
@@ -201,7 +201,7 @@ row_good classes few r g =
       (subst (λ a. (steps a).Good r.steps) (sym same) (steps_good g.class.accounts r.steps g.count g.each), refl),
     )
 
-good_row : (classes : List Class) (r : Row) → (row classes).Good r → IsBytes ((row classes).spell r) → IsGoodRow classes r
+good_row : (classes : List Template) (r : Row) → (row classes).Good r → IsBytes ((row classes).spell r) → IsGoodRow classes r
 unfolding row
 good_row classes r h fits =
     let found = got classes r.class (ltb-true r.class (length classes) h.0.1) in
@@ -215,12 +215,12 @@ good_row classes r h fits =
       each = subst (λ a. AllByRecursion (IsGoodStep a) r.steps) same all.1;
     }
 
-pub rows_good : (classes : List Class) (rs : List Row) → length classes ≤ 256 → length rs ≤ most_rows → AllByRecursion (IsGoodRow classes) rs → (rows classes).Good rs
+pub rows_good : (classes : List Template) (rs : List Row) → length classes ≤ 256 → length rs ≤ most_rows → AllByRecursion (IsGoodRow classes) rs → (rows classes).Good rs
 unfolding rows
 rows_good classes rs few_classes few all =
     ((number_good w16 (length rs) (omega (arith, few)), lt-ltb (length rs) 4097 (omega (arith, few))), each_all (row classes) (IsGoodRow classes) (row_good classes few_classes) [] rs all)
 
-pub good_rows : (classes : List Class) (rs : List Row) → (rows classes).Good rs → IsBytes ((rows classes).spell rs) → (length rs ≤ most_rows) × AllByRecursion (IsGoodRow classes) rs
+pub good_rows : (classes : List Template) (rs : List Row) → (rows classes).Good rs → IsBytes ((rows classes).spell rs) → (length rs ≤ most_rows) × AllByRecursion (IsGoodRow classes) rs
 unfolding rows
 good_rows classes rs h fits = (
   (let below : length rs < 4097 = ltb-true (length rs) 4097 h.0.1 in omega arith),

@@ -14,7 +14,7 @@ use Rattle.byte_layout.proofs.Fields.{number_exact, wide32}
 use Rattle.byte_layout.proofs.Parts.{at_most_exact, marked_exact}
 use Rattle.scenario_layout.proofs.ExactValue.{short_exact, byte_exact}
 use Rattle.scenario_layout.specs.Class.{class}
-use Rattle.scenario_image.specs.Script.{Script}
+use Rattle.scenario_image.specs.Scenario.{Scenario}
 use Rattle.scenario_image.specs.Image.{classes, lists, behind_classes, headed, image, front}
 
 -- a break of the mark, of the version or of the part is one of each part that has its breaks
@@ -50,7 +50,7 @@ front_exact =
 pub front_fails : (bytes : List ℕ) (e : ReadError) → Fails e (front.read bytes) → Fails e (read_all image bytes)
 front_fails bytes errors.Memory h = tt
 front_fails bytes (errors.Fault b) h =
-    let ended : Script × List ℕ → Result Script Break = λ x. if eqb (length x.1) 0 then Ok x.0 else Err Trailing in
+    let ended : Scenario × List ℕ → Result Scenario Break = λ x. if eqb (length x.1) 0 then Ok x.0 else Err Trailing in
     ap (λ r. r >>= ended) (image_off bytes b h)
 
 -- it is the break of the front, unless memory ran out

@@ -6,35 +6,35 @@ use Rattle.std.proofs.lemmas.Bool.{lt-ltb}
 use Rattle.std.proofs.lemmas.List.{take_more, take_all}
 use Rattle.byte_layout.specs.Part.{each}
 use Rattle.byte_layout.proofs.Fields.{number_good}
-use Rattle.device_template.specs.Class.{Class}
+use Rattle.device_template.specs.Template.{Template}
 use Rattle.scenario_layout.specs.Class.{class}
-use Rattle.scenario_image.specs.Script.{Script, IsValid}
+use Rattle.scenario_image.specs.Scenario.{Scenario, IsValid}
 use Rattle.scenario_image.specs.Layout.{rows}
 use Rattle.scenario_image.specs.Image.{classes, lists, image}
 use Rattle.scenario_image.proofs.Valid.{all_push}
 use Rattle.scenario_image.proofs.Fits.{each_all, rows_good}
 
 -- one more of the classes has bytes
-pub one_more : (list : List Class) (i : ℕ) (x : Class) → i < length list → x ≡ get_or list i x → class.Good x → AllByRecursion class.Good (take i list) → AllByRecursion class.Good (take (i + 1) list)
+pub one_more : (list : List Template) (i : ℕ) (x : Template) → i < length list → x ≡ get_or list i x → class.Good x → AllByRecursion class.Good (take i list) → AllByRecursion class.Good (take (i + 1) list)
 one_more list i x lt item good all =
-    subst (λ (ys : List Class). AllByRecursion class.Good ys) (sym (take_more list i x lt ∙ ap (λ y. take i list ++ y ∷ []) (sym item))) (all_push class.Good (take i list) x all good)
+    subst (λ (ys : List Template). AllByRecursion class.Good ys) (sym (take_more list i x lt ∙ ap (λ y. take i list ++ y ∷ []) (sym item))) (all_push class.Good (take i list) x all good)
 
 -- all of them have
-pub all_good : (list : List Class) (i : ℕ) → length list ≤ i → AllByRecursion class.Good (take i list) → (each (λ before. class) (length list) []).Good list
-all_good list i le all = each_all class class.Good (λ a h. h) [] list (subst (λ (ys : List Class). AllByRecursion class.Good ys) (take_all i list le) all)
+pub all_good : (list : List Template) (i : ℕ) → length list ≤ i → AllByRecursion class.Good (take i list) → (each (λ before. class) (length list) []).Good list
+all_good list i le all = each_all class class.Good (λ a h. h) [] list (subst (λ (ys : List Template). AllByRecursion class.Good ys) (take_all i list le) all)
 
-pub few_good : (list : List Class) → length list ≤ 256 → (each (λ before. class) (length list) []).Good list → classes.Good list
+pub few_good : (list : List Template) → length list ≤ 256 → (each (λ before. class) (length list) []).Good list → classes.Good list
 unfolding classes
 few_good list few good = ((number_good w16 (length list) (omega (arith, few)), lt-ltb (length list) 257 (omega (arith, few))), good)
 
 -- the rows of a valid scenario have bytes behind its classes
-pub valid_rows : (s : Script) → IsValid s → (rows s.classes).Good s.rows
+pub valid_rows : (s : Scenario) → IsValid s → (rows s.classes).Good s.rows
 valid_rows s valid = rows_good s.classes s.rows valid.classes valid.rows valid.each
 
-pub lists_good : (s : Script) → classes.Good s.classes → (rows s.classes).Good s.rows → lists.Good s
+pub lists_good : (s : Scenario) → classes.Good s.classes → (rows s.classes).Good s.rows → lists.Good s
 unfolding lists
 lists_good s first second = (first, (second, refl))
 
-pub image_good : (s : Script) → lists.Good s → image.Good s
+pub image_good : (s : Scenario) → lists.Good s → image.Good s
 unfolding image
 image_good s good = ((number_good w32 0x4C575343 (omega arith), refl), ((number_good w8 1 (omega arith), refl), good))

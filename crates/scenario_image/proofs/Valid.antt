@@ -3,13 +3,13 @@ use Rattle.std.proofs.Common.{◌≡◌, ℕ, zero, suc, ◌-◌, ◌<◌, ◌�
 use Rattle.std.proofs.lemmas.Bool.{leb-false}
 use Rattle.std.specs.List.{AllByRecursion}
 use Rattle.std.proofs.lemmas.List.{length-set}
-use Rattle.device_template.specs.Class.{Class}
+use Rattle.device_template.specs.Template.{Template}
 use Rattle.scenario_image.specs.declared.step.Step.{Step}
 use Rattle.scenario_image.specs.declared.fault.ScenarioFault.{ScenarioFault}
 use Rattle.scenario_image.specs.declared.fault.ScenarioFault.TheVariants as faults
-use Rattle.scenario_image.specs.Script.{Row, Script, HasFields, IsGoodStep, IsGoodRow, IsValid, is_in_range, is_within_limits, is_known, class_fault, row_fault, last_row, longer, with_last, accounts_in, accounts_of, fault_in, step_fault, most_rows, most_steps}
+use Rattle.scenario_image.specs.Scenario.{Row, Scenario, HasFields, IsGoodStep, IsGoodRow, IsValid, is_in_range, is_within_limits, is_known, class_fault, row_fault, last_row, longer, with_last, accounts_in, accounts_of, fault_in, step_fault, most_rows, most_steps}
 
-abbrev pub made : List Class → List Row → Script
+abbrev pub made : List Template → List Row → Scenario
 made classes rows = record { classes = classes; rows = rows }
 
 -- ---- lists
@@ -55,11 +55,11 @@ denied false h = let e : true ≡ false = h in absurd cc
 
 -- ---- a class more
 
-wider : (classes : List Class) (class : Class) (row : Row) → IsGoodRow classes row → IsGoodRow (classes ++ class ∷ []) row
+wider : (classes : List Template) (class : Template) (row : Row) → IsGoodRow classes row → IsGoodRow (classes ++ class ∷ []) row
 wider classes class row good =
     record { class = good.class; stated = get_push classes row.class good.class class good.stated; count = good.count; each = good.each }
 
-pub by_class : (classes new : List Class) (rows : List Row) (s : Script) (class : Class) → IsValid (made classes rows) → made classes rows ≡ s
+pub by_class : (classes new : List Template) (rows : List Row) (s : Scenario) (class : Template) → IsValid (made classes rows) → made classes rows ≡ s
     → class_fault s ≡ None → new ≡ classes ++ class ∷ [] → IsValid (made new rows)
 by_class classes new rows s class valid same ok more =
     let room = leb-false 256 (length classes) (free (nat_le 256 (length classes)) faults.Limit None (ap class_fault same ∙ ok)).0 in
@@ -71,7 +71,7 @@ by_class classes new rows s class valid same ok more =
 
 -- ---- a row more
 
-pub by_row : (classes : List Class) (rows new : List Row) (s : Script) (class : ℕ) → IsValid (made classes rows) → made classes rows ≡ s
+pub by_row : (classes : List Template) (rows new : List Row) (s : Scenario) (class : ℕ) → IsValid (made classes rows) → made classes rows ≡ s
     → row_fault s class ≡ None → new ≡ rows ++ record { class = class; steps = [] } ∷ [] → IsValid (made classes new)
 by_row classes rows new s class valid same ok more =
     let first = free (nat_le (length classes) class) faults.Missing (if nat_le most_rows (length rows) then Some faults.Limit else None) (ap (λ x. row_fault x class) same ∙ ok) in
@@ -86,7 +86,7 @@ by_row classes rows new s class valid same ok more =
 
 -- ---- a step more
 
-longer_row : (classes : List Class) (row : Row) (step : Step) → IsGoodRow classes row → HasFields step → is_in_range step ≡ true → fault_in classes (Some row) step ≡ None
+longer_row : (classes : List Template) (row : Row) (step : Step) → IsGoodRow classes row → HasFields step → is_in_range step ≡ true → fault_in classes (Some row) step ≡ None
     → IsGoodRow classes (longer row step)
 longer_row classes row step good fields range ok =
     let known = is_known (accounts_of classes row.class) step in
@@ -108,7 +108,7 @@ longer_row classes row step good fields range ok =
           });
     }
 
-stepped : (classes : List Class) (rows : List Row) (last : Option Row) (step : Step) → IsValid (made classes rows) → last_row rows ≡ last
+stepped : (classes : List Template) (rows : List Row) (last : Option Row) (step : Step) → IsValid (made classes rows) → last_row rows ≡ last
     → HasFields step → is_in_range step ≡ true → fault_in classes last step ≡ None → IsValid (made classes (with_last rows last step))
 stepped classes rows None step valid at fields range ok = valid
 stepped classes rows (Some row) step valid at fields range ok =
@@ -119,7 +119,7 @@ stepped classes rows (Some row) step valid at fields range ok =
           (longer_row classes row step (all_at (IsGoodRow classes) rows (length rows - 1) row valid.each at) fields range ok);
     }
 
-pub by_step : (classes : List Class) (rows new : List Row) (s : Script) (step : Step) → IsValid (made classes rows) → made classes rows ≡ s
+pub by_step : (classes : List Template) (rows new : List Row) (s : Scenario) (step : Step) → IsValid (made classes rows) → made classes rows ≡ s
     → step_fault s step ≡ None → HasFields step → new ≡ with_last rows (last_row rows) step → IsValid (made classes new)
 by_step classes rows new s step valid same ok fields more =
     let first = free (not (is_in_range step)) faults.Range (fault_in classes (last_row rows) step) (ap (λ x. step_fault x step) same ∙ ok) in

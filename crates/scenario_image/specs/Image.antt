@@ -5,24 +5,24 @@ use Rattle.byte_layout.specs.declared.fault.Break.TheVariants.{Magic, Version}
 use Rattle.byte_layout.specs.declared.fault.LayoutFault.{LayoutFault}
 use Rattle.byte_layout.specs.Part.{Part, number, at_most, split, last, marked, done, counted}
 use Rattle.byte_layout.specs.Whole.{IsAll, HasFault}
-use Rattle.device_template.specs.Class.{Class}
+use Rattle.device_template.specs.Template.{Template}
 use Rattle.scenario_layout.specs.Class.{class}
-use Rattle.scenario_image.specs.Script.{Row, Script}
+use Rattle.scenario_image.specs.Scenario.{Row, Scenario}
 use Rattle.scenario_image.specs.Layout.{rows}
 
 -- at most 256 classes
-unfoldable pub classes : Part (List Class)
+unfoldable pub classes : Part (List Template)
 classes = counted (at_most 256 (number w16)) (λ before. class)
 
-abbrev pub script_of : List Class → List Row → Script
+abbrev pub script_of : List Template → List Row → Scenario
 script_of classes rows = record { classes = classes; rows = rows }
 
 -- behind the classes: rows of devices of these
-abbrev pub behind_classes : List Class → Part Script
+abbrev pub behind_classes : List Template → Part Scenario
 behind_classes known = last (λ s. s.rows) (script_of known) (rows known)
 
 -- the classes, and the rows
-unfoldable pub lists : Part Script
+unfoldable pub lists : Part Scenario
 lists = split (λ s. s.classes) classes behind_classes
 
 -- the image's mark and version, and this
@@ -34,7 +34,7 @@ abbrev pub header : Part (Unit {0})
 header = headed (done tt)
 
 -- the image's mark and version, the classes, and the rows
-unfoldable pub image : Part Script
+unfoldable pub image : Part Scenario
 image = headed lists
 
 -- its front: the mark, the version, and how many classes there are
@@ -42,7 +42,7 @@ unfoldable pub front : Part ℕ
 front = headed (at_most 256 (number w16))
 
 -- the bytes are the image of this scenario
-abbrev pub IsImage : List ℕ → Script → Type 0
+abbrev pub IsImage : List ℕ → Scenario → Type 0
 IsImage bytes s = IsAll image bytes s
 
 -- the bytes are no scenario's image, and this is their fault, the first from the left

@@ -11,13 +11,13 @@ use Rattle.object_defs.specs.declared.path.Path.{Path}
 use Rattle.object_defs.specs.declared.path.Path.TheVariants.{Resource, Part as ResourcePart}
 use Rattle.object_defs.specs.declared.path.FullPath.{FullPath}
 use Rattle.scenario_layout.specs.Value.{path, value}
-use Rattle.device_template.specs.Class.{Class}
+use Rattle.device_template.specs.Template.{Template}
 use Rattle.device_machine.specs.declared.event.Event.TheVariants.{Recv, Put, Firmware, Tick}
 use Rattle.scenario_image.specs.declared.kind.StepKind.{StepKind}
 use Rattle.scenario_image.specs.declared.kind.StepKind.TheVariants as kinds
 use Rattle.scenario_image.specs.declared.step.Step.{Step}
 use Rattle.scenario_image.specs.declared.step.Step.TheVariants.{Event, Post, Need}
-use Rattle.scenario_image.specs.Script.{Row, accounts_of, most_rows, most_steps}
+use Rattle.scenario_image.specs.Scenario.{Row, accounts_of, most_rows, most_steps}
 
 -- ---- the kind of a step
 
@@ -148,9 +148,9 @@ abbrev pub row_of : ℕ → List Step → Row
 row_of class steps = record { class = class; steps = steps }
 
 -- the place of a class that is there, and steps that suit it
-unfoldable pub row : List Class → Part Row
+unfoldable pub row : List Template → Part Row
 row classes = split (λ r. r.class) (judged BadField (λ class. nat_lt class (length classes)) (number w16)) (λ class. last (λ r. r.steps) (row_of class) (steps (accounts_of classes class)))
 
 -- at most `most_rows` rows
-unfoldable pub rows : List Class → Part (List Row)
+unfoldable pub rows : List Template → Part (List Row)
 rows classes = counted (at_most most_rows (number w16)) (λ before. row classes)

@@ -1,4 +1,4 @@
-pub mod Script
+pub mod Scenario
 pub mod Play
 pub mod Layout
 pub mod Image

@@ -9,7 +9,7 @@ ghost use Rattle.byte_layout.specs.Outcome.{Gives};
 ghost use Rattle.byte_layout.specs.Part.{each};
 ghost use Rattle.byte_layout.specs.Whole.{placed, read_all};
 ghost use Rattle.scenario_layout.specs.Class.{class};
-ghost use Rattle.scenario_image.specs.Script.{Script};
+ghost use Rattle.scenario_image.specs.Scenario.{Scenario};
 ghost use Rattle.scenario_image.specs.Image.{classes, lists, header, image, front, IsImage, HasImageFault};
 
 use crate::rows::{put_rows, rows_at};
@@ -91,12 +91,12 @@ fn front_at(bytes: &[u8]) -> Result<(u16, &[u8]), ReadError>
 struct Image;
 
 impl Format for Image {
-    ghost use Rattle.scenario_image.specs.Script.{Script};
+    ghost use Rattle.scenario_image.specs.Scenario.{Scenario};
     ghost use Rattle.scenario_image.specs.Image.{image};
 
     type Value = Scenario;
 
-    ghost Data = { Script };
+    ghost Data = { Scenario };
 
     ghost view = { λ s. s };
 
@@ -116,7 +116,7 @@ impl Format for Image {
 /// that no memory was left.
 pub fn load(alloc: Global, bytes: &[u8]) -> Result<Scenario, LayoutFault>
     ensures found { IfOk result (λ s. IsImage bytes.now s) }
-    ensures only { (s : Script) → IsImage bytes.now s → MatchResult result (λ x. x ≡ s) (λ f. f ≡ Memory) }
+    ensures only { (s : Scenario) → IsImage bytes.now s → MatchResult result (λ x. x ≡ s) (λ f. f ≡ Memory) }
     ensures fault { IfErr result (λ f. f ≢ Memory → HasImageFault bytes.now f) }
     ensures refused { (f : LayoutFault) → HasImageFault bytes.now f → IsErrAnd result (λ g. g ≢ Memory → g ≡ f) }
     ensures front { (b : Break) → front.Breaks bytes.now b → result ≡ Err (placed (length bytes.now) b) }

@@ -3,18 +3,18 @@
 ghost use Rattle.std.specs.Prelude.{◌≡◌, ◌≤◌, ◌⊎◌, ℕ, ◌+◌, List, Some, Ok, length, slice_get};
 ghost use Rattle.byte_layout.specs.declared.fault.LayoutFault.{LayoutFault};
 ghost use Rattle.byte_layout.specs.Whole.{read_all};
-ghost use Rattle.device_template.specs.Class.{Class};
+ghost use Rattle.device_template.specs.Template.{Template};
 ghost use Rattle.scenario_image.specs.declared.step.Step.{Step};
 ghost use Rattle.byte_layout.specs.Exact.{IsBytes, IsExact};
 ghost use Rattle.scenario_image.specs.Image.{image, IsImage, HasImageFault};
 ghost use Rattle.scenario_image.specs.Layout.{step, steps, row, rows};
-ghost use Rattle.scenario_image.specs.Script.{Script, IsGoodStep, IsValid};
+ghost use Rattle.scenario_image.specs.Scenario.{Scenario, IsGoodStep, IsValid};
 ghost use Rattle.scenario_image.specs.Play.{start, state_at, step_after};
 
 /// A row's states begin with the start of its class, and each step leads from one to the next.
 pub fn states_follow()
-    ensures first { (class : Class) (steps : List Step) → state_at class steps 0 ≡ start class }
-    ensures next { (class : Class) (steps : List Step) (k : ℕ) (step : Step) → slice_get steps k ≡ Some step
+    ensures first { (class : Template) (steps : List Step) → state_at class steps 0 ≡ start class }
+    ensures next { (class : Template) (steps : List Step) (k : ℕ) (step : Step) → slice_get steps k ≡ Some step
         → state_at class steps (k + 1) ≡ step_after (state_at class steps k) step }
 {}
 
@@ -22,27 +22,27 @@ pub fn states_follow()
 pub fn exact_layouts()
     ensures step { (accounts : List ℕ) → IsExact (step accounts) }
     ensures steps { (accounts : List ℕ) → IsExact (steps accounts) }
-    ensures row { (classes : List Class) → IsExact (row classes) }
-    ensures rows { (classes : List Class) → IsExact (rows classes) }
+    ensures row { (classes : List Template) → IsExact (row classes) }
+    ensures rows { (classes : List Template) → IsExact (rows classes) }
 {}
 
 /// The good steps and the rows of valid scenarios are those that have bytes.
 pub fn valid_have_bytes()
     ensures step { (accounts : List ℕ) (s : Step) → IsGoodStep accounts s → (step accounts).Good s }
     ensures good_step { (accounts : List ℕ) (s : Step) → (step accounts).Good s → IsBytes ((step accounts).spell s) → IsGoodStep accounts s }
-    ensures rows { (s : Script) → IsValid s → (rows s.classes).Good s.rows }
-    ensures valid { (s : Script) → length s.classes ≤ 256 → (rows s.classes).Good s.rows → IsBytes ((rows s.classes).spell s.rows) → IsValid s }
+    ensures rows { (s : Scenario) → IsValid s → (rows s.classes).Good s.rows }
+    ensures valid { (s : Scenario) → length s.classes ≤ 256 → (rows s.classes).Good s.rows → IsBytes ((rows s.classes).spell s.rows) → IsValid s }
 {}
 
 /// Bytes are the image of one scenario or have one fault, and never both; a scenario has one image, which is read as it again; and
 /// what has an image is valid.
 pub fn one_image()
     ensures exact { IsExact image }
-    ensures scenario { (bytes : List ℕ) (a b : Script) → IsImage bytes a → IsImage bytes b → a ≡ b }
-    ensures bytes { (s : Script) (a b : List ℕ) → IsImage a s → IsImage b s → a ≡ b }
+    ensures scenario { (bytes : List ℕ) (a b : Scenario) → IsImage bytes a → IsImage bytes b → a ≡ b }
+    ensures bytes { (s : Scenario) (a b : List ℕ) → IsImage a s → IsImage b s → a ≡ b }
     ensures fault { (bytes : List ℕ) (f g : LayoutFault) → HasImageFault bytes f → HasImageFault bytes g → f ≡ g }
-    ensures never_both { (bytes : List ℕ) (s : Script) (f : LayoutFault) → IsImage bytes s → HasImageFault bytes f → ⊥ }
-    ensures either { (bytes : List ℕ) → IsBytes bytes → ((s : Script) × IsImage bytes s) ⊎ ((f : LayoutFault) × HasImageFault bytes f) }
-    ensures again { (s : Script) → image.Good s → read_all image (image.spell s) ≡ Ok s }
-    ensures valid { (bytes : List ℕ) (s : Script) → IsBytes bytes → IsImage bytes s → IsValid s }
+    ensures never_both { (bytes : List ℕ) (s : Scenario) (f : LayoutFault) → IsImage bytes s → HasImageFault bytes f → ⊥ }
+    ensures either { (bytes : List ℕ) → IsBytes bytes → ((s : Scenario) × IsImage bytes s) ⊎ ((f : LayoutFault) × HasImageFault bytes f) }
+    ensures again { (s : Scenario) → image.Good s → read_all image (image.spell s) ≡ Ok s }
+    ensures valid { (bytes : List ℕ) (s : Scenario) → IsBytes bytes → IsImage bytes s → IsValid s }
 {}

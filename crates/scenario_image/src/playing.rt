@@ -2,7 +2,7 @@ ghost use Rattle.std.specs.Prelude.{◌≡◌, ℕ, ◌↔◌, ◌++◌, ◌∷�
 ghost use Rattle.std.specs.List.{list_any};
 ghost use Rattle.std.specs.Result.{IsErr};
 ghost use Rattle.device_machine.specs.declared.output.Output.{Output};
-ghost use Rattle.device_machine.specs.State.{Flat, Shows};
+ghost use Rattle.device_machine.specs.State.{Machine, Shows};
 ghost use Rattle.scenario_image.specs.Play.{start, state_at, step_outputs, step_after, state_after, PutsOut, is_step_refused, is_event, outputs_in, IsStopped, IsLeft};
 
 use crate::step::Step;
@@ -13,8 +13,8 @@ use std::alloc::{AllocError, Global};
 ///
 /// `Memory` leaves the device spent; `Spent` says that it was spent, and changes nothing.
 pub fn take_step(device: &mut Device, step: &Step) -> Result<Option<Outputs>, StepFault>
-    ensures outputs { (f : Flat) → Shows device.old f → IfOk result (λ o. outputs_in o ≡ step_outputs f step.now) }
-    ensures shows { (f : Flat) → Shows device.old f → OnOk result (Shows device.new (step_after f step.now)) }
+    ensures outputs { (f : Machine) → Shows device.old f → IfOk result (λ o. outputs_in o ≡ step_outputs f step.now) }
+    ensures shows { (f : Machine) → Shows device.old f → OnOk result (Shows device.new (step_after f step.now)) }
     ensures spent { (result ≡ Err StepFault.Spent) ↔ IsTrue (is_step_refused device.old step.now) }
     ensures unchanged { result ≡ Err StepFault.Spent → device.new ≡ device.old }
     ensures unheard { is_event step.now ≡ false → device.new ≡ device.old }
@@ -50,14 +50,14 @@ pub fn take_steps(
     steps: &[Step],
 ) -> Result<Vec<Option<Outputs>>, StepFault>
     ensures count { IfOk result (λ v. length v.items ≡ length steps.now) }
-    ensures outputs { (f : Flat) → Shows device.old f → IfOk result (λ v.
+    ensures outputs { (f : Machine) → Shows device.old f → IfOk result (λ v.
         (k : ℕ) (o : Option (List Output)) → slice_get v.items k ≡ Some o → PutsOut f steps.now k (outputs_in o)) }
-    ensures shows { (f : Flat) → Shows device.old f → OnOk result (Shows device.new (state_after f steps.now)) }
+    ensures shows { (f : Machine) → Shows device.old f → OnOk result (Shows device.new (state_after f steps.now)) }
     ensures asked { IfOk result (λ v. map is_some v.items ≡ map is_event steps.now) }
-    ensures spent { (f : Flat) → Shows device.old f → result ≡ Err StepFault.Spent → IsStopped f steps.now }
-    ensures stopped { (f : Flat) → Shows device.old f → IsStopped f steps.now → IsErr result }
+    ensures spent { (f : Machine) → Shows device.old f → result ≡ Err StepFault.Spent → IsStopped f steps.now }
+    ensures stopped { (f : Machine) → Shows device.old f → IsStopped f steps.now → IsErr result }
     ensures deaf { IsTrue device.old.spent → OnOk result (list_any is_event steps.now ≡ false) }
-    ensures left { (f : Flat) → Shows device.old f → OnErr result (IsLeft device.new f steps.now) }
+    ensures left { (f : Machine) → Shows device.old f → OnErr result (IsLeft device.new f steps.now) }
 {
     let mut all = Vec::with_capacity(alloc, steps.len())?;
     for step in steps {

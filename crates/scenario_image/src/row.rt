@@ -1,5 +1,5 @@
 ghost use Rattle.std.specs.Prelude.{◌≡◌, [], length, OnOk, OnErr};
-ghost use Rattle.scenario_image.specs.Script.{longer};
+ghost use Rattle.scenario_image.specs.Scenario.{longer};
 
 use crate::step::Step;
 use std::alloc::{AllocError, Global};
@@ -13,7 +13,7 @@ pub(crate) struct Row {
 }
 
 impl Model for Row {
-    ghost use Rattle.scenario_image.specs.Script.{Row};
+    ghost use Rattle.scenario_image.specs.Scenario.{Row};
 
     ghost Value = { Row };
 

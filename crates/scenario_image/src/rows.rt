@@ -7,7 +7,7 @@ ghost use Rattle.byte_layout.specs.declared.fault.ReadError.TheVariants.{Memory}
 ghost use Rattle.byte_layout.specs.Outcome.{Gives};
 ghost use Rattle.byte_layout.specs.Part.{number, judged};
 ghost use Rattle.scenario_image.specs.Layout.{row, rows};
-ghost use Rattle.scenario_image.specs.Script.{accounts_of};
+ghost use Rattle.scenario_image.specs.Scenario.{accounts_of};
 
 use crate::reading::steps_at;
 use crate::row::Row;

@@ -1,7 +1,7 @@
 ghost use Rattle.std.specs.Prelude.{◌≡◌, ◌≢◌, [], length, slice_get, None, Some, Err, IfErr, OnOk, OnErr};
 ghost use Rattle.std.specs.List.{sum_by};
 ghost use Rattle.std.specs.Option.{option_copied, option_map};
-ghost use Rattle.scenario_image.specs.Script.{Row, HasFields, with_class, class_fault, with_row, row_fault, with_step, step_fault, with_last, last_row, IsValid};
+ghost use Rattle.scenario_image.specs.Scenario.{Row, HasFields, with_class, class_fault, with_row, row_fault, with_step, step_fault, with_last, last_row, IsValid};
 
 use crate::fault::ScenarioFault;
 use crate::row::Row;
@@ -32,9 +32,9 @@ pub struct Scenario {
 impl Model for Scenario {
     ghost use Rattle.std.specs.Coded.{codes};
     ghost use Rattle.instance_store.specs.Stored.{stored_code};
-    ghost use Rattle.scenario_image.specs.Script.{Script, IsValid};
+    ghost use Rattle.scenario_image.specs.Scenario.{Scenario, IsValid};
 
-    ghost Value = { Script };
+    ghost Value = { Scenario };
 
     ghost coded = { Prim.hlevel (codes, stored_code) };
 

@@ -1,5 +1,5 @@
 ghost use Rattle.std.specs.Prelude.{◌≡◌, ◌≢◌, IfOk, IfErr, IsErrAnd};
-ghost use Rattle.scenario_image.specs.Script.{one_row, AreTaken, IsFirstRefusal};
+ghost use Rattle.scenario_image.specs.Scenario.{one_row, AreTaken, IsFirstRefusal};
 ghost use Rattle.scenario_image.specs.declared.fault.ScenarioFault.{ScenarioFault};
 ghost use Rattle.scenario_image.specs.declared.fault.ScenarioFault.TheVariants.{Memory};
 

@@ -3,7 +3,7 @@ ghost use Rattle.std.specs.List.{list_any};
 ghost use Rattle.device_template.specs.Values.{is_within_limits as is_short};
 ghost use Rattle.lwm2m_values.specs.Value.{IsGood};
 ghost use Rattle.object_defs.specs.Path.{full_path};
-ghost use Rattle.scenario_image.specs.Script.{is_in_range, is_within_limits, accounts_of, is_known, HasFields, HasShortNumbers};
+ghost use Rattle.scenario_image.specs.Scenario.{is_in_range, is_within_limits, accounts_of, is_known, HasFields, HasShortNumbers};
 
 use device_machine::{Event, Template};
 use lwm2m_values::Value;

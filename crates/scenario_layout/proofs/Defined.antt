@@ -21,7 +21,7 @@ use Rattle.object_defs.specs.declared.definition.ResourceDef.{ResourceDef}
 use Rattle.object_defs.specs.declared.fault.CatalogFault.TheVariants as catalog
 use Rattle.object_defs.proofs.LookUps.{object_of-with_resource_same, same_number}
 use Rattle.scenario_layout.specs.Definition.{flags_of, flags_fit, kind_fits, resource, resources}
-use Rattle.device_template.specs.Class.{Class, definition_fault, fault_of, with_catalogue}
+use Rattle.device_template.specs.Template.{Template, definition_fault, fault_of, with_catalogue}
 use Rattle.device_template.specs.declared.fault.TemplateFault.{TemplateFault}
 use Rattle.device_template.specs.declared.fault.TemplateFault.TheVariants as faults
 use Rattle.scenario_layout.specs.Growing.{refusal, with_definitions}
@@ -69,7 +69,7 @@ fits_lines true false true h i j = absurd cc
 few : (n : ℕ) → n < 64 → nat_le 64 n ≡ false
 few n h = grind (arith, nat_tests)
 
-pub not_refused_at : (c : Class) (id : ℕ) (before : List ResourceDef) (d : ResourceDef) → is_vendor id ≡ true → object_of c.catalogue id ≡ Some (defined id before) → (resource before).Good d → length before < 64 → definition_fault c id d ≡ None
+pub not_refused_at : (c : Template) (id : ℕ) (before : List ResourceDef) (d : ResourceDef) → is_vendor id ≡ true → object_of c.catalogue id ≡ Some (defined id before) → (resource before).Good d → length before < 64 → definition_fault c id d ≡ None
 not_refused_at c id before d vendor found good short =
     ap (λ b. option_map fault_of (resource_fault_in d (cond b (object_of c.catalogue id) None))) vendor
     ∙ ap (λ o. option_map fault_of (resource_fault_in d o)) found
@@ -133,23 +133,23 @@ few_definitions : (ds : List ResourceDef) (i : ℕ) → resources.Good ds → i 
 unfolding resources
 few_definitions ds i good lt = omega (arith, ltb-true (length ds) 65 good.0.1, length-take-le i ds (omega (arith, lt)), lt)
 
-pub free_at : (c : Class) (id : ℕ) (ds : List ResourceDef) (i : ℕ) (d : ResourceDef) → is_vendor id ≡ true → resources.Good ds → i < length ds → d ≡ get_or ds i d → object_of c.catalogue id ≡ Some (defined id (take i ds)) → definition_fault c id d ≡ None
+pub free_at : (c : Template) (id : ℕ) (ds : List ResourceDef) (i : ℕ) (d : ResourceDef) → is_vendor id ≡ true → resources.Good ds → i < length ds → d ≡ get_or ds i d → object_of c.catalogue id ≡ Some (defined id (take i ds)) → definition_fault c id d ≡ None
 free_at c id ds i d vendor good lt item found = not_refused_at c id (take i ds) d vendor found (item_good ds i d good lt item) (few_definitions ds i good lt)
 
 next : (ds : List ResourceDef) (i : ℕ) (d : ResourceDef) → i < length ds → d ≡ get_or ds i d → take (i + 1) ds ≡ take i ds ++ d ∷ []
 next ds i d lt item = take_more ds i d lt ∙ ap (λ y. take i ds ++ y ∷ []) (sym item)
 
-pub made_on : (c t u : Class) (id : ℕ) (ds : List ResourceDef) (i : ℕ) (d : ResourceDef) → i < length ds → d ≡ get_or ds i d → t ≡ with_catalogue c (with_definitions c.catalogue id (take i ds)) → u ≡ with_catalogue t (with_resource t.catalogue id d)
+pub made_on : (c t u : Template) (id : ℕ) (ds : List ResourceDef) (i : ℕ) (d : ResourceDef) → i < length ds → d ≡ get_or ds i d → t ≡ with_catalogue c (with_definitions c.catalogue id (take i ds)) → u ≡ with_catalogue t (with_resource t.catalogue id d)
     → u ≡ with_catalogue c (with_definitions c.catalogue id (take (i + 1) ds))
 made_on c t u id ds i d lt item so_far made =
     made
-    ∙ ap (λ (k : Class). with_catalogue k (with_resource k.catalogue id d)) so_far
+    ∙ ap (λ (k : Template). with_catalogue k (with_resource k.catalogue id d)) so_far
     ∙ ap (with_catalogue c) (sym (with_definitions-push c.catalogue id (take i ds) d) ∙ ap (with_definitions c.catalogue id) (sym (next ds i d lt item)))
 
-pub found_more : (t u : Class) (id : ℕ) (ds : List ResourceDef) (i : ℕ) (d : ResourceDef) → resources.Good ds → i < length ds → d ≡ get_or ds i d → object_of t.catalogue id ≡ Some (defined id (take i ds)) → u ≡ with_catalogue t (with_resource t.catalogue id d)
+pub found_more : (t u : Template) (id : ℕ) (ds : List ResourceDef) (i : ℕ) (d : ResourceDef) → resources.Good ds → i < length ds → d ≡ get_or ds i d → object_of t.catalogue id ≡ Some (defined id (take i ds)) → u ≡ with_catalogue t (with_resource t.catalogue id d)
     → object_of u.catalogue id ≡ Some (defined id (take (i + 1) ds))
 found_more t u id ds i d good lt item found made =
-    ap (λ (k : Class). object_of k.catalogue id) made
+    ap (λ (k : Template). object_of k.catalogue id) made
     ∙ found_on t.catalogue id (take i ds) d found (item_good ds i d good lt item)
     ∙ ap (λ xs. Some (defined id xs)) (sym (next ds i d lt item))
 

@@ -6,7 +6,7 @@ use Rattle.std.specs.Int.{w8, w16}
 use Rattle.std.proofs.lemmas.Bool.{lt-ltb}
 use Rattle.std.proofs.lemmas.Bool.Decides.{nat_tests}
 use Rattle.byte_layout.proofs.Fields.{number_good}
-use Rattle.device_template.specs.Class.{Class}
+use Rattle.device_template.specs.Template.{Template}
 use Rattle.device_template.specs.Built.{IsBuilt}
 use Rattle.device_template.specs.Built.IsBuilt.{nothing, account, object, resource, instance, value}
 use Rattle.device_template.proofs.Ascending.{Rises, rises}
@@ -23,7 +23,7 @@ record HasAccounts (xs : List ℕ) : Type 0 where
   each : AllByRecursion IsServer xs
   few : length xs ≤ 4
 
-has_accounts : (class : Class) → IsBuilt class → HasAccounts class.accounts
+has_accounts : (class : Template) → IsBuilt class → HasAccounts class.accounts
 has_accounts _ nothing = record { each = tt; few = omega arith }
 has_accounts _ (account {class} server built free) =
     let before = has_accounts class built in
@@ -51,7 +51,7 @@ account_good front n back h rising =
           (taken_none _ (no_three _ _ _ _ _ _ server (none_there n front low) (is_below (length front) 4 (omega (arith, shorter (front ++ n ∷ back) front n back refl, h.few))))),
     )
 
-pub accounts_good : (class : Class) → IsBuilt class → accounts.Good class.accounts
+pub accounts_good : (class : Template) → IsBuilt class → accounts.Good class.accounts
 unfolding accounts
 accounts_good class built =
     let xs = class.accounts in

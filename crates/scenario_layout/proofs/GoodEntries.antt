@@ -30,7 +30,7 @@ use Rattle.instance_store.specs.Stored.{lies_in, resource_path, value_at, value_
 use Rattle.scenario_layout.specs.Value.{value}
 use Rattle.scenario_layout.specs.Value as fields
 use Rattle.scenario_layout.proofs.GoodValue.{path_good, value_good}
-use Rattle.device_template.specs.Class.{Class, kind_taken, kind_taken_by, plain, value_fault_at}
+use Rattle.device_template.specs.Template.{Template, kind_taken, kind_taken_by, plain, value_fault_at}
 use Rattle.device_template.specs.Values.{fits, fits_object, fits_resource, has_all_parts, has_kind, has_place, instance_at, is_set_at_start, is_within_limits, resource_at}
 use Rattle.device_template.specs.Built.{IsBuilt, IsShort}
 use Rattle.device_template.specs.Built.IsBuilt.{nothing, account, object, resource, instance, value as added}
@@ -146,7 +146,7 @@ still_few r p es new true e more room few =
     omega (arith, more, room_for p.part (length (parts r es)) there few)
 still_few r p es new false e more room few = omega (arith, more, few)
 
-value_more : (c : Class) (p : FullPath) (v : Value) → IsShort p → IsGood v → HasValues c.catalogue c.store.instances (finite.entries c.store.values) → value_fault_at c p v ≡ None
+value_more : (c : Template) (p : FullPath) (v : Value) → IsShort p → IsGood v → HasValues c.catalogue c.store.instances (finite.entries c.store.values) → value_fault_at c p v ≡ None
     → HasValues c.catalogue c.store.instances (finite.entries (finite.insert c.store.values p v))
 unfolding parts
 value_more c p v short good before free =
@@ -189,7 +189,7 @@ held_by_instance c m place e h = moved c c m (finite.insert m place tt) e h refl
     either true o some = refl
     either false o some = some
 
-has_values : (class : Class) → IsBuilt class → HasValues class.catalogue class.store.instances (finite.entries class.store.values)
+has_values : (class : Template) → IsBuilt class → HasValues class.catalogue class.store.instances (finite.entries class.store.values)
 unfolding parts
 has_values _ nothing = subst (HasValues _ _) (sym (no_entries path_cmp)) (record { each = tt; few_parts = λ r. omega arith; few = omega arith })
 has_values _ (account {class} server built free) = has_values class built
@@ -286,7 +286,7 @@ own_resource p = and_true (eqb p.object p.object && eqb p.instance p.instance) _
     same : (n : ℕ) → eqb n n ≡ true
     same n = grind (arith, nat_tests)
 
-module _ (k : Class) (front : List Entry) (e : Entry) (back : List Entry) (h : Ascends path_cmp (λ e. e.0) (front ++ e ∷ back)) (all : HasValues k.catalogue k.store.instances (front ++ e ∷ back)) where
+module _ (k : Template) (front : List Entry) (e : Entry) (back : List Entry) (h : Ascends path_cmp (λ e. e.0) (front ++ e ∷ back)) (all : HasValues k.catalogue k.store.instances (front ++ e ∷ back)) where
   is : IsHeld k.catalogue k.store.instances e
   is = all_of (IsHeld k.catalogue k.store.instances) front e back all.each
 
@@ -332,7 +332,7 @@ module _ (k : Class) (front : List Entry) (e : Entry) (back : List Entry) (h : A
     ),
   )
 
-pub values_good : (c k : Class) → IsBuilt c → k.catalogue ≡ c.catalogue → k.store.instances ≡ c.store.instances → (values k).Good (values_in c)
+pub values_good : (c k : Template) → IsBuilt c → k.catalogue ≡ c.catalogue → k.store.instances ≡ c.store.instances → (values k).Good (values_in c)
 unfolding values
 values_good c k built same_catalogue same_places =
     let es = values_in c in
@@ -345,8 +345,8 @@ values_good c k built same_catalogue same_places =
 
 -- ---- what their writer asks for
 
-pub each_held : (c : Class) → IsBuilt c → All (λ e. IsGood e.1) (values_in c)
+pub each_held : (c : Template) → IsBuilt c → All (λ e. IsGood e.1) (values_in c)
 each_held c built = All-from_recursion _ _ (all_weaker (IsHeld c.catalogue c.store.instances) (λ e. IsGood e.1) (λ e h. h.good) (values_in c) (has_values c built).each)
 
-pub few_values : (c : Class) → IsBuilt c → length (values_in c) < 65536
+pub few_values : (c : Template) → IsBuilt c → length (values_in c) < 65536
 few_values c built = omega (arith, (has_values c built).few)

@@ -22,7 +22,7 @@ use Rattle.object_defs.proofs.LookUps.{object_absent, object_of-with_object_othe
 use Rattle.object_defs.proofs.PathOrder.{instance_total}
 use Rattle.instance_store.specs.Stored.{Stored, instances_of}
 use Rattle.scenario_layout.proofs.GoodValue.{place_good}
-use Rattle.device_template.specs.Class.{Class, instance_fault, may_stand}
+use Rattle.device_template.specs.Template.{Template, instance_fault, may_stand}
 use Rattle.device_template.specs.Built.{IsBuilt}
 use Rattle.device_template.specs.Built.IsBuilt.{nothing, account, object, resource, instance, value}
 use Rattle.scenario_layout.specs.Class.{instances_in, with_instances, instances}
@@ -111,7 +111,7 @@ instance_more c s p short before may known absent room =
       few = λ o. still_few o p es _ (eqb p.object o) refl (taken_more (numbers_of o) (joins o) (p, tt) es _ more ∙ ap (λ n. length (numbers_of o es) + n) (one_seen o p (eqb p.object o))) room (before.few o);
     }
 
-pub has_instances : (class : Class) → IsBuilt class → HasInstances class.catalogue (finite.entries class.store.instances)
+pub has_instances : (class : Template) → IsBuilt class → HasInstances class.catalogue (finite.entries class.store.instances)
 has_instances _ nothing = subst (HasInstances base) (sym (no_entries instance_cmp)) (record { each = tt; few = λ o. omega arith })
 has_instances _ (account {class} server built free) = has_instances class built
 has_instances _ (object {class} id built free) =
@@ -196,7 +196,7 @@ keys_few c es h small =
 abbrev as_entries : List InstancePath → List Entry
 as_entries ps = map (λ p. (p, tt)) ps
 
-places_ascend : (c : Class) → Ascends instance_cmp (λ p. p) (instances_in c)
+places_ascend : (c : Template) → Ascends instance_cmp (λ p. p) (instances_in c)
 places_ascend c = keys_ascend instance_cmp (finite.entries c.store.instances) (map_ascends instance_total c.store.instances)
 
 numbered : ℕ → List InstancePath → List ℕ
@@ -226,7 +226,7 @@ low_entries p (q ∷ front) h =
     let both = both_true (is_lt (instance_cmp q p)) _ h in
     and_true (is_lt (instance_cmp q p)) _ both.0 (low_entries p front both.1)
 
-instance_free : (k : Class) (front : List InstancePath) (p : InstancePath) (back : List InstancePath) → Ascends instance_cmp (λ q. q) (front ++ p ∷ back) → may_stand p ≡ true → is_some (object_of k.catalogue p.object) ≡ true
+instance_free : (k : Template) (front : List InstancePath) (p : InstancePath) (back : List InstancePath) → Ascends instance_cmp (λ q. q) (front ++ p ∷ back) → may_stand p ≡ true → is_some (object_of k.catalogue p.object) ≡ true
     → length (numbered p.object (front ++ p ∷ back)) ≤ 64 → instance_fault (with_instances k front) p ≡ None
 unfolding numbered
 instance_free k front p back h may known few =
@@ -243,7 +243,7 @@ all_places : (c : List ObjectDef) (es : List Entry) → AllByRecursion (IsPlace 
 all_places c [] h = tt
 all_places c (e ∷ es) h = (h.0, all_places c es h.1)
 
-instance_good : (k : Class) (front : List InstancePath) (p : InstancePath) (back : List InstancePath) → Ascends instance_cmp (λ q. q) (front ++ p ∷ back) → AllByRecursion (λ q. IsPlace k.catalogue (q, tt)) (front ++ p ∷ back)
+instance_good : (k : Template) (front : List InstancePath) (p : InstancePath) (back : List InstancePath) → Ascends instance_cmp (λ q. q) (front ++ p ∷ back) → AllByRecursion (λ q. IsPlace k.catalogue (q, tt)) (front ++ p ∷ back)
     → length (numbered p.object (front ++ p ∷ back)) ≤ 64 → (layout.instance k front).Good p
 unfolding layout.instance
 instance_good k front p back h all few =
@@ -258,7 +258,7 @@ instance_good k front p back h all few =
     number_small : (q : InstancePath) → may_stand q ≡ true → q.instance < 65536
     number_small q may = low q.instance (both_true _ _ (both_true (not (eqb q.object 0)) _ may).1).0
 
-pub instances_good : (c k : Class) → IsBuilt c → length c.catalogue ≤ 16 → k.catalogue ≡ c.catalogue → (instances k).Good (instances_in c)
+pub instances_good : (c k : Template) → IsBuilt c → length c.catalogue ≤ 16 → k.catalogue ≡ c.catalogue → (instances k).Good (instances_in c)
 unfolding instances numbered
 instances_good c k built small same =
     let h = has_instances c built in
@@ -270,5 +270,5 @@ instances_good c k built small same =
           (subst (λ (t : List InstancePath). length (numbered p.object t) ≤ 64) e (h.few p.object))),
     )
 
-pub few_instances : (c : Class) → IsBuilt c → length c.catalogue ≤ 16 → length (instances_in c) < 65536
+pub few_instances : (c : Template) → IsBuilt c → length c.catalogue ≤ 16 → length (instances_in c) < 65536
 few_instances c built small = keys_few c.catalogue (finite.entries c.store.instances) (has_instances c built) small

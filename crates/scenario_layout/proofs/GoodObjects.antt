@@ -22,7 +22,7 @@ use Rattle.object_defs.specs.declared.fault.CatalogFault.{CatalogFault}
 use Rattle.scenario_layout.specs.Definition.{flags_of, flags_fit, kind_fits, resources}
 use Rattle.scenario_layout.specs.Definition as defs
 use Rattle.scenario_layout.proofs.Definitions.{resource_good}
-use Rattle.device_template.specs.Class.{Class, fault_of}
+use Rattle.device_template.specs.Template.{Template, fault_of}
 use Rattle.device_template.specs.Built.{IsBuilt}
 use Rattle.device_template.specs.Built.IsBuilt.{nothing, account, object, resource, instance, value}
 use Rattle.device_template.proofs.Ascending.{Rises, rises-inserted}
@@ -218,7 +218,7 @@ resource_more catalogue id d short h free =
       };
     }
 
-pub has_objects : (class : Class) → IsBuilt class → HasObjects class.catalogue
+pub has_objects : (class : Template) → IsBuilt class → HasObjects class.catalogue
 has_objects _ nothing = record { own = []; behind = refl; good = record { rising = tt; each = tt; few = omega arith } }
 has_objects _ (account {class} server built free) = has_objects class built
 has_objects _ (object {class} id built free) = object_more class.catalogue id (has_objects class built) (no_fault _ free)
@@ -228,7 +228,7 @@ has_objects _ (value {class} p v short good built free) = has_objects class buil
 
 -- ---- their bytes
 
-object_good : (k : Class) (front : List ObjectDef) (o : ObjectDef) (back : List ObjectDef) → IsOwn (front ++ o ∷ back) → (layout.object k front).Good o
+object_good : (k : Template) (front : List ObjectDef) (o : ObjectDef) (back : List ObjectDef) → IsOwn (front ++ o ∷ back) → (layout.object k front).Good o
 unfolding layout.object layout.object_id
 object_good k front o back h =
     let own = all_of IsOwnObject front o back h.each in
@@ -238,32 +238,32 @@ object_good k front o back h =
     let free : vendor_fault (base ++ front) o.id ≡ None = no_three _ _ _ _ _ _ (not_true (is_vendor o.id) own.0) (ap is_some (none_found (λ q. q.id) o.id (base ++ front) low)) (is_below (length (base ++ front)) 16 room) in
     ((number_good w16 o.id (vendor_small o.id own.0), and_true _ _ low (taken_none _ (ap (option_map fault_of) free))), (definitions_good o.resources own.1, refl))
 
-own_good : (k : Class) (own : List ObjectDef) → IsOwn own → (objects k).Good own
+own_good : (k : Template) (own : List ObjectDef) → IsOwn own → (objects k).Good own
 unfolding objects
 own_good k own h = (
   (number_good w8 (length own) (omega (arith, h.few)), lt-ltb (length own) 12 (omega (arith, h.few))),
   each_good (layout.object k) own [] own refl (λ front o back e. object_good k front o back (subst IsOwn e h)),
 )
 
-pub own_is : (c : Class) (h : HasObjects c.catalogue) → objects_in c ≡ h.own
+pub own_is : (c : Template) (h : HasObjects c.catalogue) → objects_in c ≡ h.own
 own_is c h = ap (drop (length base)) h.behind
 
-pub objects_good : (c k : Class) → HasObjects c.catalogue → (objects k).Good (objects_in c)
+pub objects_good : (c k : Template) → HasObjects c.catalogue → (objects k).Good (objects_in c)
 objects_good c k h = subst (λ (os : List ObjectDef). (objects k).Good os) (sym (own_is c h)) (own_good k h.own h.good)
 
 -- a class's objects are the base objects and its own
-pub catalogue_is : (c : Class) → HasObjects c.catalogue → base ++ objects_in c ≡ c.catalogue
+pub catalogue_is : (c : Template) → HasObjects c.catalogue → base ++ objects_in c ≡ c.catalogue
 catalogue_is c h = ap (λ t. base ++ t) (own_is c h) ∙ sym h.behind
 
-pub few_objects : (c : Class) → HasObjects c.catalogue → length c.catalogue ≤ 16
+pub few_objects : (c : Template) → HasObjects c.catalogue → length c.catalogue ≤ 16
 few_objects c h = omega (arith, ap length h.behind, h.good.few)
 
 -- ---- what their writer asks for
 
-pub each_defined : (c : Class) → HasObjects c.catalogue → All (λ o. resources.Good o.resources) (objects_in c)
+pub each_defined : (c : Template) → HasObjects c.catalogue → All (λ o. resources.Good o.resources) (objects_in c)
 each_defined c h =
     subst (All (λ (o : ObjectDef). resources.Good o.resources)) (sym (own_is c h))
     (All-from_recursion _ _ (all_weaker IsOwnObject (λ o. resources.Good o.resources) (λ o own. definitions_good o.resources own.1) h.own h.good.each))
 
-pub few_own : (c : Class) → HasObjects c.catalogue → length (objects_in c) ≤ 11
+pub few_own : (c : Template) → HasObjects c.catalogue → length (objects_in c) ≤ 11
 few_own c h = subst (λ (os : List ObjectDef). length os ≤ 11) (sym (own_is c h)) h.good.few

@@ -6,7 +6,7 @@ use Rattle.byte_layout.specs.declared.fault.ReadError.TheVariants as errors
 use Rattle.byte_layout.specs.Part.{Part, each}
 use Rattle.byte_layout.specs.Outcome.{Fails}
 use Rattle.byte_layout.proofs.Loop.{IsLeft, starts, goes_on, ends, is_done}
-use Rattle.device_template.specs.Class.{Class}
+use Rattle.device_template.specs.Template.{Template}
 use Rattle.scenario_layout.specs.Growing.{grown}
 
 -- what was read behind the others
@@ -35,29 +35,29 @@ grows_no_more part e front count i bytes total lt h so_far = ends part e front c
 
 -- ---- a class into which items are read, in a loop
 
-module _ {A : Type 0} (part : Class → List A → Part A) (items : Class → List A) (put : Class → List A → Class) where
+module _ {A : Type 0} (part : Template → List A → Part A) (items : Template → List A) (put : Template → List A → Template) where
   -- behind the items that the class t has more than c, so many are left
-  abbrev pub IsFilled : Class → Class → ℕ → List ℕ → Result (List A × List ℕ) Break → Type 0
+  abbrev pub IsFilled : Template → Template → ℕ → List ℕ → Result (List A × List ℕ) Break → Type 0
   IsFilled c t left bytes total = IsLeft (part c) (items t) left bytes total × (t ≡ put c (items t))
 
-  pub filled_starts : (c : Class) (count : ℕ) (bytes : List ℕ) → items c ≡ [] → c ≡ put c (items c) → IsFilled c c (count - 0) bytes ((each (part c) count []).read bytes)
+  pub filled_starts : (c : Template) (count : ℕ) (bytes : List ℕ) → items c ≡ [] → c ≡ put c (items c) → IsFilled c c (count - 0) bytes ((each (part c) count []).read bytes)
   filled_starts c count bytes none itself = (subst (λ (xs : List A). IsLeft (part c) xs (count - 0) bytes ((each (part c) count []).read bytes)) (sym none) (starts (part c) count bytes), itself)
 
-  pub filled_done : (c t : Class) (count i : ℕ) (bytes : List ℕ) (total : Result (List A × List ℕ) Break) → count ≤ i → IsFilled c t (count - i) bytes total → total ≡ Ok (items t, bytes)
+  pub filled_done : (c t : Template) (count i : ℕ) (bytes : List ℕ) (total : Result (List A × List ℕ) Break) → count ≤ i → IsFilled c t (count - i) bytes total → total ≡ Ok (items t, bytes)
   filled_done c t count i bytes total le h = is_done (part c) (items t) count i bytes total le h.0
 
-  module _ (same : (c : Class) (xs before : List A) → part (put c xs) before ≡ part c before) (twice : (c : Class) (xs ys : List A) → put (put c xs) ys ≡ put c ys) where
-    part_of : (c t : Class) → t ≡ put c (items t) → (before : List A) → part t before ≡ part c before
+  module _ (same : (c : Template) (xs before : List A) → part (put c xs) before ≡ part c before) (twice : (c : Template) (xs ys : List A) → put (put c xs) ys ≡ put c ys) where
+    part_of : (c t : Template) → t ≡ put c (items t) → (before : List A) → part t before ≡ part c before
     part_of c t e before = ap (λ k. part k before) e ∙ same c (items t) before
 
-    pub filled_on : (c t u : Class) (count i : ℕ) (bytes rest : List ℕ) (total : Result (List A × List ℕ) Break) → i < count → grown (items t) ((part t (items t)).read bytes) ≡ Ok (items u, rest) → u ≡ put t (items u)
+    pub filled_on : (c t u : Template) (count i : ℕ) (bytes rest : List ℕ) (total : Result (List A × List ℕ) Break) → i < count → grown (items t) ((part t (items t)).read bytes) ≡ Ok (items u, rest) → u ≡ put t (items u)
         → IsFilled c t (count - i) bytes total → IsFilled c u (count - (i + 1)) rest total
     filled_on c t u count i bytes rest total lt read made h = (
       grows_on (part c) (items t) (items u) count i bytes rest total lt (ap (λ (p : Part A). grown (items t) (p.read bytes)) (sym (part_of c t h.1 (items t))) ∙ read) h.0,
       made ∙ ap (λ k. put k (items u)) h.1 ∙ twice c (items t) (items u),
     )
 
-    pub filled_no_more : (c t : Class) (e : ReadError) (count i : ℕ) (bytes : List ℕ) (total : Result (List A × List ℕ) Break) → i < count → Fails e (grown (items t) ((part t (items t)).read bytes))
+    pub filled_no_more : (c t : Template) (e : ReadError) (count i : ℕ) (bytes : List ℕ) (total : Result (List A × List ℕ) Break) → i < count → Fails e (grown (items t) ((part t (items t)).read bytes))
         → IsFilled c t (count - i) bytes total → Fails e total
     filled_no_more c t e count i bytes total lt read h =
         grows_no_more (part c) e (items t) count i bytes total lt (subst (λ (p : Part A). Fails e (grown (items t) (p.read bytes))) (part_of c t h.1 (items t)) read) h.0

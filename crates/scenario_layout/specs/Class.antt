@@ -16,32 +16,32 @@ use Rattle.object_defs.specs.declared.path.InstancePath.{InstancePath}
 use Rattle.scenario_layout.specs.Value.{place, path, value}
 use Rattle.scenario_layout.specs.Definition.{resources}
 use Rattle.device_template.specs.declared.fault.TemplateFault.{TemplateFault}
-use Rattle.device_template.specs.Class.{Class, empty_class, with_catalogue, with_store, most_accounts, account_fault, object_fault, instance_fault, kind_taken}
+use Rattle.device_template.specs.Template.{Template, empty_class, with_catalogue, with_store, most_accounts, account_fault, object_fault, instance_fault, kind_taken}
 
 -- ---- what is written of a class, each in ascending order
 
 -- the objects of the class's own: those behind the base objects
-abbrev pub objects_in : Class → List ObjectDef
+abbrev pub objects_in : Template → List ObjectDef
 objects_in c = drop (length base) c.catalogue
 
-abbrev pub instances_in : Class → List InstancePath
+abbrev pub instances_in : Template → List InstancePath
 instances_in c = finite.keys c.store.instances
 
-abbrev pub values_in : Class → List (FullPath × Value)
+abbrev pub values_in : Template → List (FullPath × Value)
 values_in c = finite.entries c.store.values
 
 -- ---- a class that has these
 
-abbrev pub with_accounts : List ℕ → Class
+abbrev pub with_accounts : List ℕ → Template
 with_accounts accounts = record { accounts = accounts; catalogue = empty_class.catalogue; store = empty_class.store }
 
-abbrev pub with_objects : Class → List ObjectDef → Class
+abbrev pub with_objects : Template → List ObjectDef → Template
 with_objects c objects = with_catalogue c (base ++ objects)
 
-abbrev pub with_instances : Class → List InstancePath → Class
+abbrev pub with_instances : Template → List InstancePath → Template
 with_instances c places = with_store c (record { values = c.store.values; instances = finite.from_sorted (map (λ p. (p, tt)) places) })
 
-abbrev pub with_values : Class → List (FullPath × Value) → Class
+abbrev pub with_values : Template → List (FullPath × Value) → Template
 with_values c values = with_store c (record { values = finite.from_sorted values; instances = c.store.instances })
 
 -- ---- the parts
@@ -61,44 +61,44 @@ abbrev pub defined : ℕ → List ResourceDef → ObjectDef
 defined id definitions = record { id = id; resources = definitions }
 
 -- the number of an object, above those that the class has, which the class takes
-unfoldable pub object_id : Class → List ObjectDef → Part ℕ
+unfoldable pub object_id : Template → List ObjectDef → Part ℕ
 object_id c before = judged BadField (λ id. list_all (λ o. nat_lt o.id id) (base ++ before) && is_taken (object_fault (with_objects c before) id)) (number w16)
 
 -- an object of the class's own: its number, and the definitions of its resources
-unfoldable pub object : Class → List ObjectDef → Part ObjectDef
+unfoldable pub object : Template → List ObjectDef → Part ObjectDef
 object c before = split (λ o. o.id) (object_id c before) (λ id. last (λ o. o.resources) (defined id) resources)
 
-unfoldable pub objects : Class → Part (List ObjectDef)
+unfoldable pub objects : Template → Part (List ObjectDef)
 objects c = counted (at_most 11 (number w8)) (object c)
 
 -- an instance behind those before it, which the class takes
-unfoldable pub instance : Class → List InstancePath → Part InstancePath
+unfoldable pub instance : Template → List InstancePath → Part InstancePath
 instance c before = judged BadField (λ p. list_all (λ q. is_lt (instance_cmp q p)) before && is_taken (instance_fault (with_instances c before) p)) place
 
-unfoldable pub instances : Class → Part (List InstancePath)
+unfoldable pub instances : Template → Part (List InstancePath)
 instances c = counted (number w16) (instance c)
 
 -- the path of a value, behind those before it, at which the class takes values of some kind
-unfoldable pub value_path : Class → List (FullPath × Value) → Part FullPath
+unfoldable pub value_path : Template → List (FullPath × Value) → Part FullPath
 value_path c before = judged BadField (λ p. list_all (λ e. is_lt (path_cmp e.0 p)) before && is_some (kind_taken (with_values c before) p)) path
 
 -- a path, and a value of the kind that is taken there
-unfoldable pub entry : Class → List (FullPath × Value) → Part (FullPath × Value)
+unfoldable pub entry : Template → List (FullPath × Value) → Part (FullPath × Value)
 entry c before = split (λ e. e.0) (value_path c before) (λ p. last (λ e. e.1) (λ v. (p, v)) (value (kind_taken (with_values c before) p)))
 
-unfoldable pub values : Class → Part (List (FullPath × Value))
+unfoldable pub values : Template → Part (List (FullPath × Value))
 values c = counted (number w16) (entry c)
 
 -- ---- the class: its accounts, the objects of its own, its instances, its values
 
-unfoldable pub behind_instances : Class → Part Class
+unfoldable pub behind_instances : Template → Part Template
 behind_instances c = last values_in (with_values c) (values c)
 
-unfoldable pub behind_objects : Class → Part Class
+unfoldable pub behind_objects : Template → Part Template
 behind_objects c = split instances_in (instances c) (λ places. behind_instances (with_instances c places))
 
-unfoldable pub behind_accounts : Class → Part Class
+unfoldable pub behind_accounts : Template → Part Template
 behind_accounts c = split objects_in (objects c) (λ defs. behind_objects (with_objects c defs))
 
-unfoldable pub class : Part Class
+unfoldable pub class : Part Template
 class = split (λ c. c.accounts) accounts (λ numbers. behind_accounts (with_accounts numbers))

@@ -4,7 +4,7 @@ use Rattle.std.specs.Prelude.{option_map, option_and_then}
 use Rattle.std.specs.Fmt.{decimal}
 use Rattle.std.proofs.lemmas.Bool.{le-leb, ne_eqb}
 use Rattle.std.proofs.lemmas.Slice.Eq.{bytes_eq-Decides}
-use Rattle.coap_codec.specs.Message.{Parts}
+use Rattle.coap_codec.specs.Message.{Message}
 use Rattle.coap_codec.proofs.OneReading.{read_spelling}
 use Rattle.object_defs.proofs.Digits.{number_of-law}
 use Rattle.object_defs.specs.declared.path.Path.{Path}
@@ -119,7 +119,7 @@ with_token k mid p a t = option_map (λ t. mnemonic.Request (record { kind = k; 
 
 request_again : (r : Request) → IsGoodRequest r → request_from (message_of (mnemonic.Request r)) ≡ Some (mnemonic.Request r)
 request_again r h =
-    let m : Parts = message_of (mnemonic.Request r) in
+    let m : Message = message_of (mnemonic.Request r) in
     let k : RequestType = type_from (kind_of r.kind) in
     ap (λ o. option_and_then (λ p. option_and_then (λ a. with_token k r.mid p a (token_from r.token)) (action_from m p)) o) (ap path_from (path_found r.path r.action) ∙ path_again r.path h.path)
     ∙ ap (λ o. option_and_then (λ a. with_token k r.mid r.path a (token_from r.token)) o) (action_again r r.path r.action refl refl h.fits h.queries)

@@ -7,7 +7,7 @@ use Rattle.std.proofs.lemmas.Bool.{leb-true}
 use Rattle.std.proofs.lemmas.List.Elements.{All-head, All-tail}
 use Rattle.std.proofs.lemmas.Slice.Eq.{bytes_eq-Decides}
 use Rattle.coap_codec.specs.declared.fault.CoapFault.{CoapFault}
-use Rattle.coap_codec.specs.Message.{Parts, header_bytes, options_bytes, payload_bytes, spelling}
+use Rattle.coap_codec.specs.Message.{Message, header_bytes, options_bytes, payload_bytes, spelling}
 use Rattle.coap_codec.specs.Reading.{reading_of}
 use Rattle.coap_codec.proofs.Soundness.{spelled_from_reading}
 use Rattle.object_defs.proofs.Digits.{number_of-law}
@@ -84,7 +84,7 @@ put_fits : (qs vs : List (List ℕ)) (p : Path) (b : List ℕ) → IfSome (put_f
 put_fits [] vs p b = mapped (Fits p b) (λ f. act.Write f b) (format_from vs) (λ f. record { fit = refl; words = refl; bytes = λ k. k })
 put_fits (q ∷ qs) vs p b = chosen (Fits p b) (are_queries (q ∷ qs)) _ _ (λ h. record { fit = refl; words = h; bytes = λ k. tt }) tt
 
-action_fits : (m : Parts) (p : Path) → IfSome (action_from m p) (Fits p m.payload)
+action_fits : (m : Message) (p : Path) → IfSome (action_from m p) (Fits p m.payload)
 action_fits m p =
     chosen (Fits p m.payload) (eqb m.code 1) _ _ (λ h. get_fits (values 6 m.options) (values 17 m.options) p m.payload)
     (chosen (Fits p m.payload) (eqb m.code 2) _ _ (λ h. post_fits p (values 12 m.options) m.payload)
@@ -95,7 +95,7 @@ token_same : (t u : List ℕ) → token_from t ≡ Some u → (u ≡ t) × (leng
 token_same t u h =
     there (λ x. (x ≡ t) × (length t ≤ 8)) (token_from t) u (chosen (λ x. (x ≡ t) × (length t ≤ 8)) (leb (length t) 8) (Some t) None (λ e. (refl, leb-true (length t) 8 e)) tt) h
 
-request_good : (m : Parts) → m.mid < 65536 → AllBelowBase 256 m.token → AllBelowBase 256 m.payload → IfSome (request_from m) IsGood
+request_good : (m : Message) → m.mid < 65536 → AllBelowBase 256 m.token → AllBelowBase 256 m.payload → IfSome (request_from m) IsGood
 request_good m mid token payload =
     behind IsGood _ (path_from (values 11 m.options)) (λ p path. behind IsGood _ (action_from m p) (λ a action. known IsGood (λ t. mnemonic.Request (record { kind = type_from m.kind; mid = m.mid; token = t; path = p; action = a })) (token_from m.token) (λ t taken.
     let fit = there (Fits p m.payload) (action_from m p) a (action_fits m p) action in
@@ -110,7 +110,7 @@ request_good m mid token payload =
       queries = fit.words;
     })))
 
-message_good : (m : Parts) → m.mid < 65536 → AllBelowBase 256 m.token → AllBelowBase 256 m.payload → IfSome (mnemonic_from m) IsGood
+message_good : (m : Message) → m.mid < 65536 → AllBelowBase 256 m.token → AllBelowBase 256 m.payload → IfSome (mnemonic_from m) IsGood
 message_good m mid token payload = chosen IsGood (eqb m.code 0) _ _ (λ h. mid) (request_good m mid token payload)
 
 below : (bs : List ℕ) → All (λ b. b < 256) bs → AllBelowBase 256 bs
@@ -129,7 +129,7 @@ payload_below : (b : List ℕ) → AllBelowBase 256 (payload_bytes b) → AllBel
 payload_below [] h = tt
 payload_below (b ∷ bs) h = h.1
 
-read_good : (bytes : List ℕ) (r : Result Parts CoapFault) → All (λ b. b < 256) bytes → reading_of bytes ≡ r → IfSome (mnemonic_read r) IsGood
+read_good : (bytes : List ℕ) (r : Result Message CoapFault) → All (λ b. b < 256) bytes → reading_of bytes ≡ r → IfSome (mnemonic_read r) IsGood
 read_good bytes (Err fault) h e = tt
 read_good bytes (Ok m) h e =
     let spells = spelled_from_reading bytes m h e in

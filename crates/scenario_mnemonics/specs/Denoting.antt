@@ -7,7 +7,7 @@ use Rattle.coap_codec.specs.declared.kind.Kind.{Kind}
 use Rattle.coap_codec.specs.declared.kind.Kind.TheVariants as kind
 use Rattle.coap_codec.specs.declared.option.Opt.{Opt}
 use Rattle.coap_codec.specs.declared.fault.CoapFault.{CoapFault}
-use Rattle.coap_codec.specs.Message.{Parts}
+use Rattle.coap_codec.specs.Message.{Message}
 use Rattle.coap_codec.specs.Reading.{reading_of}
 use Rattle.object_defs.specs.declared.path.Path.{Path}
 use Rattle.object_defs.specs.declared.path.Path.TheVariants.{Object, Instance, Resource, Part}
@@ -83,7 +83,7 @@ put_from [] contents payload = option_map (λ f. act.Write f payload) (format_fr
 put_from (q ∷ qs) contents payload = if are_queries (q ∷ qs) then Some (act.Attr (q ∷ qs)) else None
 
 -- by its method
-abbrev pub action_from : Parts → Path → Option Action
+abbrev pub action_from : Message → Path → Option Action
 action_from m p =
     if m.code == 1 then get_from (values 6 m.options) (values 17 m.options)
     else (if m.code == 2 then post_from p (values 12 m.options) m.payload
@@ -93,7 +93,7 @@ action_from m p =
 abbrev pub token_from : List ℕ → Option (List ℕ)
 token_from t = if nat_le (length t) 8 then Some t else None
 
-abbrev pub request_from : Parts → Option Mnemonic
+abbrev pub request_from : Message → Option Mnemonic
 request_from m =
     option_and_then (λ p.
     option_and_then (λ a.
@@ -102,10 +102,10 @@ request_from m =
     (path_from (values 11 m.options))
 
 -- the mnemonic that this message would have, if it has one
-abbrev pub mnemonic_from : Parts → Option Mnemonic
+abbrev pub mnemonic_from : Message → Option Mnemonic
 mnemonic_from m = if m.code == 0 then Some (mnemonic.Reset m.mid) else request_from m
 
-abbrev pub mnemonic_read : Result Parts CoapFault → Option Mnemonic
+abbrev pub mnemonic_read : Result Message CoapFault → Option Mnemonic
 mnemonic_read (Ok m) = mnemonic_from m
 mnemonic_read (Err fault) = None
 

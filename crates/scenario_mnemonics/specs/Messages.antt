@@ -5,7 +5,7 @@ use Rattle.std.specs.Int.Digits.{AllBelowBase}
 use Rattle.coap_codec.specs.declared.kind.Kind.{Kind}
 use Rattle.coap_codec.specs.declared.kind.Kind.TheVariants as kind
 use Rattle.coap_codec.specs.declared.option.Opt.{Opt}
-use Rattle.coap_codec.specs.Message.{Parts, spelling}
+use Rattle.coap_codec.specs.Message.{Message, spelling}
 use Rattle.coap_codec.specs.Number.{shortest}
 use Rattle.object_defs.specs.declared.path.Path.{Path}
 use Rattle.object_defs.specs.declared.path.Path.TheVariants.{Object, Instance, Resource, Part}
@@ -156,7 +156,7 @@ options_of p a =
     ++ (options_with 15 (query_values a) ++ options_with 17 (accept_values a))))
 
 -- the message of a mnemonic
-abbrev pub message_of : Mnemonic → Parts
+abbrev pub message_of : Mnemonic → Message
 message_of (mnemonic.Request r) =
     record { kind = kind_of r.kind; code = code_of r.action; mid = r.mid; token = r.token; options = options_of r.path r.action; payload = payload_of r.action }
 message_of (mnemonic.Reset mid) = record { kind = kind.Rst; code = 0; mid = mid; token = []; options = []; payload = [] }

@@ -1,17 +1,22 @@
 -- What a hex word and a quoted word are read as, and that what is written is read again.
-use Rattle.std.proofs.Common.{◌≡◌, ℕ, ◌+◌, ◌*◌, ◌/◌, ◌%◌, ◌<◌, ◌⊎◌, ◌↔◌, inl, inr, Bool, true, false, cond, eqb, List, [], ◌∷◌, ◌++◌, Option, Some, None, Ok, Err, refl, ap, sym, subst, ◌∙◌, arith, append_assoc}
+use Rattle.std.proofs.Common.{◌≡◌, ℕ, ◌+◌, ◌*◌, ◌/◌, ◌%◌, ◌<◌, ◌⊎◌, ◌↔◌, inl, inr, Bool, true, false, cond, eqb, List}
+use Rattle.std.proofs.Common.{[], ◌∷◌, ◌++◌, Option, Some, None, Ok, Err, refl, ap, sym, subst, ◌∙◌, arith}
+use Rattle.std.proofs.Common.{append_assoc}
 use Rattle.std.specs.Prelude.{codes}
 use Rattle.std.specs.List.{flat_map}
 use Rattle.std.specs.Str.{IsUtf8, is_utf8, bytes_eq}
 use Rattle.std.specs.Int.Digits.{AllBelowBase}
-use Rattle.std.proofs.lemmas.Bool.{cases_eq, cases_Bool, eq-eqb, ne_eqb, eqb-true, false_from_ne_true, and_parts, not-true}
+use Rattle.std.proofs.lemmas.Bool.{cases_eq, cases_Bool, eq-eqb, ne_eqb, eqb-true, false_from_ne_true, and_parts}
+use Rattle.std.proofs.lemmas.Bool.{not-true}
 use Rattle.std.proofs.lemmas.Bool.Decides.{nat_tests}
 use Rattle.std.proofs.lemmas.Slice.Eq.{bytes_eq-Decides}
 use Rattle.std.proofs.lemmas.Str.{IsUtf8-from_is_utf8, is_utf8-from_IsUtf8}
 use Rattle.hex.specs.Hex.{hex_digit_value}
 use Rattle.scenario_words.specs.declared.cause.Cause.TheVariants.{Token}
-use Rattle.scenario_words.specs.HexWord.{before, pair_before, pairs, or_token, bytes_of, IsByte, ArePairs, IsHex, digit_of, hex_byte, hex_word}
-use Rattle.scenario_words.specs.Quoted.{is_plain, unquoted, utf8_or_token, text_of, Spells, IsQuoted, escaped, quoted_word}
+use Rattle.scenario_words.specs.HexWord.{before, pair_before, pairs, or_token, bytes_of, IsByte, ArePairs, IsHex}
+use Rattle.scenario_words.specs.HexWord.{digit_of, hex_byte, hex_word}
+use Rattle.scenario_words.specs.Quoted.{is_plain, unquoted, utf8_or_token, text_of, Spells, IsQuoted, escaped}
+use Rattle.scenario_words.specs.Quoted.{quoted_word}
 
 digit_small : (c v : ℕ) → hex_digit_value c ≡ Some v → v < 16
 digit_small c v h = grind (arith)
@@ -30,12 +35,15 @@ pair_read : (x y : Option ℕ) (o : Option (List ℕ)) (bs : List ℕ) → pair_
 pair_read None y o bs e = cc
 pair_read (Some h) None o bs e = cc
 pair_read (Some h) (Some l) None bs e = cc
-pair_read (Some h) (Some l) (Some rest) bs e = record { high = h; low = l; rest = rest; is_high = refl; is_low = refl; is_rest = refl; all = cc }
+pair_read (Some h) (Some l) (Some rest) bs e =
+    record { high = h; low = l; rest = rest; is_high = refl; is_low = refl; is_rest = refl; all = cc }
 
-pair_from : (x y : Option ℕ) (o : Option (List ℕ)) (h l : ℕ) (rest : List ℕ) → x ≡ Some h → y ≡ Some l → o ≡ Some rest → pair_before x y o ≡ Some ((h * 16 + l) ∷ rest)
+pair_from : (x y : Option ℕ) (o : Option (List ℕ)) (h l : ℕ) (rest : List ℕ) → x ≡ Some h → y ≡ Some l → o ≡ Some rest
+    → pair_before x y o ≡ Some ((h * 16 + l) ∷ rest)
 pair_from x y o h l rest e f g = rw (e, f, g) refl
 
-byte_read : (b a c : ℕ) (h l : ℕ) → hex_digit_value a ≡ Some h → hex_digit_value c ≡ Some l → h * 16 + l ≡ b → IsByte b a c
+byte_read : (b a c : ℕ) (h l : ℕ) → hex_digit_value a ≡ Some h → hex_digit_value c ≡ Some l → h * 16 + l ≡ b
+    → IsByte b a c
 byte_read b a c h l e f whole =
     let high = digit_small a h e in
     let low = digit_small c l f in
@@ -43,10 +51,12 @@ byte_read b a c h l e f whole =
     let lower : l ≡ b % 16 = omega arith in
     (omega arith, e ∙ ap Some upper, f ∙ ap Some lower)
 
-byte_from : (b a c : ℕ) (o : Option (List ℕ)) (rest : List ℕ) → IsByte b a c → o ≡ Some rest → pair_before (hex_digit_value a) (hex_digit_value c) o ≡ Some (b ∷ rest)
+byte_from : (b a c : ℕ) (o : Option (List ℕ)) (rest : List ℕ) → IsByte b a c → o ≡ Some rest
+    → pair_before (hex_digit_value a) (hex_digit_value c) o ≡ Some (b ∷ rest)
 byte_from b a c o rest is e =
     let whole : b / 16 * 16 + b % 16 ≡ b = omega arith in
-    pair_from (hex_digit_value a) (hex_digit_value c) o (b / 16) (b % 16) rest is.1 is.2 e ∙ ap (λ n. Some (n ∷ rest)) whole
+    pair_from (hex_digit_value a) (hex_digit_value c) o (b / 16) (b % 16) rest is.1 is.2 e
+    ∙ ap (λ n. Some (n ∷ rest)) whole
 
 -- hex
 
@@ -72,7 +82,8 @@ or_token_ok : (o : Option (List ℕ)) (bs : List ℕ) → or_token o ≡ Ok bs �
 or_token_ok None bs e = cc
 or_token_ok (Some cs) bs e = cc
 
-dash_or_pairs : (t : Bool) (o : Option (List ℕ)) (bs : List ℕ) → cond t (Ok []) (or_token o) ≡ Ok bs → ((t ≡ true) × (bs ≡ [])) ⊎ (o ≡ Some bs)
+dash_or_pairs : (t : Bool) (o : Option (List ℕ)) (bs : List ℕ) → cond t (Ok []) (or_token o) ≡ Ok bs
+    → ((t ≡ true) × (bs ≡ [])) ⊎ (o ≡ Some bs)
 dash_or_pairs true o bs e = inl (refl, cc)
 dash_or_pairs false o bs e = inr (or_token_ok o bs e)
 
@@ -88,7 +99,8 @@ pairs_no_dash w bs h e = subst (λ v. ArePairs v bs) ((bytes_eq-Decides w (codes
 hex_again : (w bs : List ℕ) → IsHex w bs → bytes_of w ≡ Ok bs
 hex_again w bs (inl dash) = ap bytes_of dash.0 ∙ ap Ok (sym dash.1)
 hex_again w bs (inr digits) =
-    ap (λ t. cond t (Ok []) (or_token (pairs w))) (false_from_ne_true (bytes_eq w (codes "-")) (pairs_no_dash w bs digits))
+    ap (λ t. cond t (Ok []) (or_token (pairs w)))
+    (false_from_ne_true (bytes_eq w (codes "-")) (pairs_no_dash w bs digits))
     ∙ ap or_token (pairs_from w bs digits)
 
 pub hex_law : (w bs : List ℕ) → (bytes_of w ≡ Ok bs) ↔ IsHex w bs
@@ -116,23 +128,28 @@ closing b t e = elim (cases_eq b 34) [
   | inr other ↦ let h : None ≡ Some t = sym (ap (λ x. cond x (Some []) None) (ne_eqb b 34 other)) ∙ e in cc
 ]
 
-before_read : (b : ℕ) (o : Option (List ℕ)) (t : List ℕ) → before b o ≡ Some t → (u : List ℕ) × (t ≡ b ∷ u) × (o ≡ Some u)
+before_read : (b : ℕ) (o : Option (List ℕ)) (t : List ℕ) → before b o ≡ Some t → (u : List ℕ) × (t ≡ b ∷ u)
+    × (o ≡ Some u)
 before_read b None t e = cc
 before_read b (Some u) t e = (u, cc, refl)
 
-plain_here : (b : ℕ) (bs t : List ℕ) → is_plain b ≡ true → before b (unquoted bs) ≡ Some t → ((u : List ℕ) → unquoted bs ≡ Some u → Spells u bs) → Spells t (b ∷ bs)
+plain_here : (b : ℕ) (bs t : List ℕ) → is_plain b ≡ true → before b (unquoted bs) ≡ Some t
+    → ((u : List ℕ) → unquoted bs ≡ Some u → Spells u bs) → Spells t (b ∷ bs)
 plain_here b bs t plain e rest =
     let p = before_read b (unquoted bs) t e in
     subst (λ u. Spells u (b ∷ bs)) (sym p.1) (inl (bs, refl, plain, rest p.0 p.2))
 
-escape_here : (b h l : ℕ) (bs t : List ℕ) → b ≡ 92 → pair_before (hex_digit_value h) (hex_digit_value l) (unquoted bs) ≡ Some t → ((u : List ℕ) → unquoted bs ≡ Some u → Spells u bs) → Spells t (b ∷ h ∷ l ∷ bs)
+escape_here : (b h l : ℕ) (bs t : List ℕ) → b ≡ 92
+    → pair_before (hex_digit_value h) (hex_digit_value l) (unquoted bs) ≡ Some t
+    → ((u : List ℕ) → unquoted bs ≡ Some u → Spells u bs) → Spells t (b ∷ h ∷ l ∷ bs)
 escape_here b h l bs t slash e rest =
     let p = pair_read (hex_digit_value h) (hex_digit_value l) (unquoted bs) t e in
     let byte = byte_read (p.high * 16 + p.low) h l p.high p.low p.is_high p.is_low refl in
     subst (λ u. Spells u (b ∷ h ∷ l ∷ bs)) p.all
     (inr (h, l, bs, ap (λ c. c ∷ h ∷ l ∷ bs) slash, byte, rest p.rest p.is_rest))
 
-plain_or : (x y : Bool) (p q : Option (List ℕ)) (t : List ℕ) → cond x p (cond y q None) ≡ Some t → ((x ≡ true) × (p ≡ Some t)) ⊎ ((y ≡ true) × (q ≡ Some t))
+plain_or : (x y : Bool) (p q : Option (List ℕ)) (t : List ℕ) → cond x p (cond y q None) ≡ Some t
+    → ((x ≡ true) × (p ≡ Some t)) ⊎ ((y ≡ true) × (q ≡ Some t))
 plain_or true y p q t e = inl (refl, e)
 plain_or false true p q t e = inr (refl, e)
 plain_or false false p q t e = cc
@@ -149,10 +166,12 @@ spells_read (b ∷ []) t e =
 spells_read (b ∷ h ∷ []) t e =
     let p = plain_only (is_plain b) (before b (unquoted (h ∷ []))) t e in
     plain_here b (h ∷ []) t p.0 p.1 (λ u f. spells_read (h ∷ []) u f)
-spells_read (b ∷ h ∷ l ∷ bs) t e = elim (plain_or (is_plain b) (eqb b 92) (before b (unquoted (h ∷ l ∷ bs))) (pair_before (hex_digit_value h) (hex_digit_value l) (unquoted bs)) t e) [
-  | inl p ↦ plain_here b (h ∷ l ∷ bs) t p.0 p.1 (λ u f. spells_read (h ∷ l ∷ bs) u f)
-  | inr p ↦ escape_here b h l bs t (eqb-true b 92 p.0) p.1 (λ u f. spells_read bs u f)
-]
+spells_read (b ∷ h ∷ l ∷ bs) t e =
+    elim (plain_or (is_plain b) (eqb b 92) (before b (unquoted (h ∷ l ∷ bs)))
+    (pair_before (hex_digit_value h) (hex_digit_value l) (unquoted bs)) t e) [
+      | inl p ↦ plain_here b (h ∷ l ∷ bs) t p.0 p.1 (λ u f. spells_read (h ∷ l ∷ bs) u f)
+      | inr p ↦ escape_here b h l bs t (eqb-true b 92 p.0) p.1 (λ u f. spells_read bs u f)
+    ]
 
 pub plain_no_quote : (b : ℕ) → is_plain b ≡ true → eqb b 34 ≡ false
 plain_no_quote b h = not-true (eqb b 34) (and_parts _ _ (and_parts _ _ h).1).0
@@ -160,7 +179,9 @@ plain_no_quote b h = not-true (eqb b 34) (and_parts _ _ (and_parts _ _ h).1).0
 plain_step : (b : ℕ) (bs : List ℕ) → is_plain b ≡ true → unquoted (b ∷ bs) ≡ before b (unquoted bs)
 plain_step b [] h = ap (λ x. cond x (Some []) None) (plain_no_quote b h)
 plain_step b (x ∷ []) h = ap (λ p. cond p (before b (unquoted (x ∷ []))) None) h
-plain_step b (x ∷ y ∷ bs) h = ap (λ p. cond p (before b (unquoted (x ∷ y ∷ bs))) (cond (eqb b 92) (pair_before (hex_digit_value x) (hex_digit_value y) (unquoted bs)) None)) h
+plain_step b (x ∷ y ∷ bs) h =
+    ap (λ p. cond p (before b (unquoted (x ∷ y ∷ bs)))
+    (cond (eqb b 92) (pair_before (hex_digit_value x) (hex_digit_value y) (unquoted bs)) None)) h
 
 spells_again : (t bs : List ℕ) → Spells t bs → unquoted bs ≡ Some t
 spells_again [] bs e = ap unquoted e
@@ -181,14 +202,17 @@ quoted_read : (w t : List ℕ) → text_of w ≡ Ok t → IsQuoted w t
 quoted_read [] t e = cc
 quoted_read (b ∷ bs) t e = elim (cases_eq b 34) [
   | inl quote ↦
-      let p = utf8_ok (unquoted bs) t (sym (ap (λ x. cond x (utf8_or_token (unquoted bs)) (Err Token)) (eq-eqb b 34 quote)) ∙ e) in
+      let p = utf8_ok (unquoted bs) t (sym (ap (λ x. cond x (utf8_or_token (unquoted bs)) (Err Token))
+      (eq-eqb b 34 quote)) ∙ e) in
       (bs, ap (λ c. c ∷ bs) quote, spells_read bs t p.0, p.1)
-  | inr other ↦ let h : Err Token ≡ Ok t = sym (ap (λ x. cond x (utf8_or_token (unquoted bs)) (Err Token)) (ne_eqb b 34 other)) ∙ e in cc (h)
+  | inr other ↦ let h : Err Token ≡ Ok t =
+      sym (ap (λ x. cond x (utf8_or_token (unquoted bs)) (Err Token)) (ne_eqb b 34 other)) ∙ e in cc (h)
 ]
 
 quoted_again : (w t : List ℕ) → IsQuoted w t → text_of w ≡ Ok t
 quoted_again w t p =
-    ap text_of p.1 ∙ ap utf8_or_token (spells_again t p.0 p.2) ∙ ap (λ x. cond x (Ok t) (Err Token)) (is_utf8-from_IsUtf8 t p.3)
+    ap text_of p.1 ∙ ap utf8_or_token (spells_again t p.0 p.2)
+    ∙ ap (λ x. cond x (Ok t) (Err Token)) (is_utf8-from_IsUtf8 t p.3)
 
 pub quoted_law : (w t : List ℕ) → (text_of w ≡ Ok t) ↔ IsQuoted w t
 quoted_law w t = (quoted_read w t, quoted_again w t)
@@ -196,12 +220,21 @@ quoted_law w t = (quoted_read w t, quoted_again w t)
 escaped_again : (b : ℕ) (t bs : List ℕ) → b < 256 → Spells t bs → Spells (b ∷ t) (escaped b ++ bs)
 escaped_again b t bs small h = elim (cases_Bool (is_plain b)) [
   | inl plain ↦ inl (bs, ap (λ x. cond x (b ∷ []) (92 ∷ hex_byte b) ++ bs) plain, plain, h)
-  | inr other ↦ inr (digit_of (b / 16), digit_of (b % 16), bs, ap (λ x. cond x (b ∷ []) (92 ∷ hex_byte b) ++ bs) other, byte_again b small, h)
+  | inr other ↦ inr (
+    digit_of (b / 16),
+    digit_of (b % 16),
+    bs,
+    ap (λ x. cond x (b ∷ []) (92 ∷ hex_byte b) ++ bs) other,
+    byte_again b small,
+    h,
+  )
 ]
 
 spells_written : (t : List ℕ) → AllBelowBase 256 t → Spells t (flat_map escaped t ++ 34 ∷ [])
 spells_written [] h = refl
-spells_written (b ∷ t) h = subst (Spells (b ∷ t)) (sym (append_assoc (escaped b) (flat_map escaped t) (34 ∷ []))) (escaped_again b t (flat_map escaped t ++ 34 ∷ []) h.0 (spells_written t h.1))
+spells_written (b ∷ t) h =
+    subst (Spells (b ∷ t)) (sym (append_assoc (escaped b) (flat_map escaped t) (34 ∷ [])))
+    (escaped_again b t (flat_map escaped t ++ 34 ∷ []) h.0 (spells_written t h.1))
 
 pub quoted_written : (t : List ℕ) → IsUtf8 t → AllBelowBase 256 t → IsQuoted (quoted_word t) t
 quoted_written t utf8 small = (flat_map escaped t ++ 34 ∷ [], refl, spells_written t small, utf8)

@@ -7,7 +7,9 @@ use Rattle.std.proofs.lemmas.Bool.{false_from_ne_true}
 use Rattle.scenario_words.specs.HexWord.{before}
 
 -- the test of UTF-8, where text was looked for
-pub checked_utf8 : (bs : List ℕ) (o : Option (Bor (List ℕ))) → MatchOption o (¬ (IsUtf8 bs)) (λ s. (s.now ≡ bs) × IsUtf8 bs) → MatchOption o (is_utf8 bs ≡ false) (λ s. (s.now ≡ bs) × (is_utf8 bs ≡ true))
+pub checked_utf8 : (bs : List ℕ) (o : Option (Bor (List ℕ)))
+    → MatchOption o (¬ (IsUtf8 bs)) (λ s. (s.now ≡ bs) × IsUtf8 bs)
+    → MatchOption o (is_utf8 bs ≡ false) (λ s. (s.now ≡ bs) × (is_utf8 bs ≡ true))
 checked_utf8 bs None h = false_from_ne_true (is_utf8 bs) (λ e. h (IsUtf8-from_is_utf8 bs e))
 checked_utf8 bs (Some s) h = (h.0, is_utf8-from_IsUtf8 bs h.1)
 
@@ -16,6 +18,7 @@ abbrev pub all_before : List ℕ → Option (List ℕ) → Option (List ℕ)
 all_before front None = None
 all_before front (Some bs) = Some (front ++ bs)
 
-pub one_before : (front : List ℕ) (b : ℕ) (o : Option (List ℕ)) → all_before (front ++ b ∷ []) o ≡ all_before front (before b o)
+pub one_before : (front : List ℕ) (b : ℕ) (o : Option (List ℕ))
+    → all_before (front ++ b ∷ []) o ≡ all_before front (before b o)
 one_before front b None = refl
 one_before front b (Some bs) = ap Some (append_assoc front (b ∷ []) bs)

@@ -1,5 +1,6 @@
 -- A word of a line, byte by byte.
-use Rattle.std.proofs.Common.{◌≡◌, ◌≢◌, ℕ, ◌+◌, ◌<◌, not, ◌&&◌, ◌||◌, Bool, true, false, cond, eqb, List, [], ◌∷◌, ◌++◌, length, get_or, take, drop, refl, sym, ap, ◌∙◌, arith, append_assoc, add-one, drop-cons}
+use Rattle.std.proofs.Common.{◌≡◌, ◌≢◌, ℕ, ◌+◌, ◌<◌, not, ◌&&◌, ◌||◌, Bool, true, false, cond, eqb, List, [], ◌∷◌, ◌++◌}
+use Rattle.std.proofs.Common.{length, get_or, take, drop, refl, sym, ap, ◌∙◌, arith, append_assoc, add-one, drop-cons}
 use Rattle.std.proofs.lemmas.Bool.{ne_eqb, not-true}
 use Rattle.std.proofs.lemmas.List.{take_more}
 use Rattle.std.specs.List.{onto_first}
@@ -32,20 +33,23 @@ closed true = refl
 closed false = refl
 
 -- the first byte of a word
-pub first_byte : (line : List ℕ) → 0 < length line → get_or line 0 0 ≢ 32 → get_or line 0 0 ≢ 35 → onto (take 1 line) (scan (mode_of (eqb (get_or line 0 0) 34)) (drop 1 line)) ≡ words line
+pub first_byte : (line : List ℕ) → 0 < length line → get_or line 0 0 ≢ 32 → get_or line 0 0 ≢ 35
+    → onto (take 1 line) (scan (mode_of (eqb (get_or line 0 0) 34)) (drop 1 line)) ≡ words line
 first_byte [] some space comment = absurd (omega arith)
 first_byte (b ∷ bs) some space comment =
     let no_space : eqb b 32 ≡ false = ne_eqb b 32 space in
     let no_comment : eqb b 35 ≡ false = ne_eqb b 35 comment in
     onto_one b (scan (mode_of (eqb b 34)) bs) ∙ ap (λ m. onto_first b (scan m bs)) (opened (eqb b 34))
-    ∙ sym (ap (λ t. cond t (scan gap bs) (cond (eqb b 35) [] (onto_first b (scan (cond (eqb b 34) quoted plain) bs)))) no_space
+    ∙ sym (ap (λ t. cond t (scan gap bs) (cond (eqb b 35) [] (onto_first b (scan (cond (eqb b 34) quoted plain) bs))))
+    no_space
     ∙ ap (λ t. cond t [] (onto_first b (scan (cond (eqb b 34) quoted plain) bs))) no_comment)
 
 no_space : (b : ℕ) (q : Bool) → q ≡ false → (q || not (eqb b 32)) ≡ true → eqb b 32 ≡ false
 no_space b true e h = cc
 no_space b false e h = not-true (eqb b 32) h
 
-scan_more : (q : Bool) (b : ℕ) (bs : List ℕ) → (q || not (eqb b 32)) ≡ true → scan (mode_of q) (b ∷ bs) ≡ onto_first b (scan (mode_of (q && not (eqb b 34))) bs)
+scan_more : (q : Bool) (b : ℕ) (bs : List ℕ) → (q || not (eqb b 32)) ≡ true
+    → scan (mode_of q) (b ∷ bs) ≡ onto_first b (scan (mode_of (q && not (eqb b 34))) bs)
 scan_more true b bs h = ap (λ m. onto_first b (scan m bs)) (closed (eqb b 34))
 scan_more false b bs h = ap (λ t. cond t ([] ∷ scan gap bs) (onto_first b (scan plain bs))) (no_space b false refl h)
 
@@ -54,7 +58,9 @@ drop_here : (line : List ℕ) (i : ℕ) → i < length line → drop i line ≡ 
 drop_here line i inside = rw (add-one) (drop-cons line i 0 inside)
 
 -- a further byte of it
-pub next_byte : (line : List ℕ) (q : Bool) (i : ℕ) → i < length line → (q || not (eqb (get_or line i 0) 32)) ≡ true → onto (take (i + 1) line) (scan (mode_of (q && not (eqb (get_or line i 0) 34))) (drop (i + 1) line)) ≡ onto (take i line) (scan (mode_of q) (drop i line))
+pub next_byte : (line : List ℕ) (q : Bool) (i : ℕ) → i < length line → (q || not (eqb (get_or line i 0) 32)) ≡ true
+    → onto (take (i + 1) line) (scan (mode_of (q && not (eqb (get_or line i 0) 34))) (drop (i + 1) line))
+    ≡ onto (take i line) (scan (mode_of q) (drop i line))
 next_byte line q i inside h =
     let behind = scan (mode_of (q && not (eqb (get_or line i 0) 34))) (drop (i + 1) line) in
     sym (ap (λ bs. onto (take i line) (scan (mode_of q) bs)) (drop_here line i inside)

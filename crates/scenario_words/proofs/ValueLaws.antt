@@ -1,5 +1,7 @@
 -- A value that is written is read again, and so are its two words.
-use Rattle.std.proofs.Common.{◌≡◌, ℕ, ◌/◌, ◌%◌, ◌<◌, ◌^◌, not, ℤ, pos, negsuc, suc, inl, inr, Bool, true, false, cond, eqb, ltb, List, [], ◌∷◌, ◌++◌, length, Result, Ok, Err, refl, ap, ◌∙◌, arith, append_assoc, length-append, FitsSigned, w64}
+use Rattle.std.proofs.Common.{◌≡◌, ℕ, ◌/◌, ◌%◌, ◌<◌, ◌^◌, not, ℤ, pos, negsuc, suc, inl, inr, Bool, true, false, cond}
+use Rattle.std.proofs.Common.{eqb, ltb, List, [], ◌∷◌, ◌++◌, length, Result, Ok, Err, refl, ap, ◌∙◌, arith}
+use Rattle.std.proofs.Common.{append_assoc, length-append, FitsSigned, w64}
 use Rattle.std.specs.Prelude.{IfOk}
 use Rattle.std.specs.List.{list_all, onto_first, flat_map}
 use Rattle.std.specs.Char.{is_ascii_digit}
@@ -27,12 +29,16 @@ use Rattle.scenario_words.proofs.PathLaws.{link_again}
 use Rattle.scenario_words.proofs.WordLaws.{words_again, plain_byte, gap_byte}
 
 value_again : (v : Value) → IsValue v → value_of (kind_of v) (value_word v) ≡ Ok v
-value_again (value.Text t) h = ap (λ r. r >>= (λ x. Ok (value.Text x))) ((quoted_law (quoted_word t) t).1 (quoted_written t h.0 h.1))
-value_again (value.Whole z) h = ap (λ r. r >>= (λ x. Ok (value.Whole x))) ((integer_of-law z (signed_decimal z)).1 (refl, h))
+value_again (value.Text t) h =
+    ap (λ r. r >>= (λ x. Ok (value.Text x))) ((quoted_law (quoted_word t) t).1 (quoted_written t h.0 h.1))
+value_again (value.Whole z) h =
+    ap (λ r. r >>= (λ x. Ok (value.Whole x))) ((integer_of-law z (signed_decimal z)).1 (refl, h))
 value_again (value.Flag true) h = refl
 value_again (value.Flag false) h = refl
-value_again (value.Opaque b) h = ap (λ r. r >>= (λ x. Ok (value.Opaque x))) ((hex_law (hex_word b) b).1 (hex_written b h))
-value_again (value.Moment z) h = ap (λ r. r >>= (λ x. Ok (value.Moment x))) ((integer_of-law z (signed_decimal z)).1 (refl, h))
+value_again (value.Opaque b) h =
+    ap (λ r. r >>= (λ x. Ok (value.Opaque x))) ((hex_law (hex_word b) b).1 (hex_written b h))
+value_again (value.Moment z) h =
+    ap (λ r. r >>= (λ x. Ok (value.Moment x))) ((integer_of-law z (signed_decimal z)).1 (refl, h))
 value_again (value.Link o i) h = ap (λ r. r >>= (λ p. Ok (value.Link p.0 p.1))) (link_again o i h.0 h.1)
 
 kind_again : (k : ValueKind) → kind_named (kind_word k) ≡ Ok k
@@ -46,7 +52,8 @@ kind_again kind.Link = refl
 abbrev with_words : {A : Type 0} → List (List ℕ) → A → Result (A × List (List ℕ)) Cause
 with_words ws x = Ok (x, ws)
 
-pub value_at_again : (v : Value) (ws : List (List ℕ)) → IsValue v → value_at (kind_word (kind_of v) ∷ value_word v ∷ ws) ≡ Ok (v, ws)
+pub value_at_again : (v : Value) (ws : List (List ℕ)) → IsValue v
+    → value_at (kind_word (kind_of v) ∷ value_word v ∷ ws) ≡ Ok (v, ws)
 value_at_again v ws h =
     ap (λ r. (r >>= with_words (value_word v ∷ ws)) >>= (λ k. word_by (value_of k.0) k.1)) (kind_again (kind_of v))
     ∙ ap (λ r. r >>= with_words ws) (value_again v h)
@@ -89,7 +96,8 @@ decimal_word n h = plain_word (decimal n) (decimal_nonempty n h) (decimal_above 
 
 integer_word : (z : ℤ) → FitsSigned w64 z → IsWord (signed_decimal z)
 integer_word (pos n) h = decimal_word n (omega (arith, h.sfits))
-integer_word (negsuc n) h = plain_word (45 ∷ decimal (suc n)) (omega arith) (and_from _ _ refl (decimal_above (suc n) (omega (arith, h.sfits))))
+integer_word (negsuc n) h =
+    plain_word (45 ∷ decimal (suc n)) (omega arith) (and_from _ _ refl (decimal_above (suc n) (omega (arith, h.sfits))))
 
 hex_digit_above : (v : ℕ) → ltb 35 (digit_of v) ≡ true
 hex_digit_above v = grind (arith, nat_tests)
@@ -105,7 +113,8 @@ bytes_word (b ∷ bs) = plain_word (flat_map hex_byte (b ∷ bs)) (omega arith) 
 links_word : (o i : ℕ) → o < 65536 → i < 65536 → IsWord (link_word o i)
 links_word o i h k =
     plain_word (link_word o i) (simp (length-append) (omega arith))
-    (list_all-append (λ b. ltb 35 b) (decimal o) (58 ∷ decimal i) ∙ and_from _ _ (decimal_above o (omega arith)) (and_from _ _ refl (decimal_above i (omega arith))))
+    (list_all-append (λ b. ltb 35 b) (decimal o) (58 ∷ decimal i)
+    ∙ and_from _ _ (decimal_above o (omega arith)) (and_from _ _ refl (decimal_above i (omega arith))))
 
 -- quoted words
 
@@ -124,7 +133,8 @@ hex_digit_no_quote v = grind (arith, nat_tests)
 
 escaped_no_quote : (b : ℕ) → no_quote (escaped b) ≡ true
 escaped_no_quote b = elim (cases_Bool (is_plain b)) [
-  | inl itself ↦ ap (λ t. no_quote (cond t (b ∷ []) (92 ∷ hex_byte b))) itself ∙ and_from _ _ (not_from_false (eqb b 34) (plain_no_quote b itself)) refl
+  | inl itself ↦ ap (λ t. no_quote (cond t (b ∷ []) (92 ∷ hex_byte b))) itself
+      ∙ and_from _ _ (not_from_false (eqb b 34) (plain_no_quote b itself)) refl
   | inr other ↦
       ap (λ t. no_quote (cond t (b ∷ []) (92 ∷ hex_byte b))) other
       ∙ and_from _ _ refl (and_from _ _ (hex_digit_no_quote (b / 16)) (and_from _ _ (hex_digit_no_quote (b % 16)) refl))
@@ -132,7 +142,9 @@ escaped_no_quote b = elim (cases_Bool (is_plain b)) [
 
 text_no_quote : (t : List ℕ) → no_quote (flat_map escaped t) ≡ true
 text_no_quote [] = refl
-text_no_quote (b ∷ t) = list_all-append (λ x. not (eqb x 34)) (escaped b) (flat_map escaped t) ∙ and_from _ _ (escaped_no_quote b) (text_no_quote t)
+text_no_quote (b ∷ t) =
+    list_all-append (λ x. not (eqb x 34)) (escaped b) (flat_map escaped t)
+    ∙ and_from _ _ (escaped_no_quote b) (text_no_quote t)
 
 text_word : (t : List ℕ) → IsWord (quoted_word t)
 text_word t =
@@ -157,12 +169,14 @@ values_word (value.Moment z) h = integer_word z h
 values_word (value.Link o i) h = links_word o i h.0 h.1
 
 pub value_words : (v : Value) → IsValue v → words (spelled v) ≡ kind_word (kind_of v) ∷ value_word v ∷ []
-value_words v h = words_again (kind_word (kind_of v) ∷ value_word v ∷ []) (kinds_word (kind_of v), (values_word v h, tt))
+value_words v h =
+    words_again (kind_word (kind_of v) ∷ value_word v ∷ []) (kinds_word (kind_of v), (values_word v h, tt))
 
 spelled_again : (v : Value) → IsValue v → value_at (words (spelled v)) ≡ Ok (v, [])
 spelled_again v h = ap value_at (value_words v h) ∙ value_at_again v [] h
 
 -- what was written, where it was, is read again
-pub read_again : {S E : Type 0} (bytes : S → List ℕ) (r : Result S E) (v : Value) → IfOk r (λ s. bytes s ≡ spelled v) → IsValue v → IfOk r (λ s. value_at (words (bytes s)) ≡ Ok (v, []))
+pub read_again : {S E : Type 0} (bytes : S → List ℕ) (r : Result S E) (v : Value) → IfOk r (λ s. bytes s ≡ spelled v)
+    → IsValue v → IfOk r (λ s. value_at (words (bytes s)) ≡ Ok (v, []))
 read_again bytes (Ok s) v e h = ap (λ bs. value_at (words bs)) e ∙ spelled_again v h
 read_again bytes (Err f) v e h = tt

@@ -1,5 +1,6 @@
 -- Text in quotes: 34 is `"`, 92 is `\`.
-use Rattle.std.specs.Prelude.{◌≡◌, ℕ, nat_le, ◌==◌, not, ◌&&◌, Bool, true, List, [], ◌∷◌, ◌++◌, ◌⊎◌, Option, None, Some, Result, Ok, Err, if◌then◌else◌}
+use Rattle.std.specs.Prelude.{◌≡◌, ℕ, nat_le, ◌==◌, not, ◌&&◌, Bool, true, List, [], ◌∷◌, ◌++◌, ◌⊎◌, Option, None, Some}
+use Rattle.std.specs.Prelude.{Result, Ok, Err, if◌then◌else◌}
 use Rattle.std.specs.List.{flat_map}
 use Rattle.std.specs.Str.{IsUtf8, is_utf8}
 use Rattle.hex.specs.Hex.{hex_digit_value}

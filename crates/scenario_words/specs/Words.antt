@@ -37,7 +37,9 @@ pub data Mode : Type 0 where
 -- begins with `#` begins a comment, which goes to the end of the line
 abbrev pub scan : Mode → List ℕ → List (List ℕ)
 scan gap [] = []
-scan gap (b ∷ bs) = if b == 32 then scan gap bs else (if b == 35 then [] else onto_first b (scan (if b == 34 then quoted else plain) bs))
+scan gap (b ∷ bs) =
+    if b == 32 then scan gap bs else (if b == 35 then []
+    else onto_first b (scan (if b == 34 then quoted else plain) bs))
 scan plain [] = [] ∷ []
 scan plain (b ∷ bs) = if b == 32 then [] ∷ scan gap bs else onto_first b (scan plain bs)
 scan quoted [] = [] ∷ []

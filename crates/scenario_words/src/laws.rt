@@ -39,7 +39,8 @@ pub fn texts_in_quotes()
 /// The law of paths and links: a word is read as one exactly where it is as that is written, with numbers of 16 bits.
 pub fn paths_and_links()
     ensures path { (w : List ℕ) (p : Path) → (path_of w ≡ Ok p) ↔ ((w ≡ path_word p) × IsPath p) }
-    ensures link { (w : List ℕ) (o i : ℕ) → (link_of w ≡ Ok (o, i)) ↔ ((w ≡ link_word o i) × (o < 65536) × (i < 65536)) }
+    ensures link { (w : List ℕ) (o i : ℕ) → (link_of w ≡ Ok (o, i))
+        ↔ ((w ≡ link_word o i) × (o < 65536) × (i < 65536)) }
 {}
 
 /// The law of values: the two words of a value that is written are found again, and are read as this value; so

@@ -1,4 +1,5 @@
-ghost use Rattle.std.specs.Prelude.{◌≡◌, ◌==◌, not, ◌&&◌, ◌||◌, ◌≢◌, ◌<◌, ◌≤◌, ◌∷◌, [], length, slice_index, take, drop, MatchOption};
+ghost use Rattle.std.specs.Prelude.{◌≡◌, ◌==◌, not, ◌&&◌, ◌||◌, ◌≢◌, ◌<◌, ◌≤◌, ◌∷◌, [], length, slice_index, take};
+ghost use Rattle.std.specs.Prelude.{drop, MatchOption};
 ghost use Rattle.std.specs.Str.{bytes_eq};
 ghost use Rattle.scenario_words.specs.Words.{words};
 ghost use Rattle.scenario_words.specs.Reading.{Reads, first_of, ended};

@@ -1,4 +1,5 @@
-ghost use Rattle.std.specs.Prelude.{◌≡◌, ◌≢◌, ℕ, List, slice_index, Err, ◌++◌, ◌∷◌, [], ◌<◌, ◌+◌, length, Some, None, true, false, IfOk, OnOk, MatchOption, if◌then◌else◌};
+ghost use Rattle.std.specs.Prelude.{◌≡◌, ◌≢◌, ℕ, List, slice_index, Err, ◌++◌, ◌∷◌, [], ◌<◌, ◌+◌, length, Some, None};
+ghost use Rattle.std.specs.Prelude.{true, false, IfOk, OnOk, MatchOption, if◌then◌else◌};
 ghost use Rattle.std.specs.String.{string_bytes};
 ghost use Rattle.std.specs.Str.{is_utf8, bytes_eq};
 ghost use Rattle.hex.specs.Hex.{hex_digit_value};

@@ -8,7 +8,8 @@ ghost use Rattle.lwm2m_values.specs.Value.{holds_bytes};
 ghost use Rattle.scenario_words.specs.declared.cause.Cause.TheVariants.{Missing, Memory};
 ghost use Rattle.scenario_words.specs.Words.{words};
 ghost use Rattle.scenario_words.specs.Reading.{Gives, Reads, word_by};
-ghost use Rattle.scenario_words.specs.ValueWords.{name_fault, kind_word, kind_named, value_of, value_at, IsTooLong, IsValue, value_word, spelled};
+ghost use Rattle.scenario_words.specs.ValueWords.{name_fault, kind_word, kind_named, value_of, value_at, IsTooLong};
+ghost use Rattle.scenario_words.specs.ValueWords.{IsValue, value_word, spelled};
 
 use crate::cause::Cause;
 use crate::hex_words::{bytes_of, hex_word};

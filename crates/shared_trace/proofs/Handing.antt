@@ -1,12 +1,13 @@
 -- A device that is handed out.
-use Rattle.std.proofs.Common.{◌≡◌, ℕ, ◌+◌, ◌<◌, ◌⊎◌, inl, inr, Bool, true, false, List, [], length, set, get_or, Some, slice_get, slice_index, refl, sym, ap, subst, ◌∙◌, arith}
+use Rattle.std.proofs.Common.{◌≡◌, ℕ, ◌+◌, ◌<◌, ◌⊎◌, inl, inr, Bool, true, false, List, [], length, set, get_or, Some}
+use Rattle.std.proofs.Common.{slice_get, slice_index, refl, sym, ap, subst, ◌∙◌, arith}
 use Rattle.std.specs.Prelude.{◌==◌, count_by, Contains}
 use Rattle.std.specs.List.{AllByRecursion}
 use Rattle.std.proofs.lemmas.List.{length-set, append-nil}
 use Rattle.std.proofs.lemmas.Option.{slice_get_read, slice_get_within}
 use Rattle.std.proofs.lemmas.Bool.{cases_eq, ne_eqb, false≢true}
-use Rattle.device_machine.specs.State.{Shown}
-use Rattle.scenario_image.specs.Script.{Script}
+use Rattle.device_machine.specs.State.{Device}
+use Rattle.scenario_image.specs.Scenario.{Scenario}
 use Rattle.trace_file.specs.declared.entry.Entry.{Entry}
 use Rattle.fleet_core.specs.Run.{made_by, is_enabled, IsRun}
 use Rattle.fleet_core.specs.Board.{ShowsAfter}
@@ -21,18 +22,23 @@ use Rattle.shared_trace.proofs.Open.{open_same, open_has}
 use Rattle.shared_trace.proofs.Stations.{traced}
 
 -- the station of a device that is ready
-pub record IsHanded (s : Script) (es : List Entry) (stations : List Station) (counts : List ℕ) (d : ℕ) (x : Station) (shown : Shown) : Type 0 where
+pub record IsHanded (s : Scenario) (es : List Entry) (stations : List Station) (counts : List ℕ) (d : ℕ) (x : Station)
+    (shown : Device) : Type 0 where
   pub trace : IsTrace s es stations counts
   pub at : slice_get stations d ≡ Some x
   pub parked : x.place ≡ Parked shown
   pub enabled : is_enabled s es d ≡ true
 
-pub handed : (v : Traced) (s : Script) (es : List Entry) (stations : List Station) (counts : List ℕ) (stopped : Bool) (d i : ℕ) (x : Station) → traced s es stations stopped ≡ v
-    → IsTrace s es stations counts → (r : IsReady v d) → i ≡ d → x ≡ get_or stations i x → IsHanded s es stations counts d x r.shown
+pub handed : (v : Traced) (s : Scenario) (es : List Entry) (stations : List Station) (counts : List ℕ) (stopped : Bool)
+    (d i : ℕ) (x : Station) → traced s es stations stopped ≡ v
+    → IsTrace s es stations counts → (r : IsReady v d) → i ≡ d → x ≡ get_or stations i x
+    → IsHanded s es stations counts d x r.shown
 handed v s es stations counts stopped d i x view t r from read =
-    let found = from_map (λ y. y.place) stations d (Parked r.shown) (subst (λ w. slice_get w.places d ≡ Some (Parked r.shown)) (sym view) r.parked) in
+    let found = from_map (λ y. y.place) stations d (Parked r.shown)
+    (subst (λ w. slice_get w.places d ≡ Some (Parked r.shown)) (sym view) r.parked) in
     let here : slice_get stations d ≡ Some x =
-    slice_get_read stations (length stations) d x refl (slice_get_within stations d found.0 found.1) (read ∙ ap (λ j. get_or stations j x) from) in
+    slice_get_read stations (length stations) d x refl (slice_get_within stations d found.0 found.1)
+    (read ∙ ap (λ j. get_or stations j x) from) in
     record {
       trace = t;
       at = here;
@@ -40,25 +46,31 @@ handed v s es stations counts stopped d i x view t r from read =
       enabled = subst (λ w. is_enabled w.subject w.entries d ≡ true) (sym view) r.enabled;
     }
 
-pub table_is : (s : Script) (es : List Entry) (stations : List Station) (counts : List ℕ) (d : ℕ) (x : Station) (shown : Shown) → IsHanded s es stations counts d x shown
+pub table_is : (s : Scenario) (es : List Entry) (stations : List Station) (counts : List ℕ) (d : ℕ) (x : Station)
+    (shown : Device) → IsHanded s es stations counts d x shown
     → length x.known.items ≡ length counts
 table_is s es stations counts d x shown h = (h.trace.each d x h.at).known (ap is_parked h.parked) ∙ sym h.trace.table
 
 -- ---- the trace
 
-out_station : (s : Script) (es : List Entry) (stations : List Station) (counts : List ℕ) (d w i : ℕ) (x y z : Station) (shown : Shown) → IsHanded s es stations counts d x shown
-    → y.place ≡ Out w → y.made ≡ x.made → y.next ≡ x.next → slice_get (set stations d y) i ≡ Some z → (d ≡ i) ⊎ (d ≡ i → ⊥) → IsStation s es i z
+out_station : (s : Scenario) (es : List Entry) (stations : List Station) (counts : List ℕ) (d w i : ℕ) (x y z : Station)
+    (shown : Device) → IsHanded s es stations counts d x shown
+    → y.place ≡ Out w → y.made ≡ x.made → y.next ≡ x.next → slice_get (set stations d y) i ≡ Some z → (d ≡ i)
+    ⊎ (d ≡ i → ⊥) → IsStation s es i z
 out_station s es stations counts d w i x y z shown h out made next at (inl own) =
     subst (λ j. IsStation s es j z) own
-    (subst (IsStation s es d) (set_gives stations d y z (subst (λ j. slice_get (set stations d y) j ≡ Some z) (sym own) at)) (record {
+    (subst (IsStation s es d) (set_gives stations d y z
+    (subst (λ j. slice_get (set stations d y) j ≡ Some z) (sym own) at)) (record {
       placed = subst (IsPlaced s es d) (sym out) (enabled_waits s es d h.enabled);
       made = made ∙ (h.trace.each d x h.at).made;
       next = next ∙ (h.trace.each d x h.at).next;
       known = λ parked. absurd (false≢true (sym (ap is_parked out) ∙ parked));
     }))
-out_station s es stations counts d w i x y z shown h out made next at (inr other) = h.trace.each i z (sym (get-set_other stations d i y other) ∙ at)
+out_station s es stations counts d w i x y z shown h out made next at (inr other) =
+    h.trace.each i z (sym (get-set_other stations d i y other) ∙ at)
 
-pub out_trace : (s : Script) (es : List Entry) (stations : List Station) (counts : List ℕ) (d w i : ℕ) (x y : Station) (shown : Shown) → IsHanded s es stations counts d x shown
+pub out_trace : (s : Scenario) (es : List Entry) (stations : List Station) (counts : List ℕ) (d w i : ℕ) (x y : Station)
+    (shown : Device) → IsHanded s es stations counts d x shown
     → i ≡ d → y.place ≡ Out w → y.made ≡ x.made → y.next ≡ x.next → IsTrace s es (set stations i y) counts
 out_trace s es stations counts d w i x y shown h from out made next =
     subst (λ j. IsTrace s es (set stations j y) counts) (sym from) (record {
@@ -70,35 +82,42 @@ out_trace s es stations counts d w i x y shown h from out made next =
       table = h.trace.table;
     })
 
-pub out_view : (v : Traced) (s : Script) (es : List Entry) (stations : List Station) (stopped : Bool) (d w i : ℕ) (y : Station) → traced s es stations stopped ≡ v
+pub out_view : (v : Traced) (s : Scenario) (es : List Entry) (stations : List Station) (stopped : Bool) (d w i : ℕ)
+    (y : Station) → traced s es stations stopped ≡ v
     → i ≡ d → y.place ≡ Out w → traced s es (set stations i y) stopped ≡ with_out v d w
 out_view v s es stations stopped d w i y view from out =
     ap (λ l. record { subject = s; entries = es; places = l; stopped = stopped })
-    (map-set (λ x. x.place) stations i y ∙ (ap (λ j. set (places_of stations) j y.place) from ∙ ap (λ p. set (places_of stations) d p) out))
+    (map-set (λ x. x.place) stations i y ∙ (ap (λ j. set (places_of stations) j y.place) from
+    ∙ ap (λ p. set (places_of stations) d p) out))
     ∙ ap (λ u. with_out u d w) view
 
-pub out_adds : (v new : Traced) (d w : ℕ) (x : Shown) → slice_get v.places d ≡ Some (Parked x) → new ≡ with_out v d w → Adds trace_log w v new
+pub out_adds : (v new : Traced) (d w : ℕ) (x : Device) → slice_get v.places d ≡ Some (Parked x) → new ≡ with_out v d w
+    → Adds trace_log w v new
 out_adds v new d w x at is =
     subst (Adds trace_log w v) (sym is) (record {
       added = [];
       entries = sym (append-nil v.entries);
       by_worker = tt;
       subject = refl;
-      others = λ n ne. open_same n v.places v.entries v.entries 0 d (Parked x) (Out w) at refl (ne_eqb w n (λ e. ne (sym e))) (λ j h. refl);
+      others = λ n ne. open_same n v.places v.entries v.entries 0 d (Parked x) (Out w) at refl
+          (ne_eqb w n (λ e. ne (sym e))) (λ j h. refl);
     })
 
-pub out_stands : (v new claimed : Traced) (d w : ℕ) (x : Shown) → slice_get v.places d ≡ Some (Parked x) → new ≡ with_out v d w → claimed ≡ v
+pub out_stands : (v new claimed : Traced) (d w : ℕ) (x : Device) → slice_get v.places d ≡ Some (Parked x)
+    → new ≡ with_out v d w → claimed ≡ v
     → Contains (open_by new w) (d, made_by d claimed.entries)
 out_stands v new claimed d w x at is same =
     subst (λ u. Contains (open_by u w) (d, made_by d claimed.entries)) (sym is)
     (subst (λ u. Contains (open_by (with_out v d w) w) (d, made_by d u.entries)) (sym same)
     (let here : 0 + d ≡ d = omega arith in
     subst (λ j. Contains (open_by (with_out v d w) w) (j, made_by j v.entries)) here
-    (open_has w (set v.places d (Out w)) v.entries 0 d (get-set_same v.places d (Out w) (slice_get_within v.places d (Parked x) at)))))
+    (open_has w (set v.places d (Out w)) v.entries 0 d
+    (get-set_same v.places d (Out w) (slice_get_within v.places d (Parked x) at)))))
 
 -- ---- the job
 
-fresh_way : (s : Script) (es : List Entry) (stations : List Station) (counts known posted : List ℕ) (d : ℕ) (x : Station) (shown machine : Shown) → IsHanded s es stations counts d x shown
+fresh_way : (s : Scenario) (es : List Entry) (stations : List Station) (counts known posted : List ℕ) (d : ℕ)
+    (x : Station) (shown machine : Device) → IsHanded s es stations counts d x shown
     → x.place ≡ Parked machine → known ≡ counts → posted ≡ [] → IsOnWay s d es [] machine known posted x.made x.next
 fresh_way s es stations counts known posted d x shown machine h device table none = record {
   shows = subst (IsPlaced s es d) device (h.trace.each d x h.at).placed;
@@ -110,28 +129,45 @@ fresh_way s es stations counts known posted d x shown machine h device table non
   next = (h.trace.each d x h.at).next;
 }
 
-fresh_here : (s : Script) (es : List Entry) (stations : List Station) (counts known posted : List ℕ) (d w : ℕ) (x : Station) (shown machine : Shown) → IsHanded s es stations counts d x shown
-    → x.place ≡ Parked machine → known ≡ counts → posted ≡ [] → IsJob s w d es [] machine false known posted x.made x.next
+fresh_here : (s : Scenario) (es : List Entry) (stations : List Station) (counts known posted : List ℕ) (d w : ℕ)
+    (x : Station) (shown machine : Device) → IsHanded s es stations counts d x shown
+    → x.place ≡ Parked machine → known ≡ counts → posted ≡ []
+    → IsJob s w d es [] machine false known posted x.made x.next
 fresh_here s es stations counts known posted d w x shown machine h device table none = record {
-  task = record { valid = h.trace.valid; run = subst (IsRun s) (sym (append-nil es)) h.trace.run; each = tt; began = h.enabled };
+  task = record {
+    valid = h.trace.valid;
+    run = subst (IsRun s) (sym (append-nil es)) h.trace.run;
+    each = tt;
+    began =
+        h.enabled;
+  };
   ready = λ e. subst (λ l. IsOnWay s d l [] machine known posted x.made x.next) (sym (append-nil es))
       (fresh_way s es stations counts known posted d x shown machine h device table none);
 }
 
-pub fresh_job : (v claimed : Traced) (s : Script) (es entries : List Entry) (stations : List Station) (counts known posted : List ℕ) (stopped : Bool) (d w : ℕ) (x : Station) (shown machine : Shown)
-    → traced s es stations stopped ≡ v → claimed ≡ v → IsHanded s es stations counts d x shown → x.place ≡ Parked machine → known ≡ counts → posted ≡ [] → entries ≡ []
+pub fresh_job : (v claimed : Traced) (s : Scenario) (es entries : List Entry) (stations : List Station)
+    (counts known posted : List ℕ) (stopped : Bool) (d w : ℕ) (x : Station) (shown machine : Device)
+    → traced s es stations stopped ≡ v → claimed ≡ v → IsHanded s es stations counts d x shown
+    → x.place ≡ Parked machine → known ≡ counts → posted ≡ [] → entries ≡ []
     → IsJob claimed.subject w d claimed.entries entries machine false known posted x.made x.next
-fresh_job v claimed s es entries stations counts known posted stopped d w x shown machine view same h device table none empty =
+fresh_job v claimed s es entries stations counts known posted stopped d w x shown machine view same h device table none
+    empty =
     subst (λ u. IsJob u.subject w d u.entries entries machine false known posted x.made x.next) (view ∙ sym same)
     (subst (λ l. IsJob s w d es l machine false known posted x.made x.next) (sym empty)
     (fresh_here s es stations counts known posted d w x shown machine h device table none))
 
-pub parked_now : (v : Traced) (s : Script) (es : List Entry) (stations : List Station) (counts : List ℕ) (stopped : Bool) (d : ℕ) (x : Station) (shown machine : Shown)
-    → traced s es stations stopped ≡ v → IsHanded s es stations counts d x shown → x.place ≡ Parked machine → slice_get v.places d ≡ Some (Parked machine)
+pub parked_now : (v : Traced) (s : Scenario) (es : List Entry) (stations : List Station) (counts : List ℕ)
+    (stopped : Bool) (d : ℕ) (x : Station) (shown machine : Device)
+    → traced s es stations stopped ≡ v → IsHanded s es stations counts d x shown → x.place ≡ Parked machine
+    → slice_get v.places d ≡ Some (Parked machine)
 parked_now v s es stations counts stopped d x shown machine view h device =
-    subst (λ u. slice_get u.places d ≡ Some (Parked machine)) view (at_map (λ y. y.place) stations d x h.at ∙ ap Some device)
+    subst (λ u. slice_get u.places d ≡ Some (Parked machine)) view
+    (at_map (λ y. y.place) stations d x h.at ∙ ap Some device)
 
-pub shows_now : (v : Traced) (s : Script) (es : List Entry) (stations : List Station) (counts : List ℕ) (stopped : Bool) (d : ℕ) (x : Station) (shown machine : Shown)
-    → traced s es stations stopped ≡ v → IsHanded s es stations counts d x shown → x.place ≡ Parked machine → ShowsAfter v.subject d (made_by d v.entries) machine
+pub shows_now : (v : Traced) (s : Scenario) (es : List Entry) (stations : List Station) (counts : List ℕ)
+    (stopped : Bool) (d : ℕ) (x : Station) (shown machine : Device)
+    → traced s es stations stopped ≡ v → IsHanded s es stations counts d x shown → x.place ≡ Parked machine
+    → ShowsAfter v.subject d (made_by d v.entries) machine
 shows_now v s es stations counts stopped d x shown machine view h device =
-    subst (λ u. ShowsAfter u.subject d (made_by d u.entries) machine) view (subst (IsPlaced s es d) device (h.trace.each d x h.at).placed)
+    subst (λ u. ShowsAfter u.subject d (made_by d u.entries) machine) view
+    (subst (IsPlaced s es d) device (h.trace.each d x h.at).placed)

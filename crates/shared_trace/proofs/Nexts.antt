@@ -1,10 +1,11 @@
 -- What a device's next step asks for, and what the scenario says of it.
-use Rattle.std.proofs.Common.{◌≡◌, ℕ, ◌<◌, ◌≤◌, nat_lt, nat_le, ◌⊎◌, inl, inr, true, false, not, List, length, Option, None, Some, slice_get, refl, sym, ap, ◌∙◌}
+use Rattle.std.proofs.Common.{◌≡◌, ℕ, ◌<◌, ◌≤◌, nat_lt, nat_le, ◌⊎◌, inl, inr, true, false, not, List, length, Option}
+use Rattle.std.proofs.Common.{None, Some, slice_get, refl, sym, ap, ◌∙◌}
 use Rattle.std.proofs.lemmas.Bool.{lt-ltb, le-ltb, cases_lt}
 use Rattle.std.proofs.lemmas.Option.{slice_get_past}
 use Rattle.scenario_image.specs.declared.step.Step.{Step}
 use Rattle.scenario_image.specs.declared.step.Step.TheVariants as step
-use Rattle.scenario_image.specs.Script.{Script}
+use Rattle.scenario_image.specs.Scenario.{Scenario}
 use Rattle.trace_file.specs.declared.entry.Entry.{Entry}
 use Rattle.fleet_core.specs.Run.{steps_in, step_at, made_by, posts_of, may_pass, is_enabled}
 use Rattle.fleet_core.specs.Waiting.{is_waiting}
@@ -25,7 +26,8 @@ go_passes p (Some (step.Post group)) = refl
 go_passes p (Some (step.Need group count)) = refl
 
 -- whether a device can step, by a table of the posts and by what is kept of its next step
-pub go_enabled : (s : Script) (es : List Entry) (d : ℕ) (p : ℕ → ℕ) (n : Next) → ((g : ℕ) → p g ≡ posts_of s g es) → n ≡ next_of (step_at s d (made_by d es))
+pub go_enabled : (s : Scenario) (es : List Entry) (d : ℕ) (p : ℕ → ℕ) (n : Next) → ((g : ℕ) → p g ≡ posts_of s g es)
+    → n ≡ next_of (step_at s d (made_by d es))
     → can_go p n ≡ is_enabled s es d
 go_enabled s es d p n posts next =
     go_same p (λ g. posts_of s g es) n posts
@@ -36,14 +38,16 @@ left_here (step.Event event) = refl
 left_here (step.Post group) = refl
 left_here (step.Need group count) = refl
 
-left_by : (xs : List Step) (k : ℕ) → (k < length xs) ⊎ (length xs ≤ k) → nat_lt k (length xs) ≡ not (is_end (next_of (slice_get xs k)))
+left_by : (xs : List Step) (k : ℕ) → (k < length xs) ⊎ (length xs ≤ k)
+    → nat_lt k (length xs) ≡ not (is_end (next_of (slice_get xs k)))
 left_by xs k (inl h) =
     let found = some_at xs k h in
     lt-ltb k (length xs) h ∙ (left_here found.0 ∙ ap (λ o. not (is_end (next_of o))) (sym found.1))
 left_by xs k (inr h) = le-ltb k (length xs) h ∙ ap (λ o. not (is_end (next_of o))) (sym (slice_get_past xs k h))
 
 -- whether a row is not at its end
-pub waiting_is : (s : Script) (es : List Entry) (d : ℕ) → is_waiting s es d ≡ not (is_end (next_of (step_at s d (made_by d es))))
+pub waiting_is : (s : Scenario) (es : List Entry) (d : ℕ)
+    → is_waiting s es d ≡ not (is_end (next_of (step_at s d (made_by d es))))
 waiting_is s es d =
     let xs = steps_in (slice_get s.rows d) in left_by xs (made_by d es) (cases_lt (made_by d es) (length xs))
 
@@ -54,9 +58,10 @@ passes_left p (Some (step.Post group)) h = refl
 passes_left p (Some (step.Need group count)) h = refl
 
 -- a device that can step is not at the end of its row
-pub enabled_waits : (s : Script) (es : List Entry) (d : ℕ) → is_enabled s es d ≡ true → is_waiting s es d ≡ true
+pub enabled_waits : (s : Scenario) (es : List Entry) (d : ℕ) → is_enabled s es d ≡ true → is_waiting s es d ≡ true
 enabled_waits s es d go = waiting_is s es d ∙ passes_left (λ g. posts_of s g es) (step_at s d (made_by d es)) go
 
-pub past_waiting : (s : Script) (es : List Entry) (d : ℕ) → length s.rows ≤ d → is_waiting s es d ≡ false
+pub past_waiting : (s : Scenario) (es : List Entry) (d : ℕ) → length s.rows ≤ d → is_waiting s es d ≡ false
 past_waiting s es d past =
-    waiting_is s es d ∙ ap (λ o. not (is_end (next_of (slice_get (steps_in o) (made_by d es))))) (slice_get_past s.rows d past)
+    waiting_is s es d ∙ ap (λ o. not (is_end (next_of (slice_get (steps_in o) (made_by d es)))))
+    (slice_get_past s.rows d past)

@@ -1,12 +1,13 @@
 -- A job that is put into its trace again.
-use Rattle.std.proofs.Common.{◌≡◌, ℕ, ◌+◌, ◌<◌, ◌≤◌, nat_lt, ◌⊎◌, inl, inr, Bool, true, false, List, ◌++◌, length, set, Some, slice_get, slice_index, refl, sym, ap, subst, ◌∙◌, arith}
+use Rattle.std.proofs.Common.{◌≡◌, ℕ, ◌+◌, ◌<◌, ◌≤◌, nat_lt, ◌⊎◌, inl, inr, Bool, true, false, List, ◌++◌, length, set}
+use Rattle.std.proofs.Common.{Some, slice_get, slice_index, refl, sym, ap, subst, ◌∙◌, arith}
 use Rattle.std.specs.Prelude.{◌==◌, count_by}
 use Rattle.std.specs.List.{AllByRecursion}
 use Rattle.std.proofs.lemmas.List.{length-set}
 use Rattle.std.proofs.lemmas.Option.{slice_get_within}
 use Rattle.std.proofs.lemmas.Bool.{cases_eq, ne_eqb}
-use Rattle.device_machine.specs.State.{Shown}
-use Rattle.scenario_image.specs.Script.{Script}
+use Rattle.device_machine.specs.State.{Device}
+use Rattle.scenario_image.specs.Scenario.{Scenario}
 use Rattle.trace_file.specs.declared.entry.Entry.{Entry}
 use Rattle.fleet_core.specs.Run.{steps_in, made_by, posts_of, step_at, IsRun}
 use Rattle.fleet_core.specs.Blocks.{AreOf}
@@ -29,7 +30,8 @@ use Rattle.shared_trace.proofs.Stations.{traced}
 use Rattle.shared_trace.proofs.Stepping.{tasked}
 
 -- a job that may be put into a trace
-pub record IsFitting (s : Script) (es : List Entry) (stations : List Station) (counts : List ℕ) (w d : ℕ) (front block : List Entry) (x : Shown) (known groups : List ℕ) (k : ℕ) (n : Next) : Type 0 where
+pub record IsFitting (s : Scenario) (es : List Entry) (stations : List Station) (counts : List ℕ) (w d : ℕ)
+    (front block : List Entry) (x : Device) (known groups : List ℕ) (k : ℕ) (n : Next) : Type 0 where
   pub trace : IsTrace s es stations counts
   pub task : IsTask s w d front block
   pub way : IsOnWay s d (front ++ block) block x known groups k n
@@ -37,13 +39,17 @@ pub record IsFitting (s : Script) (es : List Entry) (stations : List Station) (c
   pub count : made_by d front ≡ made_by d es
   pub posts : (g : ℕ) → posts_of s g front ≤ posts_of s g es
 
-fits_here : (v : Traced) (job : Task) (es : List Entry) (stations : List Station) (counts : List ℕ) (stopped : Bool) (s : Script) (w d : ℕ) (front block : List Entry) (x : Shown)
-    (known groups : List ℕ) (k : ℕ) (n : Next) → traced s es stations stopped ≡ v → tasked s w d front block x false ≡ job → IsTrace s es stations counts
-    → IsTask s w d front block → IsOnWay s d (front ++ block) block x known groups k n → MayPut v w job → IsFitting s es stations counts w d front block x known groups k n
+fits_here : (v : Traced) (job : Task) (es : List Entry) (stations : List Station) (counts : List ℕ) (stopped : Bool)
+    (s : Scenario) (w d : ℕ) (front block : List Entry) (x : Device)
+    (known groups : List ℕ) (k : ℕ) (n : Next) → traced s es stations stopped ≡ v
+    → tasked s w d front block x false ≡ job → IsTrace s es stations counts
+    → IsTask s w d front block → IsOnWay s d (front ++ block) block x known groups k n → MayPut v w job
+    → IsFitting s es stations counts w d front block x known groups k n
 fits_here v job es stations counts stopped s w d front block x known groups k n view is trace task way may =
     let plain : MayPut (traced s es stations stopped) w (tasked s w d front block x false) =
     subst (λ u. MayPut u w (tasked s w d front block x false)) (sym view) (subst (MayPut v w) (sym is) may) in
-    let found : IsOpen w (places_of stations) es 0 d (made_by d front) = open_tells w (places_of stations) es 0 d (made_by d front) plain.stands in
+    let found : IsOpen w (places_of stations) es 0 d (made_by d front) =
+    open_tells w (places_of stations) es 0 d (made_by d front) plain.stands in
     let here : found.place ≡ d = omega (arith, found.device) in
     record {
       trace = trace;
@@ -54,21 +60,26 @@ fits_here v job es stations counts stopped s w d front block x known groups k n 
       posts = plain.posts;
     }
 
-pub fitting : (v : Traced) (job : Task) (t : Script) (es : List Entry) (stations : List Station) (counts : List ℕ) (stopped : Bool) (s : Script) (u w d : ℕ) (front block : List Entry) (x : Shown)
-    (spent : Bool) (known groups : List ℕ) (k : ℕ) (n : Next) → traced t es stations stopped ≡ v → tasked s u d front block x spent ≡ job → IsTrace t es stations counts
-    → IsJob s u d front block x spent known groups k n → MayPut v w job → IsFitting t es stations counts w d front block x known groups k n
+pub fitting : (v : Traced) (job : Task) (t : Scenario) (es : List Entry) (stations : List Station) (counts : List ℕ)
+    (stopped : Bool) (s : Scenario) (u w d : ℕ) (front block : List Entry) (x : Device)
+    (spent : Bool) (known groups : List ℕ) (k : ℕ) (n : Next) → traced t es stations stopped ≡ v
+    → tasked s u d front block x spent ≡ job → IsTrace t es stations counts
+    → IsJob s u d front block x spent known groups k n → MayPut v w job
+    → IsFitting t es stations counts w d front block x known groups k n
 fitting v job t es stations counts stopped s u w d front block x spent known groups k n view is trace inside may =
     let subject : s ≡ t = ap (λ j. j.subject) is ∙ (may.subject ∙ sym (ap (λ i. i.subject) view)) in
     let worker : u ≡ w = ap (λ j. j.worker) is ∙ may.worker in
     let ready : spent ≡ false = ap (λ j. j.spent) is ∙ may.ready in
     let same : tasked t w d front block x false ≡ job =
     ap (λ i. tasked i w d front block x false) (sym subject)
-    ∙ (ap (λ i. tasked s i d front block x false) (sym worker) ∙ (ap (λ b. tasked s u d front block x b) (sym ready) ∙ is)) in
+    ∙ (ap (λ i. tasked s i d front block x false) (sym worker)
+    ∙ (ap (λ b. tasked s u d front block x b) (sym ready) ∙ is)) in
     fits_here v job es stations counts stopped t w d front block x known groups k n view same trace
     (subst (λ i. IsTask i w d front block) subject (subst (λ i. IsTask s i d front block) worker inside.task))
     (subst (λ i. IsOnWay i d (front ++ block) block x known groups k n) subject (inside.ready ready)) may
 
-module _ {s : Script} {es : List Entry} {stations : List Station} {counts : List ℕ} {w d : ℕ} {front block : List Entry} {x : Shown} {known groups : List ℕ} {k : ℕ} {n : Next}
+module _ {s : Scenario} {es : List Entry} {stations : List Station} {counts : List ℕ} {w d : ℕ}
+    {front block : List Entry} {x : Device} {known groups : List ℕ} {k : ℕ} {n : Next}
     (f : IsFitting s es stations counts w d front block x known groups k n) where
   pub own_block : AreOf d block
   own_block = all_weaker (IsOf w d) (λ e. e.device ≡ d) block (λ e h. h.1) f.task.each
@@ -83,20 +94,30 @@ module _ {s : Script} {es : List Entry} {stations : List Station} {counts : List
   put_within = subst (λ i. AllByRecursion (λ h. h < i) groups) (sym f.trace.table) f.way.within
 
   pub put_room : (g : ℕ) → slice_index counts g + count_by (λ h. h == g) groups < 4294967296
-  put_room g = omega (arith, f.trace.posts g, f.way.posted g, posts-append s g es block, posts_within s g (es ++ block) f.trace.valid put_run)
+  put_room g = omega (
+    arith,
+    f.trace.posts g,
+    f.way.posted g,
+    posts-append s g es block,
+    posts_within s g (es ++ block) f.trace.valid put_run,
+  )
 
   pub put_place : d < length stations
-  put_place = let found = from_map (λ y. y.place) stations d (Out w) f.place in slice_get_within stations d found.0 found.1
+  put_place = let found =
+      from_map (λ y. y.place) stations d (Out w) f.place in slice_get_within stations d found.0 found.1
 
-  placed_same : (i : ℕ) (p : Place) → made_by i (es ++ block) ≡ made_by i es → IsPlaced s es i p → IsPlaced s (es ++ block) i p
+  placed_same : (i : ℕ) (p : Place) → made_by i (es ++ block) ≡ made_by i es → IsPlaced s es i p
+      → IsPlaced s (es ++ block) i p
   placed_same i (Parked y) same h = subst (λ m. ShowsAfter s i m y) (sym same) h
   placed_same i (Out v) same h = subst (λ m. nat_lt m (length (steps_in (slice_get s.rows i))) ≡ true) (sym same) h
 
-  put_station : (y z : Station) (i : ℕ) → y.place ≡ Parked x → y.made ≡ k → y.next ≡ n → y.known.items ≡ known → slice_get (set stations d y) i ≡ Some z → (d ≡ i) ⊎ (d ≡ i → ⊥)
+  put_station : (y z : Station) (i : ℕ) → y.place ≡ Parked x → y.made ≡ k → y.next ≡ n → y.known.items ≡ known
+      → slice_get (set stations d y) i ≡ Some z → (d ≡ i) ⊎ (d ≡ i → ⊥)
       → IsStation s (es ++ block) i z
   put_station y z i place made next table at (inl own) =
       subst (λ j. IsStation s (es ++ block) j z) own
-      (subst (IsStation s (es ++ block) d) (set_gives stations d y z (subst (λ j. slice_get (set stations d y) j ≡ Some z) (sym own) at)) (record {
+      (subst (IsStation s (es ++ block) d) (set_gives stations d y z
+      (subst (λ j. slice_get (set stations d y) j ≡ Some z) (sym own) at)) (record {
         placed = subst (IsPlaced s (es ++ block) d) (sym place) (subst (λ m. ShowsAfter s d m x) put_made f.way.shows);
         made = made ∙ (f.way.place ∙ put_made);
         next = next ∙ (f.way.next ∙ ap (λ m. next_of (step_at s d m)) put_made);
@@ -112,10 +133,14 @@ module _ {s : Script} {es : List Entry} {stations : List Station} {counts : List
         known = old.known;
       }
 
-  pub put_trace : (y : Station) (i : ℕ) (all : List Entry) (after : List ℕ) → i ≡ d → all ≡ es ++ block → y.place ≡ Parked x → y.made ≡ k → y.next ≡ n → y.known.items ≡ known
-      → length after ≡ length counts → ((g : ℕ) → slice_index after g ≡ slice_index counts g + count_by (λ h. h == g) groups) → IsTrace s all (set stations i y) after
+  pub put_trace : (y : Station) (i : ℕ) (all : List Entry) (after : List ℕ) → i ≡ d → all ≡ es ++ block
+      → y.place ≡ Parked x → y.made ≡ k → y.next ≡ n → y.known.items ≡ known
+      → length after ≡ length counts
+      → ((g : ℕ) → slice_index after g ≡ slice_index counts g + count_by (λ h. h == g) groups)
+      → IsTrace s all (set stations i y) after
   put_trace y i all after from more place made next table count sums =
-      subst (λ l. IsTrace s l (set stations i y) after) (sym more) (subst (λ j. IsTrace s (es ++ block) (set stations j y) after) (sym from) (record {
+      subst (λ l. IsTrace s l (set stations i y) after) (sym more)
+      (subst (λ j. IsTrace s (es ++ block) (set stations j y) after) (sym from) (record {
         valid = f.trace.valid;
         run = put_run;
         count = length-set stations d y ∙ f.trace.count;
@@ -124,15 +149,18 @@ module _ {s : Script} {es : List Entry} {stations : List Station} {counts : List
         table = count ∙ f.trace.table;
       }))
 
-  pub put_view : (v : Traced) (stopped : Bool) (y : Station) (i : ℕ) (all : List Entry) → traced s es stations stopped ≡ v → i ≡ d → all ≡ es ++ block → y.place ≡ Parked x
+  pub put_view : (v : Traced) (stopped : Bool) (y : Station) (i : ℕ) (all : List Entry)
+      → traced s es stations stopped ≡ v → i ≡ d → all ≡ es ++ block → y.place ≡ Parked x
       → traced s all (set stations i y) stopped ≡ with_block v d x block
   put_view v stopped y i all view from more place =
       ap (λ l. traced s l (set stations i y) stopped) more
       ∙ (ap (λ l. record { subject = s; entries = es ++ block; places = l; stopped = stopped })
-      (map-set (λ z. z.place) stations i y ∙ (ap (λ j. set (places_of stations) j y.place) from ∙ ap (λ p. set (places_of stations) d p) place))
+      (map-set (λ z. z.place) stations i y ∙ (ap (λ j. set (places_of stations) j y.place) from
+      ∙ ap (λ p. set (places_of stations) d p) place))
       ∙ ap (λ u. with_block u d x block) view)
 
-  pub put_adds : (v new : Traced) (stopped : Bool) → traced s es stations stopped ≡ v → new ≡ with_block v d x block → Adds trace_log w v new
+  pub put_adds : (v new : Traced) (stopped : Bool) → traced s es stations stopped ≡ v → new ≡ with_block v d x block
+      → Adds trace_log w v new
   put_adds v new stopped view is =
       subst (Adds trace_log w v) (sym is)
       (subst (λ u. Adds trace_log w u (with_block u d x block)) view (record {
@@ -140,6 +168,7 @@ module _ {s : Script} {es : List Entry} {stations : List Station} {counts : List
         entries = refl;
         by_worker = all_weaker (IsOf w d) (λ e. e.worker ≡ w) block (λ e h. h.0) f.task.each;
         subject = refl;
-        others = λ m ne. open_same m (places_of stations) es (es ++ block) 0 d (Out w) (Parked x) f.place (ne_eqb w m (λ e. ne (sym e))) refl
+        others = λ m ne. open_same m (places_of stations) es (es ++ block) 0 d (Out w) (Parked x) f.place
+            (ne_eqb w m (λ e. ne (sym e))) refl
             (λ j h. block_others d j es block own_block (λ e. h (omega (arith, e))));
       }))

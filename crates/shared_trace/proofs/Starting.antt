@@ -1,11 +1,12 @@
 -- The stations of a scenario at its start.
-use Rattle.std.proofs.Common.{◌≡◌, ℕ, zero, suc, ◌⊎◌, inl, inr, true, List, [], ◌∷◌, ◌++◌, length, replicate, None, Some, slice_get, refl, sym, ap, subst, ◌∙◌}
+use Rattle.std.proofs.Common.{◌≡◌, ℕ, zero, suc, ◌⊎◌, inl, inr, true, List, [], ◌∷◌, ◌++◌, length, replicate, None}
+use Rattle.std.proofs.Common.{Some, slice_get, refl, sym, ap, subst, ◌∙◌}
 use Rattle.std.proofs.lemmas.List.{length-replicate}
-use Rattle.device_template.specs.Class.{Class}
-use Rattle.device_machine.specs.State.{Shown, Shows}
+use Rattle.device_template.specs.Template.{Template}
+use Rattle.device_machine.specs.State.{Device, Shows}
 use Rattle.scenario_image.specs.declared.step.Step.{Step}
 use Rattle.scenario_image.specs.Play.{start, IsRowOf}
-use Rattle.scenario_image.specs.Script.{Script, IsValid}
+use Rattle.scenario_image.specs.Scenario.{Scenario, IsValid}
 use Rattle.fleet_core.specs.Board.{AreStarted}
 use Rattle.trace_file.specs.declared.entry.Entry.{Entry}
 use Rattle.fleet_core.proofs.Board.{zeros}
@@ -14,37 +15,43 @@ use Rattle.shared_trace.specs.declared.station.Station.{Station}
 use Rattle.shared_trace.specs.Kept.{IsTrace, IsStation, AreParked, is_parked, places_of}
 use Rattle.shared_trace.proofs.Lists.{from_map}
 
-cases_pushed : {X : Type 0} (z : X) (xs : List X) (k : ℕ) (x y : X) → (slice_get xs k ≡ Some x) ⊎ ((k ≡ length xs) × (y ≡ x))
+cases_pushed : {X : Type 0} (z : X) (xs : List X) (k : ℕ) (x y : X) → (slice_get xs k ≡ Some x)
+    ⊎ ((k ≡ length xs) × (y ≡ x))
     → (slice_get (z ∷ xs) (suc k) ≡ Some x) ⊎ ((suc k ≡ length (z ∷ xs)) × (y ≡ x))
 cases_pushed z xs k x y (inl h) = inl h
 cases_pushed z xs k x y (inr h) = inr (ap suc h.0, h.1)
 
 -- an element of a list with one more is one of the list, or the one more
-pushed : {X : Type 0} (xs : List X) (y : X) (k : ℕ) (x : X) → slice_get (xs ++ y ∷ []) k ≡ Some x → (slice_get xs k ≡ Some x) ⊎ ((k ≡ length xs) × (y ≡ x))
+pushed : {X : Type 0} (xs : List X) (y : X) (k : ℕ) (x : X) → slice_get (xs ++ y ∷ []) k ≡ Some x
+    → (slice_get xs k ≡ Some x) ⊎ ((k ≡ length xs) × (y ≡ x))
 pushed [] y zero x h = let e : Some y ≡ Some x = h in inr (refl, cc)
 pushed [] y (suc k) x h = let e : None ≡ Some x = h in absurd cc
 pushed (z ∷ xs) y zero x h = inl h
 pushed (z ∷ xs) y (suc k) x h = cases_pushed z xs k x y (pushed xs y k x h)
 
-pub none_parked : (s : Script) (stations : List Station) → stations ≡ [] → AreParked s stations
+pub none_parked : (s : Scenario) (stations : List Station) → stations ≡ [] → AreParked s stations
 none_parked s stations none =
     subst (AreParked s) (sym none) (record {
       each = λ d x at. let e : None ≡ Some x = at in absurd cc;
       parked = λ d x at. let e : None ≡ Some x = at in absurd cc;
     })
 
-station_by : (s : Script) (stations : List Station) (y x : Station) (d n : ℕ) → AreParked s stations → IsStation s [] n y → n ≡ length stations
+station_by : (s : Scenario) (stations : List Station) (y x : Station) (d n : ℕ) → AreParked s stations
+    → IsStation s [] n y → n ≡ length stations
     → (slice_get stations d ≡ Some x) ⊎ ((d ≡ length stations) × (y ≡ x)) → IsStation s [] d x
 station_by s stations y x d n all here count (inl h) = all.each d x h
-station_by s stations y x d n all here count (inr h) = subst (IsStation s [] d) h.1 (subst (λ i. IsStation s [] i y) (count ∙ sym h.0) here)
+station_by s stations y x d n all here count (inr h) =
+    subst (IsStation s [] d) h.1 (subst (λ i. IsStation s [] i y) (count ∙ sym h.0) here)
 
-parked_by : (s : Script) (stations : List Station) (y x : Station) (d : ℕ) → AreParked s stations → is_parked y.place ≡ true
+parked_by : (s : Scenario) (stations : List Station) (y x : Station) (d : ℕ) → AreParked s stations
+    → is_parked y.place ≡ true
     → (slice_get stations d ≡ Some x) ⊎ ((d ≡ length stations) × (y ≡ x)) → is_parked x.place ≡ true
 parked_by s stations y x d all here (inl h) = all.parked d x h
 parked_by s stations y x d all here (inr h) = subst (λ z. is_parked z.place ≡ true) h.1 here
 
 -- with one station more
-pub more_parked : (s : Script) (stations more : List Station) (y : Station) (n : ℕ) → AreParked s stations → more ≡ stations ++ y ∷ [] → n ≡ length stations
+pub more_parked : (s : Scenario) (stations more : List Station) (y : Station) (n : ℕ) → AreParked s stations
+    → more ≡ stations ++ y ∷ [] → n ≡ length stations
     → IsStation s [] n y → is_parked y.place ≡ true → AreParked s more
 more_parked s stations more y n all is count here parked =
     subst (AreParked s) (sym is) (record {
@@ -52,12 +59,15 @@ more_parked s stations more y n all is count here parked =
       parked = λ d x at. parked_by s stations y x d all parked (pushed stations y d x at);
     })
 
-pub all_parked : (s : Script) (stations : List Station) → AreParked s stations → (d : ℕ) (p : Place) → slice_get (places_of stations) d ≡ Some p → is_parked p ≡ true
+pub all_parked : (s : Scenario) (stations : List Station) → AreParked s stations → (d : ℕ) (p : Place)
+    → slice_get (places_of stations) d ≡ Some p → is_parked p ≡ true
 all_parked s stations all d p at =
-    let found = from_map (λ x. x.place) stations d p at in subst (λ q. is_parked q ≡ true) found.2 (all.parked d found.0 found.1)
+    let found = from_map (λ x. x.place) stations d p at in subst (λ q. is_parked q ≡ true) found.2
+    (all.parked d found.0 found.1)
 
 -- a trace at the start
-pub start_trace : (s t : Script) (es : List Entry) (stations : List Station) (counts : List ℕ) → IsValid s → t ≡ s → es ≡ [] → length stations ≡ length s.rows
+pub start_trace : (s t : Scenario) (es : List Entry) (stations : List Station) (counts : List ℕ) → IsValid s → t ≡ s
+    → es ≡ [] → length stations ≡ length s.rows
     → AreParked s stations → counts ≡ replicate 256 0 → IsTrace t es stations counts
 start_trace s t es stations counts valid same none count all zero_counts =
     subst (λ u. IsTrace u es stations counts) (sym same)
@@ -71,6 +81,8 @@ start_trace s t es stations counts valid same none count all zero_counts =
       table = length-replicate {A = ℕ} 256 0;
     })))
 
-pub start_here : (s : Script) (devices : List Shown) (m n : ℕ) (x : Shown) → AreStarted s devices → slice_get devices m ≡ Some x → n ≡ m
-    → (class : Class) (steps : List Step) → IsRowOf s n class steps → Shows x (start class)
-start_here s devices m n x started at same class steps row = started.each m x at class steps (subst (λ i. IsRowOf s i class steps) same row)
+pub start_here : (s : Scenario) (devices : List Device) (m n : ℕ) (x : Device) → AreStarted s devices
+    → slice_get devices m ≡ Some x → n ≡ m
+    → (class : Template) (steps : List Step) → IsRowOf s n class steps → Shows x (start class)
+start_here s devices m n x started at same class steps row =
+    started.each m x at class steps (subst (λ i. IsRowOf s i class steps) same row)

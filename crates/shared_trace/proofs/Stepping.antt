@@ -1,14 +1,16 @@
 -- One step of a job.
-use Rattle.std.proofs.Common.{◌≡◌, ℕ, zero, suc, ◌+◌, ◌<◌, ◌≤◌, eqb, Bool, true, false, ◌⊎◌, inl, inr, List, [], ◌∷◌, ◌++◌, length, set, Some, slice_index, refl, sym, ap, subst, ◌∙◌, arith, add-one, get_or-set_same, get_or-set_other}
+use Rattle.std.proofs.Common.{◌≡◌, ℕ, zero, suc, ◌+◌, ◌<◌, ◌≤◌, eqb, Bool, true, false, ◌⊎◌, inl, inr, List, [], ◌∷◌}
+use Rattle.std.proofs.Common.{◌++◌, length, set, Some, slice_index, refl, sym, ap, subst, ◌∙◌, arith, add-one}
+use Rattle.std.proofs.Common.{get_or-set_same, get_or-set_other}
 use Rattle.std.specs.Prelude.{◌==◌, count_by}
 use Rattle.std.specs.List.{AllByRecursion}
 use Rattle.std.proofs.lemmas.List.{length-set, length-append, append-nil, append_assoc}
 use Rattle.std.proofs.lemmas.List.Sums.{sum_by_push}
 use Rattle.std.proofs.lemmas.Bool.{cases_eq, eq-eqb, ne_eqb, false≢true}
-use Rattle.device_machine.specs.State.{Shown}
+use Rattle.device_machine.specs.State.{Device}
 use Rattle.scenario_image.specs.declared.step.Step.{Step}
 use Rattle.scenario_image.specs.declared.step.Step.TheVariants.{Event, Post, Need}
-use Rattle.scenario_image.specs.Script.{Script}
+use Rattle.scenario_image.specs.Scenario.{Scenario}
 use Rattle.trace_file.specs.declared.entry.Entry.{Entry}
 use Rattle.fleet_core.specs.Run.{made_by, posts_of, posts_to, is_post, step_at, out_at, is_enabled, entry_of, IsRun}
 use Rattle.fleet_core.specs.Board.{ShowsAfter, posts_after}
@@ -23,52 +25,66 @@ use Rattle.shared_trace.specs.Kept.{IsTask, IsOnWay, IsJob, table_length, groups
 use Rattle.shared_trace.proofs.Lists.{all-push}
 use Rattle.shared_trace.proofs.Nexts.{go_enabled}
 
-abbrev pub tasked : Script → ℕ → ℕ → List Entry → List Entry → Shown → Bool → Task
-tasked s w d front es x spent = record { subject = s; worker = w; device = d; front = front; entries = es; shown = x; spent = spent }
+abbrev pub tasked : Scenario → ℕ → ℕ → List Entry → List Entry → Device → Bool → Task
+tasked s w d front es x spent =
+    record { subject = s; worker = w; device = d; front = front; entries = es; shown = x; spent = spent }
 
 -- a job that may go on
-pub record IsGoing (s : Script) (w d : ℕ) (front es : List Entry) (x : Shown) (counts groups : List ℕ) (k : ℕ) (n : Next) : Type 0 where
+pub record IsGoing (s : Scenario) (w d : ℕ) (front es : List Entry) (x : Device) (counts groups : List ℕ) (k : ℕ)
+    (n : Next) : Type 0 where
   pub task : IsTask s w d front es
   pub way : IsOnWay s d (front ++ es) es x counts groups k n
 
-pub going : (v : Task) (s : Script) (w d : ℕ) (front es : List Entry) (x : Shown) (spent : Bool) (counts groups : List ℕ) (k : ℕ) (n : Next) → tasked s w d front es x spent ≡ v
+pub going : (v : Task) (s : Scenario) (w d : ℕ) (front es : List Entry) (x : Device) (spent : Bool)
+    (counts groups : List ℕ) (k : ℕ) (n : Next) → tasked s w d front es x spent ≡ v
     → IsJob s w d front es x spent counts groups k n → v.spent ≡ false → IsGoing s w d front es x counts groups k n
-going v s w d front es x spent counts groups k n view job ready = record { task = job.task; way = job.ready (ap (λ t. t.spent) view ∙ ready) }
+going v s w d front es x spent counts groups k n view job ready =
+    record { task = job.task; way = job.ready (ap (λ t. t.spent) view ∙ ready) }
 
 -- whether it can step
-pub goes : (v : Task) (s : Script) (w d : ℕ) (front es : List Entry) (x : Shown) (spent : Bool) (counts groups l : List ℕ) (k : ℕ) (n : Next) (b : Bool) → tasked s w d front es x spent ≡ v
+pub goes : (v : Task) (s : Scenario) (w d : ℕ) (front es : List Entry) (x : Device) (spent : Bool)
+    (counts groups l : List ℕ) (k : ℕ) (n : Next) (b : Bool) → tasked s w d front es x spent ≡ v
     → IsGoing s w d front es x counts groups k n → l ≡ counts → b ≡ can_go (λ g. slice_index l g) n → can_step v ≡ b
 goes v s w d front es x spent counts groups l k n b view g same is =
     sym (is ∙ (ap (λ m. can_go (λ i. slice_index m i) n) same
     ∙ (go_enabled s (front ++ es) d (λ i. slice_index counts i) n g.way.known g.way.next ∙ ap can_step view)))
 
-pub able_here : (s : Script) (w d : ℕ) (front es : List Entry) (x : Shown) (counts groups l : List ℕ) (k : ℕ) (n : Next) (b : Bool)
-    → IsGoing s w d front es x counts groups k n → l ≡ counts → b ≡ can_go (λ g. slice_index l g) n → is_enabled s (front ++ es) d ≡ b
+pub able_here : (s : Scenario) (w d : ℕ) (front es : List Entry) (x : Device) (counts groups l : List ℕ) (k : ℕ)
+    (n : Next) (b : Bool)
+    → IsGoing s w d front es x counts groups k n → l ≡ counts → b ≡ can_go (λ g. slice_index l g) n
+    → is_enabled s (front ++ es) d ≡ b
 able_here s w d front es x counts groups l k n b g same is =
-    sym (is ∙ (ap (λ m. can_go (λ i. slice_index m i) n) same ∙ go_enabled s (front ++ es) d (λ i. slice_index counts i) n g.way.known g.way.next))
+    sym (is ∙ (ap (λ m. can_go (λ i. slice_index m i) n) same
+    ∙ go_enabled s (front ++ es) d (λ i. slice_index counts i) n g.way.known g.way.next))
 
-pub shows_here : (v : Task) (s : Script) (w d : ℕ) (front es : List Entry) (x : Shown) (spent : Bool) (counts groups : List ℕ) (k : ℕ) (n : Next) (scenario : Script) → tasked s w d front es x spent ≡ v
+pub shows_here : (v : Task) (s : Scenario) (w d : ℕ) (front es : List Entry) (x : Device) (spent : Bool)
+    (counts groups : List ℕ) (k : ℕ) (n : Next) (scenario : Scenario) → tasked s w d front es x spent ≡ v
     → IsGoing s w d front es x counts groups k n → scenario ≡ v.subject → ShowsAfter scenario d k x
 shows_here v s w d front es x spent counts groups k n scenario view g same =
     subst (λ t. ShowsAfter t d k x) (ap (λ t. t.subject) view ∙ sym same)
     (subst (λ m. ShowsAfter s d m x) (sym g.way.place) g.way.shows)
 
 -- the step that comes next
-pub step_here : (v : Task) (s : Script) (w d : ℕ) (front es : List Entry) (x : Shown) (spent : Bool) (scenario : Script) (k : ℕ) (step : Step) → tasked s w d front es x spent ≡ v
+pub step_here : (v : Task) (s : Scenario) (w d : ℕ) (front es : List Entry) (x : Device) (spent : Bool)
+    (scenario : Scenario) (k : ℕ) (step : Step) → tasked s w d front es x spent ≡ v
     → scenario ≡ v.subject → Some step ≡ step_at scenario d k → step_at s d k ≡ Some step
 step_here v s w d front es x spent scenario k step view same at =
     subst (λ t. step_at t d k ≡ Some step) (same ∙ sym (ap (λ t. t.subject) view)) (sym at)
 
-pub post_within : (s : Script) (w d : ℕ) (front es : List Entry) (x : Shown) (counts groups : List ℕ) (k : ℕ) (n : Next) (step : Step) → IsGoing s w d front es x counts groups k n
+pub post_within : (s : Scenario) (w d : ℕ) (front es : List Entry) (x : Device) (counts groups : List ℕ) (k : ℕ)
+    (n : Next) (step : Step) → IsGoing s w d front es x counts groups k n
     → step_at s d k ≡ Some step → (group : ℕ) → step ≡ Post group → group < length counts
 post_within s w d front es x counts groups k n step g at group is =
     omega (arith, post_group s d k group g.task.valid (at ∙ ap Some is), g.way.table)
 
-pub table_room : (s : Script) (w d : ℕ) (front es : List Entry) (x : Shown) (counts groups : List ℕ) (k : ℕ) (n : Next) → IsGoing s w d front es x counts groups k n
+pub table_room : (s : Scenario) (w d : ℕ) (front es : List Entry) (x : Device) (counts groups : List ℕ) (k : ℕ)
+    (n : Next) → IsGoing s w d front es x counts groups k n
     → (g : ℕ) → slice_index counts g + 1 < 4294967296
-table_room s w d front es x counts groups k n job g = omega (arith, job.way.known g, posts_within s g (front ++ es) job.task.valid job.task.run)
+table_room s w d front es x counts groups k n job g =
+    omega (arith, job.way.known g, posts_within s g (front ++ es) job.task.valid job.task.run)
 
-pub place_room : (s : Script) (w d : ℕ) (front es : List Entry) (x : Shown) (counts groups : List ℕ) (k : ℕ) (n : Next) (step : Step) → IsGoing s w d front es x counts groups k n
+pub place_room : (s : Scenario) (w d : ℕ) (front es : List Entry) (x : Device) (counts groups : List ℕ) (k : ℕ)
+    (n : Next) (step : Step) → IsGoing s w d front es x counts groups k n
     → step_at s d k ≡ Some step → k + 1 < 4294967296
 place_room s w d front es x counts groups k n step g at = omega (arith, place_below s d k step g.task.valid at)
 
@@ -77,8 +93,10 @@ place_room s w d front es x counts groups k n step g at = omega (arith, place_be
 post_at : (counts : List ℕ) (group g : ℕ) → group < length counts → (group ≡ g) ⊎ (group ≡ g → ⊥)
     → slice_index (set counts group (slice_index counts group + 1)) g ≡ slice_index counts g + one (eqb group g)
 post_at counts group g within (inl same) =
-    subst (λ i. slice_index (set counts group (slice_index counts group + 1)) i ≡ slice_index counts i + one (eqb group i)) same
-    (get_or-set_same counts group (slice_index counts group + 1) 0 within ∙ ap (λ b. slice_index counts group + one b) (sym (eq-eqb group group refl)))
+    subst (λ i. slice_index (set counts group (slice_index counts group + 1)) i
+    ≡ slice_index counts i + one (eqb group i)) same
+    (get_or-set_same counts group (slice_index counts group + 1) 0 within
+    ∙ ap (λ b. slice_index counts group + one b) (sym (eq-eqb group group refl)))
 post_at counts group g within (inr other) =
     get_or-set_other counts group g (slice_index counts group + 1) 0 (λ e. other (sym e))
     ∙ (sym (omega arith) ∙ ap (λ b. slice_index counts g + one b) (sym (ne_eqb group g other)))
@@ -94,21 +112,25 @@ counted_length counts (Event event) = refl
 counted_length counts (Post group) = length-set counts group (slice_index counts group + 1)
 counted_length counts (Need group count) = refl
 
-grouped : (groups : List ℕ) (step : Step) (g : ℕ) → count_by (λ h. h == g) (groups ++ groups_in step) ≡ count_by (λ h. h == g) groups + one (posts_to g step)
+grouped : (groups : List ℕ) (step : Step) (g : ℕ)
+    → count_by (λ h. h == g) (groups ++ groups_in step) ≡ count_by (λ h. h == g) groups + one (posts_to g step)
 grouped groups (Event event) g = ap (count_by (λ h. h == g)) (append-nil groups) ∙ omega arith
 grouped groups (Post group) g = sum_by_push (λ h. one (eqb h g)) groups group
 grouped groups (Need group count) g = ap (count_by (λ h. h == g)) (append-nil groups) ∙ omega arith
 
-grouped_within : (groups : List ℕ) (step : Step) (n : ℕ) → AllByRecursion (λ h. h < n) groups → ((group : ℕ) → step ≡ Post group → group < n)
+grouped_within : (groups : List ℕ) (step : Step) (n : ℕ) → AllByRecursion (λ h. h < n) groups
+    → ((group : ℕ) → step ≡ Post group → group < n)
     → AllByRecursion (λ h. h < n) (groups ++ groups_in step)
 grouped_within groups (Event event) n all within = subst (AllByRecursion (λ h. h < n)) (sym (append-nil groups)) all
 grouped_within groups (Post group) n all within = all-push (λ h. h < n) groups group all (within group refl)
-grouped_within groups (Need group count) n all within = subst (AllByRecursion (λ h. h < n)) (sym (append-nil groups)) all
+grouped_within groups (Need group count) n all within =
+    subst (AllByRecursion (λ h. h < n)) (sym (append-nil groups)) all
 
 -- ---- the job behind a step
 
 -- a step of a job, and what came of it
-pub record IsMade (s : Script) (w d : ℕ) (front es : List Entry) (counts groups : List ℕ) (k : ℕ) (step : Step) (e : Entry) (y : Shown) (after more : List ℕ) (m : Next) : Type 0 where
+pub record IsMade (s : Scenario) (w d : ℕ) (front es : List Entry) (counts groups : List ℕ) (k : ℕ) (step : Step)
+    (e : Entry) (y : Device) (after more : List ℕ) (m : Next) : Type 0 where
   pub at : step_at s d k ≡ Some step
   pub able : is_enabled s (front ++ es) d ≡ true
   pub entry : e ≡ record { worker = w; device = d; step = k; outputs = out_at s d k }
@@ -117,12 +139,15 @@ pub record IsMade (s : Script) (w d : ℕ) (front es : List Entry) (counts group
   pub posted : more ≡ groups ++ groups_in step
   pub next : m ≡ next_of (step_at s d (k + 1))
 
-made_entry : (s : Script) (w d : ℕ) (front es : List Entry) (x y : Shown) (counts groups after more : List ℕ) (k : ℕ) (n m : Next) (step : Step) (e : Entry)
-    → IsGoing s w d front es x counts groups k n → IsMade s w d front es counts groups k step e y after more m → e ≡ entry_of s w d (front ++ es)
+made_entry : (s : Scenario) (w d : ℕ) (front es : List Entry) (x y : Device) (counts groups after more : List ℕ) (k : ℕ)
+    (n m : Next) (step : Step) (e : Entry)
+    → IsGoing s w d front es x counts groups k n → IsMade s w d front es counts groups k step e y after more m
+    → e ≡ entry_of s w d (front ++ es)
 made_entry s w d front es x y counts groups after more k n m step e g made =
     made.entry ∙ ap (λ i. record { worker = w; device = d; step = i; outputs = out_at s d i }) g.way.place
 
-made_task : (s : Script) (w d : ℕ) (front es : List Entry) (e : Entry) → IsTask s w d front es → is_enabled s (front ++ es) d ≡ true → e ≡ entry_of s w d (front ++ es)
+made_task : (s : Scenario) (w d : ℕ) (front es : List Entry) (e : Entry) → IsTask s w d front es
+    → is_enabled s (front ++ es) d ≡ true → e ≡ entry_of s w d (front ++ es)
     → IsTask s w d front (es ++ e ∷ [])
 made_task s w d front es e task able is =
     subst (λ y. IsTask s w d front (es ++ y ∷ [])) (sym is) (record {
@@ -133,9 +158,12 @@ made_task s w d front es e task able is =
       began = task.began;
     })
 
-made_way : (s : Script) (w d : ℕ) (seen es : List Entry) (x y : Shown) (counts groups after more : List ℕ) (k : ℕ) (n m : Next) (step : Step) → IsOnWay s d seen es x counts groups k n
-    → step_at s d k ≡ Some step → ((group : ℕ) → step ≡ Post group → group < table_length s) → ShowsAfter s d (k + 1) y → after ≡ posts_after counts step → more ≡ groups ++ groups_in step
-    → m ≡ next_of (step_at s d (k + 1)) → IsOnWay s d (seen ++ entry_of s w d seen ∷ []) (es ++ entry_of s w d seen ∷ []) y after more (k + 1) m
+made_way : (s : Scenario) (w d : ℕ) (seen es : List Entry) (x y : Device) (counts groups after more : List ℕ) (k : ℕ)
+    (n m : Next) (step : Step) → IsOnWay s d seen es x counts groups k n
+    → step_at s d k ≡ Some step → ((group : ℕ) → step ≡ Post group → group < table_length s) → ShowsAfter s d (k + 1) y
+    → after ≡ posts_after counts step → more ≡ groups ++ groups_in step
+    → m ≡ next_of (step_at s d (k + 1))
+    → IsOnWay s d (seen ++ entry_of s w d seen ∷ []) (es ++ entry_of s w d seen ∷ []) y after more (k + 1) m
 made_way s w d seen es x y counts groups after more k n m step way at within shows known posted next =
     let e = entry_of s w d seen in
     let count : k + 1 ≡ made_by d (seen ++ e ∷ []) = add-one k ∙ (ap suc way.place ∙ sym (made_same d seen e refl)) in
@@ -153,29 +181,37 @@ made_way s w d seen es x y counts groups after more k n m step way at within sho
           ∙ (grouped groups step g
           ∙ (ap (λ i. i + one (posts_to g step)) (way.posted g)
           ∙ (ap (λ o. posts_of s g es + one (is_post g o)) (sym here) ∙ sym (posts-push s g es e))));
-      within = subst (AllByRecursion (λ h. h < table_length s)) (sym posted) (grouped_within groups step (table_length s) way.within within);
+      within = subst (AllByRecursion (λ h. h < table_length s)) (sym posted)
+          (grouped_within groups step (table_length s) way.within within);
       place = count;
       next = next ∙ ap (λ i. next_of (step_at s d i)) count;
     }
 
-pub made_job : (s : Script) (w d : ℕ) (front es new : List Entry) (x y : Shown) (counts groups after more : List ℕ) (k : ℕ) (n m : Next) (step : Step) (e : Entry)
-    → IsGoing s w d front es x counts groups k n → IsMade s w d front es counts groups k step e y after more m → new ≡ es ++ e ∷ []
+pub made_job : (s : Scenario) (w d : ℕ) (front es new : List Entry) (x y : Device) (counts groups after more : List ℕ)
+    (k : ℕ) (n m : Next) (step : Step) (e : Entry)
+    → IsGoing s w d front es x counts groups k n → IsMade s w d front es counts groups k step e y after more m
+    → new ≡ es ++ e ∷ []
     → IsJob s w d front new y false after more (k + 1) m
 made_job s w d front es new x y counts groups after more k n m step e g made is =
-    let entry : e ≡ entry_of s w d (front ++ es) = made_entry s w d front es x y counts groups after more k n m step e g made in
+    let entry : e ≡ entry_of s w d (front ++ es) =
+    made_entry s w d front es x y counts groups after more k n m step e g made in
     subst (λ l. IsJob s w d front l y false after more (k + 1) m) (sym (is ∙ ap (λ z. es ++ z ∷ []) entry)) (record {
       task = made_task s w d front es (entry_of s w d (front ++ es)) g.task made.able refl;
       ready = λ r. subst (λ l. IsOnWay s d l (es ++ entry_of s w d (front ++ es) ∷ []) y after more (k + 1) m)
           (append_assoc front es (entry_of s w d (front ++ es) ∷ []))
           (made_way s w d (front ++ es) es x y counts groups after more k n m step g.way made.at
-          (λ group at. post_group s d k group g.task.valid (made.at ∙ ap Some at)) made.shows made.known made.posted made.next);
+          (λ group at. post_group s d k group g.task.valid (made.at ∙ ap Some at)) made.shows made.known made.posted
+          made.next);
     })
 
-pub made_step : (v : Task) (s : Script) (w d : ℕ) (front es new : List Entry) (x y : Shown) (spent : Bool) (counts groups after more : List ℕ) (k : ℕ) (n m : Next) (step : Step) (e : Entry)
-    → tasked s w d front es x spent ≡ v → IsGoing s w d front es x counts groups k n → IsMade s w d front es counts groups k step e y after more m → new ≡ es ++ e ∷ []
+pub made_step : (v : Task) (s : Scenario) (w d : ℕ) (front es new : List Entry) (x y : Device) (spent : Bool)
+    (counts groups after more : List ℕ) (k : ℕ) (n m : Next) (step : Step) (e : Entry)
+    → tasked s w d front es x spent ≡ v → IsGoing s w d front es x counts groups k n
+    → IsMade s w d front es counts groups k step e y after more m → new ≡ es ++ e ∷ []
     → IsStepped v (tasked s w d front new y false)
 made_step v s w d front es new x y spent counts groups after more k n m step e view g made is =
-    let entry : e ≡ entry_of s w d (front ++ es) = made_entry s w d front es x y counts groups after more k n m step e g made in
+    let entry : e ≡ entry_of s w d (front ++ es) =
+    made_entry s w d front es x y counts groups after more k n m step e g made in
     subst (λ u. IsStepped u (tasked s w d front new y false)) view (record {
       same = record { subject = refl; worker = refl; device = refl; front = refl };
       able = made.able;
@@ -204,13 +240,15 @@ grown_more a b c n h step = record {
     front = step.same.front ∙ h.same.front;
   };
   added = h.added ++ entry_next b ∷ [];
-  entries = step.entries ∙ (ap (λ l. l ++ entry_next b ∷ []) h.entries ∙ append_assoc a.entries h.added (entry_next b ∷ []));
+  entries = step.entries ∙ (ap (λ l. l ++ entry_next b ∷ []) h.entries
+      ∙ append_assoc a.entries h.added (entry_next b ∷ []));
   exact = omega (arith, length-append h.added (entry_next b ∷ []), h.exact);
   ready = step.ready;
   first = λ e. absurd (omega (arith, e));
 }
 
-pub stopped_early : (a b c : Task) (n batch : ℕ) → IsGrown a b n → n < batch → (c ≡ b) × (can_step b ≡ false) → Advances a c batch
+pub stopped_early : (a b c : Task) (n batch : ℕ) → IsGrown a b n → n < batch → (c ≡ b) × (can_step b ≡ false)
+    → Advances a c batch
 stopped_early a b c n batch h less end =
     subst (λ u. Advances a u batch) (sym end.0) (record {
       same = h.same;
@@ -228,7 +266,8 @@ nil_from : {X : Type 0} (l : List X) → length l ≡ 0 → l ≡ []
 nil_from [] h = refl
 nil_from (x ∷ xs) h = absurd (omega (arith, h))
 
-not_first : (a b : Task) (n : ℕ) → IsGrown a b n → can_step b ≡ false → is_enabled b.subject b.front b.device ≡ true → a.entries ≡ [] → n ≡ 0 → ⊥
+not_first : (a b : Task) (n : ℕ) → IsGrown a b n → can_step b ≡ false → is_enabled b.subject b.front b.device ≡ true
+    → a.entries ≡ [] → n ≡ 0 → ⊥
 not_first a b n h end began none zero_made =
     let empty : length h.added ≡ 0 = h.exact ∙ zero_made in
     let nothing : b.entries ≡ [] = h.entries ∙ (ap (λ l. l ++ h.added) none ∙ nil_from h.added empty) in
@@ -239,7 +278,8 @@ positive : (n : ℕ) → (n ≡ 0 → ⊥) → 1 ≤ n
 positive zero h = absurd (h refl)
 positive (suc n) h = omega arith
 
-pub fresh_early : (a b c : Task) (n : ℕ) → IsGrown a b n → (c ≡ b) × (can_step b ≡ false) → is_enabled b.subject b.front b.device ≡ true → a.entries ≡ [] → 1 ≤ length c.entries
+pub fresh_early : (a b c : Task) (n : ℕ) → IsGrown a b n → (c ≡ b) × (can_step b ≡ false)
+    → is_enabled b.subject b.front b.device ≡ true → a.entries ≡ [] → 1 ≤ length c.entries
 fresh_early a b c n h end began none =
     subst (λ u. 1 ≤ length u.entries) (sym end.0) (elim (cases_eq n 0) [
       | inl zero_made ↦ absurd (not_first a b n h end.1 began none zero_made)

@@ -1,10 +1,11 @@
 -- What a trace and a job keep beside what contracts see.
-use Rattle.std.specs.Prelude.{◌≡◌, ℕ, ◌<◌, ◌==◌, Bool, true, false, List, [], ◌∷◌, ◌++◌, length, map, count_by, Some, slice_get, slice_index}
+use Rattle.std.specs.Prelude.{◌≡◌, ℕ, ◌<◌, ◌==◌, Bool, true, false, List, [], ◌∷◌, ◌++◌, length, map, count_by, Some}
+use Rattle.std.specs.Prelude.{slice_get, slice_index}
 use Rattle.std.specs.List.{AllByRecursion}
-use Rattle.device_machine.specs.State.{Shown}
+use Rattle.device_machine.specs.State.{Device}
 use Rattle.scenario_image.specs.declared.step.Step.{Step}
 use Rattle.scenario_image.specs.declared.step.Step.TheVariants.{Event, Post, Need}
-use Rattle.scenario_image.specs.Script.{Script, IsValid}
+use Rattle.scenario_image.specs.Scenario.{Scenario, IsValid}
 use Rattle.trace_file.specs.declared.entry.Entry.{Entry}
 use Rattle.fleet_core.specs.Run.{made_by, posts_of, step_at, is_enabled, IsRun}
 use Rattle.fleet_core.specs.Board.{ShowsAfter}
@@ -17,7 +18,7 @@ use Rattle.shared_trace.specs.Trace.{IsPlaced}
 use Rattle.shared_trace.specs.Job.{IsOf}
 
 -- how long the tables of posts are: there is a place for each group that is posted to
-abbrev pub table_length : Script → ℕ
+abbrev pub table_length : Scenario → ℕ
 table_length s = 256
 
 -- the group of a post
@@ -43,19 +44,19 @@ is_ready posts x = is_ready_in posts x.place x.next
 
 -- what is kept of device d: its place, the count of its entries, what its next step asks for, and, while it is parked,
 -- a table for a job
-pub record IsStation (s : Script) (es : List Entry) (d : ℕ) (x : Station) : Type 0 where
+pub record IsStation (s : Scenario) (es : List Entry) (d : ℕ) (x : Station) : Type 0 where
   pub placed : IsPlaced s es d x.place
   pub made : x.made ≡ made_by d es
   pub next : x.next ≡ next_of (step_at s d (made_by d es))
   pub known : is_parked x.place ≡ true → length x.known.items ≡ table_length s
 
 -- each device is parked at the start of its row
-pub record AreParked (s : Script) (stations : List Station) : Type 0 where
+pub record AreParked (s : Scenario) (stations : List Station) : Type 0 where
   pub each : (d : ℕ) (x : Station) → slice_get stations d ≡ Some x → IsStation s [] d x
   pub parked : (d : ℕ) (x : Station) → slice_get stations d ≡ Some x → is_parked x.place ≡ true
 
 -- what a trace keeps: a run, a station for each device, and the counts of the posts
-pub record IsTrace (s : Script) (es : List Entry) (stations : List Station) (counts : List ℕ) : Type 0 where
+pub record IsTrace (s : Scenario) (es : List Entry) (stations : List Station) (counts : List ℕ) : Type 0 where
   pub valid : IsValid s
   pub run : IsRun s es
   pub count : length stations ≡ length s.rows
@@ -65,7 +66,7 @@ pub record IsTrace (s : Script) (es : List Entry) (stations : List Station) (cou
 
 -- what a job always keeps: after the entries at its claim its own are a run, all of the device and the worker; and the
 -- device could step at the claim
-pub record IsTask (s : Script) (worker d : ℕ) (front es : List Entry) : Type 0 where
+pub record IsTask (s : Scenario) (worker d : ℕ) (front es : List Entry) : Type 0 where
   pub valid : IsValid s
   pub run : IsRun s (front ++ es)
   pub each : AllByRecursion (IsOf worker d) es
@@ -74,7 +75,8 @@ pub record IsTask (s : Script) (worker d : ℕ) (front es : List Entry) : Type 0
 -- what a job keeps until memory runs out, by the entries that it knows, those at its claim and its own: the device
 -- shows the state after its steps; the table counts the posts; and the job has the groups of its own posts, the
 -- device's place in its row, and what the next step asks for
-pub record IsOnWay (s : Script) (d : ℕ) (seen es : List Entry) (x : Shown) (counts groups : List ℕ) (k : ℕ) (n : Next)
+pub record IsOnWay (s : Scenario) (d : ℕ) (seen es : List Entry) (x : Device) (counts groups : List ℕ) (k : ℕ)
+    (n : Next)
     : Type 0 where
   pub shows : ShowsAfter s d (made_by d seen) x
   pub known : (g : ℕ) → slice_index counts g ≡ posts_of s g seen
@@ -84,7 +86,8 @@ pub record IsOnWay (s : Script) (d : ℕ) (seen es : List Entry) (x : Shown) (co
   pub place : k ≡ made_by d seen
   pub next : n ≡ next_of (step_at s d (made_by d seen))
 
-pub record IsJob (s : Script) (worker d : ℕ) (front es : List Entry) (x : Shown) (spent : Bool) (known posted : List ℕ)
+pub record IsJob (s : Scenario) (worker d : ℕ) (front es : List Entry) (x : Device) (spent : Bool)
+    (known posted : List ℕ)
     (place : ℕ) (next : Next) : Type 0 where
   pub task : IsTask s worker d front es
   pub ready : spent ≡ false → IsOnWay s d (front ++ es) es x known posted place next

@@ -1,7 +1,8 @@
 -- What contracts see of a trace, and how a lock reads it.
-use Rattle.std.specs.Prelude.{◌≡◌, ℕ, ◌+◌, ◌==◌, Bool, true, false, if◌then◌else◌, List, [], ◌∷◌, ◌++◌, length, Some, slice_get, slice_set}
-use Rattle.device_machine.specs.State.{Shown}
-use Rattle.scenario_image.specs.Script.{Script, IsValid}
+use Rattle.std.specs.Prelude.{◌≡◌, ℕ, ◌+◌, ◌==◌, Bool, true, false, if◌then◌else◌, List, [], ◌∷◌, ◌++◌, length, Some}
+use Rattle.std.specs.Prelude.{slice_get, slice_set}
+use Rattle.device_machine.specs.State.{Device}
+use Rattle.scenario_image.specs.Scenario.{Scenario, IsValid}
 use Rattle.trace_file.specs.declared.entry.Entry.{Entry}
 use Rattle.fleet_core.specs.Run.{made_by, is_enabled, IsRun}
 use Rattle.fleet_core.specs.Waiting.{is_waiting}
@@ -12,13 +13,13 @@ use Rattle.shared_trace.specs.declared.station.Place.TheVariants.{Parked, Out}
 
 -- what contracts see of a trace: its scenario, its entries, where each device is, and whether it was stopped
 pub record Traced : Type 0 where
-  pub subject : Script
+  pub subject : Scenario
   pub entries : List Entry
   pub places : List Place
   pub stopped : Bool
 
 -- a parked device shows the state after the steps that it has made; one that is out has a step left
-abbrev pub IsPlaced : Script → List Entry → ℕ → Place → Type 0
+abbrev pub IsPlaced : Scenario → List Entry → ℕ → Place → Type 0
 IsPlaced s es d (Parked x) = ShowsAfter s d (made_by d es) x
 IsPlaced s es d (Out worker) = is_waiting s es d ≡ true
 
@@ -31,7 +32,7 @@ pub record IsShared (t : Traced) : Type 0 where
 
 -- the device is parked, and an entry of it may come next
 pub record IsReady (t : Traced) (d : ℕ) : Type 0 where
-  pub shown : Shown
+  pub shown : Device
   pub parked : slice_get t.places d ≡ Some (Parked shown)
   pub enabled : is_enabled t.subject t.entries d ≡ true
 
@@ -43,7 +44,7 @@ with_out t d worker =
     record { subject = t.subject; entries = t.entries; places = slice_set t.places d (Out worker); stopped = t.stopped }
 
 -- the device is parked, after these entries more
-abbrev pub with_block : Traced → ℕ → Shown → List Entry → Traced
+abbrev pub with_block : Traced → ℕ → Device → List Entry → Traced
 with_block t d x block = record {
   subject = t.subject;
   entries = t.entries ++ block;
@@ -71,5 +72,5 @@ abbrev pub open_by : Traced → ℕ → List (ℕ × ℕ)
 open_by t worker = open_from worker t.places t.entries 0
 
 -- how a lock reads a trace
-abbrev pub trace_log : Reading Traced Entry Script (List (ℕ × ℕ))
+abbrev pub trace_log : Reading Traced Entry Scenario (List (ℕ × ℕ))
 trace_log = record { entries = λ t. t.entries; worker = λ e. e.worker; subject = λ t. t.subject; work = open_by }

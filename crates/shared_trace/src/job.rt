@@ -1,6 +1,7 @@
 //! A job: a device that a worker has, and the steps that it makes.
 
-ghost use Rattle.std.specs.Prelude.{◌≡◌, ◌<◌, ◌≤◌, [], true, false, length, Some, Ok, Err, IfOk, OnOk, OnErr, IsTrue, slice_index};
+ghost use Rattle.std.specs.Prelude.{◌≡◌, ◌<◌, ◌≤◌, [], true, false, length, Some, Ok, Err, IfOk, OnOk, OnErr, IsTrue};
+ghost use Rattle.std.specs.Prelude.{slice_index};
 ghost use Rattle.std.specs.List.{AllByRecursion};
 ghost use Rattle.fleet_core.specs.Run.{IsRun, is_enabled, step_at};
 ghost use Rattle.ticket_lock.specs.Names.{pass_view, lowest_work};
@@ -39,7 +40,7 @@ pub struct Job {
 impl Model for Job {
     ghost use Rattle.std.specs.Coded.{codes};
     ghost use Rattle.instance_store.specs.Stored.{stored_code};
-    ghost use Rattle.device_requests.specs.Managed.{attributes_code};
+    ghost use Rattle.device_requests.specs.Client.{attributes_code};
     ghost use Rattle.shared_trace.specs.Job.{Task};
     ghost use Rattle.shared_trace.specs.Kept.{IsJob};
 

@@ -4,6 +4,7 @@
 #![tactic(auto)]
 
 mod claims;
+mod entries;
 mod job;
 mod next;
 mod start;
@@ -12,6 +13,7 @@ mod tables;
 mod trace;
 
 pub use claims::Claim;
+pub use entries::EntryIter;
 pub use job::{AdvanceFault, Job};
 pub use station::Place;
 pub use trace::Trace;

@@ -1,18 +1,21 @@
 //! A trace.
 
-ghost use Rattle.std.specs.Prelude.{◌≡◌, ℕ, ◌<◌, ◌≤◌, [], true, false, length, Some, slice_get, IfOk, IfSome, IfNone, IfErr, OnOk, OnErr};
+ghost use Rattle.std.specs.Prelude.{◌≡◌, ℕ, ◌<◌, ◌≤◌, [], true, false, length, Some, slice_get, IfOk, IfSome, IfNone};
+ghost use Rattle.std.specs.Prelude.{IfErr, OnOk, OnErr};
 ghost use Rattle.fleet_core.specs.Run.{IsRun, made_by, is_enabled};
 ghost use Rattle.fleet_core.specs.Waiting.{is_waiting};
 ghost use Rattle.fleet_core.specs.Board.{ShowsAfter, AreStarted};
 ghost use Rattle.ticket_lock.specs.Log.{Adds};
 ghost use Rattle.shared_trace.specs.declared.station.Place.TheVariants.{Parked, Out};
-ghost use Rattle.shared_trace.specs.Trace.{Traced, IsShared, IsReady, with_out, with_block, stopped_of, open_by, trace_log};
+ghost use Rattle.shared_trace.specs.Trace.{Traced, IsShared, IsReady, with_out, with_block, stopped_of, open_by};
+ghost use Rattle.shared_trace.specs.Trace.{trace_log};
 ghost use Rattle.shared_trace.specs.Job.{Task, MayPut, StandsIn};
 ghost use Rattle.shared_trace.specs.Claims.{IsTaken, IsAnyOut, IsAnyLeft, AreAllAtEnd, Claims, ClaimStands};
 ghost use Rattle.shared_trace.specs.Kept.{IsTrace, IsStation, table_length, is_parked};
 ghost use Rattle.shared_trace.specs.declared.station.Place.{Place};
 
 use crate::claims::Claim;
+use crate::entries::EntryIter;
 use crate::job::Job;
 use crate::start::start_stations;
 use crate::station::{Place, Station, first_left, first_out, lowest_ready};
@@ -40,7 +43,7 @@ pub struct Trace {
 impl Model for Trace {
     ghost use Rattle.std.specs.Coded.{codes};
     ghost use Rattle.instance_store.specs.Stored.{stored_code};
-    ghost use Rattle.device_requests.specs.Managed.{attributes_code};
+    ghost use Rattle.device_requests.specs.Client.{attributes_code};
     ghost use Rattle.shared_trace.specs.Trace.{Traced};
     ghost use Rattle.shared_trace.specs.Kept.{IsTrace, places_of};
 
@@ -103,11 +106,13 @@ impl Trace {
     }
 
     /// The entries so far, in order.
-    pub fn entries(&self) -> &[Entry]
-        ensures entries { result.now ≡ self.now.entries }
+    pub fn entries(&self) -> EntryIter<'_>
+        ensures entries { result ≡ self.now.entries }
         ensures shared { IsShared self.now }
     {
-        self.entries.as_slice()
+        EntryIter {
+            left: self.entries.as_slice(),
+        }
     }
 
     /// The entries, with their memory.

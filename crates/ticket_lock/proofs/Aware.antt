@@ -1,5 +1,7 @@
--- What a pass knows of the value's log stays true while others add to it, and goes with its numbers where they are split or joined.
-use Rattle.std.proofs.Common.{◌≡◌, ℕ, ◌+◌, ◌-◌, ◌<◌, ◌≤◌, eqb, cond, List, [], ◌∷◌, ◌++◌, length, take, drop, refl, sym, ap, ◌∙◌, subst, arith, append_assoc, append-nil, Some}
+-- What a pass knows of the value's log stays true while others add to it, and goes with its numbers where they are
+-- split or joined.
+use Rattle.std.proofs.Common.{◌≡◌, ℕ, ◌+◌, ◌-◌, ◌<◌, ◌≤◌, eqb, cond, List, [], ◌∷◌, ◌++◌, length, take, drop, refl, sym}
+use Rattle.std.proofs.Common.{ap, ◌∙◌, subst, arith, append_assoc, append-nil, Some}
 use Rattle.std.specs.List.{AllByRecursion}
 use Rattle.std.proofs.lemmas.Bool.{ne_eqb}
 use Rattle.std.proofs.lemmas.List.Elements.{filter-append}
@@ -10,32 +12,40 @@ use Rattle.ticket_lock.specs.declared.rule.View.{View}
 use Rattle.ticket_lock.specs.Log.{Reading, own, share, shares, Adds}
 use Rattle.ticket_lock.specs.Lock.{HasNumber, IsOther, IsAware}
 use Rattle.ticket_lock.specs.Changes.{joined, lower, upper, arrived, given, whole}
-use Rattle.ticket_lock.proofs.Logs.{every-append, every-right, every_one, every_two, every_none, between, longer_first, longer_second, each_same, each-append, each_first, each_rest}
+use Rattle.ticket_lock.proofs.Logs.{every-append, every-right, every_one, every_two, every_none, between, longer_first}
+use Rattle.ticket_lock.proofs.Logs.{longer_second, each_same, each-append, each_first, each_rest}
 
 module _ {T E S O : Type 0} (R : Reading T E S O) where
   -- what carries no number w has no entry of w
-  pub own_none : (P : E → Type 0) (w : ℕ) → ((e : E) → P e → R.worker e ≡ w → ⊥) → (log : List E) → AllByRecursion P log → own R w log ≡ []
+  pub own_none : (P : E → Type 0) (w : ℕ) → ((e : E) → P e → R.worker e ≡ w → ⊥) → (log : List E) → AllByRecursion P log
+      → own R w log ≡ []
   own_none P w never [] h = refl
-  own_none P w never (e ∷ log) h = ap (λ t. cond t (e ∷ own R w log) (own R w log)) (ne_eqb (R.worker e) w (never e h.0)) ∙ own_none P w never log h.1
+  own_none P w never (e ∷ log) h =
+      ap (λ t. cond t (e ∷ own R w log) (own R w log)) (ne_eqb (R.worker e) w (never e h.0))
+      ∙ own_none P w never log h.1
 
   own-append : (w : ℕ) (a b : List E) → own R w (a ++ b) ≡ own R w a ++ own R w b
   own-append w a b = filter-append (λ e. eqb (R.worker e) w) a b
 
   -- behind a front, entries of others do not count
-  pub own_stays : (front after : List E) (low count w : ℕ) → AllByRecursion (IsOther R low count) after → low ≤ w → w < low + count → own R w (front ++ after) ≡ own R w front
+  pub own_stays : (front after : List E) (low count w : ℕ) → AllByRecursion (IsOther R low count) after → low ≤ w
+      → w < low + count → own R w (front ++ after) ≡ own R w front
   own_stays front after low count w others a b =
       own-append w front after
-      ∙ (ap (λ l. own R w front ++ l) (own_none (IsOther R low count) w (λ e h is. h.2 (omega arith) (omega arith)) after others) ∙ append-nil (own R w front))
+      ∙ (ap (λ l. own R w front ++ l) (own_none (IsOther R low count) w
+      (λ e h is. h.2 (omega arith) (omega arith)) after others) ∙ append-nil (own R w front))
 
   -- entries of one worker do not count for another
   pub own_added : (x y : T) (w n : ℕ) → Adds R w x y → (n ≡ w → ⊥) → own R n (R.entries y) ≡ own R n (R.entries x)
   own_added x y w n adds ne =
       ap (own R n) adds.entries
       ∙ (own-append n (R.entries x) adds.added
-      ∙ (ap (λ l. own R n (R.entries x) ++ l) (own_none (λ e. R.worker e ≡ w) n (λ e h is. ne (sym is ∙ h)) adds.added adds.by_worker) ∙ append-nil (own R n (R.entries x))))
+      ∙ (ap (λ l. own R n (R.entries x) ++ l) (own_none (λ e. R.worker e ≡ w) n
+      (λ e h is. ne (sym is ∙ h)) adds.added adds.by_worker) ∙ append-nil (own R n (R.entries x))))
 
   -- the shares of others stay as they are
-  pub others_share : (x y : T) (w low n : ℕ) → Adds R w x y → (low ≤ w → w < low + n → ⊥) → shares R x low n ≡ shares R y low n
+  pub others_share : (x y : T) (w low n : ℕ) → Adds R w x y → (low ≤ w → w < low + n → ⊥)
+      → shares R x low n ≡ shares R y low n
   others_share x y w low n adds out = each_same (share R x) (share R y) low n (λ k a b.
       let ne : k ≡ w → ⊥ = λ e. out (omega arith) (omega arith) in
       let log : own R k (R.entries x) ≡ own R k (R.entries y) = sym (own_added x y w k adds ne) in
@@ -43,24 +53,34 @@ module _ {T E S O : Type 0} (R : Reading T E S O) where
       λ i. record { own = log i; work = work i })
 
   -- what a pass knows stays true while another adds entries of its own
-  pub still_aware : (x y : T) (w : ℕ) (v : View T E S O) → Adds R w x y → 1 ≤ w → w < NUMBERS + 1 → (HasNumber v w → ⊥) → IsAware R x v → IsAware R y v
+  pub still_aware : (x y : T) (w : ℕ) (v : View T E S O) → Adds R w x y → 1 ≤ w → w < NUMBERS + 1 → (HasNumber v w → ⊥)
+      → IsAware R x v → IsAware R y v
   still_aware x y w v adds low high out a = record {
     after = a.after ++ adds.added;
     front = adds.entries ∙ (ap (λ l. l ++ adds.added) a.front ∙ append_assoc v.front a.after adds.added);
     others = every-append (IsOther R v.low v.count) a.after adds.added a.others
-        (every_one (λ e. R.worker e ≡ w) (IsOther R v.low v.count) (λ e is. (omega arith, omega arith, λ l h. out (omega arith, omega arith))) adds.added adds.by_worker);
+        (every_one (λ e. R.worker e ≡ w) (IsOther R v.low v.count)
+        (λ e is. (omega arith, omega arith, λ l h. out (omega arith, omega arith))) adds.added adds.by_worker);
     subject = a.subject ∙ ap Some (sym adds.subject);
     shares = a.shares ∙ others_share x y w v.low v.count adds (λ l h. out (l, h));
   }
 
   -- two neighbours as one
-  pub both_aware : (x : T) (v w : View T E S O) → v.low + v.count ≡ w.low → IsAware R x v → IsAware R x w → IsAware R x (joined v w)
+  pub both_aware : (x : T) (v w : View T E S O) → v.low + v.count ≡ w.low → IsAware R x v → IsAware R x w
+      → IsAware R x (joined v w)
   both_aware x v w next a b =
       let row : v.shares ++ w.shares ≡ shares R x v.low (v.count + w.count) =
-      ap (λ l. l ++ w.shares) a.shares ∙ (ap (λ l. shares R x v.low v.count ++ l) (b.shares ∙ ap (λ n. shares R x n w.count) (sym next)) ∙ sym (each-append (share R x) v.low v.count w.count)) in
-      let P = IsOther R v.low v.count in let Q = IsOther R w.low w.count in let S = IsOther R v.low (v.count + w.count) in
-      let both : (e : E) → P e → Q e → S e = λ e p q.
-      (p.0, p.1, λ l h. dite (dec_lt (R.worker e) (v.low + v.count)) (λ lt. p.2 l lt) (λ no. q.2 (omega arith) (omega arith))) in
+      ap (λ l. l ++ w.shares) a.shares ∙ (ap (λ l. shares R x v.low v.count ++ l)
+      (b.shares ∙ ap (λ n. shares R x n w.count) (sym next)) ∙ sym (each-append (share R x) v.low v.count w.count))
+      in
+      let P = IsOther R v.low v.count in let Q = IsOther R w.low w.count in let S =
+      IsOther R v.low (v.count + w.count) in
+      let both : (e : E) → P e → Q e → S e = λ e p q. (
+        p.0,
+        p.1,
+        λ l h. dite (dec_lt (R.worker e) (v.low + v.count)) (λ lt. p.2 l lt)
+            (λ no. q.2 (omega arith) (omega arith)),
+      ) in
       dite (dec_lt (length v.front) (length w.front))
       (λ lt.
       let m = between v.front w.front a.after b.after (sym a.front ∙ b.front) (omega arith) in
@@ -87,7 +107,8 @@ module _ {T E S O : Type 0} (R : Reading T E S O) where
   lower_aware x v some a = record {
     after = a.after;
     front = a.front;
-    others = every_one (IsOther R v.low v.count) (IsOther R v.low 1) (λ e h. (h.0, h.1, λ l b. h.2 l (omega arith))) a.after a.others;
+    others = every_one (IsOther R v.low v.count) (IsOther R v.low 1)
+        (λ e h. (h.0, h.1, λ l b. h.2 l (omega arith))) a.after a.others;
     subject = a.subject;
     shares = ap (take 1) a.shares ∙ each_first (share R x) v.low v.count some;
   }
@@ -96,25 +117,31 @@ module _ {T E S O : Type 0} (R : Reading T E S O) where
   upper_aware x v some a = record {
     after = a.after;
     front = a.front;
-    others = every_one (IsOther R v.low v.count) (IsOther R (v.low + 1) (v.count - 1)) (λ e h. (h.0, h.1, λ l b. h.2 (omega arith) (omega arith))) a.after a.others;
+    others = every_one (IsOther R v.low v.count) (IsOther R (v.low + 1) (v.count - 1))
+        (λ e h. (h.0, h.1, λ l b. h.2 (omega arith) (omega arith))) a.after a.others;
     subject = a.subject;
     shares = ap (drop 1) a.shares ∙ each_rest (share R x) v.low v.count some;
   }
 
   pub arrived_aware : (x : T) (v : View T E S O) (t : ℕ) → IsAware R x v → IsAware R x (arrived R v t x)
-  arrived_aware x v t a = record { after = []; front = sym (append-nil (R.entries x)); others = tt; subject = a.subject; shares = a.shares }
+  arrived_aware x v t a =
+      record { after = []; front = sym (append-nil (R.entries x)); others = tt; subject = a.subject; shares = a.shares }
 
   pub given_aware : (x : T) (v : View T E S O) → v.subject ≡ Some (R.subject x) → IsAware R x (given R v x)
-  given_aware x v same = record { after = []; front = sym (append-nil (R.entries x)); others = tt; subject = same; shares = refl }
+  given_aware x v same =
+      record { after = []; front = sym (append-nil (R.entries x)); others = tt; subject = same; shares = refl }
 
   pub whole_aware : (x : T) (t : ℕ) → IsAware R x (whole R x t)
-  whole_aware x t = record { after = []; front = sym (append-nil (R.entries x)); others = tt; subject = refl; shares = refl }
+  whole_aware x t =
+      record { after = []; front = sym (append-nil (R.entries x)); others = tt; subject = refl; shares = refl }
 
   -- a pass with all numbers has seen the whole log
   pub sees_all : (x : T) (v : View T E S O) → v.low ≡ 1 → v.count ≡ NUMBERS → IsAware R x v → R.entries x ≡ v.front
   sees_all x v one all a =
-      a.front ∙ (ap (λ l. v.front ++ l) (every_none (IsOther R v.low v.count) (λ e h. h.2 (let p = h.0 in omega arith) (let p = h.1 in omega arith)) a.after a.others) ∙ append-nil v.front)
+      a.front ∙ (ap (λ l. v.front ++ l) (every_none (IsOther R v.low v.count)
+      (λ e h. h.2 (let p = h.0 in omega arith) (let p = h.1 in omega arith)) a.after a.others) ∙ append-nil v.front)
 
   -- under each of the pass's numbers the log has its front's entries and no others
-  pub own_of_front : (x : T) (v : View T E S O) (w : ℕ) → v.low ≤ w → w < v.low + v.count → IsAware R x v → own R w (R.entries x) ≡ own R w v.front
+  pub own_of_front : (x : T) (v : View T E S O) (w : ℕ) → v.low ≤ w → w < v.low + v.count → IsAware R x v
+      → own R w (R.entries x) ≡ own R w v.front
   own_of_front x v w a b h = ap (own R w) h.front ∙ own_stays v.front h.after v.low v.count w h.others a b

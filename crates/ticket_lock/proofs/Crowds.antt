@@ -1,5 +1,6 @@
 -- Splitting and joining passes keep the rule, and a pass with all numbers is alone.
-use Rattle.std.proofs.Common.{◌≡◌, ◌≢◌, ℕ, ◌+◌, ◌*◌, ◌/◌, ◌<◌, inr, ⊎_elim, Bool, true, false, ◌||◌, List, [], ◌∷◌, ◌++◌, set, refl, sym, ap, ◌∙◌, subst, arith, Option, Some, None}
+use Rattle.std.proofs.Common.{◌≡◌, ◌≢◌, ℕ, ◌+◌, ◌*◌, ◌/◌, ◌<◌, inr, ⊎_elim, Bool, true, false, ◌||◌, List, [], ◌∷◌}
+use Rattle.std.proofs.Common.{◌++◌, set, refl, sym, ap, ◌∙◌, subst, arith, Option, Some, None}
 use Rattle.std.proofs.lemmas.Bool.{false≢true}
 use mathlib.Core.Option.{some, some-injective}
 use mathlib.Core.Logic.{dite}
@@ -24,7 +25,8 @@ either_true false b P f g e = g e
 
 module _ {T E S O : Type 0} (R : Reading T E S O) (opened : T × ℕ) where
   -- a view comes in
-  pub comes : (s : State (Option T) (View T E S O)) (f : Fits R opened s) (w : View T E S O) → Knows R f.next f.serving f.value w → ((j : ℕ) (u : View T E S O) → IsAt s.views j u → IsApart w u)
+  pub comes : (s : State (Option T) (View T E S O)) (f : Fits R opened s) (w : View T E S O)
+      → Knows R f.next f.serving f.value w → ((j : ℕ) (u : View T E S O) → IsAt s.views j u → IsApart w u)
       → Fits R opened record { words = s.words; homes = s.homes; views = s.views ++ w ∷ [] }
   comes s f w mine apart = record {
     next = f.next;
@@ -41,11 +43,15 @@ module _ {T E S O : Type 0} (R : Reading T E S O) (opened : T × ℕ) where
     held = λ t lo hi. some_end (λ u. HasTicket u.stage t) s.views w (f.held t lo hi);
   }
 
-  pub split_fits : (s : State (Option T) (View T E S O)) (f : Fits R opened s) (id : ℕ) (v : View T E S O) → IsAt s.views id v → is_resting v.stage ≡ true → 1 < v.count
+  pub split_fits : (s : State (Option T) (View T E S O)) (f : Fits R opened s) (id : ℕ) (v : View T E S O)
+      → IsAt s.views id v → is_resting v.stage ≡ true → 1 < v.count
       → Fits R opened record { words = s.words; homes = s.homes; views = set s.views id (lower v) ++ upper v ∷ [] }
   unfolding changes
-  split_fits s f id v at rest two = let k = f.each id v at in let live = resting_lives v.stage rest in let inside = k.within live in
-      let kept : Fits R opened record { words = s.words; homes = s.homes; views = set s.views id (lower v) } = changes R opened s f id v (lower v) at s.words s.homes f.next f.serving f.value f.words f.homes (f.served, f.drawn, f.subject, f.begun)
+  split_fits s f id v at rest two = let k = f.each id v at in let live = resting_lives v.stage rest in let inside =
+      k.within live in
+      let kept : Fits R opened record { words = s.words; homes = s.homes; views = set s.views id (lower v) } =
+      changes R opened s f id v (lower v) at s.words s.homes f.next f.serving f.value f.words f.homes
+      (f.served, f.drawn, f.subject, f.begun)
       record {
         stands = k.stands;
         empty = λ e. absurd (false≢true (sym e ∙ live));
@@ -55,7 +61,8 @@ module _ {T E S O : Type 0} (R : Reading T E S O) (opened : T × ℕ) where
         earlier = k.earlier;
         aware = λ l. lower_aware R f.value v (omega arith) (k.aware l);
       }
-      (λ u p h. h) (λ j u _ _ p h. record { numbers = λ n a b. p.numbers n (a.0, omega arith) b; tickets = p.tickets }) (λ t lo hi. inr (lo, hi, λ h. h)) in
+      (λ u p h. h) (λ j u _ _ p h. record { numbers = λ n a b. p.numbers n (a.0, omega arith) b; tickets = p.tickets })
+      (λ t lo hi. inr (lo, hi, λ h. h)) in
       comes record { words = s.words; homes = s.homes; views = set s.views id (lower v) } kept (upper v)
       record {
         stands = k.stands;
@@ -67,19 +74,31 @@ module _ {T E S O : Type 0} (R : Reading T E S O) (opened : T × ℕ) where
         aware = λ l. upper_aware R f.value v (omega arith) (k.aware l);
       }
       (λ j u a. ⊎_elim
-      (λ (t : (j ≡ id) × (lower v ≡ u)). subst (IsApart (upper v)) t.1 record { numbers = λ n p q. absurd (omega arith); tickets = λ n p q. no_ticket v.stage n rest p })
-      (λ (t : (j ≢ id) × IsAt s.views j u). let p = f.apart id j v u at t.1 (λ e. t.0 (sym e)) in record { numbers = λ n x y. p.numbers n (omega arith, omega arith) y; tickets = p.tickets })
+      (λ (t : (j ≡ id) × (lower v ≡ u)). subst
+      (IsApart (upper v)) t.1 record {
+        numbers = λ n p q. absurd (omega arith);
+        tickets =
+            λ n p q. no_ticket v.stage n rest p;
+      })
+      (λ (t : (j ≢ id) × IsAt s.views j u). let p =
+      f.apart id j v u at t.1 (λ e. t.0 (sym e)) in record
+      { numbers = λ n x y. p.numbers n (omega arith, omega arith) y; tickets = p.tickets })
       (at_set s.views id j (lower v) u a))
 
-  pub join_fits : (s : State (Option T) (View T E S O)) (f : Fits R opened s) (id : ℕ) (v : View T E S O) (other : ℕ) (w : View T E S O) → IsAt s.views id v → other ≢ id → IsAt s.views other w
+  pub join_fits : (s : State (Option T) (View T E S O)) (f : Fits R opened s) (id : ℕ) (v : View T E S O) (other : ℕ)
+      (w : View T E S O) → IsAt s.views id v → other ≢ id → IsAt s.views other w
       → is_resting v.stage ≡ true → is_resting w.stage ≡ true → v.low + v.count ≡ w.low
       → Fits R opened record { words = s.words; homes = s.homes; views = set (set s.views id (joined v w)) other gone }
   unfolding changes
   join_fits s f id v other w at ne there rest rest' next =
-      let k = f.each id v at in let l = f.each other w there in let live = resting_lives v.stage rest in let live' = resting_lives w.stage rest' in
+      let k = f.each id v at in let l = f.each other w there in let live = resting_lives v.stage rest in let live' =
+      resting_lives w.stage rest' in
       let inside = k.within live in let inside' = l.within live' in
-      let empty : State (Option T) (View T E S O) = record { words = s.words; homes = s.homes; views = set s.views other gone } in
-      let spent : Fits R opened empty = changes R opened s f other w gone there s.words s.homes f.next f.serving f.value f.words f.homes (f.served, f.drawn, f.subject, f.begun)
+      let empty : State (Option T) (View T E S O) =
+      record { words = s.words; homes = s.homes; views = set s.views other gone } in
+      let spent : Fits R opened empty =
+      changes R opened s f other w gone there s.words s.homes f.next f.serving f.value f.words f.homes
+      (f.served, f.drawn, f.subject, f.begun)
       record {
         stands = tt;
         empty = λ _. refl;
@@ -89,32 +108,49 @@ module _ {T E S O : Type 0} (R : Reading T E S O) (opened : T × ℕ) where
         earlier = ([], refl);
         aware = λ e. absurd (false≢true e);
       }
-      (λ u p h. h) (λ j u _ _ p h. record { numbers = λ n a b. let x = a.1 in absurd (omega arith); tickets = λ n a b. a }) (λ t lo hi. inr (lo, hi, λ h. absurd (no_ticket w.stage t rest' h))) in
-      subst (λ vs. Fits R opened record { words = s.words; homes = s.homes; views = vs }) (set_swap s.views other id gone (joined v w) ne)
-      (changes R opened empty spent id v (joined v w) (set_else s.views other id gone (λ e. ne (sym e)) ∙ at) s.words s.homes f.next f.serving f.value f.words f.homes (f.served, f.drawn, f.subject, f.begun)
+      (λ u p h. h) (λ j u _ _ p h. record {
+        numbers = λ n a b. let x = a.1 in absurd (omega arith);
+        tickets =
+            λ n a b. a;
+      }) (λ t lo hi. inr (lo, hi, λ h. absurd (no_ticket w.stage t rest' h))) in
+      subst (λ vs. Fits R opened record { words = s.words; homes = s.homes; views = vs })
+      (set_swap s.views other id gone (joined v w) ne)
+      (changes R opened empty spent id v (joined v w)
+      (set_else s.views other id gone (λ e. ne (sym e)) ∙ at) s.words s.homes f.next f.serving f.value f.words
+      f.homes (f.served, f.drawn, f.subject, f.begun)
       record {
         stands = tt;
         empty = λ e. absurd (false≢true (sym e));
         within = λ _. (omega arith, inside.1, omega arith);
         seen_end = either_true v.end w.end (f.next ≡ LAST) k.seen_end l.seen_end;
         turn = λ t e. absurd (no_turn t e);
-        earlier = let a = k.aware live in let b = l.aware live' in shorter_begins v.front w.front a.after b.after (sym a.front ∙ b.front);
+        earlier = let a = k.aware live in let b =
+            l.aware live' in shorter_begins v.front w.front a.after b.after (sym a.front ∙ b.front);
         aware = λ _. both_aware R f.value v w next (k.aware live) (l.aware live');
       }
       (λ u p h. h)
       (λ j u ne' a p h. ⊎_elim
-      (λ (t : (j ≡ other) × (gone ≡ u)). subst (IsApart (joined v w)) t.1 record { numbers = λ n x y. let z = y.1 in absurd (omega arith); tickets = λ n x y. x })
+      (λ (t : (j ≡ other) × (gone ≡ u)). subst
+      (IsApart (joined v w)) t.1 record {
+        numbers = λ n x y. let z = y.1 in absurd (omega arith);
+        tickets =
+            λ n x y. x;
+      })
       (λ (t : (j ≢ other) × IsAt s.views j u). let q = f.apart other j w u there t.1 (λ e. t.0 (sym e)) in record {
-        numbers = λ n x y. dite (dec_lt n (v.low + v.count)) (λ lt. p.numbers n (x.0, lt) y) (λ ge. q.numbers n (omega arith, omega arith) y);
+        numbers = λ n x y. dite (dec_lt n (v.low + v.count)) (λ lt. p.numbers n (x.0, lt) y)
+            (λ ge. q.numbers n (omega arith, omega arith) y);
         tickets = λ n x y. x;
       })
       (at_set s.views other j gone u a))
       (λ t lo hi. inr (lo, hi, λ h. absurd (no_ticket v.stage t rest h))))
 
-  -- while a pass with all numbers has no ticket, nobody has one: all that were drawn are served, and the value is at home
-  pub alone : (s : State (Option T) (View T E S O)) (f : Fits R opened s) (id : ℕ) (v : View T E S O) → IsAt s.views id v → is_resting v.stage ≡ true → v.count ≡ NUMBERS
+  -- while a pass with all numbers has no ticket, nobody has one: all that were drawn are served, and the value is at
+  -- home
+  pub alone : (s : State (Option T) (View T E S O)) (f : Fits R opened s) (id : ℕ) (v : View T E S O)
+      → IsAt s.views id v → is_resting v.stage ≡ true → v.count ≡ NUMBERS
       → (v.low ≡ 1) × (f.serving ≡ 2 * f.next)
-  alone s f id v at rest all = let k = f.each id v at in let inside = k.within (resting_lives v.stage rest) in let served = f.served in
+  alone s f id v at rest all = let k = f.each id v at in let inside =
+      k.within (resting_lives v.stage rest) in let served = f.served in
       let one : v.low ≡ 1 = omega arith in (
         one,
         dite (dec_lt (f.serving / 2) f.next)
@@ -122,15 +158,22 @@ module _ {T E S O : Type 0} (R : Reading T E S O) (opened : T × ℕ) where
             let h = f.held (f.serving / 2) (omega arith) lt in
             let j = h.0 in let u = h.1 in
             absurd (dite (ℕ_discrete j id)
-            (λ e. no_ticket v.stage (f.serving / 2) rest (subst (λ x. HasTicket x.stage (f.serving / 2)) (same_at s.views id u v (subst (λ i. IsAt s.views i u) e h.2) at) h.3))
-            (λ ne. let there = (f.each j u h.2).within (ticket_lives u.stage (f.serving / 2) h.3) in (f.apart id j v u at h.2 (λ e. ne (sym e))).numbers u.low (omega arith, omega arith) (omega arith, omega arith))))
+            (λ e. no_ticket v.stage (f.serving / 2) rest
+            (subst (λ x. HasTicket x.stage (f.serving / 2))
+            (same_at s.views id u v (subst (λ i. IsAt s.views i u) e h.2) at) h.3))
+            (λ ne. let there =
+            (f.each j u h.2).within (ticket_lives u.stage (f.serving / 2) h.3)
+            in (f.apart id j v u at h.2 (λ e. ne (sym e))).numbers u.low (omega arith, omega arith)
+            (omega arith, omega arith))))
             (λ ge. omega arith),
       )
 
   -- a resting pass that knows the turn knows the next ticket
-  pub turn_next : (s : State (Option T) (View T E S O)) (f : Fits R opened s) (id : ℕ) (v : View T E S O) (t : ℕ) → IsAt s.views id v → v.turn ≡ Some t → is_resting v.stage ≡ true
+  pub turn_next : (s : State (Option T) (View T E S O)) (f : Fits R opened s) (id : ℕ) (v : View T E S O) (t : ℕ)
+      → IsAt s.views id v → v.turn ≡ Some t → is_resting v.stage ≡ true
       → f.next ≡ t
-  turn_next s f id v t at knows rest = let q = (f.each id v at).turn t knows in let now = q.1 in let all = (alone s f id v at rest q.0).1 in omega arith
+  turn_next s f id v t at knows rest = let q = (f.each id v at).turn t knows in let now = q.1 in let all =
+      (alone s f id v at rest q.0).1 in omega arith
 
   -- what is left at the end: the value, with what the last pass knows of it
   pub record Closes (v : View T E S O) (x : T) : Type 0 where
@@ -138,9 +181,11 @@ module _ {T E S O : Type 0} (R : Reading T E S O) (opened : T × ℕ) where
     pub subject : R.subject x ≡ R.subject opened.0
     pub shares : v.shares ≡ shares R x 1 NUMBERS
 
-  pub closes : (id : ℕ) (v : View T E S O) (ws : List ℕ) (xs : List (Option T)) → Final (Seen (Fits R opened) id v) ws xs → is_resting v.stage ≡ true → v.count ≡ NUMBERS
+  pub closes : (id : ℕ) (v : View T E S O) (ws : List ℕ) (xs : List (Option T))
+      → Final (Seen (Fits R opened) id v) ws xs → is_resting v.stage ≡ true → v.count ≡ NUMBERS
       → (x : T) × (get_elem? xs 0 ≡ some (Some x)) × Closes v x
-  closes id v ws xs final rest all = let s = final.0 in let f = final.1.0 in let at = final.1.1 in let a = alone s f id v at rest all in
+  closes id v ws xs final rest all = let s = final.0 in let f = final.1.0 in let at = final.1.1 in let a =
+      alone s f id v at rest all in
       let k = (f.each id v at).aware (resting_lives v.stage rest) in (
         f.value,
         final.4 0 (Some f.value) (ap (λ h. get_elem? h 0) f.homes ∙ ap some (even_home f.serving f.next f.value a.1)),
@@ -152,12 +197,16 @@ module _ {T E S O : Type 0} (R : Reading T E S O) (opened : T × ℕ) where
       )
 
   -- what is taken out of the slot at the end is the value
-  module _ (id : ℕ) (v : View T E S O) (ws : List ℕ) (xs : List (Option T)) (final : Final (Seen (Fits R opened) id v) ws xs) (rest : is_resting v.stage ≡ true) (all : v.count ≡ NUMBERS) (r : Option T) (taken : get_elem? xs 0 ≡ some r) where
+  module _ (id : ℕ) (v : View T E S O) (ws : List ℕ) (xs : List (Option T))
+      (final : Final (Seen (Fits R opened) id v) ws xs) (rest : is_resting v.stage ≡ true) (all : v.count ≡ NUMBERS)
+      (r : Option T) (taken : get_elem? xs 0 ≡ some r) where
     same_taken : r ≡ Some (closes id v ws xs final rest all).0
-    same_taken = some-injective r (Some (closes id v ws xs final rest all).0) (sym taken ∙ (closes id v ws xs final rest all).1)
+    same_taken = some-injective r (Some (closes id v ws xs final rest all).0)
+        (sym taken ∙ (closes id v ws xs final rest all).1)
 
     pub closed_some : r ≡ None → ⊥
     closed_some e = let c = closes id v ws xs final rest all in let same : r ≡ Some c.0 = same_taken in cc
 
     pub closed_as : (y : T) → r ≡ Some y → Closes v y
-    closed_as y e = let c = closes id v ws xs final rest all in let same : r ≡ Some c.0 = same_taken in let is : c.0 ≡ y = cc in subst (Closes v) is c.2
+    closed_as y e = let c = closes id v ws xs final rest all in let same : r ≡ Some c.0 =
+        same_taken in let is : c.0 ≡ y = cc in subst (Closes v) is c.2

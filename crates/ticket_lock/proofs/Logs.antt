@@ -1,5 +1,6 @@
 -- Lists of which one begins another, and lists of what each number in a row has.
-use Rattle.std.proofs.Common.{◌≡◌, ℕ, zero, suc, ◌+◌, ◌-◌, ◌<◌, ◌≤◌, cond, List, [], ◌∷◌, ◌++◌, map, length, take, drop, refl, sym, ap, ◌∙◌, subst, arith, append_assoc, append-nil}
+use Rattle.std.proofs.Common.{◌≡◌, ℕ, zero, suc, ◌+◌, ◌-◌, ◌<◌, ◌≤◌, cond, List, [], ◌∷◌, ◌++◌, map, length, take, drop}
+use Rattle.std.proofs.Common.{refl, sym, ap, ◌∙◌, subst, arith, append_assoc, append-nil}
 use Rattle.std.specs.List.{AllByRecursion}
 use Rattle.std.proofs.lemmas.Bool.{lt-ltb, le-ltb}
 use mathlib.Core.Logic.{dite}
@@ -8,7 +9,8 @@ use Rattle.ticket_lock.specs.Log.{Begins, each_of}
 use Rattle.ticket_lock.specs.Changes.{longer, shorter}
 
 module _ {X : Type 0} where
-  pub every-append : (P : X → Type 0) (a b : List X) → AllByRecursion P a → AllByRecursion P b → AllByRecursion P (a ++ b)
+  pub every-append : (P : X → Type 0) (a b : List X) → AllByRecursion P a → AllByRecursion P b
+      → AllByRecursion P (a ++ b)
   every-append P [] b h k = k
   every-append P (x ∷ a) b h k = (h.0, every-append P a b h.1 k)
 
@@ -20,7 +22,8 @@ module _ {X : Type 0} where
   every_one P Q f [] h = h
   every_one P Q f (x ∷ a) h = (f x h.0, every_one P Q f a h.1)
 
-  pub every_two : (P Q S : X → Type 0) → ((x : X) → P x → Q x → S x) → (a : List X) → AllByRecursion P a → AllByRecursion Q a → AllByRecursion S a
+  pub every_two : (P Q S : X → Type 0) → ((x : X) → P x → Q x → S x) → (a : List X) → AllByRecursion P a
+      → AllByRecursion Q a → AllByRecursion S a
   every_two P Q S f [] h k = h
   every_two P Q S f (x ∷ a) h k = (f x h.0 k.0, every_two P Q S f a h.1 k.1)
 
@@ -29,7 +32,8 @@ module _ {X : Type 0} where
   every_none P f (x ∷ a) h = absurd (f x h.0)
 
   -- of two beginnings of one list, the one that is not longer begins the other
-  pub between : (a b x y : List X) → a ++ x ≡ b ++ y → length a ≤ length b → (mid : List X) × (b ≡ a ++ mid) × (x ≡ mid ++ y)
+  pub between : (a b x y : List X) → a ++ x ≡ b ++ y → length a ≤ length b → (mid : List X) × (b ≡ a ++ mid)
+      × (x ≡ mid ++ y)
   between [] b x y e le = (b, refl, e)
   between (p ∷ a) [] x y e le = absurd (omega arith)
   between (p ∷ a) (q ∷ b) x y e le =
@@ -77,22 +81,28 @@ module _ {X : Type 0} where
   pub both_begin : (a b : List X) → Begins (shorter a b) (longer a b) → Begins a (longer a b) × Begins b (longer a b)
   both_begin a b h = dite (dec_lt (length a) (length b))
       (λ lt. (subst (λ l. Begins l (longer a b)) (shorter_first a b lt) h, itself b (longer_second a b lt)))
-      (λ ge. (itself a (longer_first a b (omega arith)), subst (λ l. Begins l (longer a b)) (shorter_second a b (omega arith)) h))
+      (λ ge. (
+        itself a (longer_first a b (omega arith)),
+        subst (λ l. Begins l (longer a b)) (shorter_second a b (omega arith)) h,
+      ))
     where
       itself : (l : List X) → longer a b ≡ l → Begins l (longer a b)
       itself l e = ([], e ∙ sym (append-nil l))
 
-  pub each_same : (f g : ℕ → X) (low n : ℕ) → ((k : ℕ) → low ≤ k → k < low + n → f k ≡ g k) → each_of f low n ≡ each_of g low n
+  pub each_same : (f g : ℕ → X) (low n : ℕ) → ((k : ℕ) → low ≤ k → k < low + n → f k ≡ g k)
+      → each_of f low n ≡ each_of g low n
   unfolding each_of
   each_same f g low zero e = refl
   each_same f g low (suc n) e =
       let here : f low ≡ g low = e low (omega arith) (omega arith) in
-      let there : each_of f (low + 1) n ≡ each_of g (low + 1) n = each_same f g (low + 1) n (λ k a b. e k (omega arith) (omega arith)) in
+      let there : each_of f (low + 1) n ≡ each_of g (low + 1) n =
+      each_same f g (low + 1) n (λ k a b. e k (omega arith) (omega arith)) in
       cc
 
   pub each-append : (f : ℕ → X) (low m n : ℕ) → each_of f low (m + n) ≡ each_of f low m ++ each_of f (low + m) n
   unfolding each_of
-  each-append f low zero n = let none : zero + n ≡ n = omega arith in let same : low + zero ≡ low = omega arith in rw (none, same) refl
+  each-append f low zero n = let none : zero + n ≡ n = omega arith in let same : low + zero ≡ low =
+      omega arith in rw (none, same) refl
   each-append f low (suc m) n =
       let more : suc m + n ≡ suc (m + n) = omega arith in
       let same : low + suc m ≡ (low + 1) + m = omega arith in
@@ -124,9 +134,11 @@ module _ {X : Type 0} where
   each_at f g low (suc n) k e a b =
       let here : f low ≡ g low = cc in
       let there : each_of f (low + 1) n ≡ each_of g (low + 1) n = cc in
-      dite (dec_lt low k) (λ lt. each_at f g (low + 1) n k there (omega arith) (omega arith)) (λ no. let same : low ≡ k = omega arith in subst (λ z. f z ≡ g z) same here)
+      dite (dec_lt low k) (λ lt. each_at f g (low + 1) n k there (omega arith) (omega arith))
+      (λ no. let same : low ≡ k = omega arith in subst (λ z. f z ≡ g z) same here)
 
-pub map-each : {X Y : Type 0} (h : X → Y) (f : ℕ → X) (low n : ℕ) → map h (each_of f low n) ≡ each_of (λ k. h (f k)) low n
+pub map-each : {X Y : Type 0} (h : X → Y) (f : ℕ → X) (low n : ℕ)
+    → map h (each_of f low n) ≡ each_of (λ k. h (f k)) low n
 unfolding each_of
 map-each h f low zero = refl
 map-each h f low (suc n) = ap (λ l. h (f low) ∷ l) (map-each h f (low + 1) n)

@@ -1,5 +1,6 @@
 -- What the clauses say of a pass's seat and of the value, from what the rule says of the pass.
-use Rattle.std.proofs.Common.{◌≡◌, ℕ, zero, suc, ◌+◌, ◌<◌, true, Option, List, [], ◌∷◌, ◌++◌, map, length, take, drop, refl, sym, ap, ◌∙◌, arith}
+use Rattle.std.proofs.Common.{◌≡◌, ℕ, zero, suc, ◌+◌, ◌<◌, true, Option, List, [], ◌∷◌, ◌++◌, map, length, take, drop}
+use Rattle.std.proofs.Common.{refl, sym, ap, ◌∙◌, arith}
 use mathlib.Core.List.{map-append}
 use mathlib.Core.Logic.{dite}
 use native.Mathlib.Decide.{ℕ_discrete}
@@ -12,7 +13,8 @@ use Rattle.ticket_lock.specs.Log.{Reading, each_of, own, owns, share, shares}
 use Rattle.ticket_lock.specs.Lock.{IsAware, HasNumber}
 use Rattle.ticket_lock.specs.Changes.{ended, staged, lower, upper, joined, Looked}
 use Rattle.ticket_lock.specs.Names.{work_or, lowest_work, IsFaithful}
-use Rattle.ticket_lock.proofs.Logs.{map-each, parts, length-each, each_same, each-append, each_first, each_rest, each_at}
+use Rattle.ticket_lock.proofs.Logs.{map-each, parts, length-each, each_same, each-append, each_first, each_rest}
+use Rattle.ticket_lock.proofs.Logs.{each_at}
 use Rattle.ticket_lock.proofs.Aware.{own_of_front}
 
 -- a list of length 0
@@ -29,18 +31,24 @@ map-drop_one f [] = refl
 map-drop_one f (x ∷ xs) = refl
 
 -- a seat that holds a slot, by its first one
-pub first_slot : {S V : Type 0} (cs : List (ℕ × S)) (n : Me S V) (k : ℕ) (x : S) (v : V) → n ≡ (v, (k, x) ∷ cs) → (y : S) × (n.1 ≡ (k, y) ∷ rest n.1)
-first_slot {S} cs n k x v e = let now : n.1 ≡ (k, x) ∷ cs = ap (λ z. z.1) e in (x, now ∙ ap (λ (c : List (ℕ × S)). (k, x) ∷ rest c) (sym now))
+pub first_slot : {S V : Type 0} (cs : List (ℕ × S)) (n : Me S V) (k : ℕ) (x : S) (v : V) → n ≡ (v, (k, x) ∷ cs)
+    → (y : S) × (n.1 ≡ (k, y) ∷ rest n.1)
+first_slot {S} cs n k x v e = let now : n.1 ≡ (k, x) ∷ cs =
+    ap (λ z. z.1) e in (x, now ∙ ap (λ (c : List (ℕ × S)). (k, x) ∷ rest c) (sym now))
 
 module _ {T E S O : Type 0} (R : Reading T E S O) where
   -- a load changes nothing but whether the end was seen
-  pub looked_view : (st : Step (Option T)) (m n : Me (Option T) (View T E S O)) (found : ℕ) → Looked R st m found n → n.0 ≡ record m.0 { end = n.0.end }
+  pub looked_view : (st : Step (Option T)) (m n : Me (Option T) (View T E S O)) (found : ℕ) → Looked R st m found n
+      → n.0 ≡ record m.0 { end = n.0.end }
   looked_view st m n found l = dite (ℕ_discrete found LAST)
-      (λ hit. let e : n.0 ≡ ended m.0 = ap (λ z. z.0) (l.last hit) in e ∙ ap (λ b. record m.0 { end = b }) (sym (ap (λ v. v.end) e)))
-      (λ miss. let e : n.0 ≡ m.0 = ap (λ z. z.0) (l.other miss) in e ∙ ap (λ b. record m.0 { end = b }) (sym (ap (λ v. v.end) e)))
+      (λ hit. let e : n.0 ≡ ended m.0 =
+      ap (λ z. z.0) (l.last hit) in e ∙ ap (λ b. record m.0 { end = b }) (sym (ap (λ v. v.end) e)))
+      (λ miss. let e : n.0 ≡ m.0 =
+      ap (λ z. z.0) (l.other miss) in e ∙ ap (λ b. record m.0 { end = b }) (sym (ap (λ v. v.end) e)))
 
   -- and what was seen stays seen
-  pub looked_end : (st : Step (Option T)) (m n : Me (Option T) (View T E S O)) (found : ℕ) → Looked R st m found n → m.0.end ≡ true → n.0.end ≡ true
+  pub looked_end : (st : Step (Option T)) (m n : Me (Option T) (View T E S O)) (found : ℕ) → Looked R st m found n
+      → m.0.end ≡ true → n.0.end ≡ true
   looked_end st m n found l e = ap (λ z. z.0.end) (l.last (l.seen_end e))
 
   -- the shares of a value are those of its log
@@ -49,35 +57,47 @@ module _ {T E S O : Type 0} (R : Reading T E S O) where
 
   -- what a pass knows does not depend on where it stands
   pub aware_staged : (x : T) (v : View T E S O) (stage : Stage T) → IsAware R x (staged v stage) → IsAware R x v
-  aware_staged x v stage a = record { after = a.after; front = a.front; others = a.others; subject = a.subject; shares = a.shares }
+  aware_staged x v stage a =
+      record { after = a.after; front = a.front; others = a.others; subject = a.subject; shares = a.shares }
 
   pub first_work : (x : T) (low n : ℕ) (d : O) → 0 < n → work_or (shares R x low n) d ≡ R.work x low
   unfolding each_of
   first_work x low zero d some = absurd (omega arith)
   first_work x low (suc n) d some = refl
 
-  pub lowest_work-aware : (x : T) (v : View T E S O) (d : O) → 0 < v.count → IsAware R x v → lowest_work v d ≡ R.work x v.low
+  pub lowest_work-aware : (x : T) (v : View T E S O) (d : O) → 0 < v.count → IsAware R x v
+      → lowest_work v d ≡ R.work x v.low
   lowest_work-aware x v d some a = ap (λ l. work_or l d) a.shares ∙ first_work x v.low v.count d some
 
   -- what is aware is faithful
   pub aware_faithful : (x : T) (v : View T E S O) → IsAware R x v → IsFaithful R v
   aware_faithful x v a =
       ap (map (λ s. s.own)) a.shares
-      ∙ (map-shares x v.low v.count ∙ each_same (λ w. own R w (R.entries x)) (λ w. own R w v.front) v.low v.count (λ k p q. own_of_front R x v k p q a))
+      ∙ (map-shares x v.low v.count ∙ each_same (λ w. own R w (R.entries x)) (λ w. own R w v.front) v.low v.count
+      (λ k p q. own_of_front R x v k p q a))
 
   pub lower_faithful : (v : View T E S O) → 0 < v.count → IsFaithful R v → IsFaithful R (lower v)
-  lower_faithful v some h = map-take_one (λ (s : Share E O). s.own) v.shares ∙ (ap (take 1) h ∙ each_first (λ w. own R w v.front) v.low v.count some)
+  lower_faithful v some h =
+      map-take_one (λ (s : Share E O). s.own) v.shares
+      ∙ (ap (take 1) h ∙ each_first (λ w. own R w v.front) v.low v.count some)
 
   pub upper_faithful : (v : View T E S O) → 0 < v.count → IsFaithful R v → IsFaithful R (upper v)
-  upper_faithful v some h = map-drop_one (λ (s : Share E O). s.own) v.shares ∙ (ap (drop 1) h ∙ each_rest (λ w. own R w v.front) v.low v.count some)
+  upper_faithful v some h =
+      map-drop_one (λ (s : Share E O). s.own) v.shares
+      ∙ (ap (drop 1) h ∙ each_rest (λ w. own R w v.front) v.low v.count some)
 
   -- the joined front has, under each number, the own entries of the front that the number came with
-  module _ (v w : View T E S O) (next : v.low + v.count ≡ w.low) (this : IsFaithful R v) (other : IsFaithful R w) (both : IsFaithful R (joined v w)) where
-    rows : (owns R (joined v w).front v.low v.count ≡ owns R v.front v.low v.count) × (owns R (joined v w).front w.low w.count ≡ owns R w.front w.low w.count)
+  module _ (v w : View T E S O) (next : v.low + v.count ≡ w.low) (this : IsFaithful R v) (other : IsFaithful R w)
+      (both : IsFaithful R (joined v w)) where
+    rows : (owns R (joined v w).front v.low v.count ≡ owns R v.front v.low v.count)
+        × (owns R (joined v w).front w.low w.count ≡ owns R w.front w.low w.count)
     rows = let J : ℕ → List E = λ n. own R n (joined v w).front in let f : Share E O → List E = λ s. s.own in
-        let split : each_of J v.low v.count ++ each_of J w.low w.count ≡ owns R (joined v w).front v.low (v.count + w.count) =
-        ap (λ n. each_of J v.low v.count ++ each_of J n w.count) (sym next) ∙ sym (each-append J v.low v.count w.count) in
-        parts (each_of J v.low v.count) (owns R v.front v.low v.count) (each_of J w.low w.count) (owns R w.front w.low w.count)
+        let split : each_of J v.low v.count ++ each_of J w.low w.count
+        ≡ owns R (joined v w).front v.low (v.count + w.count) =
+        ap (λ n. each_of J v.low v.count ++ each_of J n w.count) (sym next)
+        ∙ sym (each-append J v.low v.count w.count) in
+        parts (each_of J v.low v.count) (owns R v.front v.low v.count) (each_of J w.low w.count)
+        (owns R w.front w.low w.count)
         (split ∙ (sym both ∙ (map-append f v.shares w.shares ∙ (λ i. this i ++ other i))))
         (length-each J v.low v.count ∙ sym (length-each (λ n. own R n v.front) v.low v.count))
 

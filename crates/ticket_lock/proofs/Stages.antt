@@ -1,10 +1,12 @@
 -- Where a pass stands, by the four cases, while the words change.
-use Rattle.std.proofs.Common.{◌≡◌, ℕ, ◌+◌, ◌*◌, ◌/◌, ◌%◌, ◌<◌, ◌≤◌, true, refl, ap, arith, Option, Some, None, List, [], ◌∷◌, zero, suc}
+use Rattle.std.proofs.Common.{◌≡◌, ℕ, ◌+◌, ◌*◌, ◌/◌, ◌%◌, ◌<◌, ◌≤◌, true, refl, ap, arith, Option, Some, None, List, []}
+use Rattle.std.proofs.Common.{◌∷◌, zero, suc}
 use Rattle.std.proofs.lemmas.Bool.{false≢true}
 use mathlib.Core.Option.{some, none}
 use Rattle.ticket_lock.specs.declared.rule.Stage.{Stage}
 use Rattle.ticket_lock.specs.declared.rule.Stage.TheVariants.{Spent, Resting, Waiting, Inside}
-use Rattle.ticket_lock.specs.Lock.{home_of, is_live, is_resting, is_inside, ticket_of, found_or, holds_slot, HasTicket, Stands}
+use Rattle.ticket_lock.specs.Lock.{home_of, is_live, is_resting, is_inside, ticket_of, found_or, holds_slot, HasTicket}
+use Rattle.ticket_lock.specs.Lock.{Stands}
 use Rattle.ticket_lock.specs.Changes.{turn_after}
 
 -- an unknown turn
@@ -66,34 +68,39 @@ module _ {T : Type 0} where
   ticket_lives (Inside u x) t h = refl
 
   -- what stands with a ticket has drawn it
-  pub ticket_drawn : (next serving : ℕ) (value : T) (st : Stage T) (t : ℕ) → Stands next serving value st → HasTicket st t → t < next
+  pub ticket_drawn : (next serving : ℕ) (value : T) (st : Stage T) (t : ℕ) → Stands next serving value st
+      → HasTicket st t → t < next
   ticket_drawn next serving value Spent t h k = absurd k
   ticket_drawn next serving value Resting t h k = absurd k
   ticket_drawn next serving value (Waiting u) t h k = let p = h.1 in omega arith
   ticket_drawn next serving value (Inside u x) t h k = let p = h.1 in omega arith
 
-  pub ticket_due : (next serving : ℕ) (value : T) (st : Stage T) (t : ℕ) → Stands next serving value st → HasTicket st t → serving / 2 ≤ t
+  pub ticket_due : (next serving : ℕ) (value : T) (st : Stage T) (t : ℕ) → Stands next serving value st → HasTicket st t
+      → serving / 2 ≤ t
   ticket_due next serving value Spent t h k = absurd k
   ticket_due next serving value Resting t h k = absurd k
   ticket_due next serving value (Waiting u) t h k = let p = h.0 in omega arith
   ticket_due next serving value (Inside u x) t h k = let p = h.0 in omega arith
 
   -- when another draws
-  pub stands_drawn : (next serving : ℕ) (value : T) (st : Stage T) → Stands next serving value st → Stands (next + 1) serving value st
+  pub stands_drawn : (next serving : ℕ) (value : T) (st : Stage T) → Stands next serving value st
+      → Stands (next + 1) serving value st
   stands_drawn next serving value Spent h = tt
   stands_drawn next serving value Resting h = tt
   stands_drawn next serving value (Waiting u) h = (h.0, (let p = h.1 in omega arith))
   stands_drawn next serving value (Inside u x) h = (h.0, (let p = h.1 in omega arith), h.2)
 
   -- when the holder of the ticket t enters
-  pub stands_entered : (next t : ℕ) (value : T) (st : Stage T) → (HasTicket st t → ⊥) → Stands next (2 * t) value st → Stands next (2 * t + 1) value st
+  pub stands_entered : (next t : ℕ) (value : T) (st : Stage T) → (HasTicket st t → ⊥) → Stands next (2 * t) value st
+      → Stands next (2 * t + 1) value st
   stands_entered next t value Spent not h = tt
   stands_entered next t value Resting not h = tt
   stands_entered next t value (Waiting u) not h = ((let p = h.0 in let q : u ≡ t → ⊥ = not in omega arith), h.1)
   stands_entered next t value (Inside u x) not h = absurd (let p = h.0 in omega arith)
 
   -- when the holder of the ticket t leaves
-  pub stands_left : (next t : ℕ) (value y : T) (st : Stage T) → (HasTicket st t → ⊥) → Stands next (2 * t + 1) value st → Stands next (2 * t + 2) y st
+  pub stands_left : (next t : ℕ) (value y : T) (st : Stage T) → (HasTicket st t → ⊥) → Stands next (2 * t + 1) value st
+      → Stands next (2 * t + 2) y st
   stands_left next t value y Spent not h = tt
   stands_left next t value y Resting not h = tt
   stands_left next t value y (Waiting u) not h = ((let p = h.0 in omega arith), h.1)

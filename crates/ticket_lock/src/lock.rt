@@ -27,14 +27,16 @@ pub struct Spent;
 pub struct PassesOut;
 
 impl<T: Logged + Drop> TicketLock<T> {
-    ghost use Rattle.std.specs.Prelude.{◌≡◌, ◌≢◌, ℕ, ◌+◌, ◌*◌, ◌<◌, ◌≤◌, true, [], ◌∷◌, IfOk, IfErr, IsOk, IsErr, IfSome, IfNone, IsSome, IsNone, Some, None};
+    ghost use Rattle.std.specs.Prelude.{◌≡◌, ◌≢◌, ℕ, ◌+◌, ◌*◌, ◌<◌, ◌≤◌, true, [], ◌∷◌, IfOk, IfErr, IsOk, IsErr};
+    ghost use Rattle.std.specs.Prelude.{IfSome, IfNone, IsSome, IsNone, Some, None};
     ghost use Rattle.atomic_table.specs.Table.{rest};
     ghost use Rattle.ticket_lock.specs.declared.rule.TheConstants.{NUMBERS, LAST};
     ghost use Rattle.ticket_lock.specs.declared.rule.Stage.TheVariants.{Waiting};
     ghost use Rattle.ticket_lock.specs.Log.{own, shares};
     ghost use Rattle.ticket_lock.specs.Lock.{IsAware, HasNumber, is_resting};
     ghost use Rattle.ticket_lock.specs.Changes.{whole, ended, staged, arrived};
-    ghost use Rattle.ticket_lock.specs.Names.{lock_id, opening_value, opening_ticket, pass_view, IsPass, held_id, held_view, held_value, lowest_work};
+    ghost use Rattle.ticket_lock.specs.Names.{lock_id, opening_value, opening_ticket, pass_view, IsPass, held_id};
+    ghost use Rattle.ticket_lock.specs.Names.{held_view, held_value, lowest_work};
 
     /// A lock on the value, and the first pass, which holds the worker numbers from 1 to `NUMBERS`. The first ticket
     /// is 0.

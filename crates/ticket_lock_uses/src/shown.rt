@@ -11,7 +11,8 @@ use std::sync::Wait;
 use std::thread::Threads;
 use ticket_lock::TicketLock;
 
-/// Two threads add a hundred numbers each to one list: whether all are there. That each thread's are in order is proved.
+/// Two threads add a hundred numbers each to one list: whether all are there. That each thread's are in order is
+/// proved.
 fn are_all_added<R: Threads + Wait + Sync>(rt: &R, alloc: Global) -> Result<bool, AllocError>
     requires { IsSync R.row }
 {

@@ -13,7 +13,8 @@ use Rattle.byte_layout.proofs.Lists.{counted_exact}
 use Rattle.device_machine.specs.declared.output.Output.{Output}
 use Rattle.device_machine.specs.declared.output.Output.TheVariants as outputs
 use Rattle.trace_file.specs.declared.entry.Entry.{Entry}
-use Rattle.trace_file.specs.Layout.{number_of, act_numbered, act, kind_of, server_in, bytes_in, act_in, acted, datagram, of_kind, output, output_list, entry_of, entry, entry_list, trace_file}
+use Rattle.trace_file.specs.Layout.{number_of, act_numbered, act, kind_of, server_in, bytes_in, act_in, acted, datagram}
+use Rattle.trace_file.specs.Layout.{of_kind, output, output_list, entry_of, entry, entry_list, trace_file}
 
 byte_exact : IsExact (number w8)
 byte_exact = number_exact w8 wide8
@@ -35,14 +36,17 @@ numbered (suc (suc (suc (suc (suc n))))) below = absurd (omega arith)
 act_exact : IsExact act
 unfolding act
 act_exact =
-    last_exact number_of act_numbered (judged BadField (λ n. nat_lt n 5) (number w8)) (fits_exact (λ n. nat_lt n 5) (number w8) byte_exact)
+    last_exact number_of act_numbered (judged BadField (λ n. nat_lt n 5) (number w8))
+    (fits_exact (λ n. nat_lt n 5) (number w8) byte_exact)
     (λ n good. numbered n (ltb-true n 5 good.1))
 
 datagram_exact : IsExact datagram
 unfolding datagram
 datagram_exact =
-    split_exact server_in (number w16) (λ server. last bytes_in (λ bytes. outputs.Send server bytes) (sized (number w16))) short_exact
-    (λ server good. last_exact bytes_in (λ bytes. outputs.Send server bytes) (sized (number w16)) (sized_exact (number w16) short_exact) (λ bytes ok. refl))
+    split_exact server_in (number w16) (λ server. last bytes_in (λ bytes. outputs.Send server bytes)
+    (sized (number w16))) short_exact
+    (λ server good. last_exact bytes_in (λ bytes. outputs.Send server bytes) (sized (number w16))
+    (sized_exact (number w16) short_exact) (λ bytes ok. refl))
     (λ server good o h. ap server_in h.1)
 
 acted_exact : IsExact acted
@@ -67,7 +71,8 @@ kind_agrees (suc (suc (suc n))) known o h = absurd (let e : true ≡ false = sym
 pub output_exact : IsExact output
 unfolding output
 output_exact =
-    split_exact kind_of (judged BadField (λ n. n == 1 || n == 2) (number w8)) of_kind (fits_exact (λ n. n == 1 || n == 2) (number w8) byte_exact)
+    split_exact kind_of (judged BadField (λ n. n == 1 || n == 2) (number w8)) of_kind
+    (fits_exact (λ n. n == 1 || n == 2) (number w8) byte_exact)
     (λ k good. of_kind_exact k)
     (λ k good o h. kind_agrees k good.1 o h)
 
@@ -89,11 +94,14 @@ behind_device_exact w d =
     (λ s good e h. ap (λ x. x.step) h.1)
 
 behind_worker_exact : (w : ℕ) → IsExact (behind_worker w)
-behind_worker_exact w = split_exact (λ e. e.device) (number w16) (behind_device w) short_exact (λ d good. behind_device_exact w d) (λ d good e h. ap (λ x. x.device) h.1.1)
+behind_worker_exact w =
+    split_exact (λ e. e.device) (number w16) (behind_device w) short_exact (λ d good. behind_device_exact w d)
+    (λ d good e h. ap (λ x. x.device) h.1.1)
 
 pub entry_exact : IsExact entry
 unfolding entry
-entry_exact = split_exact (λ e. e.worker) (number w16) behind_worker short_exact (λ w good. behind_worker_exact w) (λ w good e h. ap (λ x. x.worker) h.1.1.1)
+entry_exact = split_exact (λ e. e.worker) (number w16) behind_worker short_exact (λ w good. behind_worker_exact w)
+    (λ w good e h. ap (λ x. x.worker) h.1.1.1)
 
 entry_list_exact : IsExact entry_list
 unfolding entry_list

@@ -12,15 +12,18 @@ use Rattle.trace_file.specs.Layout.{output, datagram, output_list, entry, entry_
 use Rattle.trace_file.specs.Fits.{FitsOutput, FitsEntry}
 use Rattle.trace_file.proofs.Good.{acted_good, sent_good, sent_short, entry_good, file_good, list_good}
 
-each_good : {A : Type 0} (p : Part A) (before xs : List A) → ((i : ℕ) (x : A) → slice_get xs i ≡ Some x → p.Good x) → (each (λ b. p) (length xs) before).Good xs
+each_good : {A : Type 0} (p : Part A) (before xs : List A) → ((i : ℕ) (x : A) → slice_get xs i ≡ Some x → p.Good x)
+    → (each (λ b. p) (length xs) before).Good xs
 unfolding each
 each_good p before [] h = refl
 each_good p before (y ∷ ys) h = (h 0 y refl, each_good p (before ++ y ∷ []) ys (λ i x at. h (suc i) x at))
 
-counted_good : {A : Type 0} (p : Part A) (xs : List A) → length xs < 4294967296 → ((i : ℕ) (x : A) → slice_get xs i ≡ Some x → p.Good x) → (counted (number w32) (λ b. p)).Good xs
+counted_good : {A : Type 0} (p : Part A) (xs : List A) → length xs < 4294967296
+    → ((i : ℕ) (x : A) → slice_get xs i ≡ Some x → p.Good x) → (counted (number w32) (λ b. p)).Good xs
 counted_good p xs short h = (number_good w32 (length xs) short, each_good p [] xs h)
 
-counted_at : {A : Type 0} (p : Part A) (xs : List A) → (counted (number w32) (λ b. p)).Good xs → (i : ℕ) (x : A) → slice_get xs i ≡ Some x → p.Good x
+counted_at : {A : Type 0} (p : Part A) (xs : List A) → (counted (number w32) (λ b. p)).Good xs → (i : ℕ) (x : A)
+    → slice_get xs i ≡ Some x → p.Good x
 counted_at p xs good i x at = each_at (λ b. p) (length xs) [] xs good.1 i x at
 
 output_good : (o : Output) → FitsOutput o → output.Good o
@@ -37,7 +40,9 @@ output_fits (outputs.Act a) good = tt
 
 fits_entry : (e : Entry) → FitsEntry e → entry.Good e
 unfolding output_list
-fits_entry e fits = entry_good e fits.worker fits.device fits.step (counted_good output e.outputs fits.count (λ i o at. output_good o (fits.outputs i o at)))
+fits_entry e fits =
+    entry_good e fits.worker fits.device fits.step
+    (counted_good output e.outputs fits.count (λ i o at. output_good o (fits.outputs i o at)))
 
 entry_fits : (e : Entry) → entry.Good e → FitsEntry e
 unfolding entry output_list
@@ -49,12 +54,14 @@ entry_fits e good = record {
   outputs = λ i o at. output_fits o (counted_at output e.outputs good.1.1.1.0 i o at);
 }
 
-pub good_fits : (es : List Entry) → trace_file.Good es → (length es < 4294967296) × ((i : ℕ) (e : Entry) → slice_get es i ≡ Some e → FitsEntry e)
+pub good_fits : (es : List Entry) → trace_file.Good es → (length es < 4294967296)
+    × ((i : ℕ) (e : Entry) → slice_get es i ≡ Some e → FitsEntry e)
 unfolding entry_list
 good_fits es good =
     let list = list_good es good in
     (number_below w32 (length es) list.0, λ i e at. entry_fits e (counted_at entry es list i e at))
 
-pub fits_good : (es : List Entry) → length es < 4294967296 → ((i : ℕ) (e : Entry) → slice_get es i ≡ Some e → FitsEntry e) → trace_file.Good es
+pub fits_good : (es : List Entry) → length es < 4294967296
+    → ((i : ℕ) (e : Entry) → slice_get es i ≡ Some e → FitsEntry e) → trace_file.Good es
 unfolding entry_list
 fits_good es short fits = file_good es (counted_good entry es short (λ i e at. fits_entry e (fits i e at)))

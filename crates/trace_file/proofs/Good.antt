@@ -21,17 +21,23 @@ pub acted_good : (a : Act) → output.Good (outputs.Act a)
 unfolding output
 acted_good a = ((number_good w8 2 (omega arith), refl), (act_good a, refl))
 
-pub sent_good : (server : ℕ) (bytes : List ℕ) → server < 65536 → length bytes < 65536 → output.Good (outputs.Send server bytes)
+pub sent_good : (server : ℕ) (bytes : List ℕ) → server < 65536 → length bytes < 65536
+    → output.Good (outputs.Send server bytes)
 unfolding output datagram
-sent_good server bytes s l = ((number_good w8 1 (omega arith), refl), (number_good w16 server s, ((number_good w16 (length bytes) l, raw_good (length bytes) bytes refl), refl)))
+sent_good server bytes s l = (
+  (number_good w8 1 (omega arith), refl),
+  (number_good w16 server s, ((number_good w16 (length bytes) l, raw_good (length bytes) bytes refl), refl)),
+)
 
 pub sent_short : (server : ℕ) (bytes : List ℕ) → output.Good (outputs.Send server bytes) → length bytes < 65536
 unfolding output datagram
 sent_short server bytes good = number_below w16 (length bytes) good.1.1.0.0
 
-pub entry_good : (e : Entry) → e.worker < 65536 → e.device < 65536 → e.step < 4294967296 → output_list.Good e.outputs → entry.Good e
+pub entry_good : (e : Entry) → e.worker < 65536 → e.device < 65536 → e.step < 4294967296 → output_list.Good e.outputs
+    → entry.Good e
 unfolding entry
-entry_good e w d s good = (number_good w16 e.worker w, (number_good w16 e.device d, (number_good w32 e.step s, (good, refl))))
+entry_good e w d s good =
+    (number_good w16 e.worker w, (number_good w16 e.device d, (number_good w32 e.step s, (good, refl))))
 
 pub outputs_good : (e : Entry) → entry.Good e → output_list.Good e.outputs
 unfolding entry

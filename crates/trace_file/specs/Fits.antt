@@ -9,7 +9,8 @@ abbrev pub FitsOutput : Output → Type 0
 FitsOutput (outputs.Send server bytes) = (server < 65536) × (length bytes < 65536)
 FitsOutput (outputs.Act a) = Unit {0}
 
--- the numbers of a worker and a device fit two bytes, that of a step and the count of the outputs four, and each output fits
+-- the numbers of a worker and a device fit two bytes, that of a step and the count of the outputs four, and each output
+-- fits
 pub record FitsEntry (e : Entry) : Type 0 where
   pub worker : e.worker < 65536
   pub device : e.device < 65536

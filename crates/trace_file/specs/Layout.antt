@@ -22,7 +22,9 @@ number_of acts.Missed = 4
 
 -- the act of a number below 5
 abbrev pub act_numbered : ℕ → Act
-act_numbered n = if n == 0 then acts.Reboot else (if n == 1 then acts.FactoryReset else (if n == 2 then acts.RegUpdate else (if n == 3 then acts.Disable else acts.Missed)))
+act_numbered n =
+    if n == 0 then acts.Reboot else (if n == 1 then acts.FactoryReset
+    else (if n == 2 then acts.RegUpdate else (if n == 3 then acts.Disable else acts.Missed)))
 
 -- an act's number, below 5
 unfoldable pub act : Part Act
@@ -50,7 +52,8 @@ act_in _ = acts.Missed
 
 -- a server, any, and a datagram with two bytes of length
 unfoldable pub datagram : Part Output
-datagram = split server_in (number w16) (λ server. last bytes_in (λ bytes. outputs.Send server bytes) (sized (number w16)))
+datagram = split server_in (number w16) (λ server. last bytes_in (λ bytes. outputs.Send server bytes)
+    (sized (number w16)))
 
 -- an act
 abbrev pub acted : Part Output
@@ -77,7 +80,9 @@ entry_of worker device step os = record { worker = worker; device = device; step
 
 -- worker, device and step, any, and the outputs
 unfoldable pub entry : Part Entry
-entry = split (λ e. e.worker) (number w16) (λ w. split (λ e. e.device) (number w16) (λ d. split (λ e. e.step) (number w32) (λ s. last (λ e. e.outputs) (entry_of w d s) output_list)))
+entry = split (λ e. e.worker) (number w16)
+    (λ w. split (λ e. e.device) (number w16)
+    (λ d. split (λ e. e.step) (number w32) (λ s. last (λ e. e.outputs) (entry_of w d s) output_list)))
 
 -- four bytes of count, and so many entries
 unfoldable pub entry_list : Part (List Entry)

@@ -58,7 +58,8 @@ impl Entries {
         self.items.len()
     }
 
-    /// Adds an entry behind the others. Where memory runs out, the entries stay as they were, and the new one is dropped.
+    /// Adds an entry behind the others. Where memory runs out, the entries stay as they were, and the new one is
+    /// dropped.
     pub fn push(&mut self, entry: Entry) -> Result<(), AllocError>
         ensures ok { OnOk result (self.new ≡ self.old ++ entry ∷ []) }
         ensures unchanged { OnErr result (self.new ≡ self.old) }

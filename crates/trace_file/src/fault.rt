@@ -4,7 +4,8 @@ use thiserror::Error;
 /// Why a trace file was not written.
 #[derive(Clone, Copy, Debug, PartialEq, Eq, Error)]
 pub enum WriteFault {
-    /// The count of the entries or of an entry's outputs, or the length of a datagram, is past its field: the entries have no trace file.
+    /// The count of the entries or of an entry's outputs, or the length of a datagram, is past its field: the entries
+    /// have no trace file.
     #[error("too large for a trace file")]
     TooLarge,
     /// No memory was left.

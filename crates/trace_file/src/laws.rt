@@ -9,20 +9,24 @@ ghost use Rattle.trace_file.specs.declared.entry.Entry.{Entry};
 ghost use Rattle.trace_file.specs.Layout.{trace_file, IsTraceFile};
 ghost use Rattle.trace_file.specs.Fits.{FitsEntry};
 
-/// Bytes are the trace file of one list of entries or have one fault, and never both; the spelling of entries that have one is read
-/// as these again; and no fault is a limit's.
+/// Bytes are the trace file of one list of entries or have one fault, and never both; the spelling of entries that have
+/// one is read as these again; and no fault is a limit's.
 pub fn one_trace_file()
     ensures exact { IsExact trace_file }
     ensures entries { (bytes : List ℕ) (a b : List Entry) → IsTraceFile bytes a → IsTraceFile bytes b → a ≡ b }
-    ensures fault { (bytes : List ℕ) (f g : LayoutFault) → HasFault trace_file bytes f → HasFault trace_file bytes g → f ≡ g }
-    ensures never_both { (bytes : List ℕ) (es : List Entry) (f : LayoutFault) → IsTraceFile bytes es → HasFault trace_file bytes f → ⊥ }
-    ensures either { (bytes : List ℕ) → IsBytes bytes → ((es : List Entry) × IsTraceFile bytes es) ⊎ ((f : LayoutFault) × HasFault trace_file bytes f) }
+    ensures fault { (bytes : List ℕ) (f g : LayoutFault) → HasFault trace_file bytes f → HasFault trace_file bytes g
+        → f ≡ g }
+    ensures never_both { (bytes : List ℕ) (es : List Entry) (f : LayoutFault) → IsTraceFile bytes es
+        → HasFault trace_file bytes f → ⊥ }
+    ensures either { (bytes : List ℕ) → IsBytes bytes → ((es : List Entry) × IsTraceFile bytes es)
+        ⊎ ((f : LayoutFault) × HasFault trace_file bytes f) }
     ensures again { (es : List Entry) → trace_file.Good es → read_all trace_file (trace_file.spell es) ≡ Ok es }
     ensures no_limit { (bytes : List ℕ) (place : ℕ) → HasFault trace_file bytes (Limit place) → ⊥ }
 {}
 
-/// Entries have a trace file exactly where their numbers, their count, the count of each one's outputs and the lengths of the datagrams fit
-/// their fields.
+/// Entries have a trace file exactly where their numbers, their count, the count of each one's outputs and the lengths
+/// of the datagrams fit their fields.
 pub fn what_has_a_trace_file()
-    ensures { (es : List Entry) → trace_file.Good es ↔ (length es < 4294967296) × ((i : ℕ) (e : Entry) → slice_get es i ≡ Some e → FitsEntry e) }
+    ensures { (es : List Entry) → trace_file.Good es ↔ (length es < 4294967296)
+        × ((i : ℕ) (e : Entry) → slice_get es i ≡ Some e → FitsEntry e) }
 {}

@@ -8,7 +8,8 @@ ghost use Rattle.byte_layout.specs.declared.fault.ReadError.TheVariants as error
 ghost use Rattle.byte_layout.specs.Outcome.{Gives};
 ghost use Rattle.byte_layout.specs.Whole.{HasFault, placed};
 ghost use Rattle.trace_file.specs.declared.entry.Entry.{Entry as EntryData};
-ghost use Rattle.trace_file.specs.Layout.{act, datagram, output, output_list, entry, entry_list, header, trace_file, front, IsTraceFile};
+ghost use Rattle.trace_file.specs.Layout.{act, datagram, output, output_list, entry, entry_list, header, trace_file};
+ghost use Rattle.trace_file.specs.Layout.{front, IsTraceFile};
 
 use crate::entries::Entries;
 use crate::entry::Entry;
@@ -196,11 +197,12 @@ impl Format for TraceFile {
 
 /// The entries whose trace file these bytes are, all of them; else their first fault from the left.
 ///
-/// A count that is too large for the bytes is `Cut`, and no room is made for more than is read. There is no `Limit`. A place counts
-/// bytes from 0. `Memory` says that no memory was left.
+/// A count that is too large for the bytes is `Cut`, and no room is made for more than is read. There is no `Limit`. A
+/// place counts bytes from 0. `Memory` says that no memory was left.
 pub fn read_entries(alloc: Global, bytes: &[u8]) -> Result<Entries, LayoutFault>
     ensures found { IfOk result (λ es. IsTraceFile bytes.now es) }
-    ensures only { (es : List EntryData) → IsTraceFile bytes.now es → MatchResult result (λ x. x ≡ es) (λ f. f ≡ Memory) }
+    ensures only { (es : List EntryData) → IsTraceFile bytes.now es
+        → MatchResult result (λ x. x ≡ es) (λ f. f ≡ Memory) }
     ensures fault { IfErr result (λ f. f ≢ Memory → HasFault trace_file bytes.now f) }
     ensures refused { (f : LayoutFault) → HasFault trace_file bytes.now f → IsErrAnd result (λ g. g ≢ Memory → g ≡ f) }
     ensures front { (b : Break) → front.Breaks bytes.now b → result ≡ Err (placed (length bytes.now) b) }

@@ -3,7 +3,8 @@
 ghost use Rattle.std.specs.Prelude.{◌≡◌, ◌↔◌, ◌<◌, ◌++◌, List, ℕ, length, IfOk, IfErr, OnOk, IsTrue};
 ghost use Rattle.device_machine.specs.declared.output.Output.TheVariants.{Send};
 ghost use Rattle.trace_file.specs.declared.fault.WriteFault.TheVariants.{TooLarge};
-ghost use Rattle.trace_file.specs.Layout.{number_of, act, datagram, output, output_list, entry, entry_list, trace_file, IsTraceFile};
+ghost use Rattle.trace_file.specs.Layout.{number_of, act, datagram, output, output_list, entry, entry_list, trace_file};
+ghost use Rattle.trace_file.specs.Layout.{IsTraceFile};
 
 use crate::entry::Entry;
 use crate::fault::WriteFault;
@@ -180,8 +181,9 @@ fn put_trace_file(out: &mut Vec<u8>, items: &[Entry]) -> Result<(), AllocError>
     put_entries(out, items)
 }
 
-/// The trace file of the entries. `TooLarge` comes exactly where they have none: where their count, the count of an entry's outputs or the
-/// length of a datagram is past its field, 4 bytes for a count and 2 for a length. `Memory` says that no memory was left.
+/// The trace file of the entries. `TooLarge` comes exactly where they have none: where their count, the count of an
+/// entry's outputs or the length of a datagram is past its field, 4 bytes for a count and 2 for a length. `Memory` says
+/// that no memory was left.
 pub fn write_entries(alloc: Global, entries: &[Entry]) -> Result<Bytes, WriteFault>
     ensures written { IfOk result (λ b. IsTraceFile b entries.now) }
     ensures refused { IfErr result (λ e. (e ≡ TooLarge) ↔ ((bytes : List ℕ) → IsTraceFile bytes entries.now → ⊥)) }

@@ -4,7 +4,7 @@ ghost use Rattle.std.specs.Prelude.{◌≡◌, true, is_some, IfOk, OnErr};
 ghost use Rattle.device_machine.specs.declared.event.Event.TheVariants.{Recv};
 ghost use Rattle.device_machine.specs.Reactions.{Gives, claims_confirmable, is_request, on_fresh, on_message, on_noise, on_outcome, on_request, reaction_to, repeat_of, reply_to};
 ghost use Rattle.device_machine.specs.Memory.{KeepsRecords, message_grows, request_grows};
-ghost use Rattle.device_requests.specs.Managed.{has_account};
+ghost use Rattle.device_requests.specs.Client.{has_account};
 ghost use Rattle.device_requests.specs.Request.{outcome_of};
 
 use super::repeats::again;

@@ -3,7 +3,7 @@
 ghost use Rattle.std.specs.Prelude.{◌≡◌, ◌++◌, map, OnOk};
 ghost use Rattle.std.specs.List.{flat_map};
 ghost use Rattle.std.specs.String.{string_bytes};
-ghost use Rattle.scenario_image.specs.Script.{IsValid};
+ghost use Rattle.scenario_image.specs.Scenario.{IsValid};
 ghost use Rattle.scenario_mnemonics.specs.Denoting.{mnemonic_of};
 ghost use Rattle.scenario_statements.specs.declared.statement.Statement.TheVariants.{Put};
 ghost use Rattle.scenario_asm.specs.Canonical.{of_datagram, of_row, of_step, printed_line, printed_lines};

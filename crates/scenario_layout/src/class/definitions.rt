@@ -2,7 +2,7 @@ ghost use Rattle.std.specs.Prelude.{◌≡◌, true, None, Some, OnOk, IfErr};
 ghost use Rattle.byte_layout.specs.declared.fault.ReadError.TheVariants.{Memory};
 ghost use Rattle.object_defs.specs.Catalogue.{object_of};
 ghost use Rattle.object_defs.specs.Vendor.{is_vendor, new_object, with_resource};
-ghost use Rattle.device_template.specs.Class.{definition_fault, with_catalogue};
+ghost use Rattle.device_template.specs.Template.{definition_fault, with_catalogue};
 ghost use Rattle.scenario_layout.specs.Definition.{resources};
 ghost use Rattle.scenario_layout.specs.Growing.{with_definitions};
 

@@ -5,7 +5,7 @@ ghost use Rattle.byte_layout.specs.Part.{each};
 ghost use Rattle.object_defs.specs.Base.{base};
 ghost use Rattle.object_defs.specs.Vendor.{is_vendor, new_object};
 ghost use Rattle.object_defs.specs.declared.definition.ObjectDef.{ObjectDef};
-ghost use Rattle.device_template.specs.Class.{with_catalogue};
+ghost use Rattle.device_template.specs.Template.{with_catalogue};
 ghost use Rattle.scenario_layout.specs.Definition.{resource};
 ghost use Rattle.scenario_layout.specs.Growing.{grown};
 ghost use Rattle.scenario_layout.specs.Class.{defined, object, object_id, objects, objects_in, with_objects};

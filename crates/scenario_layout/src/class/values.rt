@@ -5,7 +5,7 @@ ghost use Rattle.std.specs.Ordering.{is_lt};
 ghost use Rattle.byte_layout.specs.Outcome.{Gives};
 ghost use Rattle.byte_layout.specs.Part.{each};
 ghost use Rattle.object_defs.specs.Path.{full_path, path_cmp};
-ghost use Rattle.device_template.specs.Class.{kind_taken, value_fault_at};
+ghost use Rattle.device_template.specs.Template.{kind_taken, value_fault_at};
 ghost use Rattle.device_template.specs.Values.{has_kind, is_within_limits};
 ghost use Rattle.lwm2m_values.specs.declared.value.Value.{Value};
 ghost use Rattle.scenario_layout.specs.Growing.{grown, is_behind, IsLast};

@@ -8,7 +8,7 @@ ghost use Rattle.object_defs.specs.Base.{base};
 ghost use Rattle.object_defs.specs.declared.definition.ObjectDef.{ObjectDef};
 ghost use Rattle.instance_store.specs.Listing.{shown_pairs};
 ghost use Rattle.scenario_layout.specs.Definition.{resources};
-ghost use Rattle.device_template.specs.Class.{Class};
+ghost use Rattle.device_template.specs.Template.{Template};
 ghost use Rattle.scenario_layout.specs.Class.{account, accounts, class, entry, instance, instances, object, objects, values};
 
 use crate::definition::put_resources;
@@ -71,7 +71,7 @@ fn put_each_account(out: &mut Vec<u8>, list: &[u16]) -> Result<(), AllocError>
 fn put_objects(out: &mut Vec<u8>, list: &[ObjectDef]) -> Result<(), AllocError>
     requires few { length list.now ≤ 11 }
     requires defined { All (λ o. resources.Good o.resources) list.now }
-    ensures { OnOk result ((c : Class) → (objects c).Good list.now → out.new.items ≡ out.old.items ++ (objects c).spell list.now) }
+    ensures { OnOk result ((c : Template) → (objects c).Good list.now → out.new.items ≡ out.old.items ++ (objects c).spell list.now) }
 {
     put_u8(out, list.len() as u8)?;
     put_each_object(out, list)
@@ -79,7 +79,7 @@ fn put_objects(out: &mut Vec<u8>, list: &[ObjectDef]) -> Result<(), AllocError>
 
 fn put_each_object(out: &mut Vec<u8>, list: &[ObjectDef]) -> Result<(), AllocError>
     requires { All (λ o. resources.Good o.resources) list.now }
-    ensures { OnOk result ((c : Class) → (each (object c) (length list.now) []).Good list.now
+    ensures { OnOk result ((c : Template) → (each (object c) (length list.now) []).Good list.now
         → out.new.items ≡ out.old.items ++ (each (object c) (length list.now) []).spell list.now) }
 {
     for object in list {
@@ -91,7 +91,7 @@ fn put_each_object(out: &mut Vec<u8>, list: &[ObjectDef]) -> Result<(), AllocErr
 #[tactic(auto, unfolding(crate::specs::Class::object, crate::specs::Class::object_id))]
 fn put_object(out: &mut Vec<u8>, definition: &ObjectDef) -> Result<(), AllocError>
     requires { resources.Good definition.now.resources }
-    ensures { OnOk result ((c : Class) (before : List ObjectDef) → out.new.items ≡ out.old.items ++ (object c before).spell definition.now) }
+    ensures { OnOk result ((c : Template) (before : List ObjectDef) → out.new.items ≡ out.old.items ++ (object c before).spell definition.now) }
 {
     put_u16(out, definition.id)?;
     put_resources(out, definition.resources.as_slice())
@@ -100,14 +100,14 @@ fn put_object(out: &mut Vec<u8>, definition: &ObjectDef) -> Result<(), AllocErro
 #[tactic(auto, unfolding(crate::specs::Class::instances))]
 fn put_instances(out: &mut Vec<u8>, list: &[InstancePath]) -> Result<(), AllocError>
     requires { length list.now < 65536 }
-    ensures { OnOk result ((c : Class) → (instances c).Good list.now → out.new.items ≡ out.old.items ++ (instances c).spell list.now) }
+    ensures { OnOk result ((c : Template) → (instances c).Good list.now → out.new.items ≡ out.old.items ++ (instances c).spell list.now) }
 {
     put_u16(out, list.len() as u16)?;
     put_each_instance(out, list)
 }
 
 fn put_each_instance(out: &mut Vec<u8>, list: &[InstancePath]) -> Result<(), AllocError>
-    ensures { OnOk result ((c : Class) → (each (instance c) (length list.now) []).Good list.now
+    ensures { OnOk result ((c : Template) → (each (instance c) (length list.now) []).Good list.now
         → out.new.items ≡ out.old.items ++ (each (instance c) (length list.now) []).spell list.now) }
 {
     for place in list {
@@ -120,7 +120,7 @@ fn put_each_instance(out: &mut Vec<u8>, list: &[InstancePath]) -> Result<(), All
 fn put_values(out: &mut Vec<u8>, list: &[(FullPath, &Value)]) -> Result<(), AllocError>
     requires few { length list.now < 65536 }
     requires good { All (λ e. IsGood e.1) (shown_pairs list.now) }
-    ensures { OnOk result ((c : Class) → (values c).Good (shown_pairs list.now)
+    ensures { OnOk result ((c : Template) → (values c).Good (shown_pairs list.now)
         → out.new.items ≡ out.old.items ++ (values c).spell (shown_pairs list.now)) }
 {
     put_u16(out, list.len() as u16)?;
@@ -129,7 +129,7 @@ fn put_values(out: &mut Vec<u8>, list: &[(FullPath, &Value)]) -> Result<(), Allo
 
 fn put_each_value(out: &mut Vec<u8>, list: &[(FullPath, &Value)]) -> Result<(), AllocError>
     requires { All (λ e. IsGood e.1) (shown_pairs list.now) }
-    ensures { OnOk result ((c : Class) → (each (entry c) (length list.now) []).Good (shown_pairs list.now)
+    ensures { OnOk result ((c : Template) → (each (entry c) (length list.now) []).Good (shown_pairs list.now)
         → out.new.items ≡ out.old.items ++ (each (entry c) (length list.now) []).spell (shown_pairs list.now)) }
 {
     for (path, value) in list {
@@ -141,7 +141,7 @@ fn put_each_value(out: &mut Vec<u8>, list: &[(FullPath, &Value)]) -> Result<(), 
 #[tactic(auto, unfolding(crate::specs::Class::entry, crate::specs::Class::value_path))]
 fn put_entry(out: &mut Vec<u8>, path: FullPath, value: &Value) -> Result<(), AllocError>
     requires { IsGood value.now }
-    ensures { OnOk result ((c : Class) (before : List (FullPath × Value)) → out.new.items ≡ out.old.items ++ (entry c before).spell (path, value.now)) }
+    ensures { OnOk result ((c : Template) (before : List (FullPath × Value)) → out.new.items ≡ out.old.items ++ (entry c before).spell (path, value.now)) }
 {
     put_path(out, path)?;
     put_value(out, value)

@@ -1,5 +1,5 @@
 use Rattle.std.proofs.Common.{[]}
-use Rattle.device_machine.specs.Class.{start_of}
+use Rattle.device_machine.specs.Template.{start_of}
 use Rattle.bench_commands.specs.Demo.{demo_class, demo_outputs}
 use Rattle.bench_commands.proofs.demo.answer.Goals as goal
 

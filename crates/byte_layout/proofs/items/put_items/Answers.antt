@@ -2,10 +2,16 @@ use Rattle.byte_layout.proofs.Written.{may_write, writes_on, all_written}
 use Rattle.byte_layout.proofs.items.put_items.Goals as goal
 
 pub put_item-requires : goal.put_item-requires
-put_item-requires g c = may_write (g.I.Items.part c.args.items.now) c.args.list.now c.loop-i.i c.index-list-i.result c.requires c.loop-i-test.true c.index-list-i.is
+put_item-requires g c =
+    may_write (g.I.Items.part c.args.items.now) c.args.list.now c.loop-i.i c.index-list-i.result c.requires
+    c.loop-i-test.true c.index-list-i.is
 
 pub loop-i-preserved : goal.loop-i-preserved
-loop-i-preserved g c = writes_on (g.I.Items.part c.args.items.now) c.args.list.now c.loop-i.i c.index-list-i.result c.args.out.now.items c.loop-i.out.items c.put_item.new.out.items c.loop-i-test.true c.index-list-i.is c.in_ok-put_item.ensures c.loop-i.invariant
+loop-i-preserved g c =
+    writes_on (g.I.Items.part c.args.items.now) c.args.list.now c.loop-i.i c.index-list-i.result c.args.out.now.items
+    c.loop-i.out.items c.put_item.new.out.items c.loop-i-test.true c.index-list-i.is c.in_ok-put_item.ensures
+    c.loop-i.invariant
 
 pub returns : goal.returns
-returns g c = all_written (g.I.Items.part c.args.items.now) c.args.list.now c.loop-i.i c.args.out.now.items c.loop-i.out.items c.requires c.loop-i-test.false c.loop-i.invariant
+returns g c = all_written (g.I.Items.part c.args.items.now) c.args.list.now c.loop-i.i c.args.out.now.items
+    c.loop-i.out.items c.requires c.loop-i-test.false c.loop-i.invariant

@@ -1,4 +1,5 @@
-use Rattle.byte_layout.proofs.Whole.{whole_taken, whole_again, whole_broken, whole_refused, one_value, one_fault, never_both, either, whole_within}
+use Rattle.byte_layout.proofs.Whole.{whole_taken, whole_again, whole_broken, whole_refused, one_value, one_fault}
+use Rattle.byte_layout.proofs.Whole.{never_both, either, whole_within}
 use Rattle.byte_layout.proofs.laws.one_reading.Goals as goal
 
 pub returns-clause-value : goal.returns-clause-value
@@ -17,7 +18,15 @@ pub returns-clause-within : goal.returns-clause-within
 returns-clause-within g c = whole_within g.F.Format.layout c.requires
 
 pub returns-clause-reads_value : goal.returns-clause-reads_value
-returns-clause-reads_value g c = λ bytes fits a. (whole_taken g.F.Format.layout c.requires bytes fits a, whole_again g.F.Format.layout c.requires bytes a)
+returns-clause-reads_value g c =
+    λ bytes fits a. (
+      whole_taken g.F.Format.layout c.requires bytes fits a,
+      whole_again g.F.Format.layout c.requires bytes a,
+    )
 
 pub returns-clause-reads_break : goal.returns-clause-reads_break
-returns-clause-reads_break g c = λ bytes fits b. (whole_broken g.F.Format.layout c.requires bytes fits b, whole_refused g.F.Format.layout c.requires bytes b)
+returns-clause-reads_break g c =
+    λ bytes fits b. (
+      whole_broken g.F.Format.layout c.requires bytes fits b,
+      whole_refused g.F.Format.layout c.requires bytes b,
+    )

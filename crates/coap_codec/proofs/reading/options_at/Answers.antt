@@ -2,7 +2,8 @@ use Rattle.std.proofs.Common.{arith, inr}
 use Rattle.std.proofs.lemmas.Result.{err_from_is_err_and}
 use Rattle.std.proofs.lemmas.Slice.{first_rest}
 use Rattle.std.proofs.lemmas.Bool.{ne_eqb}
-use Rattle.coap_codec.proofs.OptionLists.{list_goes_on, parts_go_on, last_goes_on, breaks_off, at_first, first_option, first_fits}
+use Rattle.coap_codec.proofs.OptionLists.{list_goes_on, parts_go_on, last_goes_on, breaks_off, at_first, first_option}
+use Rattle.coap_codec.proofs.OptionLists.{first_fits}
 use Rattle.coap_codec.proofs.reading.options_at.Goals as goal
 
 pub returns-in_err-option-clause-fault : goal.returns-in_err-option-clause-fault
@@ -10,7 +11,8 @@ returns-in_err-option-clause-fault c =
     let known = c.loop-rest.invariant in
     let here = first_rest c.loop-rest.rest.now 0 (omega (arith, c.in-len1-up.len_at_least)) in
     let p = err_from_is_err_and c.from_residual.result c.from_residual.ensures.1 in
-    rw (p.1, p.2) (λ live. breaks_off _ _ _ _ _ _ _ known.is_list known.last known.parts here (ne_eqb _ 255 c.if-first.false) (c.in_err-option.ensures.fault live))
+    rw (p.1, p.2) (λ live. breaks_off _ _ _ _ _ _ _ known.is_list known.last known.parts here
+    (ne_eqb _ 255 c.if-first.false) (c.in_err-option.ensures.fault live))
 
 pub loop-rest-preserved : goal.loop-rest-preserved
 loop-rest-preserved c =
@@ -22,17 +24,20 @@ loop-rest-preserved c =
       is_list = list_goes_on _ _ _ _ more known.last known.is_list o.follows;
       parts = parts_go_on _ _ _ _ _ _ _ _ _ more known.last known.parts here o.parts;
       last = last_goes_on _ _ _ more;
-      begun = inr (first_fits _ _ _ _ _ known.begun here (ne_eqb _ 255 c.if-first.false) (λ f e. absurd (cc (o.refused f e))));
+      begun = inr (first_fits _ _ _ _ _ known.begun here (ne_eqb _ 255 c.if-first.false)
+          (λ f e. absurd (cc (o.refused f e))));
     }
 
 pub returns-in_err-option-clause-early : goal.returns-in_err-option-clause-early
 returns-in_err-option-clause-early c = λ f wrong.
     let here = first_rest c.loop-rest.rest.now 0 (omega (arith, c.in-len1-up.len_at_least)) in
     let p = err_from_is_err_and c.from_residual.result c.from_residual.ensures.1 in
-    let same = c.in_err-option.ensures.refused f (first_option _ _ _ _ _ f c.loop-rest.invariant.begun here (ne_eqb _ 255 c.if-first.false) wrong) in
+    let same = c.in_err-option.ensures.refused f
+    (first_option _ _ _ _ _ f c.loop-rest.invariant.begun here (ne_eqb _ 255 c.if-first.false) wrong) in
     rw (p.1, p.2) (cc)
 
 pub returns-in_err-push-clause-early : goal.returns-in_err-push-clause-early
 returns-in_err-push-clause-early c = λ f wrong.
     let here = first_rest c.loop-rest.rest.now 0 (omega (arith, c.in-len1-up.len_at_least)) in
-    absurd (cc (c.in_ok-option.ensures.refused f (first_option _ _ _ _ _ f c.loop-rest.invariant.begun here (ne_eqb _ 255 c.if-first.false) wrong)))
+    absurd (cc (c.in_ok-option.ensures.refused f
+    (first_option _ _ _ _ _ f c.loop-rest.invariant.begun here (ne_eqb _ 255 c.if-first.false) wrong)))

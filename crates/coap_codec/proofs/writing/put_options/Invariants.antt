@@ -6,5 +6,6 @@ use Rattle.coap_codec.proofs.writing.put_options.Given as goal
 abbrev pub invariant-loop-option : goal.invariant-loop-option
 invariant-loop-option l = record {
   is_list : IsOptionList l.number (drop l.option-index l.options);
-  whole : l.out.items ++ options_bytes l.number (drop l.option-index l.options) ≡ l.initial.out.items ++ options_bytes 0 l.options;
+  whole : l.out.items ++ options_bytes l.number (drop l.option-index l.options) ≡ l.initial.out.items
+      ++ options_bytes 0 l.options;
 }

@@ -6,8 +6,10 @@ use Rattle.device_firmware.proofs.laws.behind.Goals as goal
 
 pub returns-clause-outcome : goal.returns-clause-outcome
 returns-clause-outcome c = λ s after event o is h.
-    let e = taken_as s after event o is h in
-    (ap state_in (sym e) ∙ state-outcome (with_uri s (uri_of event)) o, ap (λ t. held t 5) (sym e) ∙ code-outcome (with_uri s (uri_of event)) o)
+    let e = taken_as s after event o is h in (
+      ap state_in (sym e) ∙ state-outcome (with_uri s (uri_of event)) o,
+      ap (λ t. held t 5) (sym e) ∙ code-outcome (with_uri s (uri_of event)) o,
+    )
 
 pub returns-clause-uri : goal.returns-clause-uri
 returns-clause-uri c = λ s after event h.

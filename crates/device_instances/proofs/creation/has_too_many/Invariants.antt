@@ -8,4 +8,5 @@ use Rattle.device_instances.proofs.creation.has_too_many.Given as goal
 abbrev pub invariant-loop-assignment : goal.invariant-loop-assignment
 invariant-loop-assignment l =
     (stored : Stored) (place : InstancePath)
-    → has_too_many Replace l.resources stored place (drop l.assignment-index l.assignment-items) ≡ has_too_many Replace l.resources stored place l.given
+    → has_too_many Replace l.resources stored place (drop l.assignment-index l.assignment-items)
+    ≡ has_too_many Replace l.resources stored place l.given

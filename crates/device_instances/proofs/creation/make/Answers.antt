@@ -14,10 +14,14 @@ add-requires-clause-free c =
 pub add-requires-clause-room : goal.add-requires-clause-room
 add-requires-clause-room c =
     ap (λ s. is_full s c.args.place.object) c.in_ok-add_control_for.ensures
-    ∙ control_full c.args.store.now c.args.accounts c.args.server c.args.place c.requires.other ∙ first_is_false _ _ c.requires.room
+    ∙ control_full c.args.store.now c.args.accounts c.args.server c.args.place c.requires.other
+    ∙ first_is_false _ _ c.requires.room
 
 pub write-requires-clause-there : goal.write-requires-clause-there
-write-requires-clause-there c = ap (λ s. has_instance s c.args.place) c.in_ok-add.ensures ∙ added c.add_control_for.new.store c.args.place
+write-requires-clause-there c =
+    ap (λ s. has_instance s c.args.place) c.in_ok-add.ensures ∙ added c.add_control_for.new.store c.args.place
 
 pub write-requires-clause-room : goal.write-requires-clause-room
-write-requires-clause-room c = counts_alike c.args.resources.now c.add.new.store c.args.store.now c.args.place c.args.given ∙ last_is_false _ _ _ c.requires.room
+write-requires-clause-room c =
+    counts_alike c.args.resources.now c.add.new.store c.args.store.now c.args.place c.args.given
+    ∙ last_is_false _ _ _ c.requires.room

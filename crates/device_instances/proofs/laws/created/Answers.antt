@@ -5,8 +5,10 @@ pub returns-clause-there : goal.returns-clause-there
 returns-clause-there c = there
 
 pub returns-clause-others : goal.returns-clause-others
-returns-clause-others c = λ s accounts server resources place given p has other.
-    (stays s accounts server resources place given p has other, values_stay s accounts server resources place given p has other)
+returns-clause-others c = λ s accounts server resources place given p has other. (
+  stays s accounts server resources place given p has other,
+  values_stay s accounts server resources place given p has other,
+)
 
 pub returns-clause-only : goal.returns-clause-only
 returns-clause-only c = none_else

@@ -6,26 +6,32 @@ use Rattle.fleet_core.proofs.serial.serial_entries.Goals as goal
 
 pub turns-smaller : goal.turns-smaller
 turns-smaller c =
-    let within : c.turns.low < length c.args.scenario.now.rows = omega (arith, c.turns-test.true, c.from.ensures, c.rows-rows.ensures.count) in
+    let within : c.turns.low < length c.args.scenario.now.rows =
+    omega (arith, c.turns-test.true, c.from.ensures, c.rows-rows.ensures.count) in
     goes_down c.args.scenario.now c.turns.low c.cursor_after-low.result c.turns.fleet c.add_entry.new.fleet
     c.turns.invariant.scenario c.if-not-enabled.ensures.is c.in_ok-add_entry.ensures within
 
 pub turns-preserved-then-not-enabled : goal.turns-preserved-then-not-enabled
 turns-preserved-then-not-enabled c =
-    let within : c.turns.low < length c.args.scenario.now.rows = omega (arith, c.turns-test.true, c.from.ensures, c.rows-rows.ensures.count) in
-    passes_on c.args.scenario.now c.turns.low c.turns.wake.items c.mark.new.wake.items c.turns.fleet c.turns.invariant c.if-not-enabled.ensures.is
+    let within : c.turns.low < length c.args.scenario.now.rows =
+    omega (arith, c.turns-test.true, c.from.ensures, c.rows-rows.ensures.count) in
+    passes_on c.args.scenario.now c.turns.low c.turns.wake.items c.mark.new.wake.items c.turns.fleet c.turns.invariant
+    c.if-not-enabled.ensures.is
     (c.mark.ensures ∙ ap (λ o. marks_with c.turns.wake.items o c.turns.low) c.next_step-step.ensures) within
 
 pub turns-preserved : goal.turns-preserved
 turns-preserved c =
-    goes_on c.args.scenario.now c.turns.low c.cursor_after-low.result c.turns.wake.items c.cursor_after-low.new.wake.items c.turns.fleet c.add_entry.new.fleet
+    goes_on c.args.scenario.now c.turns.low c.cursor_after-low.result c.turns.wake.items
+    c.cursor_after-low.new.wake.items c.turns.fleet c.add_entry.new.fleet
     c.turns.invariant c.if-not-enabled.ensures.is
-    (c.cursor_after-low.ensures.cursor ∙ ap (λ o. cursor_after c.turns.wake.items o c.turns.low) c.next_step-step.ensures)
+    (c.cursor_after-low.ensures.cursor ∙ ap (λ o. cursor_after c.turns.wake.items o c.turns.low)
+    c.next_step-step.ensures)
     (c.cursor_after-low.ensures.marks ∙ ap (λ o. marks_after c.turns.wake.items o) c.next_step-step.ensures)
     c.in_ok-add_entry.ensures
 
 pub returns : goal.returns
 returns c =
-    let past : length c.args.scenario.now.rows ≤ c.turns.low = omega (arith, c.turns-test.false, c.from.ensures, c.rows-rows.ensures.count) in
+    let past : length c.args.scenario.now.rows ≤ c.turns.low =
+    omega (arith, c.turns-test.false, c.from.ensures, c.rows-rows.ensures.count) in
     subst (IsSerial c.args.scenario.now) (sym c.into_entries.ensures)
     (arrives c.args.scenario.now c.turns.low c.turns.wake.items c.turns.fleet c.turns.invariant past)

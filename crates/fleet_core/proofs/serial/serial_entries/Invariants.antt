@@ -1,4 +1,5 @@
--- The entries so far are always the lowest, and the devices below the cursor are blocked; each turn takes a step, or passes a device.
+-- The entries so far are always the lowest, and the devices below the cursor are blocked; each turn takes a step, or
+-- passes a device.
 use Rattle.fleet_core.proofs.Lowest.{IsOnWay, distance}
 use Rattle.fleet_core.proofs.serial.serial_entries.Given as goal
 

@@ -6,5 +6,6 @@ use Rattle.fleet_workers.proofs.fleet.complete_run.Goals as goal
 
 pub returns-in-Done-clause-run : goal.returns-in-Done-clause-run
 returns-in-Done-clause-run c =
-    let done : IsDone c.args.scenario.now c.args.entries = subst (HasEnded c.args.scenario.now c.args.entries) c.in-Done.is c.requires.ended in
+    let done : IsDone c.args.scenario.now c.args.entries =
+    subst (HasEnded c.args.scenario.now c.args.entries) c.in-Done.is c.requires.ended in
     fleet_run c.args.scenario.now c.args.entries _ c.requires.workers done.complete done.ended

@@ -7,14 +7,18 @@ use Rattle.fleet_workers.proofs.Ending.{is_left}
 use Rattle.fleet_workers.proofs.fleet.run_two.Goals as goal
 
 pub join-one-requires-send-F : goal.join-one-requires-send-F
-join-one-requires-send-F g c κs within = search (sendable, pass.the_field_send, lock.the_field_sync, trace_send, scenario_sync) depth 40 parts 12
+join-one-requires-send-F g c κs within =
+    search (sendable, pass.the_field_send, lock.the_field_sync, trace_send, scenario_sync) depth 40 parts 12
 
 pub join-one-requires-send-A : goal.join-one-requires-send-A
 join-one-requires-send-A g c κs within = search (sendable, pass.the_field_send, trace_send, end_send) depth 40 parts 12
 
 pub returns : goal.returns
 returns g c =
-    is_left c.args.scenario.now c.args.pass.seat.me.0 c.args.lock.table.shared.key.0.value c.in-Ok.one.seat.me.0 c.in-Ok.two.seat.me.0
+    is_left c.args.scenario.now c.args.pass.seat.me.0 c.args.lock.table.shared.key.0.value c.in-Ok.one.seat.me.0
+    c.in-Ok.two.seat.me.0
     c.join-one.result.0.0.seat.me.0 c.join-one.result.1.0.seat.me.0 c.join-pass.result.seat.me.0 _ _ _
-    c.requires.whole c.requires.subject c.requires.empty c.in-Ok.ensures.lower.1 c.in-Ok.ensures.upper.1 c.join-one.ensures.first.1 c.join-one.ensures.second.1
-    c.join-one.ensures.first.2 c.join-one.ensures.second.2 c.join-pass.ensures.joined c.join-pass.ensures.fronts (c.into_entries.ensures ∙ c.in-Ok-close.ensures.entries)
+    c.requires.whole c.requires.subject c.requires.empty c.in-Ok.ensures.lower.1 c.in-Ok.ensures.upper.1
+    c.join-one.ensures.first.1 c.join-one.ensures.second.1
+    c.join-one.ensures.first.2 c.join-one.ensures.second.2 c.join-pass.ensures.joined c.join-pass.ensures.fronts
+    (c.into_entries.ensures ∙ c.in-Ok-close.ensures.entries)

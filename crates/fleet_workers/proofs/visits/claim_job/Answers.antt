@@ -6,8 +6,10 @@ use Rattle.fleet_workers.proofs.visits.claim_job.Goals as goal
 
 pub returns-in-Ok-clause-claimed : goal.returns-in-Ok-clause-claimed
 returns-in-Ok-clause-claimed g c =
-    let v = c.args.pass.seat.me.0 in let h = c.in-Ok.held in let new = c.claim-claim.new.self in let claim = c.claim-claim.result in
-    has_claimed v c.give.result.seat.me.0 h.seat.me.0 c.in-Ok.ensures.view.0 h.value new claim c.in-Ok.ensures.value c.in-Ok.ensures.view.1 c.give.ensures.given
+    let v = c.args.pass.seat.me.0 in let h = c.in-Ok.held in let new = c.claim-claim.new.self in let claim =
+    c.claim-claim.result in
+    has_claimed v c.give.result.seat.me.0 h.seat.me.0 c.in-Ok.ensures.view.0 h.value new claim c.in-Ok.ensures.value
+    c.in-Ok.ensures.view.1 c.give.ensures.given
     (c.give.ensures.work [] ∙ ap (λ u. open_by new u.low) c.in-Ok.ensures.view.1)
     (subst (λ x. Claims x new v.low claim) c.value_mut.ensures.value
     (subst (λ n. Claims c.value_mut.result.now new n claim) c.number-worker.ensures c.claim-claim.ensures.claims))

@@ -16,19 +16,24 @@ put_or_stop-put-requires g c =
 pub returns-after-put-clause-follows : goal.returns-after-put-clause-follows
 returns-after-put-clause-follows g c =
     let v = c.args.pass.seat.me.0 in let h = c.in-Ok.held in let new = c.put_or_stop-put.new.trace in
-    follows v c.give.result.seat.me.0 h.seat.me.0 c.in-Ok.ensures.view.0 h.value new c.in-Ok.ensures.value c.in-Ok.ensures.view.1 c.give.ensures.given
-    (omega (arith, c.args.pass.within.1, c.args.pass.numbers.0)) (omega (arith, c.args.pass.within.0, c.args.pass.within.2, c.args.pass.numbers.0))
+    follows v c.give.result.seat.me.0 h.seat.me.0 c.in-Ok.ensures.view.0 h.value new c.in-Ok.ensures.value
+    c.in-Ok.ensures.view.1 c.give.ensures.given
+    (omega (arith, c.args.pass.within.1, c.args.pass.numbers.0))
+    (omega (arith, c.args.pass.within.0, c.args.pass.within.2, c.args.pass.numbers.0))
     (subst (λ x. Adds trace_log v.low x new) c.value_mut.ensures.value
     (subst (λ n. Adds trace_log n c.value_mut.result.now new) c.number-worker.ensures c.put_or_stop-put.ensures.adds))
     c.put_or_stop-put.ensures.shared
 
 pub returns-after-put-clause-put : goal.returns-after-put-clause-put
 returns-after-put-clause-put g c made =
-    let v = c.args.pass.seat.me.0 in let h = c.in-Ok.held in let new = c.put_or_stop-put.new.trace in let job = c.args.job in
+    let v = c.args.pass.seat.me.0 in let h = c.in-Ok.held in let new = c.put_or_stop-put.new.trace in let job =
+    c.args.job in
     elim c.if-put.branch [
       | then-put w ↦
-          is_put v c.give.result.seat.me.0 h.seat.me.0 c.in-Ok.ensures.view.0 h.value new job c.in-Ok.ensures.value c.in-Ok.ensures.view.1 c.give.ensures.given
-          (c.put_or_stop-put.ensures.put w.if-put.true ∙ ap (λ x. with_block x job.device job.shown job.entries) c.value_mut.ensures.value)
+          is_put v c.give.result.seat.me.0 h.seat.me.0 c.in-Ok.ensures.view.0 h.value new job c.in-Ok.ensures.value
+          c.in-Ok.ensures.view.1 c.give.ensures.given
+          (c.put_or_stop-put.ensures.put w.if-put.true
+          ∙ ap (λ x. with_block x job.device job.shown job.entries) c.value_mut.ensures.value)
       | else-put w ↦ (let e = sym made ∙ w.result-is in absurd cc)
     ]
 

@@ -9,7 +9,8 @@ use Rattle.instance_store.specs.Stored.{lies_in, resource_path}
 use Rattle.instance_store.proofs.Intervals.{from, started, lying, nothing_left}
 use Rattle.instance_store.proofs.listing.count_parts.Goals as goal
 
-items : (c : goal.After-into_iter-place-iterator) → c.into_iter-place-iterator.result ≡ filter (λ e. from c.path_of-path.result e.0) c.args.values.now.entries
+items : (c : goal.After-into_iter-place-iterator)
+    → c.into_iter-place-iterator.result ≡ filter (λ e. from c.path_of-path.result e.0) c.args.values.now.entries
 items c =
     c.into_iter-place-iterator.ensures.into_iter_gives
     ∙ c.range-place-items.ensures.between tt
@@ -17,24 +18,42 @@ items c =
 
 pub loop-place-init : goal.loop-place-init
 loop-place-init c = record {
-  counted = omega (arith, ap (λ t. length (filter_map (λ e. e.0.part) t)) (lying c.path_of-path.result c.args.values.now.entries c.into_iter-place-iterator.result (items c)));
+  counted = omega (
+    arith,
+    ap (λ t. length (filter_map (λ e. e.0.part) t))
+        (lying c.path_of-path.result c.args.values.now.entries c.into_iter-place-iterator.result (items c)),
+  );
   within = omega arith;
-  closed = started c.path_of-path.result c.args.values.now.entries c.into_iter-place-iterator.result (items c) c.range-place-items.ensures.ordered;
+  closed = started c.path_of-path.result c.args.values.now.entries c.into_iter-place-iterator.result
+      (items c) c.range-place-items.ensures.ordered;
 }
 
 pub returns-then-not-is_in : goal.returns-then-not-is_in
 returns-then-not-is_in c =
-    let none = nothing_left (λ e. lies_in c.path_of-path.result e.0) _ _ _ c.in-Some.ensures.steps c.loop-place.invariant.closed (sym c.if-not-is_in.ensures) in
+    let none = nothing_left (λ e. lies_in c.path_of-path.result e.0) _ _ _ c.in-Some.ensures.steps
+    c.loop-place.invariant.closed (sym c.if-not-is_in.ensures) in
     omega (arith, c.loop-place.invariant.counted, ap (λ t. length (filter_map (λ e. e.0.part) t)) none)
-    ∙ ap (λ p. length (filter_map (λ e. e.0.part) (filter (λ e. lies_in p e.0) c.args.values.now.entries))) c.path_of-path.ensures
-    ∙ ap (λ es. length (filter_map (λ e. e.0.part) (filter (λ e. lies_in (resource_path c.args.resource) e.0) es))) (sym (entries-from_entries path_total path_exact c.args.values.now.entries c.range-place-items.ensures.ordered))
+    ∙ ap (λ p. length (filter_map (λ e. e.0.part) (filter (λ e. lies_in p e.0) c.args.values.now.entries)))
+    c.path_of-path.ensures
+    ∙ ap (λ es. length (filter_map (λ e. e.0.part) (filter (λ e. lies_in (resource_path c.args.resource) e.0) es)))
+    (sym (entries-from_entries path_total path_exact c.args.values.now.entries c.range-place-items.ensures.ordered))
 
 pub overflow_add-count : goal.overflow_add-count
-overflow_add-count c = omega (arith, c.loop-place.invariant.within, ap length c.in-Some.ensures.steps, c.range-place-items.ensures.fits, ap length c.into_iter-place-iterator.ensures.into_iter_gives)
+overflow_add-count c =
+    omega (
+      arith,
+      c.loop-place.invariant.within,
+      ap length c.in-Some.ensures.steps,
+      c.range-place-items.ensures.fits,
+      ap length c.into_iter-place-iterator.ensures.into_iter_gives,
+    )
 
 pub returns : goal.returns
 returns c =
-    let none = ap (λ t. length (filter_map (λ e. e.0.part) (filter (λ e. lies_in c.path_of-path.result e.0) t))) c.in-None.ensures.steps.0 in
+    let none = ap (λ t. length (filter_map (λ e. e.0.part) (filter (λ e. lies_in c.path_of-path.result e.0) t)))
+    c.in-None.ensures.steps.0 in
     omega (arith, c.loop-place.invariant.counted, none)
-    ∙ ap (λ p. length (filter_map (λ e. e.0.part) (filter (λ e. lies_in p e.0) c.args.values.now.entries))) c.path_of-path.ensures
-    ∙ ap (λ es. length (filter_map (λ e. e.0.part) (filter (λ e. lies_in (resource_path c.args.resource) e.0) es))) (sym (entries-from_entries path_total path_exact c.args.values.now.entries c.range-place-items.ensures.ordered))
+    ∙ ap (λ p. length (filter_map (λ e. e.0.part) (filter (λ e. lies_in p e.0) c.args.values.now.entries)))
+    c.path_of-path.ensures
+    ∙ ap (λ es. length (filter_map (λ e. e.0.part) (filter (λ e. lies_in (resource_path c.args.resource) e.0) es)))
+    (sym (entries-from_entries path_total path_exact c.args.values.now.entries c.range-place-items.ensures.ordered))

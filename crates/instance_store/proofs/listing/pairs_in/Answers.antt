@@ -10,7 +10,8 @@ use Rattle.instance_store.specs.Listing.{shown_pairs}
 use Rattle.instance_store.proofs.Intervals.{from, started, lying, nothing_left}
 use Rattle.instance_store.proofs.listing.pairs_in.Goals as goal
 
-items : (c : goal.After-into_iter-place-iterator) → c.into_iter-place-iterator.result ≡ filter (λ e. from c.args.path e.0) c.args.values.now.entries
+items : (c : goal.After-into_iter-place-iterator)
+    → c.into_iter-place-iterator.result ≡ filter (λ e. from c.args.path e.0) c.args.values.now.entries
 items c =
     c.into_iter-place-iterator.ensures.into_iter_gives
     ∙ c.range-place-items.ensures.between tt
@@ -18,20 +19,28 @@ items c =
 
 pub loop-place-init : goal.loop-place-init
 loop-place-init c = record {
-  told = ap (λ t. shown_pairs t ++ filter (λ e. lies_in c.args.path e.0) c.into_iter-place-iterator.result) c.new-found.ensures.items ∙ lying c.args.path c.args.values.now.entries c.into_iter-place-iterator.result (items c);
-  closed = started c.args.path c.args.values.now.entries c.into_iter-place-iterator.result (items c) c.range-place-items.ensures.ordered;
+  told = ap (λ t. shown_pairs t ++ filter (λ e. lies_in c.args.path e.0) c.into_iter-place-iterator.result)
+      c.new-found.ensures.items ∙ lying c.args.path c.args.values.now.entries c.into_iter-place-iterator.result
+      (items c);
+  closed = started c.args.path c.args.values.now.entries c.into_iter-place-iterator.result
+      (items c) c.range-place-items.ensures.ordered;
 }
 
 pub returns-then-not-is_in : goal.returns-then-not-is_in
 returns-then-not-is_in c =
     sym (append-nil _)
-    ∙ ap (λ t. shown_pairs c.loop-place.found.items ++ t) (sym (nothing_left (λ e. lies_in c.args.path e.0) _ _ _ c.in-Some.ensures.steps c.loop-place.invariant.closed (sym c.if-not-is_in.ensures)))
+    ∙ ap (λ t. shown_pairs c.loop-place.found.items ++ t)
+    (sym (nothing_left (λ e. lies_in c.args.path e.0) _ _ _ c.in-Some.ensures.steps c.loop-place.invariant.closed
+    (sym c.if-not-is_in.ensures)))
     ∙ c.loop-place.invariant.told
-    ∙ ap (filter (λ e. lies_in c.args.path e.0)) (sym (entries-from_entries path_total path_exact c.args.values.now.entries c.range-place-items.ensures.ordered))
+    ∙ ap (filter (λ e. lies_in c.args.path e.0))
+    (sym (entries-from_entries path_total path_exact c.args.values.now.entries c.range-place-items.ensures.ordered))
 
 pub returns : goal.returns
 returns c =
     sym (append-nil _)
-    ∙ ap (λ t. shown_pairs c.loop-place.found.items ++ filter (λ e. lies_in c.args.path e.0) t) (sym c.in-None.ensures.steps.0)
+    ∙ ap (λ t. shown_pairs c.loop-place.found.items ++ filter (λ e. lies_in c.args.path e.0) t)
+    (sym c.in-None.ensures.steps.0)
     ∙ c.loop-place.invariant.told
-    ∙ ap (filter (λ e. lies_in c.args.path e.0)) (sym (entries-from_entries path_total path_exact c.args.values.now.entries c.range-place-items.ensures.ordered))
+    ∙ ap (filter (λ e. lies_in c.args.path e.0))
+    (sym (entries-from_entries path_total path_exact c.args.values.now.entries c.range-place-items.ensures.ordered))

@@ -8,6 +8,7 @@ use Rattle.instance_store.proofs.listing.pairs_in.Given as goal
 -- what was found and what is left are all that lies there
 abbrev pub invariant-loop-place : goal.invariant-loop-place
 invariant-loop-place l = record {
-  told : shown_pairs l.found.items ++ filter (λ e. lies_in l.path e.0) l.place-iterator ≡ filter (λ e. lies_in l.path e.0) l.fn.values.entries;
+  told : shown_pairs l.found.items ++ filter (λ e. lies_in l.path e.0) l.place-iterator
+      ≡ filter (λ e. lies_in l.path e.0) l.fn.values.entries;
   closed : Closed (λ e. lies_in l.path e.0) l.place-iterator;
 }

@@ -7,7 +7,8 @@ use Rattle.instance_store.proofs.removal.remove_in.Given as goal
 
 -- what lies elsewhere is as it was
 abbrev pub invariant-loop-place : goal.invariant-loop-place
-invariant-loop-place l = (q : FullPath) → lies_in l.path q ≡ false → get path_cmp l.values q ≡ get path_cmp l.initial.values q
+invariant-loop-place l =
+    (q : FullPath) → lies_in l.path q ≡ false → get path_cmp l.values q ≡ get path_cmp l.initial.values q
 
 abbrev pub decreases-loop-place : goal.decreases-loop-place
 decreases-loop-place l = btree_map_len l.values

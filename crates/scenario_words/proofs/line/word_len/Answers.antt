@@ -12,6 +12,7 @@ pub loop-len-preserved : goal.loop-len-preserved
 loop-len-preserved c = record {
   within = omega arith;
   so_far =
-      rw c.stays_quoted-quoted.ensures (next_byte c.args.line.now c.loop-len.quoted c.loop-len.len c.loop-len-test.true (sym c.if-is_in_word.ensures))
+      rw c.stays_quoted-quoted.ensures (next_byte c.args.line.now c.loop-len.quoted c.loop-len.len c.loop-len-test.true
+      (sym c.if-is_in_word.ensures))
       ∙ c.loop-len.invariant.so_far;
 }

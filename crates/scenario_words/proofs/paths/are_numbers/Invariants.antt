@@ -10,7 +10,9 @@ rest_len (Some bytes) = suc (length bytes)
 
 -- what is left decides
 abbrev pub invariant-loop-left : goal.invariant-loop-left
-invariant-loop-left l = list_all is_number (parts_behind l.byte (option_map (λ x. x.now) l.left)) ≡ list_all is_number (parts l.byte l.fn.bytes)
+invariant-loop-left l =
+    list_all is_number (parts_behind l.byte (option_map (λ x. x.now) l.left))
+    ≡ list_all is_number (parts l.byte l.fn.bytes)
 
 abbrev pub decreases-loop-left : goal.decreases-loop-left
 decreases-loop-left l = rest_len (option_map (λ x. x.now) l.left)

@@ -4,4 +4,5 @@ use Rattle.shared_trace.specs.Kept.{is_parked}
 use Rattle.shared_trace.proofs.station.first_out.Given as goal
 
 abbrev pub invariant-loop-device : goal.invariant-loop-device
-invariant-loop-device l = (i : ℕ) (x : Station) → i < l.device → slice_get l.stations i ≡ Some x → is_parked x.place ≡ true
+invariant-loop-device l =
+    (i : ℕ) (x : Station) → i < l.device → slice_get l.stations i ≡ Some x → is_parked x.place ≡ true

@@ -4,4 +4,6 @@ use Rattle.shared_trace.specs.Kept.{is_ready}
 use Rattle.shared_trace.proofs.station.lowest_ready.Given as goal
 
 abbrev pub invariant-loop-device : goal.invariant-loop-device
-invariant-loop-device l = (i : ℕ) (x : Station) → i < l.device → slice_get l.stations i ≡ Some x → is_ready (λ g. slice_index l.posts g) x ≡ false
+invariant-loop-device l =
+    (i : ℕ) (x : Station) → i < l.device → slice_get l.stations i ≡ Some x
+    → is_ready (λ g. slice_index l.posts g) x ≡ false

@@ -5,4 +5,5 @@ use Rattle.shared_trace.proofs.tables.add_posts.Given as goal
 abbrev pub invariant-loop-group : goal.invariant-loop-group
 invariant-loop-group l =
     (length l.posts.items ≡ length l.initial.posts.items)
-    × ((g : ℕ) → slice_index l.posts.items g ≡ slice_index l.initial.posts.items g + count_by (λ h. h == g) (take l.group-index l.groups))
+    × ((g : ℕ) → slice_index l.posts.items g
+    ≡ slice_index l.initial.posts.items g + count_by (λ h. h == g) (take l.group-index l.groups))

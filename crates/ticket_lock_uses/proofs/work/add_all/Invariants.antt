@@ -11,6 +11,9 @@ invariant-loop-count g l = record {
   pass : IsPass (lock_id l.lock) l.pass;
   low : (pass_view l.pass).low ≡ (pass_view l.initial.pass).low;
   size : (pass_view l.pass).count ≡ (pass_view l.initial.pass).count;
-  added : own items_log (pass_view l.initial.pass).low (pass_view l.pass).front ≡ own items_log (pass_view l.initial.pass).low (pass_view l.initial.pass).front ++ by_worker (pass_view l.initial.pass).low (take l.count l.numbers);
-  others : (w : ℕ) → HasNumber (pass_view l.initial.pass) w → w ≢ (pass_view l.initial.pass).low → own items_log w (pass_view l.pass).front ≡ own items_log w (pass_view l.initial.pass).front;
+  added : own items_log (pass_view l.initial.pass).low (pass_view l.pass).front
+      ≡ own items_log (pass_view l.initial.pass).low (pass_view l.initial.pass).front
+      ++ by_worker (pass_view l.initial.pass).low (take l.count l.numbers);
+  others : (w : ℕ) → HasNumber (pass_view l.initial.pass) w → w ≢ (pass_view l.initial.pass).low
+      → own items_log w (pass_view l.pass).front ≡ own items_log w (pass_view l.initial.pass).front;
 }

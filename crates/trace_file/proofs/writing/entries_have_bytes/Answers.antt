@@ -8,15 +8,30 @@ loop-item-init c = none_yet entry c.args.items.now
 
 pub returns-then-items : goal.returns-then-items
 unfolding entry_list
-returns-then-items c = (λ e. absurd cc, λ good. absurd (let below : length c.args.items.now < 4294967296 = count_below entry c.args.items.now good in omega (arith, c.if-items.true)))
+returns-then-items c = (
+  λ e. absurd cc,
+  λ good. absurd (let below : length c.args.items.now < 4294967296 =
+      count_below entry c.args.items.now good in omega (arith, c.if-items.true)),
+)
 
 pub returns-then-not-entry_has_bytes : goal.returns-then-not-entry_has_bytes
 unfolding entry_list
-returns-then-not-entry_has_bytes c = (λ e. absurd cc, λ good. c.if-not-entry_has_bytes.ensures.1 (item_good entry c.args.items.now c.loop-item.item-index c.item-item.result c.loop-item-test.true c.item-item.is good))
+returns-then-not-entry_has_bytes c = (
+  λ e. absurd cc,
+  λ good. c.if-not-entry_has_bytes.ensures.1
+      (item_good entry c.args.items.now c.loop-item.item-index c.item-item.result c.loop-item-test.true
+      c.item-item.is good),
+)
 
 pub loop-item-preserved : goal.loop-item-preserved
-loop-item-preserved c = one_more entry c.args.items.now c.loop-item.item-index c.item-item.result c.loop-item-test.true c.item-item.is (c.if-not-entry_has_bytes.ensures.0 refl) c.loop-item.invariant
+loop-item-preserved c =
+    one_more entry c.args.items.now c.loop-item.item-index c.item-item.result c.loop-item-test.true c.item-item.is
+    (c.if-not-entry_has_bytes.ensures.0 refl) c.loop-item.invariant
 
 pub returns : goal.returns
 unfolding entry_list
-returns c = (λ e. all_good entry c.args.items.now c.loop-item.item-index (omega (arith, c.if-items.false)) c.loop-item-test.false c.loop-item.invariant, λ good. refl)
+returns c = (
+  λ e. all_good entry c.args.items.now c.loop-item.item-index
+      (omega (arith, c.if-items.false)) c.loop-item-test.false c.loop-item.invariant,
+  λ good. refl,
+)

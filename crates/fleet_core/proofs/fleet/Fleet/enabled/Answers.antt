@@ -5,5 +5,6 @@ use Rattle.fleet_core.proofs.fleet.Fleet.enabled.Goals as goal
 
 pub returns-clause-can : goal.returns-clause-can
 returns-clause-can c =
-    subst (λ b. IsTrue b ↔ CanGo c.args.self.now.scenario c.args.self.now.entries c.args.device) (sym c.is_enabled.ensures)
+    subst (λ b. IsTrue b ↔ CanGo c.args.self.now.scenario c.args.self.now.entries c.args.device)
+    (sym c.is_enabled.ensures)
     (enabled_can c.args.self.now.scenario c.args.self.now.entries c.args.device)

@@ -6,5 +6,7 @@ pub invariant_of-result : goal.invariant_of-result
 invariant_of-result c =
     let a = c.in_ok-vec.ensures.items_if_clones_equal (λ y e. e) in
     let b = c.in_ok-vec-2.ensures.items_if_clones_equal (λ y e. e) in
-    starts c.args.scenario.now c.new.result c.in_ok-vec.field-0.items c.in_ok-vec-2.field-0.items c.in_ok-devices.devices.items
-    c.rows-rows.ensures.valid c.new.ensures (a ∙ ap (λ n. replicate n 0) c.rows-rows.ensures.count) b c.in_ok-devices.ensures.count c.in_ok-devices.ensures.started
+    starts c.args.scenario.now c.new.result c.in_ok-vec.field-0.items c.in_ok-vec-2.field-0.items
+    c.in_ok-devices.devices.items
+    c.rows-rows.ensures.valid c.new.ensures (a ∙ ap (λ n. replicate n 0) c.rows-rows.ensures.count) b
+    c.in_ok-devices.ensures.count c.in_ok-devices.ensures.started

@@ -6,7 +6,8 @@ use Rattle.instance_store.proofs.numbers.Numbers.insert.Goals as goal
 
 pub invariant_of-self : goal.invariant_of-self
 invariant_of-self c =
-    rw c.in_ok-insert.ensures.items (increasing-insert c.self.inside.items.items c.in-Err.place c.args.number c.self.invariant (rw c.deref.ensures.value at c.in-Err.ensures.position))
+    rw c.in_ok-insert.ensures.items (increasing-insert c.self.inside.items.items c.in-Err.place c.args.number
+    c.self.invariant (rw c.deref.ensures.value at c.in-Err.ensures.position))
 
 pub returns-in_ok-insert-clause-ok : goal.returns-in_ok-insert-clause-ok
 returns-in_ok-insert-clause-ok c =
@@ -17,5 +18,6 @@ returns-in_ok-insert-clause-ok c =
 pub returns-in_default-clause-ok : goal.returns-in_default-clause-ok
 returns-in_default-clause-ok c =
     sym c.self.view_is
-    ∙ set_of-held c.self.inside.items.items c.in_default.field-0 c.args.number c.self.invariant (rw c.deref.ensures.value at c.in_default.ensures.position)
+    ∙ set_of-held c.self.inside.items.items c.in_default.field-0 c.args.number c.self.invariant
+    (rw c.deref.ensures.value at c.in_default.ensures.position)
     ∙ ap (λ m. map.insert m c.args.number tt) c.self.view_is

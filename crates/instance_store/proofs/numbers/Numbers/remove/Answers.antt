@@ -7,11 +7,14 @@ use Rattle.instance_store.specs.Numbers.{set_of}
 use Rattle.instance_store.proofs.NumberLaws.{set_of-without}
 use Rattle.instance_store.proofs.numbers.Numbers.remove.Goals as goal
 
-left : (c : goal.After-retain) → c.retain.new.self.items ≡ filter (λ n. not (eqb n c.args.number)) c.self.inside.items.items
+left : (c : goal.After-retain)
+    → c.retain.new.self.items ≡ filter (λ n. not (eqb n c.args.number)) c.self.inside.items.items
 left c = filter_same _ (λ n. not (eqb n c.args.number)) _ (λ x b f' k. search rules) _ _ c.retain.ensures.filtered
 
 pub invariant_of-self : goal.invariant_of-self
-invariant_of-self c = rw (left c) (IsStrictlyIncreasing-filter (λ n. not (eqb n c.args.number)) c.self.inside.items.items c.self.invariant)
+invariant_of-self c =
+    rw (left c) (IsStrictlyIncreasing-filter
+    (λ n. not (eqb n c.args.number)) c.self.inside.items.items c.self.invariant)
 
 pub returns : goal.returns
 returns c =

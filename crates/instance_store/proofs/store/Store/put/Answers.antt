@@ -7,7 +7,8 @@ use Rattle.instance_store.proofs.store.Store.put.Goals as goal
 
 pub returns-clause-ok : goal.returns-clause-ok
 returns-clause-ok c =
-    ap (λ m. record { values = m; instances = instances_from c.self.inside.instances.entries }) (one_put path_total path_exact _ _ c.single.result c.args.value c.in_ok-insert.ensures.updates.0)
+    ap (λ m. record { values = m; instances = instances_from c.self.inside.instances.entries })
+    (one_put path_total path_exact _ _ c.single.result c.args.value c.in_ok-insert.ensures.updates.0)
     ∙ ap (λ s. with_value s c.single.result c.args.value) c.self.view_is
     ∙ ap (λ p. with_value c.args.self.now p c.args.value) c.single.ensures
 

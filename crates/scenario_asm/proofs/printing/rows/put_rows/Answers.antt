@@ -1,7 +1,7 @@
 use Rattle.std.proofs.Common.{◌<◌, sym, ap, subst, ◌∙◌, arith}
 use Rattle.std.specs.List.{flat_map}
 use Rattle.std.specs.String.{string_bytes}
-use Rattle.scenario_image.specs.Script.{Row}
+use Rattle.scenario_image.specs.Scenario.{Row}
 use Rattle.scenario_asm.specs.Canonical.{of_row, printed_lines}
 use Rattle.scenario_asm.proofs.Places.{none_at, printed_next}
 use Rattle.scenario_asm.proofs.printing.rows.put_rows.Goals as goal

@@ -2,7 +2,7 @@ use Rattle.std.proofs.Common.{◌≡◌, ◌∷◌, [], ◌++◌, length, sym, a
 use Rattle.std.proofs.lemmas.List.{append-nil, nil_from_length}
 use Rattle.std.proofs.lemmas.Result.{err_from_is_err_and}
 use Rattle.std.specs.Vec.Iter.{into_iter_items}
-use Rattle.scenario_image.specs.Script.{AreTaken, with_step, step_fault}
+use Rattle.scenario_image.specs.Scenario.{AreTaken, with_step, step_fault}
 use Rattle.scenario_image.proofs.Adding.{none_if, one_more, refused_here, one_refusal, none_refused}
 use Rattle.scenario_image.proofs.scenario.Scenario.single.Goals as goal
 

@@ -1,7 +1,7 @@
 -- The scenario has the steps so far, none of which was refused; the others are still to come.
 use Rattle.std.proofs.Common.{◌≡◌, ◌++◌, length}
 use Rattle.std.specs.Vec.Iter.{into_iter_items, into_iter_len}
-use Rattle.scenario_image.specs.Script.{one_row, AreTaken}
+use Rattle.scenario_image.specs.Scenario.{one_row, AreTaken}
 use Rattle.scenario_image.proofs.scenario.Scenario.single.Given as goal
 
 abbrev pub invariant-loop-step : goal.invariant-loop-step

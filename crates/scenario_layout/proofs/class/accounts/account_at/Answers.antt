@@ -1,7 +1,7 @@
 use Rattle.std.proofs.Common.{ap, sym, ◌∙◌}
 use Rattle.std.specs.Prelude.{nat_lt}
 use Rattle.std.specs.List.{list_all}
-use Rattle.device_template.specs.Class.{account_fault}
+use Rattle.device_template.specs.Template.{account_fault}
 use Rattle.scenario_layout.proofs.Items.{not_refused, account_low, account_fits}
 use Rattle.scenario_layout.proofs.class.accounts.account_at.Goals as goal
 

@@ -1,6 +1,6 @@
 use Rattle.std.proofs.Common.{ap, ◌∙◌}
 use Rattle.std.proofs.lemmas.List.{get_or_default, take_all}
-use Rattle.device_template.specs.Class.{with_catalogue}
+use Rattle.device_template.specs.Template.{with_catalogue}
 use Rattle.scenario_layout.specs.Growing.{with_definitions}
 use Rattle.scenario_layout.proofs.Defined.{free_at, made_on, found_more}
 use Rattle.scenario_layout.proofs.class.definitions.define.Goals as goal

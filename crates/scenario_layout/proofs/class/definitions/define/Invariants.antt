@@ -1,6 +1,6 @@
 use Rattle.std.proofs.Common.{◌≡◌, Some, take}
 use Rattle.object_defs.specs.Catalogue.{object_of}
-use Rattle.device_template.specs.Class.{with_catalogue}
+use Rattle.device_template.specs.Template.{with_catalogue}
 use Rattle.scenario_layout.specs.Growing.{with_definitions}
 use Rattle.scenario_layout.specs.Class.{defined}
 use Rattle.scenario_layout.proofs.class.definitions.define.Given as goal

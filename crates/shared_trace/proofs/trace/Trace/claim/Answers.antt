@@ -4,13 +4,16 @@ use Rattle.shared_trace.proofs.Stations.{shared_of}
 use Rattle.shared_trace.proofs.trace.Trace.claim.Goals as goal
 
 pub returns-then-self-clause-shared : goal.returns-then-self-clause-shared
-returns-then-self-clause-shared c = shared_of c.args.self.now c.self.inside.subject.value c.self.inside.entries.items c.self.inside.stations.items c.self.inside.posts.items c.self.inside.stopped c.self.view_is c.self.invariant
+returns-then-self-clause-shared c =
+    shared_of c.args.self.now c.self.inside.subject.value c.self.inside.entries.items c.self.inside.stations.items
+    c.self.inside.posts.items c.self.inside.stopped c.self.view_is c.self.invariant
 
 pub returns-in-Some-clause-claims : goal.returns-in-Some-clause-claims
 returns-in-Some-clause-claims c = record {
   going = sym (ap (λ t. t.stopped) c.self.view_is) ∙ c.if-self.false;
   taken = c.hand_out.ensures.taken;
-  lowest = subst (λ n. (d : ℕ) → IsReady c.args.self.now d → n ≤ d) (sym c.hand_out.ensures.device) c.in-Some.ensures.ready.1;
+  lowest = subst (λ n. (d : ℕ) → IsReady c.args.self.now d → n ≤ d)
+      (sym c.hand_out.ensures.device) c.in-Some.ensures.ready.1;
 }
 
 pub returns-in-None-clause-claims : goal.returns-in-None-clause-claims
@@ -20,4 +23,6 @@ pub returns-in-None-clause-stands : goal.returns-in-None-clause-stands
 returns-in-None-clause-stands c = c.idle.ensures.stands c.args.worker
 
 pub returns-in-None-clause-shared : goal.returns-in-None-clause-shared
-returns-in-None-clause-shared c = shared_of c.args.self.now c.self.inside.subject.value c.self.inside.entries.items c.self.inside.stations.items c.self.inside.posts.items c.self.inside.stopped c.self.view_is c.self.invariant
+returns-in-None-clause-shared c =
+    shared_of c.args.self.now c.self.inside.subject.value c.self.inside.entries.items c.self.inside.stations.items
+    c.self.inside.posts.items c.self.inside.stopped c.self.view_is c.self.invariant

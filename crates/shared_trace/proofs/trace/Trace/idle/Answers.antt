@@ -4,24 +4,33 @@ use Rattle.shared_trace.proofs.trace.Trace.idle.Goals as goal
 pub returns-in-Some-clause-claims : goal.returns-in-Some-clause-claims
 returns-in-Some-clause-claims c = λ w. (
   idle_now c.args.self.now c.requires.going c.requires.none,
-  any_out c.args.self.now c.self.inside.subject.value c.self.inside.entries.items c.self.inside.stations.items c.self.inside.posts.items c.self.inside.stopped c.in-Some.field-0
+  any_out c.args.self.now c.self.inside.subject.value c.self.inside.entries.items c.self.inside.stations.items
+      c.self.inside.posts.items c.self.inside.stopped c.in-Some.field-0
       c.as_slice.result.now c.as_slice.ensures.value c.self.view_is c.self.invariant c.in-Some.ensures.out,
 )
 
 pub returns-in-Some-first_left-clause-claims : goal.returns-in-Some-first_left-clause-claims
 returns-in-Some-first_left-clause-claims c = λ w. (
   idle_now c.args.self.now c.requires.going c.requires.none,
-  complete_is c.args.self.now c.self.inside.subject.value c.self.inside.entries.items c.self.inside.stations.items c.self.inside.posts.items c.self.inside.stopped
-      c.as_slice.result.now c.as_slice.ensures.value c.self.view_is c.self.invariant c.requires.none c.in-None.ensures.none,
-  any_left c.args.self.now c.self.inside.subject.value c.self.inside.entries.items c.self.inside.stations.items c.self.inside.posts.items c.self.inside.stopped c.in-Some-first_left.field-0
-      c.as_slice-2.result.now c.as_slice-2.ensures.value c.self.view_is c.self.invariant c.in-Some-first_left.ensures.left,
+  complete_is c.args.self.now c.self.inside.subject.value c.self.inside.entries.items c.self.inside.stations.items
+      c.self.inside.posts.items c.self.inside.stopped
+      c.as_slice.result.now c.as_slice.ensures.value c.self.view_is c.self.invariant c.requires.none
+      c.in-None.ensures.none,
+  any_left c.args.self.now c.self.inside.subject.value c.self.inside.entries.items c.self.inside.stations.items
+      c.self.inside.posts.items c.self.inside.stopped c.in-Some-first_left.field-0
+      c.as_slice-2.result.now c.as_slice-2.ensures.value c.self.view_is c.self.invariant
+      c.in-Some-first_left.ensures.left,
 )
 
 pub returns-in-None-first_left-clause-claims : goal.returns-in-None-first_left-clause-claims
 returns-in-None-first_left-clause-claims c = λ w. (
   idle_now c.args.self.now c.requires.going c.requires.none,
-  complete_is c.args.self.now c.self.inside.subject.value c.self.inside.entries.items c.self.inside.stations.items c.self.inside.posts.items c.self.inside.stopped
-      c.as_slice.result.now c.as_slice.ensures.value c.self.view_is c.self.invariant c.requires.none c.in-None.ensures.none,
-  all_ended c.args.self.now c.self.inside.subject.value c.self.inside.entries.items c.self.inside.stations.items c.self.inside.posts.items c.self.inside.stopped
-      c.as_slice-2.result.now c.as_slice-2.ensures.value c.self.view_is c.self.invariant c.in-None-first_left.ensures.none,
+  complete_is c.args.self.now c.self.inside.subject.value c.self.inside.entries.items c.self.inside.stations.items
+      c.self.inside.posts.items c.self.inside.stopped
+      c.as_slice.result.now c.as_slice.ensures.value c.self.view_is c.self.invariant c.requires.none
+      c.in-None.ensures.none,
+  all_ended c.args.self.now c.self.inside.subject.value c.self.inside.entries.items c.self.inside.stations.items
+      c.self.inside.posts.items c.self.inside.stopped
+      c.as_slice-2.result.now c.as_slice-2.ensures.value c.self.view_is c.self.invariant
+      c.in-None-first_left.ensures.none,
 )

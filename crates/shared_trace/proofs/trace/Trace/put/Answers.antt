@@ -4,52 +4,102 @@ use Rattle.std.specs.List.{AllByRecursion}
 use Rattle.shared_trace.specs.declared.station.Place.TheVariants.{Parked}
 use Rattle.shared_trace.specs.Trace.{IsShared, with_block}
 use Rattle.shared_trace.proofs.Stations.{traced, shared_is}
-use Rattle.shared_trace.proofs.Putting.{IsFitting, fitting, put_within, put_room, put_place, put_trace, put_view, put_adds}
+use Rattle.shared_trace.proofs.Putting.{IsFitting, fitting, put_within, put_room, put_place, put_trace, put_view}
+use Rattle.shared_trace.proofs.Putting.{put_adds}
 use Rattle.shared_trace.proofs.trace.Trace.put.Goals as goal
 
 pub returns-in-Err-clause-shared : goal.returns-in-Err-clause-shared
 returns-in-Err-clause-shared c =
-    subst (λ l. IsShared (traced c.self.inside.subject.value l c.self.inside.stations.items c.self.inside.stopped)) (sym c.in-Err.ensures.items)
-    (shared_is c.self.inside.subject.value c.self.inside.entries.items c.self.inside.stations.items c.self.inside.posts.items c.self.inside.stopped c.self.invariant)
+    subst (λ l. IsShared (traced c.self.inside.subject.value l c.self.inside.stations.items c.self.inside.stopped))
+    (sym c.in-Err.ensures.items)
+    (shared_is c.self.inside.subject.value c.self.inside.entries.items c.self.inside.stations.items
+    c.self.inside.posts.items c.self.inside.stopped c.self.invariant)
 
-fits : (c : goal.After-as_slice) → IsFitting c.self.inside.subject.value c.self.inside.entries.items c.self.inside.stations.items c.self.inside.posts.items c.args.worker c.job.inside.device c.job.inside.claimed.value.entries c.job.inside.entries.items c.job.inside.machine c.job.inside.known.items c.job.inside.posted.items c.job.inside.place c.job.inside.next
+fits : (c : goal.After-as_slice)
+    → IsFitting c.self.inside.subject.value c.self.inside.entries.items c.self.inside.stations.items
+    c.self.inside.posts.items c.args.worker c.job.inside.device c.job.inside.claimed.value.entries
+    c.job.inside.entries.items c.job.inside.machine c.job.inside.known.items c.job.inside.posted.items
+    c.job.inside.place c.job.inside.next
 fits c =
-    fitting c.args.self.now c.args.job c.self.inside.subject.value c.self.inside.entries.items c.self.inside.stations.items c.self.inside.posts.items c.self.inside.stopped c.job.inside.claimed.value.subject c.job.inside.worker c.args.worker c.job.inside.device c.job.inside.claimed.value.entries c.job.inside.entries.items c.job.inside.machine c.job.inside.spent c.job.inside.known.items c.job.inside.posted.items c.job.inside.place c.job.inside.next
+    fitting c.args.self.now c.args.job c.self.inside.subject.value c.self.inside.entries.items
+    c.self.inside.stations.items c.self.inside.posts.items c.self.inside.stopped c.job.inside.claimed.value.subject
+    c.job.inside.worker c.args.worker c.job.inside.device c.job.inside.claimed.value.entries
+    c.job.inside.entries.items c.job.inside.machine c.job.inside.spent c.job.inside.known.items
+    c.job.inside.posted.items c.job.inside.place c.job.inside.next
     c.self.view_is c.job.view_is c.self.invariant c.job.invariant c.requires
 
 pub add_posts-requires-clause-within : goal.add_posts-requires-clause-within
-add_posts-requires-clause-within c = subst (AllByRecursion (λ h. h < length c.self.inside.posts.items)) (sym c.as_slice.ensures.value) (put_within (fits c))
+add_posts-requires-clause-within c =
+    subst (AllByRecursion (λ h. h < length c.self.inside.posts.items)) (sym c.as_slice.ensures.value)
+    (put_within (fits c))
 
 pub add_posts-requires-clause-room : goal.add_posts-requires-clause-room
 add_posts-requires-clause-room c =
-    subst (λ l. (g : ℕ) → slice_index c.self.inside.posts.items g + count_by (λ h. h == g) l < 4294967296) (sym c.as_slice.ensures.value) (put_room (fits c))
+    subst (λ l. (g : ℕ) → slice_index c.self.inside.posts.items g + count_by (λ h. h == g) l < 4294967296)
+    (sym c.as_slice.ensures.value) (put_room (fits c))
 
 pub index_mut-requires : goal.index_mut-requires
 index_mut-requires c =
-    let h = put_place (fitting c.args.self.now c.args.job c.self.inside.subject.value c.self.inside.entries.items c.self.inside.stations.items c.self.inside.posts.items c.self.inside.stopped c.job.inside.claimed.value.subject c.job.inside.worker c.args.worker c.job.inside.device c.job.inside.claimed.value.entries c.job.inside.entries.items c.job.inside.machine c.job.inside.spent c.job.inside.known.items c.job.inside.posted.items c.job.inside.place c.job.inside.next
+    let h = put_place (fitting c.args.self.now c.args.job c.self.inside.subject.value c.self.inside.entries.items
+    c.self.inside.stations.items c.self.inside.posts.items c.self.inside.stopped c.job.inside.claimed.value.subject
+    c.job.inside.worker c.args.worker c.job.inside.device c.job.inside.claimed.value.entries
+    c.job.inside.entries.items c.job.inside.machine c.job.inside.spent c.job.inside.known.items
+    c.job.inside.posted.items c.job.inside.place c.job.inside.next
     c.self.view_is c.job.view_is c.self.invariant c.job.invariant c.requires) in
     omega (arith, h, c.from.ensures, c.self.inside.stations.ok.0)
 
-then : (c : goal.After-drop-claimed) → IsFitting c.self.inside.subject.value c.self.inside.entries.items c.self.inside.stations.items c.self.inside.posts.items c.args.worker c.job.inside.device c.job.inside.claimed.value.entries c.job.inside.entries.items c.job.inside.machine c.job.inside.known.items c.job.inside.posted.items c.job.inside.place c.job.inside.next
+then : (c : goal.After-drop-claimed)
+    → IsFitting c.self.inside.subject.value c.self.inside.entries.items c.self.inside.stations.items
+    c.self.inside.posts.items c.args.worker c.job.inside.device c.job.inside.claimed.value.entries
+    c.job.inside.entries.items c.job.inside.machine c.job.inside.known.items c.job.inside.posted.items
+    c.job.inside.place c.job.inside.next
 then c =
-    fitting c.args.self.now c.args.job c.self.inside.subject.value c.self.inside.entries.items c.self.inside.stations.items c.self.inside.posts.items c.self.inside.stopped c.job.inside.claimed.value.subject c.job.inside.worker c.args.worker c.job.inside.device c.job.inside.claimed.value.entries c.job.inside.entries.items c.job.inside.machine c.job.inside.spent c.job.inside.known.items c.job.inside.posted.items c.job.inside.place c.job.inside.next
+    fitting c.args.self.now c.args.job c.self.inside.subject.value c.self.inside.entries.items
+    c.self.inside.stations.items c.self.inside.posts.items c.self.inside.stopped c.job.inside.claimed.value.subject
+    c.job.inside.worker c.args.worker c.job.inside.device c.job.inside.claimed.value.entries
+    c.job.inside.entries.items c.job.inside.machine c.job.inside.spent c.job.inside.known.items
+    c.job.inside.posted.items c.job.inside.place c.job.inside.next
     c.self.view_is c.job.view_is c.self.invariant c.job.invariant c.requires
 
 pub invariant_of-self-2 : goal.invariant_of-self-2
 invariant_of-self-2 c =
-    put_trace (then c) (record { place = Parked c.job.inside.machine; made = c.job.inside.place; next = c.job.inside.next; known = c.job.inside.known })
-    c.from.result c.append.new.self.items c.add_posts.new.posts.items c.from.ensures c.in-Ok.ensures.items refl refl refl refl c.add_posts.ensures.count
-    (λ g. c.add_posts.ensures.sums g ∙ ap (λ l. slice_index c.self.inside.posts.items g + count_by (λ h. h == g) l) c.as_slice.ensures.value)
+    put_trace (then c) (record {
+      place = Parked c.job.inside.machine;
+      made = c.job.inside.place;
+      next =
+          c.job.inside.next;
+      known = c.job.inside.known;
+    })
+    c.from.result c.append.new.self.items c.add_posts.new.posts.items c.from.ensures c.in-Ok.ensures.items refl refl
+    refl refl c.add_posts.ensures.count
+    (λ g. c.add_posts.ensures.sums g ∙ ap (λ l. slice_index c.self.inside.posts.items g + count_by (λ h. h == g) l)
+    c.as_slice.ensures.value)
 
 pub returns-clause-put : goal.returns-clause-put
 returns-clause-put c =
-    put_view (then c) c.args.self.now c.self.inside.stopped (record { place = Parked c.job.inside.machine; made = c.job.inside.place; next = c.job.inside.next; known = c.job.inside.known }) c.from.result c.append.new.self.items c.self.view_is c.from.ensures c.in-Ok.ensures.items refl
+    put_view (then c) c.args.self.now c.self.inside.stopped
+    (record {
+      place = Parked c.job.inside.machine;
+      made = c.job.inside.place;
+      next = c.job.inside.next;
+      known =
+          c.job.inside.known;
+    }) c.from.result c.append.new.self.items c.self.view_is c.from.ensures
+    c.in-Ok.ensures.items refl
     ∙ ap (λ t. with_block c.args.self.now t.device t.shown t.entries) c.job.view_is
 
 pub returns-clause-adds : goal.returns-clause-adds
 returns-clause-adds c =
     put_adds (then c) c.args.self.now _ c.self.inside.stopped c.self.view_is
-    (put_view (then c) c.args.self.now c.self.inside.stopped (record { place = Parked c.job.inside.machine; made = c.job.inside.place; next = c.job.inside.next; known = c.job.inside.known }) c.from.result c.append.new.self.items c.self.view_is c.from.ensures c.in-Ok.ensures.items refl)
+    (put_view (then c) c.args.self.now c.self.inside.stopped
+    (record {
+      place = Parked c.job.inside.machine;
+      made = c.job.inside.place;
+      next = c.job.inside.next;
+      known =
+          c.job.inside.known;
+    }) c.from.result c.append.new.self.items c.self.view_is c.from.ensures
+    c.in-Ok.ensures.items refl)
 
 pub returns-clause-shared : goal.returns-clause-shared
 returns-clause-shared c = shared_is _ _ _ _ _ (invariant_of-self-2 c)

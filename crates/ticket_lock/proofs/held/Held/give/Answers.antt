@@ -10,7 +10,8 @@ pub store-requires : goal.store-requires
 store-requires g c = let h = c.args.self in (
   search rules,
   search rules,
-  leaves_from g.T.Logged.log h.seat.me c.exchange.new.seat.me h.value h.holds c.exchange.ensures.left _ _ _ h.ticket h.inside.0 h.inside.1 c.requires,
+  leaves_from g.T.Logged.log h.seat.me c.exchange.new.seat.me h.value h.holds c.exchange.ensures.left _ _ _ h.ticket
+      h.inside.0 h.inside.1 c.requires,
 )
 
 pub returns-clause-given : goal.returns-clause-given
@@ -19,13 +20,17 @@ returns-clause-given g c = search rules
 pub returns-clause-own : goal.returns-clause-own
 returns-clause-own g c = let log = g.T.Logged.log in let h = c.args.self in record {
   here = search rules;
-  faithful = subst (IsFaithful log) (sym (returns-clause-given g c)) (map-shares log h.value h.seat.me.0.low h.seat.me.0.count);
+  faithful = subst (IsFaithful log) (sym (returns-clause-given g c))
+      (map-shares log h.value h.seat.me.0.low h.seat.me.0.count);
 }
 
 pub returns-clause-others : goal.returns-clause-others
 returns-clause-others g c = let log = g.T.Logged.log in let h = c.args.self in λ w ne.
-    subst (λ v. own log w v.front ≡ own log w (log.entries (found h))) (sym (returns-clause-given g c)) (own_added log (found h) h.value h.seat.me.0.low w c.requires ne)
+    subst (λ v. own log w v.front ≡ own log w (log.entries (found h))) (sym (returns-clause-given g c))
+    (own_added log (found h) h.value h.seat.me.0.low w c.requires ne)
 
 pub returns-clause-work : goal.returns-clause-work
-returns-clause-work g c = let log = g.T.Logged.log in let h = c.args.self in let n = h.numbers.1 in let w = h.within.0 in λ d.
-    subst (λ v. lowest_work v d ≡ log.work h.value h.seat.me.0.low) (sym (returns-clause-given g c)) (first_work log h.value h.seat.me.0.low h.seat.me.0.count d (omega arith))
+returns-clause-work g c = let log = g.T.Logged.log in let h = c.args.self in let n = h.numbers.1 in let w =
+    h.within.0 in λ d.
+    subst (λ v. lowest_work v d ≡ log.work h.value h.seat.me.0.low) (sym (returns-clause-given g c))
+    (first_work log h.value h.seat.me.0.low h.seat.me.0.count d (omega arith))

@@ -3,4 +3,5 @@ use Rattle.ticket_lock.proofs.lock.TicketLock.enter.Given as goal
 
 -- a round that finds another ticket leaves the seat as it was
 abbrev pub invariant-loop : goal.invariant-loop
-invariant-loop g l = (l.seat.table_id ≡ l.initial.seat.table_id) × (l.seat.id ≡ l.initial.seat.id) × (l.seat.me ≡ l.initial.seat.me)
+invariant-loop g l =
+    (l.seat.table_id ≡ l.initial.seat.table_id) × (l.seat.id ≡ l.initial.seat.id) × (l.seat.me ≡ l.initial.seat.me)

@@ -17,5 +17,8 @@ new-requires g c = let log = g.T.Logged.log in let x = c.of.result.value in let 
 
 pub returns-clause-pass : goal.returns-clause-pass
 returns-clause-pass g c = let log = g.T.Logged.log in let made = c.in-Ok.ensures.ok in
-    let same : c.in-Ok.seat.me.0 ≡ whole log c.args.value c.args.ticket = ap (λ m. m.0) made.4 ∙ ap (λ x. whole log x c.args.ticket) c.of.ensures in
-    (record { here = made.2; faithful = subst (IsFaithful log) (sym same) (map-shares log c.args.value 1 NUMBERS) }, same)
+    let same : c.in-Ok.seat.me.0 ≡ whole log c.args.value c.args.ticket =
+    ap (λ m. m.0) made.4 ∙ ap (λ x. whole log x c.args.ticket) c.of.ensures in (
+      record { here = made.2; faithful = subst (IsFaithful log) (sym same) (map-shares log c.args.value 1 NUMBERS) },
+      same,
+    )

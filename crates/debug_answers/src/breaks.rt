@@ -1,0 +1,42 @@
+//! The answers to `break ..`, `clear ID` and `resume`.
+ghost use Rattle.std.specs.Prelude.{◌≡◌, IfOk, OnErr};
+ghost use Rattle.std.specs.String.{string_bytes};
+ghost use Rattle.debugger.specs.Session.{at_place, with_breaks};
+ghost use Rattle.debug_answers.specs.Answers.{IsBreak, IsCleared, IsResumed};
+
+use crate::lines::{break_line, cleared_line, full_line, no_such_line, stop_line};
+use debugger::{Break, Debugger};
+use std::alloc::{AllocError, Global};
+
+/// `break ..`: `break ID`, or `full`. Without memory the breakpoint may have been added, and nothing else has changed.
+pub fn add_break(alloc: Global, debugger: &mut Debugger, point: Break) -> Result<String, AllocError>
+    ensures answer { IfOk result (λ text. IsBreak debugger.old point debugger.new (string_bytes text)) }
+    ensures rest { debugger.new ≡ with_breaks debugger.old debugger.new.breaks }
+{
+    match debugger.add_break(point) {
+        Ok(id) => break_line(alloc, id),
+        Err(_) => full_line(alloc),
+    }
+}
+
+/// `clear ID`: `cleared ID`, or `no such`. Without memory nothing changes.
+pub fn clear(alloc: Global, debugger: &mut Debugger, id: u8) -> Result<String, AllocError>
+    ensures answer { IfOk result (λ text. IsCleared debugger.old id debugger.new (string_bytes text)) }
+    ensures unchanged { OnErr result (debugger.new ≡ debugger.old) }
+{
+    let cleared = cleared_line(alloc, id)?;
+    let none = no_such_line(alloc)?;
+    match debugger.remove_break(id) {
+        Ok(()) => Ok(cleared),
+        Err(_) => Ok(none),
+    }
+}
+
+/// `resume`: `break ID at N`, or `end at N`. Without memory the place may have changed, and nothing else.
+pub fn resume(alloc: Global, debugger: &mut Debugger) -> Result<String, AllocError>
+    ensures answer { IfOk result (λ text. IsResumed debugger.old debugger.new (string_bytes text)) }
+    ensures moved { debugger.new ≡ at_place debugger.old debugger.new.place }
+{
+    let stop = debugger.resume()?;
+    stop_line(alloc, stop, debugger.at())
+}

@@ -1,0 +1,4 @@
+pub mod Arguments
+pub mod Found
+pub mod Again
+pub mod Written

@@ -1,0 +1,18 @@
+ghost use Rattle.std.specs.Prelude.{◌≡◌, ℕ, List};
+ghost use Rattle.scenario_words.specs.Words.{words};
+ghost use Rattle.debug_words.specs.declared.command.Command.{Command};
+ghost use Rattle.debug_words.specs.Saying.{IsSaidBy};
+ghost use Rattle.debug_words.specs.Spelling.{IsCommand, line_of, words_of};
+
+/// The law of lines: the same words say at most one command, and all that words say can be written.
+pub fn one_command()
+    ensures one { (c d : Command) (ws : List (List ℕ)) → IsSaidBy c ws → IsSaidBy d ws → c ≡ d }
+    ensures good { (c : Command) (ws : List (List ℕ)) → IsSaidBy c ws → IsCommand c }
+{}
+
+/// The law of written commands: every command whose numbers have their bits has words, which say it and are found again
+/// in their line.
+pub fn commands_read_again()
+    ensures said { (c : Command) → IsCommand c → IsSaidBy c (words_of c) }
+    ensures words { (c : Command) → IsCommand c → words (line_of c) ≡ words_of c }
+{}

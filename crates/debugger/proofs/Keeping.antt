@@ -1,0 +1,275 @@
+-- What a debugger keeps, at its start, at another place and with other breakpoints.
+use Rattle.std.proofs.Common.{◌≡◌, ℕ, ◌+◌, ◌-◌, ◌<◌, ◌≤◌, ◌↔◌, List, [], ◌∷◌, length, take, get_or, nat_lt, true, false, replicate, Option, None, Some, slice_get, slice_set, refl, sym, ap, subst, ◌∙◌, arith}
+use Rattle.std.proofs.lemmas.List.{length-replicate, length-set}
+use Rattle.std.proofs.lemmas.Bool.{ltb-true, ltb-false}
+use Rattle.std.proofs.lemmas.Option.{slice_get_within, slice_get_read}
+use Rattle.lwm2m_values.specs.declared.value.Value.{Value}
+use Rattle.object_defs.specs.Path.{full_path}
+use Rattle.object_defs.specs.declared.path.Path.{Path}
+use Rattle.notifier.specs.declared.observation.Observation.{Observation}
+use Rattle.device_machine.specs.State.{Device, value_in}
+use Rattle.device_machine.specs.declared.output.Output.{Output}
+use Rattle.scenario_image.specs.Scenario.{Scenario, IsValid}
+use Rattle.trace_file.specs.declared.entry.Entry.{Entry}
+use Rattle.fleet_core.specs.Run.{made_by, IsRun}
+use Rattle.fleet_core.specs.Board.{AreStarted, ShowsAfter}
+use Rattle.fleet_core.proofs.Taken.{shows_first}
+use Rattle.debugger.specs.declared.breaks.Break.{Break}
+use Rattle.debugger.specs.Shown.{latest, value_shown, observations_shown, outputs_shown}
+use Rattle.debugger.specs.Session.{Session, IsSession, IsKept, AreAt, AreCounted, most_breaks, at_place, with_breaks}
+use Rattle.debugger.specs.Breaks.{IsTaken, AreAllTaken, IsAdded, IsRemoved}
+use Rattle.debugger.proofs.Rows.{value_is, observations_are}
+use Rattle.debugger.proofs.Numbers.{free_not_all, all_taken}
+
+take_none : {X : Type 0} (xs : List X) → take 0 xs ≡ []
+take_none [] = refl
+take_none (x ∷ xs) = refl
+
+pub kept_start : (s : Scenario) (es : List Entry) (made : List ℕ) (devices : List Device)
+    (breaks : List (Option Break)) → IsRun s es
+    → AreCounted s (take 0 es) made → length devices ≡ length s.rows → AreStarted s devices
+    → breaks ≡ replicate most_breaks None
+    → IsKept s es 0 made devices breaks
+kept_start s es made devices breaks run counted count started free = record {
+  run = run;
+  within = omega arith;
+  slots = ap length free ∙ length-replicate {A = Option Break} most_breaks None;
+  counted = counted;
+  count = count;
+  shown = record {
+    each = λ d x at.
+        let within : d < length s.rows = omega (arith, slice_get_within devices d x at, count) in
+        subst (λ k. ShowsAfter s d k x) (sym (counted.is d within ∙ ap (made_by d) (take_none es)))
+        (shows_first s devices d x started at);
+  };
+}
+
+pub kept_moved : (s : Scenario) (es : List Entry) (place to : ℕ) (made counts : List ℕ) (devices new : List Device)
+    (breaks : List (Option Break))
+    → IsKept s es place made devices breaks → to ≤ length es → AreCounted s (take to es) counts
+    → length new ≡ length devices
+    → AreAt s counts new → IsKept s es to counts new breaks
+kept_moved s es place to made counts devices new breaks kept within counted count at = record {
+  run = kept.run;
+  within = within;
+  slots = kept.slots;
+  counted = counted;
+  count = count ∙ kept.count;
+  shown = at;
+}
+
+pub kept_break : (s : Scenario) (es : List Entry) (place : ℕ) (made : List ℕ) (devices : List Device)
+    (breaks : List (Option Break))
+    (slot : ℕ) (point : Option Break) → IsKept s es place made devices breaks
+    → IsKept s es place made devices (slice_set breaks slot point)
+kept_break s es place made devices breaks slot point kept = record {
+  run = kept.run;
+  within = kept.within;
+  slots = length-set breaks slot point ∙ kept.slots;
+  counted = kept.counted;
+  count = kept.count;
+  shown = kept.shown;
+}
+
+pub session_is : (v : Session) (s : Scenario) (es : List Entry) (place : ℕ) (made : List ℕ) (devices : List Device)
+    (breaks : List (Option Break))
+    → record { scenario = s; entries = es; place = place; breaks = breaks } ≡ v
+    → IsKept s es place made devices breaks → IsSession v
+session_is v s es place made devices breaks view kept =
+    subst IsSession view (record { run = kept.run; within = kept.within; slots = kept.slots })
+
+-- the state that a device of a session shows
+pub shows_at : (s : Scenario) (es : List Entry) (place d : ℕ) (made : List ℕ) (devices : List Device)
+    (breaks : List (Option Break)) (x : Device)
+    → IsKept s es place made devices breaks → slice_get devices d ≡ Some x
+    → ShowsAfter s d (made_by d (take place es)) x
+shows_at s es place d made devices breaks x kept at =
+    let within : d < length s.rows = omega (arith, slice_get_within devices d x at, kept.count) in
+    subst (λ k. ShowsAfter s d k x) (kept.counted.is d within) (kept.shown.each d x at)
+
+pub row_at : (s : Scenario) (es : List Entry) (place d : ℕ) (made : List ℕ) (devices : List Device)
+    (breaks : List (Option Break)) (x : Device)
+    → IsKept s es place made devices breaks → slice_get devices d ≡ Some x → d < length s.rows
+row_at s es place d made devices breaks x kept at = omega (arith, slice_get_within devices d x at, kept.count)
+
+pub iff_yes : {P Q : Type 0} → P → Q → P ↔ Q
+iff_yes p q = ((λ _. q), (λ _. p))
+
+pub iff_no : {P Q : Type 0} → (P → ⊥) → (Q → ⊥) → P ↔ Q
+iff_no p q = ((λ h. absurd (p h)), (λ h. absurd (q h)))
+
+-- what is kept of a session
+pub record IsInside (v : Session) (s : Scenario) (es : List Entry) (place : ℕ) (made : List ℕ) (devices : List Device)
+    (breaks : List (Option Break)) : Type 0 where
+  pub view : record { scenario = s; entries = es; place = place; breaks = breaks } ≡ v
+  pub kept : IsKept s es place made devices breaks
+
+pub row_in : (v : Session) (s : Scenario) (es : List Entry) (place d : ℕ) (made : List ℕ) (devices : List Device)
+    (breaks : List (Option Break))
+    → IsInside v s es place made devices breaks → d < length devices → d < length v.scenario.rows
+row_in v s es place d made devices breaks inside within =
+    subst (λ w. d < length w.scenario.rows) inside.view (omega (arith, within, inside.kept.count))
+
+pub row_out : (v : Session) (s : Scenario) (es : List Entry) (place d : ℕ) (made : List ℕ) (devices : List Device)
+    (breaks : List (Option Break))
+    → IsInside v s es place made devices breaks → length devices ≤ d → d < length v.scenario.rows → ⊥
+row_out v s es place d made devices breaks inside past within =
+    let h : d < length s.rows = subst (λ w. d < length w.scenario.rows) (sym inside.view) within in
+    omega (arith, h, past, inside.kept.count)
+
+pub value_here : (v : Session) (s : Scenario) (es : List Entry) (place d : ℕ) (made : List ℕ) (devices : List Device)
+    (breaks : List (Option Break))
+    (x : Device) (path : Path) (r : Option Value) → IsInside v s es place made devices breaks → IsValid s
+    → slice_get devices d ≡ Some x
+    → r ≡ value_in x.flat.kept (full_path path) → r ≡ value_shown v.scenario v.entries v.place d path
+value_here v s es place d made devices breaks x path r inside valid at is =
+    subst (λ w. r ≡ value_shown w.scenario w.entries w.place d path) inside.view
+    (is ∙ value_is s d (made_by d (take place es)) x path valid
+    (row_at s es place d made devices breaks x inside.kept at)
+    (shows_at s es place d made devices breaks x inside.kept at))
+
+pub observations_here : (v : Session) (s : Scenario) (es : List Entry) (place d : ℕ) (made : List ℕ)
+    (devices : List Device)
+    (breaks : List (Option Break)) (x : Device) (r : List Observation) → IsInside v s es place made devices breaks
+    → IsValid s
+    → slice_get devices d ≡ Some x → r ≡ x.flat.kept.observations
+    → r ≡ observations_shown v.scenario v.entries v.place d
+observations_here v s es place d made devices breaks x r inside valid at is =
+    subst (λ w. r ≡ observations_shown w.scenario w.entries w.place d) inside.view
+    (is ∙ observations_are s d (made_by d (take place es)) x valid
+    (row_at s es place d made devices breaks x inside.kept at)
+    (shows_at s es place d made devices breaks x inside.kept at))
+
+pub outputs_here : (v : Session) (s : Scenario) (es : List Entry) (place d : ℕ) (made : List ℕ) (devices : List Device)
+    (breaks : List (Option Break)) (r : List Output) → IsInside v s es place made devices breaks
+    → r ≡ latest s d (made_by d (take place es))
+    → r ≡ outputs_shown v.scenario v.entries v.place d
+outputs_here v s es place d made devices breaks r inside is =
+    subst (λ w. r ≡ outputs_shown w.scenario w.entries w.place d) inside.view is
+
+-- the same at another place
+pub moved_is : (v : Session) (s : Scenario) (es : List Entry) (place to : ℕ) (made : List ℕ) (devices : List Device)
+    (breaks : List (Option Break))
+    → IsInside v s es place made devices breaks
+    → record { scenario = s; entries = es; place = to; breaks = breaks } ≡ at_place v to
+moved_is v s es place to made devices breaks inside = ap (λ w. at_place w to) inside.view
+
+-- what was read of a list that is another's
+pub got_at : {X : Type 0} (xs ys : List X) (i d : ℕ) (x : X) → ys ≡ xs → i ≡ d → true ≡ nat_lt i (length ys)
+    → x ≡ get_or ys i x
+    → slice_get xs d ≡ Some x
+got_at xs ys i d x same is less read =
+    subst (λ l. slice_get l d ≡ Some x) same
+    (subst (λ j. slice_get ys j ≡ Some x) is (slice_get_read ys (length ys) i x refl
+    (ltb-true i (length ys) (sym less)) read))
+
+-- nothing was read past the end
+pub got_none : {X : Type 0} (xs ys : List X) (i d : ℕ) → ys ≡ xs → i ≡ d → false ≡ nat_lt i (length ys) → length xs ≤ d
+got_none xs ys i d same is past =
+    let h : length ys ≤ i = ltb-false i (length ys) (sym past) in
+    omega (arith, h, ap length same, is)
+
+-- ---- breakpoints
+
+pub all_is : (v : Session) (s : Scenario) (es : List Entry) (place : ℕ) (made : List ℕ) (devices : List Device)
+    (breaks slots : List (Option Break))
+    → IsInside v s es place made devices breaks → slots ≡ breaks
+    → ((k : ℕ) → k < length slots → IsTaken slots (k + 1)) → AreAllTaken v.breaks
+all_is v s es place made devices breaks slots inside same each =
+    subst (λ w. AreAllTaken w.breaks) inside.view
+    (subst AreAllTaken same (all_taken slots (ap length same ∙ inside.kept.slots) each))
+
+pub not_all_is : (v : Session) (s : Scenario) (es : List Entry) (place : ℕ) (made : List ℕ) (devices : List Device)
+    (breaks slots : List (Option Break))
+    (slot : ℕ) → IsInside v s es place made devices breaks → slots ≡ breaks → slice_get slots slot ≡ Some None
+    → AreAllTaken v.breaks → ⊥
+not_all_is v s es place made devices breaks slots slot inside same free all =
+    free_not_all breaks slot inside.kept.slots (subst (λ l. slice_get l slot ≡ Some None) same free)
+    (subst (λ w. AreAllTaken w.breaks) (sym inside.view) all)
+
+pub added_is : (v : Session) (s : Scenario) (es : List Entry) (place : ℕ) (made : List ℕ) (devices : List Device)
+    (breaks slots : List (Option Break))
+    (slot : ℕ) (point : Break) → IsInside v s es place made devices breaks → slots ≡ breaks
+    → slice_get slots slot ≡ Some None
+    → ((k : ℕ) → k < slot → IsTaken slots (k + 1))
+    → IsAdded v (record { scenario = s; entries = es; place = place; breaks = slice_set breaks slot (Some point) })
+    point (slot + 1)
+added_is v s es place made devices breaks slots slot point inside same free least = record {
+  slot = slot;
+  number = refl;
+  free = subst (λ w. slice_get w.breaks slot ≡ Some None) inside.view
+      (subst (λ l. slice_get l slot ≡ Some None) same free);
+  least = λ i less. subst (λ w. IsTaken w.breaks (i + 1)) inside.view
+      (subst (λ l. IsTaken l (i + 1)) same (least i less));
+  is = ap (λ w. with_breaks w (slice_set w.breaks slot (Some point))) inside.view;
+}
+
+pub removed_is : (v : Session) (s : Scenario) (es : List Entry) (place : ℕ) (made : List ℕ) (devices : List Device)
+    (breaks : List (Option Break))
+    (id slot : ℕ) → IsInside v s es place made devices breaks → 1 ≤ id → slot ≡ id - 1
+    → IsRemoved v (record { scenario = s; entries = es; place = place; breaks = slice_set breaks slot None }) id
+removed_is v s es place made devices breaks id slot inside one is = record {
+  slot = slot;
+  number = omega (arith, one, is);
+  is = ap (λ w. with_breaks w (slice_set w.breaks slot None)) inside.view;
+}
+
+pub is_taken_in : (v : Session) (s : Scenario) (es : List Entry) (place : ℕ) (made : List ℕ) (devices : List Device)
+    (breaks slots : List (Option Break))
+    (id : ℕ) → IsInside v s es place made devices breaks → slots ≡ breaks → IsTaken slots id ↔ IsTaken v.breaks id
+is_taken_in v s es place made devices breaks slots id inside same = (
+  (λ h. subst (λ w. IsTaken w.breaks id) inside.view (subst (λ l. IsTaken l id) same h)),
+  (λ h. subst (λ l. IsTaken l id) (sym same) (subst (λ w. IsTaken w.breaks id) (sym inside.view) h)),
+)
+
+-- a number that is taken is from 1 to 64
+pub number_in : (v : Session) (s : Scenario) (es : List Entry) (place : ℕ) (made : List ℕ) (devices : List Device)
+    (breaks slots : List (Option Break))
+    (id : ℕ) → IsInside v s es place made devices breaks → slots ≡ breaks → IsTaken slots id
+    → (1 ≤ id) × (id ≤ length breaks)
+number_in v s es place made devices breaks slots id inside same taken =
+    let h : id ≡ taken.slot + 1 = taken.number in
+    let low : taken.slot < length slots = slice_get_within slots taken.slot (Some taken.point) taken.stands in
+    (omega (arith, h), omega (arith, h, low, ap length same))
+
+-- ---- forward and back
+
+pub is_past_end : (v : Session) (s : Scenario) (es : List Entry) (place count left : ℕ) (made : List ℕ)
+    (devices : List Device)
+    (breaks : List (Option Break)) → IsInside v s es place made devices breaks → left ≡ length es - place → left < count
+    → length v.entries < v.place + count
+is_past_end v s es place count left made devices breaks inside is less =
+    subst (λ w. length w.entries < w.place + count) inside.view (omega (arith, is, less, inside.kept.within))
+
+pub not_past_end : (v : Session) (s : Scenario) (es : List Entry) (place count left : ℕ) (made : List ℕ)
+    (devices : List Device)
+    (breaks : List (Option Break)) → IsInside v s es place made devices breaks → left ≡ length es - place → count ≤ left
+    → length v.entries < v.place + count → ⊥
+not_past_end v s es place count left made devices breaks inside is more past =
+    let h : length es < place + count = subst (λ w. length w.entries < w.place + count) (sym inside.view) past in
+    omega (arith, is, more, h, inside.kept.within)
+
+pub is_past_start : (v : Session) (s : Scenario) (es : List Entry) (place count : ℕ) (made : List ℕ)
+    (devices : List Device)
+    (breaks : List (Option Break)) → IsInside v s es place made devices breaks → place < count → v.place < count
+is_past_start v s es place count made devices breaks inside less = subst (λ w. w.place < count) inside.view less
+
+pub not_past_start : (v : Session) (s : Scenario) (es : List Entry) (place count : ℕ) (made : List ℕ)
+    (devices : List Device)
+    (breaks : List (Option Break)) → IsInside v s es place made devices breaks → count ≤ place → v.place < count → ⊥
+not_past_start v s es place count made devices breaks inside more past =
+    let h : place < count = subst (λ w. w.place < count) (sym inside.view) past in omega (arith, more, h)
+
+-- where the move was
+pub moved_by : (v new : Session) (s : Scenario) (es : List Entry) (place to : ℕ) (made : List ℕ)
+    (devices : List Device) (breaks : List (Option Break))
+    (by : ℕ → ℕ) → IsInside v s es place made devices breaks → to ≡ by place → new ≡ at_place v to
+    → new ≡ at_place v (by v.place)
+moved_by v new s es place to made devices breaks by inside is moved =
+    let same : place ≡ v.place = ap (λ w. w.place) inside.view in
+    moved ∙ ap (at_place v) (is ∙ ap by same)
+
+pub to_in : (v : Session) (s : Scenario) (es : List Entry) (place to : ℕ) (made : List ℕ) (devices : List Device)
+    (breaks : List (Option Break))
+    → IsInside v s es place made devices breaks → to ≤ length es → to ≤ length v.entries
+to_in v s es place to made devices breaks inside within = subst (λ w. to ≤ length w.entries) inside.view within

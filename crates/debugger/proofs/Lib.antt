@@ -1,0 +1,12 @@
+pub mod Runs
+pub mod Rows
+pub mod Moving
+pub mod Numbers
+pub mod Marking
+pub mod Changing
+pub mod Stopping
+pub mod Keeping
+pub mod Ending
+pub mod Devices
+pub mod Going
+pub mod Places

@@ -1,0 +1,83 @@
+-- The first entries of a run, and how many are a device's.
+use Rattle.std.proofs.Common.{◌≡◌, ℕ, zero, suc, ◌+◌, List, [], ◌∷◌, ◌++◌, take, drop, None, Some, slice_get, sym, ap, subst, ◌∙◌, arith, add-one}
+use Rattle.std.proofs.lemmas.List.{take-append-drop}
+use Rattle.scenario_image.specs.Scenario.{Scenario}
+use Rattle.trace_file.specs.declared.entry.Entry.{Entry}
+use Rattle.fleet_core.specs.Run.{made_by, out_at, Fits, IsRun}
+use Rattle.fleet_core.proofs.Posts.{run_left, run_last, made_same, made_other}
+use Rattle.fleet_core.proofs.Ends.{made_most}
+use Rattle.debugger.specs.Shown.{latest}
+use Rattle.debugger.specs.Moves.{HasSteps}
+
+take_suc : {X : Type 0} (xs : List X) (i : ℕ) (x : X) → slice_get xs i ≡ Some x → take (suc i) xs ≡ take i xs ++ x ∷ []
+take_suc [] i x h = let e : None ≡ Some x = h in absurd cc
+take_suc (y ∷ ys) zero x h = let e : Some y ≡ Some x = h in let f : y ≡ x = cc in ap (λ z. z ∷ []) f
+take_suc (y ∷ ys) (suc i) x h = ap (λ l. y ∷ l) (take_suc ys i x h)
+
+-- the first elements, with the one that follows them
+pub take_next : {X : Type 0} (xs : List X) (i : ℕ) (x : X) → slice_get xs i ≡ Some x
+    → take (i + 1) xs ≡ take i xs ++ x ∷ []
+take_next xs i x h = ap (λ n. take n xs) (add-one i) ∙ take_suc xs i x h
+
+-- the first entries of a run are a run
+pub run_to : (s : Scenario) (es : List Entry) (n : ℕ) → IsRun s es → IsRun s (take n es)
+run_to s es n run = run_left s (take n es) (drop n es) (subst (IsRun s) (sym (take-append-drop n es)) run)
+
+-- each entry fits those before it
+pub fits_at : (s : Scenario) (es : List Entry) (i : ℕ) (e : Entry) → IsRun s es → slice_get es i ≡ Some e
+    → Fits s (take i es) e
+fits_at s es i e run at = run_last s (take i es) e (subst (IsRun s) (take_next es i e at) (run_to s es (i + 1) run))
+
+-- an entry of the device is one more
+pub made_own : (es : List Entry) (d i : ℕ) (e : Entry) → slice_get es i ≡ Some e → e.device ≡ d
+    → made_by d (take (i + 1) es) ≡ suc (made_by d (take i es))
+made_own es d i e at own = ap (made_by d) (take_next es i e at) ∙ made_same d (take i es) e own
+
+-- another device's entry is none more
+pub made_else : (es : List Entry) (d i : ℕ) (e : Entry) → slice_get es i ≡ Some e → (e.device ≡ d → ⊥)
+    → made_by d (take (i + 1) es) ≡ made_by d (take i es)
+made_else es d i e at other = ap (made_by d) (take_next es i e at) ∙ made_other d (take i es) e other
+
+-- the step of an entry is the count of its device's entries before it
+pub step_before : (s : Scenario) (es : List Entry) (d i : ℕ) (e : Entry) → IsRun s es → slice_get es i ≡ Some e
+    → e.device ≡ d
+    → e.step ≡ made_by d (take i es)
+step_before s es d i e run at own = (fits_at s es i e run at).count ∙ ap (λ j. made_by j (take i es)) own
+
+pub step_counts : (s : Scenario) (es : List Entry) (d i : ℕ) (e : Entry) → IsRun s es → slice_get es i ≡ Some e
+    → e.device ≡ d
+    → made_by d (take (i + 1) es) ≡ e.step + 1
+step_counts s es d i e run at own = omega (arith, made_own es d i e at own, step_before s es d i e run at own)
+
+-- a device has no more entries than its row has steps
+pub has_steps : (s : Scenario) (es : List Entry) (d n : ℕ) → IsRun s es → HasSteps s d (made_by d (take n es))
+has_steps s es d n run = made_most s (take n es) d (run_to s es n run)
+
+-- the outputs of the entry after which the device has no other
+pub latest_own : (s : Scenario) (es : List Entry) (d i : ℕ) (e : Entry) → IsRun s es → slice_get es i ≡ Some e
+    → e.device ≡ d
+    → made_by d (take (i + 1) es) ≡ made_by d es → e.outputs ≡ latest s d (made_by d es)
+latest_own s es d i e run at own rest =
+    let put : e.outputs ≡ out_at s d (made_by d (take i es)) =
+    (fits_at s es i e run at).outputs
+    ∙ (ap (λ k. out_at s e.device k) (step_before s es d i e run at own) ∙ ap
+    (λ j. out_at s j (made_by d (take i es))) own) in
+    put ∙ ap (latest s d) (sym (made_own es d i e at own) ∙ rest)
+
+-- ---- from the last entry on
+
+pub rest_else : (es : List Entry) (d n i : ℕ) (e : Entry) → n ≡ i + 1 → slice_get es i ≡ Some e → (e.device ≡ d → ⊥)
+    → made_by d (take n es) ≡ made_by d es → made_by d (take i es) ≡ made_by d es
+rest_else es d n i e next at other rest = sym (made_else es d i e at other) ∙
+    (ap (λ m. made_by d (take m es)) (sym next) ∙ rest)
+
+pub rest_own : (s : Scenario) (es : List Entry) (d n i : ℕ) (e : Entry) → IsRun s es → n ≡ i + 1
+    → slice_get es i ≡ Some e → e.device ≡ d
+    → made_by d (take n es) ≡ made_by d es → e.outputs ≡ latest s d (made_by d es)
+rest_own s es d n i e run next at own rest =
+    latest_own s es d i e run at own (ap (λ m. made_by d (take m es)) (sym next) ∙ rest)
+
+pub rest_none : (s : Scenario) (es : List Entry) (d n : ℕ) → n ≡ 0 → made_by d (take n es) ≡ made_by d es
+    → [] ≡ latest s d (made_by d es)
+rest_none s es d n none rest =
+    let e : 0 ≡ made_by d es = ap (λ m. made_by d (take m es)) (sym none) ∙ rest in ap (latest s d) e

@@ -1,0 +1,7 @@
+use Rattle.std.proofs.Common.{sym, subst}
+use Rattle.fleet_core.specs.Board.{ShowsAfter}
+use Rattle.debugger.proofs.moves.device_after.Goals as goal
+
+pub advance-requires-clause-shows : goal.advance-requires-clause-shows
+advance-requires-clause-shows c =
+    subst (ShowsAfter c.args.scenario.now c.args.device c.args.from) (sym c.in_ok-later.ensures) c.requires.shows

@@ -1,0 +1,17 @@
+//! A debugger over a recorded run: what each device shows at each place of it, and where breakpoints hold.
+#![tactic(auto)]
+
+mod best;
+mod breaks;
+mod changes;
+mod fault;
+mod laws;
+mod moves;
+mod search;
+mod session;
+mod slots;
+
+pub use breaks::{Break, Stop};
+pub use fault::{AddFault, BackFault, DeviceFault, ForwardFault, OpenFault, RemoveFault};
+pub use laws::{breaks_need_a_row, ends_show_the_rows, moves_add_up, orders_show_the_same};
+pub use session::Debugger;

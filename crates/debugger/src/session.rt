@@ -1,0 +1,316 @@
+ghost use Rattle.std.specs.Prelude.{◌≡◌, ℕ, ◌+◌, ◌-◌, ◌<◌, ◌≤◌, ◌↔◌, length, slice_get, Some, None, Err, IsTrue, IfOk, IfSome, OnOk, OnErr};
+ghost use Rattle.std.specs.Option.{option_copied};
+ghost use Rattle.std.specs.Result.{IsOk, IsErr};
+ghost use Rattle.fleet_core.specs.Run.{made_by, IsRun};
+ghost use Rattle.fleet_core.specs.Verdict.{BreaksAt};
+ghost use Rattle.debugger.specs.Shown.{latest, value_shown, observations_shown, outputs_shown};
+ghost use Rattle.debugger.specs.Session.{IsSession, opened, at_place};
+ghost use Rattle.debugger.specs.Stops.{Holds, IsNextStop};
+ghost use Rattle.debugger.specs.Breaks.{IsTaken, AreAllTaken, IsAdded, IsRemoved};
+ghost use Rattle.debugger.specs.Searches.{IsFound, IsBest};
+
+use crate::best::Best;
+use crate::breaks::{Break, Stop};
+use crate::changes::next_change;
+use crate::fault::{AddFault, BackFault, DeviceFault, ForwardFault, OpenFault, RemoveFault};
+use crate::moves::{count_rows, moved_devices, settle};
+use crate::search::{change_in, next_mark};
+use crate::slots::{free_slot, is_taken, no_breaks};
+use device_machine::{Device, Output};
+use fleet_core::{Verdict, check, start_devices};
+use lwm2m_values::Value;
+use notifier::Observations;
+use object_defs::Path;
+use scenario_image::Scenario;
+use std::alloc::{AllocError, Global};
+use std::marker::Model;
+use trace_file::{Entries, Entry};
+
+/// A debugger over a run: it stands at a place, from 0 to the count of the entries, and shows each device as it is
+/// after
+/// the entries before the place, in their order. Contracts see the scenario, the run, the place and the breakpoints.
+#[derive(Drop)]
+pub struct Debugger<'a> {
+    alloc: Global,
+    scenario: &'a Scenario,
+    entries: Entries,
+    place: usize,
+    made: Vec<u64>,
+    devices: Vec<Device>,
+    breaks: Vec<Option<Break>>,
+}
+
+impl<'a> Model for Debugger<'a> {
+    ghost use Rattle.std.specs.Coded.{codes};
+    ghost use Rattle.instance_store.specs.Stored.{stored_code};
+    ghost use Rattle.debugger.specs.Session.{Session, IsKept};
+
+    ghost Value = { Session };
+
+    ghost coded = { Prim.hlevel (codes, stored_code) };
+
+    ghost view = { λ b. record {
+      scenario = b.scenario.now;
+      entries = b.entries;
+      place = b.place;
+      breaks = b.breaks.items;
+    } };
+
+    ghost invariant = { λ b. IsKept b.scenario.now b.entries b.place b.made.items b.devices.items b.breaks.items };
+}
+
+/// The outputs of the device's latest entry; none before its first one.
+fn latest_outputs<'a>(_scenario: &Scenario, entries: &'a [Entry], device: u16) -> &'a [Output]
+    requires { IsRun _scenario.now entries.now }
+    ensures { result.now ≡ latest _scenario.now device (made_by device entries.now) }
+{
+    let mut index = entries.len();
+    while index > 0 {
+        index -= 1;
+        let entry = &entries[index];
+        if entry.device == device {
+            return entry.outputs.as_slice();
+        }
+    }
+    &[]
+}
+
+impl<'a> Debugger<'a> {
+    /// Opens a debugger before the first entry, without a breakpoint.
+    ///
+    /// `NotRun`: the entries are not a run of the scenario; those before this one are, and with it they are not.
+    pub fn open(
+        alloc: Global,
+        scenario: &'a Scenario,
+        entries: Entries,
+    ) -> Result<Debugger<'a>, OpenFault>
+        ensures opened { IfOk result (λ b. b ≡ opened scenario.now entries) }
+        ensures run { OnOk result (IsRun scenario.now entries) }
+        ensures not_run { (at : ℕ) → result ≡ Err (OpenFault.NotRun at) → BreaksAt scenario.now entries at }
+    {
+        match check(alloc, scenario, entries.as_slice())? {
+            Verdict::Run => {}
+            Verdict::NotRun(at) => return Err(OpenFault::NotRun(at)),
+        }
+        let devices = start_devices(alloc, scenario)?;
+        let made = count_rows(alloc, scenario, entries.as_slice(), 0)?;
+        let breaks = no_breaks(alloc)?;
+        Ok(Debugger {
+            alloc,
+            scenario,
+            entries,
+            place: 0,
+            made,
+            devices,
+            breaks,
+        })
+    }
+
+    /// The place: how many entries are before it.
+    pub fn at(&self) -> usize
+        ensures place { result ≡ self.now.place }
+        ensures session { IsSession self.now }
+    {
+        self.place
+    }
+
+    /// Moves to another place of the run. Without memory nothing changes.
+    fn go(&mut self, to: usize) -> Result<(), AllocError>
+        requires { to ≤ length self.old.entries }
+        ensures moved { OnOk result (self.new ≡ at_place self.old to) }
+        ensures unchanged { OnErr result (self.new ≡ self.old) }
+    {
+        let counts = count_rows(self.alloc, self.scenario, self.entries.as_slice(), to)?;
+        let moved = moved_devices(
+            self.alloc,
+            self.scenario,
+            self.devices.as_slice(),
+            self.made.as_slice(),
+            counts.as_slice(),
+        )?;
+        settle(&mut self.devices, moved);
+        self.made = counts;
+        self.place = to;
+        Ok(())
+    }
+
+    /// Moves forward by this many entries.
+    ///
+    /// `PastEnd`: there are fewer after the place. `Memory` leaves the place as it was, too.
+    pub fn forward(&mut self, count: usize) -> Result<(), ForwardFault>
+        ensures moved { OnOk result (self.new ≡ at_place self.old (self.old.place + count)) }
+        ensures past_end { (result ≡ Err ForwardFault.PastEnd) ↔ (length self.old.entries < self.old.place + count) }
+        ensures unchanged { OnErr result (self.new ≡ self.old) }
+    {
+        let left = self.entries.len() - self.place;
+        if count > left {
+            return Err(ForwardFault::PastEnd);
+        }
+        let to = self.place + count;
+        self.go(to)?;
+        Ok(())
+    }
+
+    /// Moves back by this many entries.
+    ///
+    /// `PastStart`: there are fewer before the place. `Memory` leaves the place as it was, too.
+    pub fn back(&mut self, count: usize) -> Result<(), BackFault>
+        ensures moved { OnOk result (self.new ≡ at_place self.old (self.old.place - count)) }
+        ensures past_start { (result ≡ Err BackFault.PastStart) ↔ (self.old.place < count) }
+        ensures unchanged { OnErr result (self.new ≡ self.old) }
+    {
+        if count > self.place {
+            return Err(BackFault::PastStart);
+        }
+        let to = self.place - count;
+        self.go(to)?;
+        Ok(())
+    }
+
+    /// The device's value at the path, at the place; none at a path of one or two numbers.
+    pub fn value(&self, device: u16, path: &Path) -> Result<Option<&Value>, DeviceFault>
+        ensures value { IfOk result (λ v. option_copied v
+            ≡ value_shown self.now.scenario self.now.entries self.now.place device path.now) }
+        ensures device { IsOk result ↔ (device < length self.now.scenario.rows) }
+    {
+        let _rows = self.scenario.rows();
+        match self.devices.get(usize::from(device)) {
+            None => Err(DeviceFault::NoDevice),
+            Some(machine) => Ok(machine.value(path)),
+        }
+    }
+
+    /// The device's observations at the place, in the order of registration.
+    pub fn observations(&self, device: u16) -> Result<&Observations, DeviceFault>
+        ensures observations { IfOk result (λ o. o.now
+            ≡ observations_shown self.now.scenario self.now.entries self.now.place device) }
+        ensures device { IsOk result ↔ (device < length self.now.scenario.rows) }
+    {
+        let _rows = self.scenario.rows();
+        match self.devices.get(usize::from(device)) {
+            None => Err(DeviceFault::NoDevice),
+            Some(machine) => Ok(machine.observations()),
+        }
+    }
+
+    /// What the device output at its latest entry before the place; nothing before its first one.
+    pub fn outputs(&self, device: u16) -> Result<&[Output], DeviceFault>
+        ensures outputs { IfOk result (λ o. o.now
+            ≡ outputs_shown self.now.scenario self.now.entries self.now.place device) }
+        ensures device { IsOk result ↔ (device < length self.now.scenario.rows) }
+    {
+        if usize::from(device) >= self.devices.len() {
+            return Err(DeviceFault::NoDevice);
+        }
+        let (passed, _) = self.entries.as_slice().split_at(self.place);
+        Ok(latest_outputs(self.scenario, passed, device))
+    }
+
+    /// Adds a breakpoint under the least number from 1 that is free, and returns the number.
+    ///
+    /// `Full`: there are 64.
+    pub fn add_break(&mut self, point: Break) -> Result<u8, AddFault>
+        ensures added { IfOk result (λ id. IsAdded self.old self.new point id) }
+        ensures full { IsErr result ↔ AreAllTaken self.old.breaks }
+        ensures unchanged { OnErr result (self.new ≡ self.old) }
+    {
+        match free_slot(self.breaks.as_slice()) {
+            None => Err(AddFault::Full),
+            Some(slot) => {
+                self.breaks[slot] = Some(point);
+                Ok(slot as u8 + 1)
+            }
+        }
+    }
+
+    /// Removes the breakpoint of this number.
+    ///
+    /// `NoSuch`: there is none.
+    pub fn remove_break(&mut self, id: u8) -> Result<(), RemoveFault>
+        ensures removed { OnOk result (IsRemoved self.old self.new id) }
+        ensures no_such { IsOk result ↔ IsTaken self.old.breaks id }
+        ensures unchanged { OnErr result (self.new ≡ self.old) }
+    {
+        if !is_taken(self.breaks.as_slice(), id) {
+            return Err(RemoveFault::NoSuch);
+        }
+        self.breaks[usize::from(id) - 1] = None;
+        Ok(())
+    }
+
+    /// The first place after the present one, and at most `to`, at which the breakpoint holds.
+    fn next_place(&self, point: &Break, to: usize) -> Result<Option<usize>, AllocError>
+        requires { to ≤ length self.now.entries }
+        ensures { IfOk result (λ p. IsFound (Holds self.now.scenario self.now.entries point.now) self.now.place to p) }
+    {
+        let Some((device, path)) = change_in(point) else {
+            let entries = self.entries.as_slice();
+            return Ok(next_mark(self.scenario, entries, self.place, to, point));
+        };
+        let Some(machine) = self.devices.get(usize::from(device)) else {
+            return Ok(None);
+        };
+        let machine = machine.copy()?;
+        let found = next_change(
+            self.alloc,
+            self.scenario,
+            self.entries.as_slice(),
+            machine,
+            self.place,
+            to,
+            device,
+            &path,
+        )?;
+        Ok(found)
+    }
+
+    /// The best stop, with one breakpoint more.
+    fn better(&self, slot: usize, point: &Option<Break>, best: Best) -> Result<Best, AllocError>
+        requires best { IsBest self.now slot best }
+        requires point { slice_get self.now.breaks slot ≡ Some point.now }
+        requires slot { slot < 64 }
+        ensures { IfOk result (λ b. IsBest self.now (slot + 1) b) }
+    {
+        let Some(point) = point else {
+            return Ok(best);
+        };
+        let found = self.next_place(point, best.limit)?;
+        let Some(place) = found else {
+            return Ok(best);
+        };
+        Ok(Best {
+            stop: Stop::Break(slot as u8 + 1),
+            place,
+            limit: place - 1,
+        })
+    }
+
+    /// The next stop.
+    fn next_stop(&self) -> Result<Best, AllocError>
+        ensures stop { IfOk result (λ b. IsNextStop self.now b.stop b.place) }
+        ensures within { IfOk result (λ b. b.place ≤ length self.now.entries) }
+    {
+        let last = self.entries.len();
+        let mut best = Best {
+            stop: Stop::End,
+            place: last,
+            limit: last,
+        };
+        for (slot, point) in self.breaks.iter().enumerate() {
+            best = self.better(slot, point, best)?;
+        }
+        Ok(best)
+    }
+
+    /// Moves to the least later place at which a breakpoint holds, and returns the least number of those that do; or to
+    /// the end, where none does. Without memory nothing changes.
+    pub fn resume(&mut self) -> Result<Stop, AllocError>
+        ensures stop { IfOk result (λ stop. IsNextStop self.old stop self.new.place) }
+        ensures moved { OnOk result (self.new ≡ at_place self.old self.new.place) }
+        ensures unchanged { OnErr result (self.new ≡ self.old) }
+    {
+        let best = self.next_stop()?;
+        self.go(best.place)?;
+        Ok(best.stop)
+    }
+}

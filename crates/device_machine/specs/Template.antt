@@ -1,0 +1,15 @@
+-- The flat state that a device starts in.
+use Rattle.std.specs.Prelude.{[]}
+use Rattle.std.specs.FinMap as map
+use Rattle.device_template.specs.Template.{Template, with_idle_firmware}
+use Rattle.device_machine.specs.State.{Kept}
+
+-- what a device of the class keeps at its start
+abbrev pub start_of : Template → Kept
+start_of class =
+    record {
+      client = record { accounts = class.accounts; catalogue = class.catalogue; store = with_idle_firmware class.store; attributes = map.empty };
+      observations = [];
+      clock = 0;
+      next_id = 0;
+    }

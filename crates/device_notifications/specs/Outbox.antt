@@ -1,0 +1,16 @@
+-- What a device sends of its own, and its message IDs (RFC 7252 section 4.4).
+use Rattle.std.specs.Prelude.{ℕ, ◌+◌, ◌%◌, List, [], ◌∷◌, ◌++◌}
+use Rattle.device_notifications.specs.declared.datagram.Datagram.{Datagram}
+
+-- the datagrams that are sent, in order, and the message ID of the next
+pub record Outbox : Type 0 where
+  pub sent : List Datagram
+  pub next_id : ℕ
+
+-- the message ID after this one, modulo 65,536
+abbrev pub id_after : ℕ → ℕ
+id_after next_id = (next_id + 1) % 65536
+
+-- with one datagram more
+abbrev pub posted : Outbox → Datagram → Outbox
+posted box datagram = record { sent = box.sent ++ datagram ∷ []; next_id = id_after box.next_id }

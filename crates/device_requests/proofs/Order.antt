@@ -1,0 +1,347 @@
+-- The first rule that holds decides.
+use Rattle.std.proofs.Common.{◌≡◌, ℕ, Bool, true, false, not, cond, ◌||◌, ◌==◌, List, [], ◌∷◌, ◌++◌, Option, None, Some, is_some, inl, inr, refl, sym, ap, ◌∙◌}
+use Rattle.std.specs.Bool.{if◌then◌else◌}
+use Rattle.std.proofs.lemmas.Bool.{ne_eqb}
+use Rattle.coap_codec.specs.Message.{Message}
+use Rattle.object_defs.specs.Lines.{first_line}
+use Rattle.object_defs.specs.Path.{object_in}
+use Rattle.object_defs.specs.declared.path.Path.{Path}
+use Rattle.device_firmware.specs.declared.event.FirmwareEvent.{FirmwareEvent}
+use Rattle.lwm2m_payloads.specs.declared.given.Mode.{Mode}
+use Rattle.lwm2m_payloads.specs.declared.given.Mode.TheVariants.{Replace, Update}
+use Rattle.device_requests.specs.declared.answer.Code.{Code}
+use Rattle.device_requests.specs.declared.answer.Code.TheVariants.{Changed, BadRequest, Unauthorized, BadOption, NotFound, MethodNotAllowed, UnsupportedContentFormat, InternalServerError}
+use Rattle.device_requests.specs.declared.observe.Interest.{Interest}
+use Rattle.device_requests.specs.declared.operation.Operation.{Operation}
+use Rattle.device_requests.specs.declared.operation.Operation.TheVariants.{Read, Discover, WriteAttributes, WriteReplace, WritePartial, Create, Execute, Delete}
+use Rattle.device_requests.specs.declared.write.NewValues.{NewValues}
+use Rattle.device_requests.specs.Access.{rights_on}
+use Rattle.device_requests.specs.Client.{Client}
+use Rattle.device_requests.specs.Laws.{IsAmong, lines_by, lines_on, operation_lines, request_lines}
+use Rattle.device_requests.specs.Observe.{interest_in, interest_on, is_read}
+use Rattle.device_requests.specs.Operation.{operation_of}
+use Rattle.device_requests.specs.Options.{accept_of, content_format_of, has_query, has_unrecognized_critical, observe_of, segments_of, path_of}
+use Rattle.device_requests.specs.Order.{Asks, AsksToRead, FormatsPrecedePayloads, MethodsPrecedeObjects, OneTable, OnlyReadsObserve, OperationsPrecedeFormats, OptionsComeFirst, PathsPrecedeMethods, PayloadsPrecedeStates, RefusalsHaveReasons, RightsPrecedeOperations, SecurityPrecedesTargets, TargetsPrecedeRights, done_code, format_refusal, given_by, has_reason, is_invalid, is_out_of_turn, is_refused_now, is_too_much, lacks_format, lacks_operation, lacks_right, lacks_target, rules_of, unless_taken}
+use Rattle.device_requests.specs.Read.{format_at}
+use Rattle.device_requests.specs.Request.{outcome_of}
+use Rattle.device_requests.specs.Write.{can_be_written, event_of, exceeds, is_target, mode_at, turn_lines, write_lines}
+use Rattle.device_requests.proofs.Answering.{says}
+
+-- lines that decide alike, behind others
+alike : (lines xs ys : List (Bool × Code)) → first_line xs ≡ first_line ys
+    → first_line (lines ++ xs) ≡ first_line (lines ++ ys)
+alike [] xs ys h = h
+alike (line ∷ lines) xs ys h = ap (λ (said : Option Code). cond line.0 (Some line.1) said) (alike lines xs ys h)
+
+-- the firmware or the count of parts, one of which a Write has to do with
+turned : (client : Client) (mode : Mode) (path : Path) (values : Option NewValues) (event : Option FirmwareEvent)
+    → first_line (turn_lines client mode path values event ++ (true, Changed) ∷ [])
+    ≡ first_line ((is_refused_now client.store event, MethodNotAllowed)
+    ∷ (unless_taken event (exceeds mode client.catalogue client.store path values), InternalServerError)
+    ∷ (true, Changed) ∷ [])
+turned client mode path values None = refl
+turned client mode path values (Some event) = refl
+
+same_write : (client : Client) (server : ℕ) (m : Message) (mode : Mode) (path : Path)
+    → let number = content_format_of m.options in
+    let values = given_by client m path in
+    let event = event_of path values in
+    first_line (write_lines client server mode path number m.payload ++ (true, Changed) ∷ [])
+    ≡ first_line ((object_in path == 0, Unauthorized)
+    ∷ (not (is_target client.catalogue client.store path), NotFound)
+    ∷ (not (rights_on client server path).write, Unauthorized)
+    ∷ (not (can_be_written client.catalogue path), MethodNotAllowed)
+    ∷ (not (is_some (format_at client.catalogue path number)), UnsupportedContentFormat)
+    ∷ (not (is_some values), BadRequest)
+    ∷ (is_refused_now client.store event, MethodNotAllowed)
+    ∷ (
+      unless_taken event (exceeds (mode_at mode path) client.catalogue client.store path values),
+      InternalServerError,
+    )
+    ∷ (true, Changed) ∷ [])
+same_write client server m mode path =
+    let number = content_format_of m.options in
+    let values = given_by client m path in
+    let event = event_of path values in
+    alike ((object_in path == 0, Unauthorized)
+    ∷ (not (is_target client.catalogue client.store path), NotFound)
+    ∷ (not (rights_on client server path).write, Unauthorized)
+    ∷ (not (can_be_written client.catalogue path), MethodNotAllowed)
+    ∷ (not (is_some (format_at client.catalogue path number)), UnsupportedContentFormat)
+    ∷ (not (is_some values), BadRequest) ∷ [])
+    (turn_lines client (mode_at mode path) path values event ++ (true, Changed) ∷ [])
+    ((is_refused_now client.store event, MethodNotAllowed)
+    ∷ (
+      unless_taken event (exceeds (mode_at mode path) client.catalogue client.store path values),
+      InternalServerError,
+    )
+    ∷ (true, Changed) ∷ [])
+    (turned client (mode_at mode path) path values event)
+
+-- the lines of an operation are the rules for all
+same_lines : (client : Client) (server : ℕ) (m : Message) (path : Path) (operation : Operation)
+    → first_line (operation_lines client server m path operation) ≡ first_line (rules_of client server m path operation)
+same_lines client server m path Read = refl
+same_lines client server m path Discover = refl
+same_lines client server m path WriteAttributes = refl
+same_lines client server m path WriteReplace = same_write client server m Replace path
+same_lines client server m path WritePartial = same_write client server m Update path
+same_lines client server m path Create = refl
+same_lines client server m path Execute = refl
+same_lines client server m path Delete = refl
+
+-- the lines of a request whose options are understood
+when_understood : (client : Client) (server : ℕ) (m : Message) → has_unrecognized_critical m.options ≡ false
+    → first_line (request_lines client server m)
+    ≡ first_line (lines_on client server m (path_of (segments_of m.options)))
+when_understood client server m h =
+    ap (λ (b : Bool). first_line ((b, BadOption) ∷ lines_on client server m (path_of (segments_of m.options)))) h
+
+-- those of one whose Uri-Path is this path
+addressed : (client : Client) (server : ℕ) (m : Message) (path : Path) → has_unrecognized_critical m.options ≡ false
+    → path_of (segments_of m.options) ≡ Some path
+    → first_line (request_lines client server m)
+    ≡ first_line (lines_by client server m path
+    (operation_of m.code (accept_of m.options) (has_query m.options) path))
+addressed client server m path h k =
+    when_understood client server m h ∙ ap (λ (p : Option Path). first_line (lines_on client server m p)) k
+
+pub one_table : OneTable
+one_table client server m path operation asks =
+    sym (addressed client server m path asks.understood asks.goes_to
+    ∙ ap (λ (o : Option Operation). first_line (lines_by client server m path o)) asks.means
+    ∙ same_lines client server m path operation)
+    ∙ says client server m
+
+told : (said code : Code) → Some said ≡ Some code → said ≡ code
+told said code h = cc
+
+pub options_first : OptionsComeFirst
+options_first client server m h =
+    sym (told BadOption (outcome_of client server m).answer.code
+    (sym (ap (λ (b : Bool). first_line ((b, BadOption)
+    ∷ lines_on client server m (path_of (segments_of m.options)))) h)
+    ∙ says client server m))
+
+pub paths_second : PathsPrecedeMethods
+paths_second client server m h k =
+    sym (told NotFound (outcome_of client server m).answer.code
+    (sym (when_understood client server m h ∙ ap (λ (p : Option Path). first_line (lines_on client server m p)) k)
+    ∙ says client server m))
+
+pub methods_third : MethodsPrecedeObjects
+methods_third client server m path h k o =
+    sym (told MethodNotAllowed (outcome_of client server m).answer.code
+    (sym (addressed client server m path h k
+    ∙ ap (λ (none : Option Operation). first_line (lines_by client server m path none)) o)
+    ∙ says client server m))
+
+-- what the rules from object 0 to the payload say of the code of an answer
+record IsOrdered (a b c d e f : Bool) (format code : Code) : Type 0 where
+  security : a ≡ true → code ≡ Unauthorized
+  target : a ≡ false → b ≡ true → code ≡ NotFound
+  right : b ≡ false → c ≡ true → code ≡ Unauthorized
+  operation : d ≡ true → IsAmong code (Unauthorized ∷ NotFound ∷ MethodNotAllowed ∷ [])
+  served : e ≡ true → IsAmong code (Unauthorized ∷ NotFound ∷ MethodNotAllowed ∷ format ∷ [])
+  payload : d ≡ false → f ≡ true → IsAmong code (Unauthorized ∷ NotFound ∷ format ∷ BadRequest ∷ [])
+
+ordered : (a b c d e f : Bool) (format code : Code) (lines : List (Bool × Code))
+    → first_line ((a, Unauthorized) ∷ (b, NotFound) ∷ (c, Unauthorized) ∷ (d, MethodNotAllowed) ∷ (e, format)
+    ∷ (f, BadRequest) ∷ lines) ≡ Some code
+    → IsOrdered a b c d e f format code
+ordered true b c d e f format code lines h =
+    let is = told Unauthorized code h in
+    record {
+      security = λ p. sym is;
+      target = λ p q. cc;
+      right = λ p q. sym is;
+      operation = λ p. inl is;
+      served = λ p. inl is;
+      payload = λ p q. inl is;
+    }
+ordered false true c d e f format code lines h =
+    let is = told NotFound code h in
+    record {
+      security = λ p. cc;
+      target = λ p q. sym is;
+      right = λ p q. cc;
+      operation = λ p. inr (inl is);
+      served = λ p. inr (inl is);
+      payload = λ p q. inr (inl is);
+    }
+ordered false false true d e f format code lines h =
+    let is = told Unauthorized code h in
+    record {
+      security = λ p. cc;
+      target = λ p q. cc;
+      right = λ p q. sym is;
+      operation = λ p. inl is;
+      served = λ p. inl is;
+      payload = λ p q. inl is;
+    }
+ordered false false false true e f format code lines h =
+    let is = told MethodNotAllowed code h in
+    record {
+      security = λ p. cc;
+      target = λ p q. cc;
+      right = λ p q. cc;
+      operation = λ p. inr (inr (inl is));
+      served = λ p. inr (inr (inl is));
+      payload = λ p q. cc;
+    }
+ordered false false false false true f format code lines h =
+    let is = told format code h in
+    record {
+      security = λ p. cc;
+      target = λ p q. cc;
+      right = λ p q. cc;
+      operation = λ p. cc;
+      served = λ p. inr (inr (inr (inl is)));
+      payload = λ p q. inr (inr (inl is));
+    }
+ordered false false false false false true format code lines h =
+    let is = told BadRequest code h in
+    record {
+      security = λ p. cc;
+      target = λ p q. cc;
+      right = λ p q. cc;
+      operation = λ p. cc;
+      served = λ p. cc;
+      payload = λ p q. inr (inr (inr (inl is)));
+    }
+ordered false false false false false false format code lines h =
+    record {
+      security = λ p. cc;
+      target = λ p q. cc;
+      right = λ p q. cc;
+      operation = λ p. cc;
+      served = λ p. cc;
+      payload = λ p q. cc;
+    }
+
+order : (client : Client) (server : ℕ) (m : Message) (path : Path) (operation : Operation) → Asks m path operation
+    → IsOrdered (object_in path == 0) (lacks_target client path operation) (lacks_right client server path operation)
+    (lacks_operation client.catalogue path operation)
+    (lacks_format client.catalogue m path operation) (is_invalid client server m path operation)
+    (format_refusal operation) (outcome_of client server m).answer.code
+order client server m path operation asks =
+    ordered (object_in path == 0) (lacks_target client path operation) (lacks_right client server path operation)
+    (lacks_operation client.catalogue path operation)
+    (lacks_format client.catalogue m path operation) (is_invalid client server m path operation)
+    (format_refusal operation) (outcome_of client server m).answer.code
+    ((is_out_of_turn client m path operation, MethodNotAllowed)
+    ∷ (is_too_much client server m path operation, InternalServerError)
+    ∷ (true, done_code operation) ∷ [])
+    (one_table client server m path operation asks)
+
+pub security_fourth : SecurityPrecedesTargets
+security_fourth client server m path operation asks h =
+    (order client server m path operation asks).security (ap (λ (o : ℕ). o == 0) h)
+
+pub targets_fifth : TargetsPrecedeRights
+targets_fifth client server m path operation asks h k =
+    (order client server m path operation asks).target (ne_eqb (object_in path) 0 h) k
+
+pub rights_sixth : RightsPrecedeOperations
+rights_sixth client server m path operation asks h k = (order client server m path operation asks).right h k
+
+pub operations_seventh : OperationsPrecedeFormats
+operations_seventh client server m path operation asks h = (order client server m path operation asks).operation h
+
+pub formats_eighth : FormatsPrecedePayloads
+formats_eighth client server m path operation asks h = (order client server m path operation asks).served h
+
+pub payloads_ninth : PayloadsPrecedeStates
+payloads_ninth client server m path operation asks h k = (order client server m path operation asks).payload h k
+
+-- where a line holds, its code has this property
+abbrev Each : (Code → Bool) → List (Bool × Code) → Type 0
+Each p [] = Unit {0}
+Each p (line ∷ lines) = (line.0 ≡ true → p line.1 ≡ true) × Each p lines
+
+-- so has the code that the lines give
+each_told : (p : Code → Bool) (lines : List (Bool × Code)) (code : Code) → Each p lines
+    → first_line lines ≡ Some code → p code ≡ true
+each_told p [] code e h = cc
+each_told p (line ∷ lines) code e h =
+    elim line.0 as (λ b. (b ≡ true → p line.1 ≡ true) → cond b (Some line.1) (first_line lines) ≡ Some code
+    → p code ≡ true) [
+      | true ↦ λ k said. sym (ap p (told line.1 code said)) ∙ k refl
+      | false ↦ λ k said. each_told p lines code e.1 said
+    ] e.0 h
+
+left_or : (a b : Bool) → a ≡ true → (a || b) ≡ true
+left_or true b h = refl
+left_or false b h = cc
+
+right_or : (a b : Bool) → b ≡ true → (a || b) ≡ true
+right_or true b h = refl
+right_or false b h = h
+
+format_reason : (client : Client) (server : ℕ) (m : Message) (path : Path) (operation : Operation)
+    → lacks_format client.catalogue m path operation ≡ true
+    → has_reason client server m path operation (format_refusal operation) ≡ true
+format_reason client server m path Read h = h
+format_reason client server m path operation h = h
+
+done_reason : (client : Client) (server : ℕ) (m : Message) (path : Path) (operation : Operation)
+    → has_reason client server m path operation (done_code operation) ≡ true
+done_reason client server m path Read = refl
+done_reason client server m path Discover = refl
+done_reason client server m path Create = refl
+done_reason client server m path Delete = refl
+done_reason client server m path operation = refl
+
+pub reasons : RefusalsHaveReasons
+reasons client server m path operation asks =
+    each_told (has_reason client server m path operation) (rules_of client server m path operation)
+    (outcome_of client server m).answer.code (
+      left_or (object_in path == 0) (lacks_right client server path operation),
+      (
+        (λ h. h),
+        (
+          right_or (object_in path == 0) (lacks_right client server path operation),
+          (
+            left_or (lacks_operation client.catalogue path operation) (is_out_of_turn client m path operation),
+            (
+              format_reason client server m path operation,
+              (
+                (λ h. h),
+                (
+                  right_or (lacks_operation client.catalogue path operation) (is_out_of_turn client m path operation),
+                  (
+                    (λ h. h),
+                    ((λ h. done_reason client server m path operation), tt),
+                  ),
+                ),
+              ),
+            ),
+          ),
+        ),
+      ),
+    )
+    (one_table client server m path operation asks)
+
+reading : (m : Message) (path : Path) (interest : Interest) (operation : Option Operation)
+    → has_unrecognized_critical m.options ≡ false → path_of (segments_of m.options) ≡ Some path
+    → operation_of m.code (accept_of m.options) (has_query m.options) path ≡ operation
+    → (if is_read operation then interest_in (observe_of m.options) path (accept_of m.options) else None)
+    ≡ Some interest
+    → AsksToRead m
+reading m path interest None e f g h = cc
+reading m path interest (Some Read) e f g h =
+    record { path = path; asks = record { understood = e; goes_to = f; means = g } }
+reading m path interest (Some operation) e f g h = cc
+
+observing : (m : Message) (interest : Interest) (b : Bool) (path : Option Path)
+    → has_unrecognized_critical m.options ≡ b → path_of (segments_of m.options) ≡ path
+    → (if b then None else interest_on m path) ≡ Some interest
+    → AsksToRead m
+observing m interest true path e f h = cc
+observing m interest false None e f h = cc
+observing m interest false (Some path) e f h =
+    reading m path interest (operation_of m.code (accept_of m.options) (has_query m.options) path) e f refl h
+
+pub only_reads : OnlyReadsObserve
+only_reads m interest h =
+    observing m interest (has_unrecognized_critical m.options) (path_of (segments_of m.options)) refl refl h

@@ -1,0 +1,136 @@
+-- What a template holds, what it refuses, and the store that a device starts with.
+use Rattle.std.specs.Prelude.{ℕ, ◌==◌, nat_le, Bool, false, not, ◌&&◌, ◌||◌, List, [], ◌∷◌, length, pos, Option, None}
+use Rattle.std.specs.Prelude.{Some, is_some, option_map, if◌then◌else◌}
+use Rattle.std.specs.List.{list_any}
+use Rattle.lwm2m_values.specs.declared.value.Value.{Value}
+use Rattle.lwm2m_values.specs.declared.value.Value.TheVariants.{Text, Whole, Flag, Opaque, Moment, Link}
+use Rattle.lwm2m_values.specs.declared.kind.ValueKind.{ValueKind}
+use Rattle.lwm2m_values.specs.declared.kind.ValueKind.TheVariants as kind
+use Rattle.object_defs.specs.Base.{base}
+use Rattle.object_defs.specs.Catalogue.{object_of, definition_of}
+use Rattle.object_defs.specs.Vendor.{inserted, resource_fault, vendor_fault}
+use Rattle.object_defs.specs.declared.definition.ResourceDef.{ResourceDef}
+use Rattle.object_defs.specs.declared.fault.CatalogFault.{CatalogFault}
+use Rattle.object_defs.specs.declared.fault.CatalogFault.TheVariants as catalog
+use Rattle.object_defs.specs.declared.definition.ObjectDef.{ObjectDef}
+use Rattle.object_defs.specs.declared.path.FullPath.{FullPath}
+use Rattle.object_defs.specs.declared.path.InstancePath.{InstancePath}
+use Rattle.instance_store.specs.Stored.{Stored, empty, value_at, value_count, has_instance, instances_of, with_value}
+use Rattle.device_template.specs.declared.fault.TemplateFault.{TemplateFault}
+use Rattle.device_template.specs.declared.fault.TemplateFault.TheVariants.{Range, Missing, Duplicate, Full, Memory}
+use Rattle.object_defs.specs.Lines.{first_line}
+use Rattle.device_template.specs.Values.{fits, has_place, has_all_parts}
+
+-- what a template holds
+pub record Template : Type 0 where
+  pub accounts : List ℕ
+  pub catalogue : List ObjectDef
+  pub store : Stored
+
+-- no account, no instance and no value; the base objects
+abbrev pub empty_class : Template
+empty_class = record { accounts = []; catalogue = base; store = empty }
+
+-- with one account more, in ascending order
+abbrev pub with_account : Template → ℕ → Template
+with_account class server =
+    record { accounts = inserted (λ a. a) server class.accounts; catalogue = class.catalogue; store = class.store }
+
+abbrev pub with_catalogue : Template → List ObjectDef → Template
+with_catalogue class catalogue = record { accounts = class.accounts; catalogue = catalogue; store = class.store }
+
+abbrev pub with_store : Template → Stored → Template
+with_store class stored = record { accounts = class.accounts; catalogue = class.catalogue; store = stored }
+
+-- how many accounts a class may have
+abbrev pub most_accounts : ℕ
+most_accounts = 4
+
+-- an account is one of 1 to 65534, is not there yet, and there is room for it
+abbrev pub account_fault : Template → ℕ → Option TemplateFault
+account_fault class server =
+    first_line (
+    (not (nat_le 1 server && nat_le server 65534), Range)
+    ∷ (list_any (λ account. account == server) class.accounts, Duplicate)
+    ∷ (nat_le most_accounts (length class.accounts), Full)
+    ∷ []
+    )
+
+-- what the catalogue refuses, as the class refuses it
+abbrev pub fault_of : CatalogFault → TemplateFault
+fault_of catalog.IdRange = Range
+fault_of catalog.Duplicate = Duplicate
+fault_of catalog.TooMany = Full
+fault_of catalog.Memory = Memory
+
+-- the class's own objects are a catalogue's vendor objects, of which there may be 11
+abbrev pub object_fault : Template → ℕ → Option TemplateFault
+object_fault class id = option_map fault_of (vendor_fault class.catalogue id)
+
+-- a resource is one of an object of the class's own
+abbrev pub definition_fault : Template → ℕ → ResourceDef → Option TemplateFault
+definition_fault class object definition = option_map fault_of (resource_fault class.catalogue object definition)
+
+-- instances have the numbers 0 to 65534; Device and Firmware Update have instance 0 alone, Security has none
+abbrev pub may_stand : InstancePath → Bool
+may_stand place =
+    not (place.object == 0) && (nat_le place.instance 65534
+    && (not (place.object == 3 || place.object == 5) || place.instance == 0))
+
+-- an instance is of an object that is there, is not there yet, and one of 64 at most
+abbrev pub instance_fault : Template → InstancePath → Option TemplateFault
+instance_fault class place =
+    first_line (
+    (not (may_stand place), Range)
+    ∷ (not (is_some (object_of class.catalogue place.object)), Missing)
+    ∷ (has_instance class.store place, Duplicate)
+    ∷ (nat_le 64 (length (instances_of class.store place.object)), Full)
+    ∷ []
+    )
+
+-- a value fits, its object and instance are there, it is new, and there is room: a class has at most 65,535 values
+abbrev pub value_fault_at : Template → FullPath → Value → Option TemplateFault
+value_fault_at class p value =
+    first_line (
+    (not (fits class.catalogue p value), Range)
+    ∷ (not (has_place class.catalogue class.store p), Missing)
+    ∷ (is_some (value_at class.store p), Duplicate)
+    ∷ (nat_le 65535 (value_count class.store), Full)
+    ∷ (has_all_parts class.store p, Full)
+    ∷ []
+    )
+
+-- the value of a kind that is empty, zero or false
+abbrev pub plain : ValueKind → Value
+plain kind.Text = Text []
+plain kind.Whole = Whole (pos 0)
+plain kind.Flag = Flag false
+plain kind.Opaque = Opaque []
+plain kind.Moment = Moment (pos 0)
+plain kind.Link = Link 0 0
+
+-- the kind of a resource, where the class does not refuse a plain value of that kind at the path
+abbrev pub kind_taken_by : Template → FullPath → Option ResourceDef → Option ValueKind
+kind_taken_by class p None = None
+kind_taken_by class p (Some d) = if is_some (value_fault_at class p (plain d.kind)) then None else Some d.kind
+
+-- the kind of the values that may be added at a path, where any may
+abbrev pub kind_taken : Template → FullPath → Option ValueKind
+kind_taken class p = kind_taken_by class p (definition_of class.catalogue p.object p.resource)
+
+-- a value has a path of three or four numbers
+abbrev pub value_fault : Template → Option FullPath → Value → Option TemplateFault
+value_fault class None value = Some Range
+value_fault class (Some p) value = value_fault_at class p value
+
+-- a resource of the firmware instance
+abbrev pub firmware : ℕ → FullPath
+firmware resource = record { object = 5; instance = 0; resource = resource; part = None }
+
+-- at its start a device with Firmware Update has an empty Package URI, State Idle and no Update Result
+abbrev pub with_idle_firmware : Stored → Stored
+with_idle_firmware stored =
+    if has_instance stored (record { object = 5; instance = 0 })
+    then with_value (with_value (with_value stored (firmware 1) (Text [])) (firmware 3) (Whole (pos 0))) (firmware 5)
+    (Whole (pos 0))
+    else stored

@@ -1,0 +1,111 @@
+//! One run, for bench/ to measure.
+ghost use Rattle.std.specs.Prelude.{◌≤◌};
+ghost use Rattle.std.specs.Thread.{IsSync};
+
+use fleet_core::{run_serial, start_devices};
+use fleet_workers::{OpenGate, run_fleet, worker_loop};
+use scenario_image::{Scenario, load};
+use shared_trace::Trace;
+use std::alloc::Global;
+use std::io;
+use std::sync::Wait;
+use std::thread::Threads;
+use ticket_lock::TicketLock;
+
+/// Starts the devices, and makes no step.
+fn by_nobody(alloc: Global, scenario: &Scenario) -> Option<usize> {
+    match start_devices(alloc, scenario) {
+        Ok(_) => Some(0),
+        Err(_) => None,
+    }
+}
+
+/// How many steps the serial run has.
+fn by_serial(alloc: Global, scenario: &Scenario) -> Option<usize> {
+    match run_serial(alloc, scenario) {
+        Ok(entries) => Some(entries.as_slice().len()),
+        Err(_) => None,
+    }
+}
+
+/// How many steps one worker makes.
+fn by_one<R: Wait>(rt: &R, alloc: Global, scenario: &Scenario, batch: u32) -> Option<usize>
+    requires { 1 ≤ batch }
+{
+    let Ok(trace) = Trace::new(alloc, scenario) else {
+        return None;
+    };
+    let Ok((lock, pass)) = TicketLock::new(trace, alloc) else {
+        return None;
+    };
+    let (pass, _) = worker_loop(rt, &lock, pass, scenario, batch, &OpenGate);
+    let Ok(trace) = lock.close(pass) else {
+        unreachable!()
+    };
+    Some(trace.into_entries().as_slice().len())
+}
+
+/// How many steps two workers make.
+fn by_two<R: Threads + Wait + Sync>(
+    rt: &R,
+    alloc: Global,
+    scenario: &Scenario,
+    batch: u32,
+) -> Option<usize>
+    requires { IsSync R.row }
+{
+    match run_fleet(rt, alloc, scenario, 2, batch, &OpenGate) {
+        Ok(run) => Some(run.entries.as_slice().len()),
+        Err(_) => None,
+    }
+}
+
+/// How many steps the run of this kind makes: `start` starts the devices alone, `two 16` lets two workers run with
+/// batches of 16.
+fn steps<R: Threads + Wait + Sync>(
+    rt: &R,
+    alloc: Global,
+    kind: &str,
+    scenario: &Scenario,
+) -> Option<usize>
+    requires { IsSync R.row }
+{
+    match kind {
+        "start" => by_nobody(alloc, scenario),
+        "serial" => by_serial(alloc, scenario),
+        "one 1" => by_one(rt, alloc, scenario, 1),
+        "one 16" => by_one(rt, alloc, scenario, 16),
+        "one 64" => by_one(rt, alloc, scenario, 64),
+        "two 1" => by_two(rt, alloc, scenario, 1),
+        "two 16" => by_two(rt, alloc, scenario, 16),
+        "two 64" => by_two(rt, alloc, scenario, 64),
+        _ => None,
+    }
+}
+
+fn scenario_of(alloc: Global, hex: &str) -> Option<Scenario> {
+    let Ok(image) = hex::decode(alloc, hex) else {
+        return None;
+    };
+    match load(alloc, image.as_slice()) {
+        Ok(scenario) => Some(scenario),
+        Err(_) => None,
+    }
+}
+
+/// Makes the run whose kind the first line names, of the scenario whose image the second one has in hexadecimal, and
+/// prints how many steps it has.
+pub fn run<R: Threads + Wait + Sync + Print>(rt: &R, alloc: Global, text: &str) -> io::Result<()>
+    requires { IsSync R.row }
+{
+    let Some((kind, rest)) = text.split_once('\n') else {
+        return println!(rt; "no kind of run");
+    };
+    let Some(scenario) = scenario_of(alloc, rest.trim()) else {
+        return println!(rt; "no scenario");
+    };
+    match steps(rt, alloc, kind, &scenario) {
+        Some(count) => println!(rt; "steps {count}"),
+        None => println!(rt; "no run"),
+    }
+}

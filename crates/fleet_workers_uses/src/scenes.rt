@@ -1,0 +1,50 @@
+//! The scenarios, as texts.
+
+use scenario_asm::assemble;
+use scenario_image::Scenario;
+use std::alloc::Global;
+
+/// Two devices alike, each asked for its battery level, and again a second later.
+pub const TWINS: &str = "scenario 1
+class
+account 1
+instance 3 0
+value /3/0/9 integer 100
+device 0
+read 1 con 1 - /3/0/9 any
+tick 1
+read 1 con 2 - /3/0/9 any
+device 0
+read 1 con 1 - /3/0/9 any
+tick 1
+read 1 con 2 - /3/0/9 any
+";
+
+/// Device 0 posts to group 1 and then needs a post to group 0; device 1 needs the first and makes the second.
+pub const EXCHANGE: &str = "scenario 1
+class
+device 0
+post 1
+need 0 1
+device 0
+need 1 1
+post 0
+";
+
+/// Device 0 lets two seconds pass, device 1 one.
+pub const SECONDS: &str = "scenario 1
+class
+device 0
+tick 1
+tick 1
+device 0
+tick 1
+";
+
+/// The scenario of a text, if there is memory for it.
+pub fn scenario_of(alloc: Global, text: &str) -> Option<Scenario> {
+    match assemble(alloc, text) {
+        Ok(scenario) => Some(scenario),
+        Err(_) => None,
+    }
+}
