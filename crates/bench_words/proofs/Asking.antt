@@ -1,5 +1,6 @@
 -- What the words ask for: a subcommand whose value is missing asks for nothing.
-use Rattle.std.proofs.Common.{◌≡◌, ◌≢◌, ◌⊎◌, ◌↔◌, IsTrue, Bool, true, false, not, ◌&&◌, List, [], None, codes, rules, refl, inl, inr, ap, subst}
+use Rattle.std.proofs.Common.{◌≡◌, ◌≢◌, ◌⊎◌, ◌↔◌, IsTrue, Bool, true, false, not, ◌&&◌, List, [], None, codes, rules}
+use Rattle.std.proofs.Common.{refl, inl, inr, ap, subst}
 use Rattle.clap.specs.Words.{App, HasKind, IsAmong, Row, Text as Word, fault_of, first_of, is_simple_and_free, kind_of}
 use Rattle.clap.specs.declared.error.Error.{Error}
 use Rattle.clap.specs.declared.error.kind.ErrorKind.TheVariants as kind
@@ -14,7 +15,8 @@ no_one rows (jobs.Dis input) none asks = search rules
 no_one rows (jobs.Run image workers batch trace) none asks = search rules
 no_one rows (jobs.Check image trace) none asks = search rules
 
-pub no_asm : (rows : List Row) (job : Job) → (first_of (codes "IN") rows ≡ None) ⊎ (first_of (codes "OUT") rows ≡ None) → AsksFor (codes "asm", rows) job → ⊥
+pub no_asm : (rows : List Row) (job : Job) → (first_of (codes "IN") rows ≡ None) ⊎ (first_of (codes "OUT") rows ≡ None)
+    → AsksFor (codes "asm", rows) job → ⊥
 no_asm rows (jobs.One hex) none asks = search rules
 no_asm rows (jobs.Asm input output) (inl none) asks = search rules
 no_asm rows (jobs.Asm input output) (inr none) asks = search rules
@@ -38,7 +40,8 @@ no_run rows (jobs.Run image workers batch trace) (inr (inl none)) asks = none wo
 no_run rows (jobs.Run image workers batch trace) (inr (inr none)) asks = none batch asks.3
 no_run rows (jobs.Check image trace) lacks asks = search rules
 
-pub no_check : (rows : List Row) (job : Job) → (first_of (codes "IMAGE") rows ≡ None) ⊎ (first_of (codes "TRACE") rows ≡ None) → AsksFor (codes "check", rows) job → ⊥
+pub no_check : (rows : List Row) (job : Job) → (first_of (codes "IMAGE") rows ≡ None)
+    ⊎ (first_of (codes "TRACE") rows ≡ None) → AsksFor (codes "check", rows) job → ⊥
 no_check rows (jobs.One hex) none asks = search rules
 no_check rows (jobs.Asm input output) none asks = search rules
 no_check rows (jobs.Dis input) none asks = search rules
@@ -52,7 +55,8 @@ second_of (inl a) without = absurd (without a)
 second_of (inr b) without = b
 
 -- what is plain has no global argument
-pub is_local : (groups external globals rest : Bool) → (groups && (not external && (not globals && rest))) ≡ true → globals ≡ false
+pub is_local : (groups external globals rest : Bool) → (groups && (not external && (not globals && rest))) ≡ true
+    → globals ≡ false
 is_local true false false rest plain = refl
 is_local true false true rest plain = search rules
 is_local true true globals rest plain = search rules
@@ -71,7 +75,8 @@ refused_as app words e is_mistake same kinds other mistake =
     (kind_of e, among, mistake)
 
 -- words that were taken have no error
-pub taken_whole : (app : App) (words : List Word) → app ≡ bench_app → (is_simple_and_free app ≡ true → fault_of app words ≡ []) → refusals words ≡ []
+pub taken_whole : (app : App) (words : List Word) → app ≡ bench_app
+    → (is_simple_and_free app ≡ true → fault_of app words ≡ []) → refusals words ≡ []
 unfolding refusals
 taken_whole app words same kinds =
     let simple : is_simple_and_free app ≡ true = ap is_simple_and_free same in

@@ -1,7 +1,9 @@
 -- The words of the command line: which `clap` takes, and what they then ask for.
-use Rattle.std.specs.Prelude.{◌≡◌, ◌≢◌, ◌↔◌, ◌⊎◌, ◌<◌, ◌^◌, ℕ, pos, Bool, true, IsTrue, List, [], ◌∷◌, Option, None, Some, option_map, codes}
+use Rattle.std.specs.Prelude.{◌≡◌, ◌≢◌, ◌↔◌, ◌⊎◌, ◌<◌, ◌^◌, ℕ, pos, Bool, true, IsTrue, List, [], ◌∷◌, Option, None}
+use Rattle.std.specs.Prelude.{Some, option_map, codes}
 use Rattle.std.specs.Str.Parse.{IsNumeral, digits_value, without_leading_plus}
-use Rattle.clap.specs.Words.{App, IsAmong, Row, Rule, Text as Word, fault_of, first_of, new_app, new_rule, one_of, subcommand_of, with_rule, with_subcommand}
+use Rattle.clap.specs.Words.{App, IsAmong, Row, Rule, Text as Word, fault_of, first_of, new_app, new_rule, one_of}
+use Rattle.clap.specs.Words.{subcommand_of, with_rule, with_subcommand}
 use Rattle.clap.specs.declared.builder.value_parser.ValueParser.TheVariants as parsers
 use Rattle.clap.specs.declared.error.kind.ErrorKind.{ErrorKind}
 use Rattle.clap.specs.declared.error.kind.ErrorKind.TheVariants.{DisplayHelp, DisplayVersion}
@@ -67,7 +69,8 @@ with_settings a = record a { top = record a.top { subcommand_required = true; ha
 abbrev pub bench_app : App
 bench_app =
     with_subcommand
-    (with_subcommand (with_subcommand (with_subcommand (with_subcommand (with_settings (new_app (codes "lwbench"))) one_app.top) asm_app.top) dis_app.top) run_app.top)
+    (with_subcommand (with_subcommand (with_subcommand
+    (with_subcommand (with_settings (new_app (codes "lwbench"))) one_app.top) asm_app.top) dis_app.top) run_app.top)
     check_app.top
 
 -- ---- what is asked for
@@ -97,7 +100,8 @@ LacksRun rows =
 abbrev pub AsksFor : Word × List Row → Job → Type 0
 AsksFor found (jobs.One hex) = (found.0 ≡ codes "one") × (first_of (codes "HEX") found.1 ≡ Some hex.now)
 AsksFor found (jobs.Asm input output) =
-    (found.0 ≡ codes "asm") × (first_of (codes "IN") found.1 ≡ Some input.now) × (first_of (codes "OUT") found.1 ≡ Some output.now)
+    (found.0 ≡ codes "asm") × (first_of (codes "IN") found.1 ≡ Some input.now)
+    × (first_of (codes "OUT") found.1 ≡ Some output.now)
 AsksFor found (jobs.Dis input) = (found.0 ≡ codes "dis") × (first_of (codes "IN") found.1 ≡ Some input.now)
 AsksFor found (jobs.Run image workers batch trace) =
     (found.0 ≡ codes "run")
@@ -106,7 +110,8 @@ AsksFor found (jobs.Run image workers batch trace) =
     × IsNumber 32 (one_of (codes "batch") found.1) batch
     × (first_of (codes "trace") found.1 ≡ option_map (λ p. p.now) trace)
 AsksFor found (jobs.Check image trace) =
-    (found.0 ≡ codes "check") × (first_of (codes "IMAGE") found.1 ≡ Some image.now) × (first_of (codes "TRACE") found.1 ≡ Some trace.now)
+    (found.0 ≡ codes "check") × (first_of (codes "IMAGE") found.1 ≡ Some image.now)
+    × (first_of (codes "TRACE") found.1 ≡ Some trace.now)
 
 -- these words, of which the first is the program's name, ask for this
 pub record IsAsked (words : List Word) (job : Job) : Type 0 where

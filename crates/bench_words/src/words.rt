@@ -1,8 +1,11 @@
-ghost use Rattle.std.specs.Prelude.{◌≡◌, ◌≢◌, ◌⊎◌, List, None, Some, codes, map, option_map, false, IfNone, IfOk, IfSome};
+ghost use Rattle.std.specs.Prelude.{◌≡◌, ◌≢◌, ◌⊎◌, List, None, Some, codes, map, option_map, false, IfNone, IfOk};
+ghost use Rattle.std.specs.Prelude.{IfSome};
 ghost use Rattle.std.specs.String.{string_bytes};
-ghost use Rattle.clap.specs.Words.{Row, Text as Word, app_of, first_of, found_of, kind_of, new_app, one_of, rows_of, rule_of, subcommand_rows_of, with_rule};
+ghost use Rattle.clap.specs.Words.{Row, Text as Word, app_of, first_of, found_of, kind_of, new_app, one_of, rows_of};
+ghost use Rattle.clap.specs.Words.{rule_of, subcommand_rows_of, with_rule};
 ghost use Rattle.bench_words.specs.declared.words.Job.{Job as JobData};
-ghost use Rattle.bench_words.specs.Words.{AsksFor, IsNoNumber, IsNumber, IsReadAs, LacksRun, asm_app, batch, bench_app, check_app, dis_app, file, needed, one_app, run_app, workers};
+ghost use Rattle.bench_words.specs.Words.{AsksFor, IsNoNumber, IsNumber, IsReadAs, LacksRun, asm_app, batch, bench_app};
+ghost use Rattle.bench_words.specs.Words.{check_app, dis_app, file, needed, one_app, run_app, workers};
 
 use crate::help;
 use clap::error::ErrorKind;
@@ -11,7 +14,8 @@ use std::alloc::{AllocError, Global};
 
 /// What is said of an argument that is no text.
 pub const NO_TEXT: &str =
-    "error: invalid UTF-8 was detected in one or more arguments\n\nUsage: lwbench <COMMAND>\n\nFor more information, try '--help'.\n";
+    "error: invalid UTF-8 was detected in one or more arguments\n\nUsage: lwbench <COMMAND>\n\n\
+     For more information, try '--help'.\n";
 
 /// What the words ask the program to do. It borrows them.
 #[derive(Clone, Copy, Debug, PartialEq, Eq)]
@@ -87,8 +91,10 @@ pub fn read<'a>(alloc: Global, words: &'a [String]) -> Result<Asked<'a>, AllocEr
 }
 
 fn job_of<'a>(found: &ArgMatches<'a>) -> Option<Job<'a>>
-    ensures some { IfSome result (λ job. (p : Word × List Row) × (subcommand_rows_of found.now ≡ Some p) × AsksFor p job) }
-    ensures none { IfNone result ((p : Word × List Row) (job : JobData) → subcommand_rows_of found.now ≡ Some p → AsksFor p job → ⊥) }
+    ensures some { IfSome result (λ job. (p : Word × List Row) × (subcommand_rows_of found.now ≡ Some p)
+        × AsksFor p job) }
+    ensures none { IfNone result ((p : Word × List Row) (job : JobData) → subcommand_rows_of found.now ≡ Some p
+        → AsksFor p job → ⊥) }
 {
     match found.subcommand() {
         Some((name, inner)) => job_in(name, inner),

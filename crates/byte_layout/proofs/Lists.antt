@@ -116,7 +116,7 @@ each_spelled part f alike (suc n) before (x ∷ xs) good =
     ∙ ap (λ t. f x ++ t) (each_spelled part f alike n (before ++ x ∷ []) xs good.1)
     ∙ sym (flat_map-cons f x xs)
 
--- one more item, which may stand behind the others
+-- one more item, which may stand after the others
 pub each_push : {A : Type 0} (part : List A → Part A) (n : ℕ) (before xs : List A) (x : A)
     → (each part n before).Good xs → (part (before ++ xs)).Good x → (each part (suc n) before).Good (xs ++ x ∷ [])
 unfolding each
@@ -130,7 +130,7 @@ each_push {A = A} part (suc n) before (y ∷ xs) x good last = (
       (subst (λ (ys : List A). (part ys).Good x) (sym (append_assoc before (y ∷ []) xs)) last),
 )
 
--- each item may stand behind those before it
+-- each item may stand after those before it
 pub each_at : {A : Type 0} (part : List A → Part A) (n : ℕ) (before xs : List A) → (each part n before).Good xs
     → (i : ℕ) (x : A) → slice_get xs i ≡ Some x → (part (before ++ take i xs)).Good x
 unfolding each

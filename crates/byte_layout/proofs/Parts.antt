@@ -10,11 +10,11 @@ use Rattle.byte_layout.specs.Exact.{IsBytes, IsExact, left_of}
 use Rattle.byte_layout.proofs.Steps.{ok_is, bind_ok, bind_err, guard_ok, guard_err, behind_front}
 use Rattle.byte_layout.proofs.Fields.{raw_exact, raw_length}
 
--- bytes behind a front are bytes
+-- bytes after a front are bytes
 pub bytes_behind : (bytes front rest : List ℕ) → IsBytes bytes → bytes ≡ front ++ rest → IsBytes rest
 bytes_behind bytes front rest fits e = behind_front front rest (subst IsBytes e fits)
 
--- there are no fewer bytes than behind a front of them
+-- there are no fewer bytes than after a front of them
 pub le_behind : (n : ℕ) (bytes front rest : List ℕ) → bytes ≡ front ++ rest → n ≤ length rest → n ≤ length bytes
 le_behind n bytes front rest e le = omega (arith, le, ap length e, length-append front rest)
 

@@ -47,7 +47,7 @@ pub guard_err : {A : Type 0} (t : Bool) (b c : Break) (x : A) → cond t (Ok x) 
 guard_err true b c x e = absurd cc
 guard_err false b c x e = (refl, cc)
 
--- what stands behind a front of bytes is bytes
+-- what stands after a front of bytes is bytes
 pub behind_front : (front rest : List ℕ) → IsBytes (front ++ rest) → IsBytes rest
 behind_front [] rest fits = fits
 behind_front (b ∷ front) rest fits = behind_front front rest (λ i. fits (suc i))

@@ -22,7 +22,7 @@ broke p b = Err b
 err_is : {A : Type 0} (p : Part A) (b c : Break) → broke p b ≡ broke p c → b ≡ c
 err_is p b c e = cc
 
--- nothing may stand behind the value
+-- nothing may stand after the value
 abbrev ended : {A : Type 0} → A × List ℕ → Result A Break
 ended x = cond (eqb (length x.1) 0) (Ok x.0) (Err Trailing)
 

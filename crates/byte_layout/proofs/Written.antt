@@ -29,7 +29,7 @@ each_spells part (suc n) before [] good = absurd good
 each_spells part (suc n) before (x ∷ xs) good =
     ap (λ t. (part before).spell x ++ t) (each_spells part n (before ++ x ∷ []) xs good.1)
 
--- the item at i may be written behind those before it
+-- the item at i may be written after those before it
 pub may_write : {A : Type 0} (part : List A → Part A) (list : List A) (i : ℕ) (x : A)
     → (each part (length list) []).Good list → i < length list → x ≡ get_or list i x → (part (take i list)).Good x
 may_write part list i x good lt item =

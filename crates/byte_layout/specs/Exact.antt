@@ -17,8 +17,8 @@ left_of Trailing = 0
 left_of (BadField left) = left
 left_of (Limit left) = left
 
--- what is read is a good value, and the bytes are its spelling with what is left behind it; the spelling of a good
--- value is read again, whatever stands behind it; a reading breaks off exactly where the bytes do, and so; and no break
+-- what is read is a good value, and the bytes are its spelling with what is left after it; the spelling of a good
+-- value is read again, whatever stands after it; a reading breaks off exactly where the bytes do, and so; and no break
 -- says that more bytes are left than there are
 pub record IsExact {A : Type 0} (p : Part A) : Type 0 where
   pub taken : (bytes : List ℕ) → IsBytes bytes → (a : A) (rest : List ℕ) → p.read bytes ≡ Ok (a, rest) → p.Good a

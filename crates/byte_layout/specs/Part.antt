@@ -20,7 +20,7 @@ pub record Part (A : Type 0) : Type 1 where
   pub Good : A → Type 0
   -- no good value's bytes stand at the front of these: whole good fields do, and then they break off so
   pub Breaks : List ℕ → Break → Type 0
-  -- the value at the front and the bytes behind it, or the first break
+  -- the value at the front and the bytes after it, or the first break
   pub read : List ℕ → Result (A × List ℕ) Break
 
 -- so many bytes, whatever they are

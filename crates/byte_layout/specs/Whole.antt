@@ -12,7 +12,7 @@ use Rattle.byte_layout.specs.Part.{Part, ◌>>=◌}
 abbrev pub IsAll : {A : Type 0} → Part A → List ℕ → A → Type 0
 IsAll p bytes a = p.Good a × (bytes ≡ p.spell a)
 
--- the bytes break off within the part, or a good value's stand there and at least one behind them
+-- the bytes break off within the part, or a good value's stand there and at least one after them
 abbrev pub BreaksOff : {A : Type 0} → Part A → List ℕ → Break → Type 0
 BreaksOff p bytes b =
     p.Breaks bytes b

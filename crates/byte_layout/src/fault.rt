@@ -4,7 +4,7 @@ ghost use Rattle.byte_layout.specs.Whole.{placed, fault_of};
 use std::alloc::{AllocError, AllocFailed};
 use thiserror::Error;
 
-/// How bytes break off where a field should stand, or behind the last one.
+/// How bytes break off where a field should stand, or after the last one.
 ///
 /// A number is how many bytes are left from the field's first byte on, so that a field's break is the same whatever
 /// stands before it.
@@ -16,7 +16,7 @@ pub enum Break {
     Version,
     /// The bytes of a field are not all there.
     Cut,
-    /// Bytes stand behind the last field.
+    /// Bytes stand after the last field.
     Trailing,
     /// A field's value does not fit; with the bytes left from its first on.
     BadField(usize),
@@ -48,7 +48,7 @@ pub enum LayoutFault {
     /// The bytes of a field are not all there.
     #[error("cut")]
     Cut,
-    /// Bytes stand behind the last field.
+    /// Bytes stand after the last field.
     #[error("trailing")]
     Trailing,
     /// A field's value does not fit.

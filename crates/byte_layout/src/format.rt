@@ -24,7 +24,7 @@ pub trait Format {
     /// How it is laid out.
     ghost layout: { Part Data };
 
-    /// The value at the front of the bytes, and the bytes behind it.
+    /// The value at the front of the bytes, and the bytes after it.
     fn read(alloc: Global, bytes: &[u8]) -> Result<(Self::Value, &[u8]), ReadError>
         ensures { Gives (λ x. (view x.0, x.1.now)) result (layout.read bytes.now) };
 }

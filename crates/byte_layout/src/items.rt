@@ -14,10 +14,10 @@ pub trait Items {
     /// An item.
     type Item: Drop;
 
-    /// How an item is laid out behind those.
+    /// How an item is laid out after those.
     ghost part: { Self → List Self.Item → Part Self.Item };
 
-    /// The item at the front of the bytes, behind those, and the bytes behind it.
+    /// The item at the front of the bytes, after those, and the bytes after it.
     fn item_at<'a>(
         &self,
         alloc: Global,
@@ -27,7 +27,7 @@ pub trait Items {
         ensures { Gives (λ x. (x.0, x.1.now)) result ((part self.now before.now).read bytes.now) };
 }
 
-/// So many items at the front of the bytes, and the bytes behind them. No room is made for more items than are read.
+/// So many items at the front of the bytes, and the bytes after them. No room is made for more items than are read.
 pub fn items_at<'a, I: Items>(
     items: &I,
     alloc: Global,
@@ -50,7 +50,7 @@ pub fn items_at<'a, I: Items>(
 pub trait PutItems: Items {
     ghost use Rattle.std.specs.Prelude.{◌≡◌, ◌++◌, OnOk};
 
-    /// Writes the item that stands behind those. Where memory runs out, some of its bytes may have been written.
+    /// Writes the item that stands after those. Where memory runs out, some of its bytes may have been written.
     fn put_item(
         &self,
         out: &mut Vec<u8>,

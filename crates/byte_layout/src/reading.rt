@@ -8,7 +8,7 @@ ghost use Rattle.byte_layout.specs.Outcome.{Gives};
 
 use crate::fault::{Break, ReadError};
 
-/// A number of one byte, and the bytes behind it.
+/// A number of one byte, and the bytes after it.
 #[tactic(auto, unfolding(crate::specs::Part::number, crate::specs::Part::raw))]
 pub fn u8_at(bytes: &[u8]) -> Result<(u8, &[u8]), ReadError>
     ensures read { Gives (λ x. (x.0, x.1.now)) result ((number w8).read bytes.now) }
@@ -20,7 +20,7 @@ pub fn u8_at(bytes: &[u8]) -> Result<(u8, &[u8]), ReadError>
     Ok((*first, rest))
 }
 
-/// A number of two bytes, the high one first, and the bytes behind it.
+/// A number of two bytes, the high one first, and the bytes after it.
 #[tactic(auto, unfolding(crate::specs::Part::number, crate::specs::Part::raw))]
 pub fn u16_at(bytes: &[u8]) -> Result<(u16, &[u8]), ReadError>
     ensures read { Gives (λ x. (x.0, x.1.now)) result ((number w16).read bytes.now) }
@@ -30,7 +30,7 @@ pub fn u16_at(bytes: &[u8]) -> Result<(u16, &[u8]), ReadError>
     Ok((u16::from_be_bytes([field[0], field[1]]), rest))
 }
 
-/// A number of four bytes, the highest first, and the bytes behind it.
+/// A number of four bytes, the highest first, and the bytes after it.
 #[tactic(auto, unfolding(crate::specs::Part::number, crate::specs::Part::raw))]
 pub fn u32_at(bytes: &[u8]) -> Result<(u32, &[u8]), ReadError>
     ensures read { Gives (λ x. (x.0, x.1.now)) result ((number w32).read bytes.now) }
@@ -41,7 +41,7 @@ pub fn u32_at(bytes: &[u8]) -> Result<(u32, &[u8]), ReadError>
     Ok((number, rest))
 }
 
-/// A count or a length of one byte that is at most this, and the bytes behind it.
+/// A count or a length of one byte that is at most this, and the bytes after it.
 pub fn u8_at_most(limit: u8, bytes: &[u8]) -> Result<(u8, &[u8]), ReadError>
     ensures read { Gives (λ x. (x.0, x.1.now)) result ((at_most limit (number w8)).read bytes.now) }
     ensures within { IfOk result (λ x. x.0 ≤ limit) }
@@ -54,7 +54,7 @@ pub fn u8_at_most(limit: u8, bytes: &[u8]) -> Result<(u8, &[u8]), ReadError>
     Ok((n, rest))
 }
 
-/// A count or a length of two bytes that is at most this, and the bytes behind it.
+/// A count or a length of two bytes that is at most this, and the bytes after it.
 pub fn u16_at_most(limit: u16, bytes: &[u8]) -> Result<(u16, &[u8]), ReadError>
     ensures read { Gives (λ x. (x.0, x.1.now)) result ((at_most limit (number w16)).read bytes.now) }
     ensures within { IfOk result (λ x. x.0 ≤ limit) }
@@ -67,7 +67,7 @@ pub fn u16_at_most(limit: u16, bytes: &[u8]) -> Result<(u16, &[u8]), ReadError>
     Ok((n, rest))
 }
 
-/// A signed number of eight bytes in two's complement, the highest first, and the bytes behind it.
+/// A signed number of eight bytes in two's complement, the highest first, and the bytes after it.
 #[tactic(auto, unfolding(crate::specs::Part::number, crate::specs::Part::raw))]
 pub fn i64_at(bytes: &[u8]) -> Result<(i64, &[u8]), ReadError>
     ensures read { Gives (λ x. (x.0, x.1.now)) result ((signed w64).read bytes.now) }
@@ -80,7 +80,7 @@ pub fn i64_at(bytes: &[u8]) -> Result<(i64, &[u8]), ReadError>
     Ok((number, rest))
 }
 
-/// So many bytes, lent, and the bytes behind them.
+/// So many bytes, lent, and the bytes after them.
 #[tactic(auto, unfolding(crate::specs::Part::raw))]
 pub fn bytes_at(count: usize, bytes: &[u8]) -> Result<(&[u8], &[u8]), ReadError>
     ensures read { Gives (λ x. (x.0.now, x.1.now)) result ((raw count).read bytes.now) }

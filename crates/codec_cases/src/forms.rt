@@ -34,8 +34,8 @@ pub fn fixed(alloc: Global, text: &'static str) -> Result<String, Unanswered> {
     Ok(String::from_str(alloc, text)?)
 }
 
-/// Adds words as they are. This, `joined`, `decimal` and `signed` stand in the place of `write!` and `to_string`: a proof over one of
-/// those costs seconds each time, and no caller needs to know what is written.
+/// Adds words as they are. This, `joined`, `decimal` and `signed` stand in the place of `write!` and `to_string`: a
+/// proof over one of those costs seconds each time, and no caller needs to know what is written.
 pub fn put_words(out: &mut String, words: &[&str]) -> Result<(), AllocError> {
     for word in words {
         out.push_str(word)?;

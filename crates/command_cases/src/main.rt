@@ -1,5 +1,6 @@
-//! `command_cases`: reads words of `lwbench` from standard input, each with what they have to print and write, does what
-//! they ask for over files in memory, and prints what differs. docs/inside/command-cases.md says how a case is written.
+//! `command_cases`: reads words of `lwbench` from standard input, each with what they have to print and write, does
+//! what they ask for over files in memory, and prints what differs. docs/inside/command-cases.md says how a case is
+//! written.
 #![tactic(auto)]
 
 mod asking;
@@ -24,8 +25,8 @@ fn main(rt: HostRuntime) -> io::Result<ExitCode> {
     Ok(ExitCode::from(status))
 }
 
-/// Writes what is to be said of the cases of a text. Status 0: none differs; 1: one differs; 2: a line can't be read, or
-/// there is no case.
+/// Writes what is to be said of the cases of a text. Status 0: none differs; 1: one differs; 2: a line can't be read,
+/// or there is no case.
 fn report_on<R: Threads + Wait + Sync>(
     rt: &R,
     alloc: Global,

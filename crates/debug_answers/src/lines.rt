@@ -1,7 +1,8 @@
 //! The lines that are answered.
 ghost use Rattle.std.specs.Prelude.{◌≡◌, codes, IfOk};
 ghost use Rattle.std.specs.String.{string_bytes};
-ghost use Rattle.debug_answers.specs.Lines.{at_line, at_word, break_at_line, break_line, break_text, cleared_line, end_line, line, stop_line};
+ghost use Rattle.debug_answers.specs.Lines.{at_line, at_word, break_at_line, break_line, break_text, cleared_line};
+ghost use Rattle.debug_answers.specs.Lines.{end_line, line, stop_line};
 
 use debugger::Stop;
 use std::alloc::{AllocError, Global};

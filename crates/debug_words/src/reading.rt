@@ -100,8 +100,8 @@ fn is_plain(line: &[u8]) -> bool
 
 /// The command that a line of the debugger's input says, without the LF that ends it, or none where it says none.
 ///
-/// Spaces part the words of a line, any number of them. Numbers, paths and hex digits are as in scenario text. There are
-/// no comments: a line with a `#`, or with a byte that is no printable ASCII, says none.
+/// Spaces part the words of a line, any number of them. Numbers, paths and hex digits are as in scenario text. There
+/// are no comments: a line with a `#`, or with a byte that is no printable ASCII, says none.
 pub fn read_command(line: &[u8]) -> Option<Command>
     ensures said { IfSome result (λ c. IsLineOf c line.now) }
     ensures none { IfNone result ((c : Command) → IsLineOf c line.now → ⊥) }

@@ -1,5 +1,6 @@
 -- What the devices show at the end of a run.
-use Rattle.std.proofs.Common.{◌≡◌, ℕ, ◌<◌, ◌≤◌, nat_lt, false, ◌⊎◌, inl, inr, List, length, take, Some, slice_get, sym, ap, ◌∙◌, arith}
+use Rattle.std.proofs.Common.{◌≡◌, ℕ, ◌<◌, ◌≤◌, nat_lt, false, ◌⊎◌, inl, inr, List, length, take, Some, slice_get, sym}
+use Rattle.std.proofs.Common.{ap, ◌∙◌, arith}
 use Rattle.std.proofs.lemmas.Bool.{cases_lt, lt-ltb, false≢true}
 use Rattle.std.proofs.lemmas.List.{take_all}
 use Rattle.device_template.specs.Template.{Template}

@@ -1,5 +1,6 @@
 -- Where a breakpoint holds that looks at one entry.
-use Rattle.std.proofs.Common.{◌≡◌, ℕ, ◌+◌, ◌<◌, ◌≤◌, ◌↔◌, eqb, Bool, true, false, ◌&&◌, ◌⊎◌, inl, inr, IsTrue, List, length, get_or, Option, None, Some, slice_get, refl, sym, ap, subst, ◌∙◌, arith}
+use Rattle.std.proofs.Common.{◌≡◌, ℕ, ◌+◌, ◌<◌, ◌≤◌, ◌↔◌, eqb, Bool, true, false, ◌&&◌, ◌⊎◌, inl, inr, IsTrue, List}
+use Rattle.std.proofs.Common.{length, get_or, Option, None, Some, slice_get, refl, sym, ap, subst, ◌∙◌, arith}
 use Rattle.std.specs.List.{list_any}
 use Rattle.std.proofs.lemmas.Bool.{eq-eqb, eqb-true, and_parts, and_from, cases_lt}
 use Rattle.std.proofs.lemmas.Option.{slice_get_read, some_pair_parts}

@@ -1,5 +1,6 @@
 -- The places of a run at which a breakpoint holds, and the next stop.
-use Rattle.std.specs.Prelude.{◌≡◌, ℕ, ◌+◌, ◌-◌, ◌<◌, ◌≤◌, ◌==◌, ◌&&◌, nat_lt, Bool, true, false, List, length, take, Option, None, Some, slice_get, slice_index}
+use Rattle.std.specs.Prelude.{◌≡◌, ℕ, ◌+◌, ◌-◌, ◌<◌, ◌≤◌, ◌==◌, ◌&&◌, nat_lt, Bool, true, false, List, length, take}
+use Rattle.std.specs.Prelude.{Option, None, Some, slice_get, slice_index}
 use Rattle.std.specs.List.{list_any}
 use Rattle.lwm2m_values.specs.declared.value.Value.{Value}
 use Rattle.device_machine.specs.declared.output.Output.{Output}

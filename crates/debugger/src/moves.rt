@@ -1,6 +1,7 @@
 //! How the devices of a debugger are moved to another place of a run.
 
-ghost use Rattle.std.specs.Prelude.{◌≡◌, ℕ, ◌+◌, ◌^◌, ◌<◌, ◌≤◌, length, take, slice_get, slice_index, slice_set, IfOk, OnOk};
+ghost use Rattle.std.specs.Prelude.{◌≡◌, ℕ, ◌+◌, ◌^◌, ◌<◌, ◌≤◌, length, take, slice_get, slice_index, slice_set, IfOk};
+ghost use Rattle.std.specs.Prelude.{OnOk};
 ghost use Rattle.device_template.specs.Template.{Template};
 ghost use Rattle.device_machine.specs.State.{Device, Shows};
 ghost use Rattle.scenario_image.specs.declared.step.Step.{Step};

@@ -1,6 +1,7 @@
 //! The numbers of breakpoints: that of number i + 1, or none, is at i.
 
-ghost use Rattle.std.specs.Prelude.{◌≡◌, ℕ, ◌+◌, ◌<◌, ◌↔◌, length, replicate, slice_get, Some, None, IsTrue, IfOk, IfSome, IfNone};
+ghost use Rattle.std.specs.Prelude.{◌≡◌, ℕ, ◌+◌, ◌<◌, ◌↔◌, length, replicate, slice_get, Some, None, IsTrue, IfOk};
+ghost use Rattle.std.specs.Prelude.{IfSome, IfNone};
 ghost use Rattle.debugger.specs.Session.{most_breaks};
 ghost use Rattle.debugger.specs.Breaks.{IsTaken};
 

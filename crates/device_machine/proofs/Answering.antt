@@ -21,9 +21,11 @@ number_with f server m outcome = (noted (with_client f.kept outcome.client) serv
 
 replied : (f : Machine) (server : ℕ) (m : Message) (outcome : Outcome) → m.kind ≡ Con
     → (on_outcome f server m outcome).outputs
-    ≡ Send server (spelling (response Ack m.mid m.token (number_with f server m outcome) outcome.answer)) ∷ acted outcome.answer.act
+    ≡ Send server (spelling (response Ack m.mid m.token (number_with f server m outcome) outcome.answer)) ∷ acted
+    outcome.answer.act
 replied f server m outcome k =
-    ap (λ kind. sent_to server (option_map spelling (reply_to f.kept.next_id m kind (number_with f server m outcome) outcome.answer)) ++ acted outcome.answer.act) k
+    ap (λ kind. sent_to server (option_map spelling
+    (reply_to f.kept.next_id m kind (number_with f server m outcome) outcome.answer)) ++ acted outcome.answer.act) k
 
 -- a fresh confirmable request
 pub acknowledged : ConfirmableAnswers
@@ -42,13 +44,18 @@ acknowledged f server bytes m fresh k =
     }
 
 -- what replies to a non-confirmable request
-replied_non : (f : Machine) (server : ℕ) (m : Message) (outcome : Outcome) (refused : Bool) → m.kind ≡ Non → has_unrecognized_critical m.options ≡ refused
+replied_non : (f : Machine) (server : ℕ) (m : Message) (outcome : Outcome) (refused : Bool) → m.kind ≡ Non
+    → has_unrecognized_critical m.options ≡ refused
     → (on_outcome f server m outcome).outputs
-    ≡ sent_to server (option_map spelling (if refused then None else Some (response Non f.kept.next_id m.token (number_with f server m outcome) outcome.answer)))
+    ≡ sent_to server (option_map spelling (if refused then None
+    else Some (response Non f.kept.next_id m.token (number_with f server m outcome) outcome.answer)))
     ++ acted outcome.answer.act
 replied_non f server m outcome refused k h =
-    ap (λ kind. sent_to server (option_map spelling (reply_to f.kept.next_id m kind (number_with f server m outcome) outcome.answer)) ++ acted outcome.answer.act) k
-    ∙ ap (λ b. sent_to server (option_map spelling (if b then None else Some (response Non f.kept.next_id m.token (number_with f server m outcome) outcome.answer)))
+    ap (λ kind. sent_to server (option_map spelling
+    (reply_to f.kept.next_id m kind (number_with f server m outcome) outcome.answer)) ++ acted outcome.answer.act) k
+    ∙ ap (λ b. sent_to server (option_map spelling
+    (if b then None else Some (response Non f.kept.next_id m.token
+    (number_with f server m outcome) outcome.answer)))
     ++ acted outcome.answer.act) h
 
 pub answered_non : NonConfirmableAnswers
@@ -68,5 +75,7 @@ answered_non f server bytes m fresh k h =
 
 pub rejected_non : NonConfirmableRejects
 rejected_non f server bytes m fresh k h =
-    ap (λ r. r.outputs) (first_non f server bytes m fresh k) ∙ replied_non f server m (outcome_of f.kept.client server m) true k h
-    ∙ ap (λ b. acted (if b then answered f.kept.client (bare BadOption) else outcome_on f.kept.client server m (path_of (segments_of m.options))).answer.act) h
+    ap (λ r. r.outputs) (first_non f server bytes m fresh k)
+    ∙ replied_non f server m (outcome_of f.kept.client server m) true k h
+    ∙ ap (λ b. acted (if b then answered f.kept.client (bare BadOption)
+    else outcome_on f.kept.client server m (path_of (segments_of m.options))).answer.act) h

@@ -1,5 +1,6 @@
 -- The options of an answer are in order, and short.
-use Rattle.std.proofs.Common.{ℕ, ◌/◌, ◌%◌, ◌<◌, ◌≤◌, nat_lt, Bool, true, false, List, [], ◌∷◌, ◌++◌, length, Option, None, Some, arith}
+use Rattle.std.proofs.Common.{ℕ, ◌/◌, ◌%◌, ◌<◌, ◌≤◌, nat_lt, Bool, true, false, List, [], ◌∷◌, ◌++◌, length, Option}
+use Rattle.std.proofs.Common.{None, Some, arith}
 use Rattle.std.specs.Bool.{if◌then◌else◌}
 use Rattle.std.specs.Fmt.{decimal}
 use Rattle.std.proofs.lemmas.Fmt.{length-decimal-le}
@@ -27,7 +28,8 @@ short_number n = short_choice (nat_lt n 1) (nat_lt n 256) (nat_lt n 65536) (nat_
 numbered : (before option : ℕ) (number : Option ℕ) (rest : List Opt) → before ≤ option → option ≤ 12
     → IsOptionList before rest → IsOptionList option rest → IsOptionList before (number_option option number ++ rest)
 numbered before option None rest h k l m = l
-numbered before option (Some n) rest h k l m = (record { ascends = h; in_range = omega (arith); fits = short_number n }, m)
+numbered before option (Some n) rest h k l m =
+    (record { ascends = h; in_range = omega (arith); fits = short_number n }, m)
 
 -- Content-Format, the last option
 format_follows : (before : ℕ) (format : Option ℕ) → before ≤ 12 → IsOptionList before (format_option format)
@@ -47,7 +49,8 @@ location_follows before (Some place) format b h = (
 )
 
 -- the options of an answer are in order
-pub in_order : (number : Option ℕ) (location : Option InstancePath) (format : Option ℕ) → IsShort location → IsOptionList 0 (answer_options number location format)
+pub in_order : (number : Option ℕ) (location : Option InstancePath) (format : Option ℕ) → IsShort location
+    → IsOptionList 0 (answer_options number location format)
 in_order number location format h =
     numbered 0 6 number (location_options location ++ format_option format) (omega (arith)) (omega (arith))
     (location_follows 0 location format (omega (arith)) h) (location_follows 6 location format (omega (arith)) h)

@@ -11,7 +11,8 @@ use Rattle.device_machine.specs.State.{Machine, with_client, with_observations}
 use Rattle.device_machine.specs.Reactions.{on_fresh, on_noted, on_outcome, reply_to}
 
 -- a request is answered and recorded with what is noted
-pub taken : (f h : Machine) (server : ℕ) (m : Message) (client : Client) (answer : Answer) (number : Option ℕ) (reply : Option Message) (act : Option Deed)
+pub taken : (f h : Machine) (server : ℕ) (m : Message) (client : Client) (answer : Answer) (number : Option ℕ)
+    (reply : Option Message) (act : Option Deed)
     → Leaves answer client (outcome_of f.kept.client server m)
     → Notes number (with_client f.kept client) h.kept (noted (with_client f.kept client) server m answer)
     → h.recorded ≡ f.recorded
@@ -19,9 +20,14 @@ pub taken : (f h : Machine) (server : ℕ) (m : Message) (client : Client) (answ
     → on_fresh h server m h.kept reply act ≡ on_outcome f server m (outcome_of f.kept.client server m)
 taken f h server m client answer number reply act leaves notes same replied acts =
     let told : Client → Answer → Noted = λ c a. noted (with_client f.kept c) server m a in
-    let state : h ≡ record { kept = with_observations (with_client f.kept client) (told client answer).left; recorded = f.recorded } =
+    let state : h ≡ record {
+      kept = with_observations (with_client f.kept client) (told client answer).left;
+      recorded =
+          f.recorded;
+    } =
     λ i. record { kept = notes.kept_is i; recorded = same i } in
     let reply_is : reply ≡ reply_to f.kept.next_id m m.kind (told client answer).number answer =
     replied ∙ (λ i. reply_to (notes.kept_is i).next_id m m.kind (notes.number_is i) answer) in
     (λ i. on_fresh (state i) server m (state i).kept (reply_is i) (acts i))
-    ∙ (λ i. on_noted f server m (record { answer = leaves.says i; client = leaves.then_client i }) (told (leaves.then_client i) (leaves.says i)))
+    ∙ (λ i. on_noted f server m (record { answer = leaves.says i; client = leaves.then_client i })
+    (told (leaves.then_client i) (leaves.says i)))

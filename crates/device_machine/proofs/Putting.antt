@@ -19,9 +19,13 @@ room_of true true o e = e
 room_of true false o e = absurd cc
 room_of false h o e = absurd cc
 
-pub has_its_instance : (catalogue : List ObjectDef) (stored : Stored) (p : FullPath) (v : Value) → misses catalogue stored (Some p) v ≡ false → has_instance stored (instance_at p) ≡ true
+pub has_its_instance : (catalogue : List ObjectDef) (stored : Stored) (p : FullPath) (v : Value)
+    → misses catalogue stored (Some p) v ≡ false → has_instance stored (instance_at p) ≡ true
 has_its_instance catalogue stored p v e =
-    (and_parts (is_some (object_of catalogue p.object)) (has_instance stored (instance_at p)) (place_of (fits catalogue p v) (has_place catalogue stored p) (is_one_too_many stored p) e)).1
+    (and_parts (is_some (object_of catalogue p.object)) (has_instance stored (instance_at p))
+    (place_of (fits catalogue p v) (has_place catalogue stored p) (is_one_too_many stored p) e)).1
 
-pub has_room : (catalogue : List ObjectDef) (stored : Stored) (p : FullPath) (v : Value) → misses catalogue stored (Some p) v ≡ false → is_one_too_many stored p ≡ false
-has_room catalogue stored p v e = room_of (fits catalogue p v) (has_place catalogue stored p) (is_one_too_many stored p) e
+pub has_room : (catalogue : List ObjectDef) (stored : Stored) (p : FullPath) (v : Value)
+    → misses catalogue stored (Some p) v ≡ false → is_one_too_many stored p ≡ false
+has_room catalogue stored p v e =
+    room_of (fits catalogue p v) (has_place catalogue stored p) (is_one_too_many stored p) e

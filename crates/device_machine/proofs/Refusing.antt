@@ -1,5 +1,6 @@
 -- A request that is refused is recorded, and changes nothing else.
-use Rattle.std.proofs.Common.{◌≡◌, ℕ, Bool, true, false, not, cond, ◌==◌, ◌⊎◌, inl, inr, List, [], ◌∷◌, Option, None, Some, option_map, is_some, refl, sym, ap, subst, ◌∙◌}
+use Rattle.std.proofs.Common.{◌≡◌, ℕ, Bool, true, false, not, cond, ◌==◌, ◌⊎◌, inl, inr, List, [], ◌∷◌, Option, None}
+use Rattle.std.proofs.Common.{Some, option_map, is_some, refl, sym, ap, subst, ◌∙◌}
 use Rattle.std.specs.Bool.{if◌then◌else◌}
 use Rattle.std.specs.List.{filter, list_any}
 use Rattle.coap_codec.specs.Message.{Message, spelling}
@@ -11,14 +12,18 @@ use Rattle.device_requests.specs.Answer.{Outcome, code_byte}
 use Rattle.device_requests.specs.Observe.{interest_of}
 use Rattle.device_requests.specs.declared.answer.Answer.{Answer}
 use Rattle.device_requests.specs.declared.answer.Code.{Code}
-use Rattle.device_requests.specs.declared.answer.Code.TheVariants.{Created, Deleted, Changed, Content, BadRequest, Unauthorized, BadOption, NotFound, MethodNotAllowed, NotAcceptable, UnsupportedContentFormat, InternalServerError}
+use Rattle.device_requests.specs.declared.answer.Code.TheVariants.{Created, Deleted, Changed, Content, BadRequest}
+use Rattle.device_requests.specs.declared.answer.Code.TheVariants.{Unauthorized, BadOption, NotFound, MethodNotAllowed}
+use Rattle.device_requests.specs.declared.answer.Code.TheVariants.{NotAcceptable, UnsupportedContentFormat}
+use Rattle.device_requests.specs.declared.answer.Code.TheVariants.{InternalServerError}
 use Rattle.device_requests.specs.declared.observe.Interest.{Interest}
 use Rattle.device_requests.specs.declared.observe.Interest.TheVariants.{Register, Cancel}
 use Rattle.device_machine.specs.Observing.{noted, noted_by}
 use Rattle.device_requests.specs.Request.{outcome_of}
 use Rattle.device_machine.specs.State.{Machine, Kept, with_client, with_observations}
 use Rattle.device_requests.proofs.Refusing.{refused_keeps}
-use Rattle.device_machine.specs.Reactions.{kept_after, on_message, on_outcome, on_reset, reaction_to, record_of, reply_to}
+use Rattle.device_machine.specs.Reactions.{kept_after, on_message, on_outcome, on_reset, reaction_to, record_of}
+use Rattle.device_machine.specs.Reactions.{reply_to}
 use Rattle.device_machine.specs.Laws.{CancelsEnd, IsFresh, OnlyRecords, ResetsEnd}
 use Rattle.device_requests.specs.Laws.{is_refusal}
 use Rattle.device_machine.proofs.Living.{clock_after}
@@ -39,20 +44,24 @@ not_content UnsupportedContentFormat h = refl
 not_content InternalServerError h = refl
 
 -- what a refusal leaves of the observations
-refused_left : (k : Kept) (server : ℕ) (m : Message) (answer : Answer) (interest : Option Interest) → is_refusal answer.code ≡ true
-    → (noted_by k server m answer interest).left ≡ (if is_some interest then cancelled k.observations server m.token else k.observations)
+refused_left : (k : Kept) (server : ℕ) (m : Message) (answer : Answer) (interest : Option Interest)
+    → is_refusal answer.code ≡ true
+    → (noted_by k server m answer interest).left
+    ≡ (if is_some interest then cancelled k.observations server m.token else k.observations)
 refused_left k server m answer None h = refl
 refused_left k server m answer (Some Cancel) h = refl
 refused_left k server m answer (Some (Register path accept)) h = rw (not_content answer.code h) refl
 
-pub observations_after : (k : Kept) (kind : Kind) (reply : Option Message) → (kept_after k kind reply).observations ≡ k.observations
+pub observations_after : (k : Kept) (kind : Kind) (reply : Option Message)
+    → (kept_after k kind reply).observations ≡ k.observations
 observations_after k Con reply = refl
 observations_after k Non None = refl
 observations_after k Non (Some reply) = refl
 observations_after k Ack reply = refl
 observations_after k Rst reply = refl
 
-only_records : (f : Machine) (server : ℕ) (m : Message) (outcome : Outcome) → outcome.client ≡ f.kept.client → is_refusal outcome.answer.code ≡ true
+only_records : (f : Machine) (server : ℕ) (m : Message) (outcome : Outcome) → outcome.client ≡ f.kept.client
+    → is_refusal outcome.answer.code ≡ true
     → OnlyRecords f server m (on_outcome f server m outcome).flat
 only_records f server m outcome h r =
     let before = with_client f.kept outcome.client in
@@ -68,18 +77,23 @@ only_records f server m outcome h r =
     }
 
 -- a fresh request that is refused
-pub refused : (f : Machine) (server : ℕ) (bytes : List ℕ) (m : Message) → IsFresh f server bytes m → (m.kind ≡ Con) ⊎ (m.kind ≡ Non)
-    → is_refusal (outcome_of f.kept.client server m).answer.code ≡ true → OnlyRecords f server m (reaction_to f (Recv server bytes)).flat
+pub refused : (f : Machine) (server : ℕ) (bytes : List ℕ) (m : Message) → IsFresh f server bytes m → (m.kind ≡ Con)
+    ⊎ (m.kind ≡ Non)
+    → is_refusal (outcome_of f.kept.client server m).answer.code ≡ true
+    → OnlyRecords f server m (reaction_to f (Recv server bytes)).flat
 refused f server bytes m fresh (inl k) h =
-    subst (λ r. OnlyRecords f server m r.flat) (sym (first_con f server bytes m fresh k)) (only_records f server m _ (refused_keeps f.kept.client server m h) h)
+    subst (λ r. OnlyRecords f server m r.flat) (sym (first_con f server bytes m fresh k))
+    (only_records f server m _ (refused_keeps f.kept.client server m h) h)
 refused f server bytes m fresh (inr k) h =
-    subst (λ r. OnlyRecords f server m r.flat) (sym (first_non f server bytes m fresh k)) (only_records f server m _ (refused_keeps f.kept.client server m h) h)
+    subst (λ r. OnlyRecords f server m r.flat) (sym (first_non f server bytes m fresh k))
+    (only_records f server m _ (refused_keeps f.kept.client server m h) h)
 
 -- nothing that passes is left among those that do not
 none_left : {X : Type 0} (p : X → Bool) (xs : List X) → list_any p (filter (λ x. not (p x)) xs) ≡ false
 none_left p [] = refl
 none_left p (x ∷ xs) =
-    elim (p x) as (λ b. p x ≡ b → list_any p (cond (not b) (x ∷ filter (λ y. not (p y)) xs) (filter (λ y. not (p y)) xs)) ≡ false) [
+    elim (p x) as (λ b. p x ≡ b
+    → list_any p (cond (not b) (x ∷ filter (λ y. not (p y)) xs) (filter (λ y. not (p y)) xs)) ≡ false) [
       | true ↦ λ e. none_left p xs
       | false ↦ λ e. rw e (none_left p xs)
     ] refl
@@ -91,15 +105,18 @@ cancelled_left f server m outcome h =
     let told = noted before server m outcome.answer in
     let k = with_observations before told.left in
     ap (λ os. has_name os server m.token)
-    (observations_after k m.kind (reply_to f.kept.next_id m m.kind told.number outcome.answer) ∙ ap (λ i. (noted_by before server m outcome.answer i).left) h)
+    (observations_after k m.kind (reply_to f.kept.next_id m m.kind told.number outcome.answer)
+    ∙ ap (λ i. (noted_by before server m outcome.answer i).left) h)
     ∙ none_left (is_named server m.token) f.kept.observations
 
 -- a fresh request that cancels
 pub cancels : CancelsEnd
 cancels f server bytes m fresh (inl k) h =
-    subst (λ r. has_name r.flat.kept.observations server m.token ≡ false) (sym (first_con f server bytes m fresh k)) (cancelled_left f server m _ h)
+    subst (λ r. has_name r.flat.kept.observations server m.token ≡ false) (sym (first_con f server bytes m fresh k))
+    (cancelled_left f server m _ h)
 cancels f server bytes m fresh (inr k) h =
-    subst (λ r. has_name r.flat.kept.observations server m.token ≡ false) (sym (first_non f server bytes m fresh k)) (cancelled_left f server m _ h)
+    subst (λ r. has_name r.flat.kept.observations server m.token ≡ false) (sym (first_non f server bytes m fresh k))
+    (cancelled_left f server m _ h)
 
 reset_by : (f : Machine) (server : ℕ) (m : Message) → m.code ≡ 0 → on_message f server m Rst ≡ on_reset f server m.mid
 reset_by f server m h = rw h refl

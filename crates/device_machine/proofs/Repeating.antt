@@ -1,5 +1,6 @@
 -- A request that comes again within its lifetime is found among the recorded ones.
-use Rattle.std.proofs.Common.{◌≡◌, ℕ, ◌+◌, ◌-◌, ◌<◌, nat_lt, ◌==◌, Bool, true, false, ◌&&◌, cond, List, [], ◌∷◌, ◌++◌, Option, None, Some, option_map, Ok, refl, sym, ap, subst, ◌∙◌, arith}
+use Rattle.std.proofs.Common.{◌≡◌, ℕ, ◌+◌, ◌-◌, ◌<◌, nat_lt, ◌==◌, Bool, true, false, ◌&&◌, cond, List, [], ◌∷◌, ◌++◌}
+use Rattle.std.proofs.Common.{Option, None, Some, option_map, Ok, refl, sym, ap, subst, ◌∙◌, arith}
 use Rattle.std.specs.List.{filter, find, list_any}
 use Rattle.std.proofs.lemmas.Bool.Decides.{nat_tests}
 use Rattle.coap_codec.specs.Message.{Message, spelling, kind_number}
@@ -16,15 +17,19 @@ use Rattle.device_requests.specs.Answer.{Outcome}
 use Rattle.device_requests.specs.Client.{Client, has_account}
 use Rattle.device_requests.proofs.Keeping.{keeps}
 use Rattle.device_requests.specs.Request.{outcome_of}
-use Rattle.device_machine.specs.Reactions.{acted, sent_to, again, is_request, is_same, kept_after, later, on_fresh, on_message, on_outcome, on_request, reaction_to, record_of, repeat_of, reply_to}
+use Rattle.device_machine.specs.Reactions.{acted, sent_to, again, is_request, is_same, kept_after, later, on_fresh}
+use Rattle.device_machine.specs.Reactions.{on_message, on_outcome, on_request, reaction_to, record_of, repeat_of}
+use Rattle.device_machine.specs.Reactions.{reply_to}
 use Rattle.device_machine.specs.Laws.{IsFresh, IsAgain, is_sent}
 use Rattle.device_machine.proofs.Living.{clock_after, live_later}
 
 -- what a stronger test does not find either
-find_none : {X : Type 0} (p q : X → Bool) → ((x : X) → q x ≡ true → p x ≡ true) → (xs : List X) → find p xs ≡ None → find q xs ≡ None
+find_none : {X : Type 0} (p q : X → Bool) → ((x : X) → q x ≡ true → p x ≡ true) → (xs : List X) → find p xs ≡ None
+    → find q xs ≡ None
 find_none p q h [] e = refl
 find_none p q h (x ∷ xs) e =
-    elim (p x) as (λ b. (q x ≡ true → b ≡ true) → cond b (Some x) (find p xs) ≡ None → cond (q x) (Some x) (find q xs) ≡ None) [
+    elim (p x) as (λ b. (q x ≡ true → b ≡ true) → cond b (Some x) (find p xs) ≡ None
+    → cond (q x) (Some x) (find q xs) ≡ None) [
       | true ↦ λ k n. cc
       | false ↦ λ k n. elim (q x) as (λ c. (c ≡ true → false ≡ true) → cond c (Some x) (find q xs) ≡ None) [
         | true ↦ λ j. let f : false ≡ true = j refl in cc
@@ -33,7 +38,8 @@ find_none p q h (x ∷ xs) e =
     ] (h x) e
 
 -- the last element, where it is the first that passes
-find_last : {X : Type 0} (q : X → Bool) (xs : List X) (x : X) → find q xs ≡ None → q x ≡ true → find q (xs ++ x ∷ []) ≡ Some x
+find_last : {X : Type 0} (q : X → Bool) (xs : List X) (x : X) → find q xs ≡ None → q x ≡ true
+    → find q (xs ++ x ∷ []) ≡ Some x
 find_last q [] x n h = rw h refl
 find_last q (y ∷ xs) x n h =
     elim (q y) as (λ b. cond b (Some y) (find q xs) ≡ None → cond b (Some y) (find q (xs ++ x ∷ [])) ≡ Some x) [
@@ -48,7 +54,8 @@ both false b c d h e k = cc
 fresh_lives : (clock seconds life : ℕ) → seconds < life → nat_lt (clock + seconds - clock) life ≡ true
 fresh_lives clock seconds life h = grind (arith, nat_tests)
 
-same_id : (server a b : ℕ) (k l : Kind) → a ≡ b → k ≡ l → (server == server && (b == a && kind_number l == kind_number k)) ≡ true
+same_id : (server a b : ℕ) (k l : Kind) → a ≡ b → k ≡ l
+    → (server == server && (b == a && kind_number l == kind_number k)) ≡ true
 same_id server a b k l e f = rw (e, f) (grind (arith, nat_tests))
 
 pub client_after : (k : Kept) (kind : Kind) (reply : Option Message) → (kept_after k kind reply).client ≡ k.client
@@ -59,76 +66,100 @@ client_after k Ack reply = refl
 client_after k Rst reply = refl
 
 -- a fresh request is answered
-asked_con : (f : Machine) (server : ℕ) (m : Message) (o : Option Recorded) → is_request m.code ≡ true → repeat_of f server m ≡ o → on_message f server m Con ≡ on_request f server m o
+asked_con : (f : Machine) (server : ℕ) (m : Message) (o : Option Recorded) → is_request m.code ≡ true
+    → repeat_of f server m ≡ o → on_message f server m Con ≡ on_request f server m o
 asked_con f server m o r e = rw r (ap (on_request f server m) e)
 
-asked_non : (f : Machine) (server : ℕ) (m : Message) (o : Option Recorded) → is_request m.code ≡ true → repeat_of f server m ≡ o → on_message f server m Non ≡ on_request f server m o
+asked_non : (f : Machine) (server : ℕ) (m : Message) (o : Option Recorded) → is_request m.code ≡ true
+    → repeat_of f server m ≡ o → on_message f server m Non ≡ on_request f server m o
 asked_non f server m o r e = rw r (ap (on_request f server m) e)
 
 -- a request of an account
-pub reached : (f : Machine) (server : ℕ) (bytes : List ℕ) (m : Message) → has_account f.kept.client server ≡ true → reading_of bytes ≡ Ok m → reaction_to f (Recv server bytes) ≡ on_message f server m m.kind
+pub reached : (f : Machine) (server : ℕ) (bytes : List ℕ) (m : Message) → has_account f.kept.client server ≡ true
+    → reading_of bytes ≡ Ok m → reaction_to f (Recv server bytes) ≡ on_message f server m m.kind
 reached f server bytes m a r = rw (a, r) refl
 
 pub all_true : (a b : Bool) → a ≡ true → b ≡ true → (a && b) ≡ true
 all_true a b h k = rw (h, k) refl
 
-same_test : (server : ℕ) (m n : Message) (r : Recorded) → n.kind ≡ m.kind → n.mid ≡ m.mid → is_same server n r ≡ is_same server m r
-same_test server m n r k i = ap (λ (t : ℕ × Kind). r.server == server && (r.mid == t.0 && kind_number r.kind == kind_number t.1)) (λ j. (i j, k j))
+same_test : (server : ℕ) (m n : Message) (r : Recorded) → n.kind ≡ m.kind → n.mid ≡ m.mid
+    → is_same server n r ≡ is_same server m r
+same_test server m n r k i =
+    ap (λ (t : ℕ × Kind). r.server == server && (r.mid == t.0 && kind_number r.kind == kind_number t.1))
+    (λ j. (i j, k j))
 
 -- the record of a request is the first that its repeat finds
 found_at : (clock server seconds : ℕ) (m n : Message) (xs : List Recorded) (e : Recorded)
     → e.server ≡ server → e.kind ≡ m.kind → e.mid ≡ m.mid → e.second ≡ clock
-    → find (λ r. is_live clock r && is_same server m r) xs ≡ None → seconds < lifetime m.kind → n.kind ≡ m.kind → n.mid ≡ m.mid
+    → find (λ r. is_live clock r && is_same server m r) xs ≡ None → seconds < lifetime m.kind → n.kind ≡ m.kind
+    → n.mid ≡ m.mid
     → find (λ r. is_live (clock + seconds) r && is_same server n r) (xs ++ e ∷ []) ≡ Some e
 found_at clock server seconds m n xs e es ek ei et first short k i =
-    let weaker : (r : Recorded) → (is_live (clock + seconds) r && is_same server n r) ≡ true → (is_live clock r && is_same server m r) ≡ true =
+    let weaker : (r : Recorded) → (is_live (clock + seconds) r && is_same server n r) ≡ true
+    → (is_live clock r && is_same server m r) ≡ true =
     λ r. both _ _ _ _ (live_later clock seconds r.second (lifetime r.kind)) (same_test server m n r k i) in
     let lives : is_live (clock + seconds) e ≡ true = rw (et, ek) (fresh_lives clock seconds (lifetime m.kind) short) in
     let same : is_same server n e ≡ true = rw (es, ek, ei, k, i) (same_id server m.mid m.mid m.kind m.kind refl refl) in
     find_last _ xs e (find_none _ _ weaker xs first) (all_true _ _ lives same)
 
 -- what a repeat finds behind a fresh request and some seconds
-pub found : (f : Machine) (server seconds : ℕ) (m n : Message) (client : Client) (left : List Observation) (reply : Option Message) (act : Option Deed)
+pub found : (f : Machine) (server seconds : ℕ) (m n : Message) (client : Client) (left : List Observation)
+    (reply : Option Message) (act : Option Deed)
     → repeat_of f server m ≡ None → seconds < lifetime m.kind → n.kind ≡ m.kind → n.mid ≡ m.mid
-    → repeat_of (later (on_fresh f server m (with_observations (with_client f.kept client) left) reply act).flat seconds) server n
+    → repeat_of (later (on_fresh f server m (with_observations (with_client f.kept client) left) reply act).flat
+    seconds) server n
     ≡ Some (record_of f.kept server m (option_map spelling reply))
 found f server seconds m n client left reply act first short k i =
-    subst (λ c. find (λ r. is_live (c + seconds) r && is_same server n r) (f.recorded ++ record_of f.kept server m (option_map spelling reply) ∷ [])
+    subst (λ c. find (λ r. is_live (c + seconds) r && is_same server n r)
+    (f.recorded ++ record_of f.kept server m (option_map spelling reply) ∷ [])
     ≡ Some (record_of f.kept server m (option_map spelling reply)))
     (sym (clock_after (with_observations (with_client f.kept client) left) m.kind reply))
-    (found_at f.kept.clock server seconds m n f.recorded (record_of f.kept server m (option_map spelling reply)) refl refl refl refl first short k i)
+    (found_at f.kept.clock server seconds m n f.recorded
+    (record_of f.kept server m (option_map spelling reply)) refl refl refl refl first short k i)
 
-account_stays : (f : Machine) (server seconds : ℕ) (m : Message) (client : Client) (left : List Observation) (reply : Option Message) (act : Option Deed)
+account_stays : (f : Machine) (server seconds : ℕ) (m : Message) (client : Client) (left : List Observation)
+    (reply : Option Message) (act : Option Deed)
     → client.accounts ≡ f.kept.client.accounts → has_account f.kept.client server ≡ true
-    → has_account (later (on_fresh f server m (with_observations (with_client f.kept client) left) reply act).flat seconds).kept.client server ≡ true
+    → has_account (later (on_fresh f server m (with_observations (with_client f.kept client) left) reply act).flat
+    seconds).kept.client server ≡ true
 account_stays f server seconds m client left reply act same a =
     subst (λ accounts. list_any (λ account. account == server) accounts ≡ true)
-    (sym (ap (λ c. c.accounts) (client_after (with_observations (with_client f.kept client) left) m.kind reply) ∙ same)) a
+    (sym (ap (λ c. c.accounts) (client_after (with_observations (with_client f.kept client) left) m.kind reply) ∙ same))
+    a
 
 -- the reaction to a fresh confirmable request, and to its repeat
-pub first_con : (f : Machine) (server : ℕ) (bytes : List ℕ) (m : Message) → IsFresh f server bytes m → m.kind ≡ Con → reaction_to f (Recv server bytes) ≡ on_outcome f server m (outcome_of f.kept.client server m)
+pub first_con : (f : Machine) (server : ℕ) (bytes : List ℕ) (m : Message) → IsFresh f server bytes m → m.kind ≡ Con
+    → reaction_to f (Recv server bytes) ≡ on_outcome f server m (outcome_of f.kept.client server m)
 first_con f server bytes m fresh k =
-    reached f server bytes m fresh.account fresh.reading ∙ ap (on_message f server m) k ∙ asked_con f server m None fresh.request fresh.first
+    reached f server bytes m fresh.account fresh.reading ∙ ap (on_message f server m) k
+    ∙ asked_con f server m None fresh.request fresh.first
 
-pub first_non : (f : Machine) (server : ℕ) (bytes : List ℕ) (m : Message) → IsFresh f server bytes m → m.kind ≡ Non → reaction_to f (Recv server bytes) ≡ on_outcome f server m (outcome_of f.kept.client server m)
+pub first_non : (f : Machine) (server : ℕ) (bytes : List ℕ) (m : Message) → IsFresh f server bytes m → m.kind ≡ Non
+    → reaction_to f (Recv server bytes) ≡ on_outcome f server m (outcome_of f.kept.client server m)
 first_non f server bytes m fresh k =
-    reached f server bytes m fresh.account fresh.reading ∙ ap (on_message f server m) k ∙ asked_non f server m None fresh.request fresh.first
+    reached f server bytes m fresh.account fresh.reading ∙ ap (on_message f server m) k
+    ∙ asked_non f server m None fresh.request fresh.first
 
 -- a repeat of a recorded request
-pub again_con : (g : Machine) (server : ℕ) (bytes : List ℕ) (n : Message) (r : Recorded) → has_account g.kept.client server ≡ true → reading_of bytes ≡ Ok n → is_request n.code ≡ true → n.kind ≡ Con
-    → repeat_of g server n ≡ Some r → reaction_to g (Recv server bytes) ≡ record { outputs = again server Con r.reply; flat = g }
+pub again_con : (g : Machine) (server : ℕ) (bytes : List ℕ) (n : Message) (r : Recorded)
+    → has_account g.kept.client server ≡ true → reading_of bytes ≡ Ok n → is_request n.code ≡ true → n.kind ≡ Con
+    → repeat_of g server n ≡ Some r
+    → reaction_to g (Recv server bytes) ≡ record { outputs = again server Con r.reply; flat = g }
 again_con g server bytes n r a reading request k e =
     reached g server bytes n a reading ∙ ap (on_message g server n) k ∙ asked_con g server n (Some r) request e
     ∙ ap (λ kind. record { outputs = again server kind r.reply; flat = g }) k
 
-pub again_non : (g : Machine) (server : ℕ) (bytes : List ℕ) (n : Message) (r : Recorded) → has_account g.kept.client server ≡ true → reading_of bytes ≡ Ok n → is_request n.code ≡ true → n.kind ≡ Non
-    → repeat_of g server n ≡ Some r → reaction_to g (Recv server bytes) ≡ record { outputs = again server Non r.reply; flat = g }
+pub again_non : (g : Machine) (server : ℕ) (bytes : List ℕ) (n : Message) (r : Recorded)
+    → has_account g.kept.client server ≡ true → reading_of bytes ≡ Ok n → is_request n.code ≡ true → n.kind ≡ Non
+    → repeat_of g server n ≡ Some r
+    → reaction_to g (Recv server bytes) ≡ record { outputs = again server Non r.reply; flat = g }
 again_non g server bytes n r a reading request k e =
     reached g server bytes n a reading ∙ ap (on_message g server n) k ∙ asked_non g server n (Some r) request e
     ∙ ap (λ kind. record { outputs = again server kind r.reply; flat = g }) k
 
 -- of a reply and an act the reply is sent
-only_sent : (server : ℕ) (reply : Option (List ℕ)) (act : Option Deed) → filter is_sent (sent_to server reply ++ acted act) ≡ sent_to server reply
+only_sent : (server : ℕ) (reply : Option (List ℕ)) (act : Option Deed)
+    → filter is_sent (sent_to server reply ++ acted act) ≡ sent_to server reply
 only_sent server None None = refl
 only_sent server None (Some act) = refl
 only_sent server (Some bytes) None = refl
@@ -139,9 +170,14 @@ abbrev noted_with : Machine → ℕ → Message → Outcome → Noted
 noted_with f server m outcome = noted (with_client f.kept outcome.client) server m outcome.answer
 
 -- a fresh confirmable request and its repeat
-pub confirmable : (f : Machine) (server seconds : ℕ) (bytes more : List ℕ) (m n : Message) → IsFresh f server bytes m → m.kind ≡ Con → seconds < lifetime Con → IsAgain m more n
+pub confirmable : (f : Machine) (server seconds : ℕ) (bytes more : List ℕ) (m n : Message) → IsFresh f server bytes m
+    → m.kind ≡ Con → seconds < lifetime Con → IsAgain m more n
     → reaction_to (later (reaction_to f (Recv server bytes)).flat seconds) (Recv server more)
-    ≡ record { outputs = filter is_sent (reaction_to f (Recv server bytes)).outputs; flat = later (reaction_to f (Recv server bytes)).flat seconds }
+    ≡ record {
+      outputs = filter is_sent (reaction_to f (Recv server bytes)).outputs;
+      flat =
+          later (reaction_to f (Recv server bytes)).flat seconds;
+    }
 confirmable f server seconds bytes more m n fresh k short h =
     let outcome = outcome_of f.kept.client server m in
     let told = noted_with f server m outcome in
@@ -149,15 +185,19 @@ confirmable f server seconds bytes more m n fresh k short h =
     let act = outcome.answer.act in
     let then = (on_fresh f server m (with_observations (with_client f.kept outcome.client) told.left) reply act).flat in
     let here : seconds < lifetime m.kind = subst (λ kind. seconds < lifetime kind) (sym k) short in
-    subst (λ r. reaction_to (later r.flat seconds) (Recv server more) ≡ record { outputs = filter is_sent r.outputs; flat = later r.flat seconds })
+    subst (λ r. reaction_to (later r.flat seconds) (Recv server more)
+    ≡ record { outputs = filter is_sent r.outputs; flat = later r.flat seconds })
     (sym (first_con f server bytes m fresh k))
     ((again_con (later then seconds) server more n (record_of f.kept server m (option_map spelling reply))
-    (account_stays f server seconds m outcome.client told.left reply act (keeps f.kept.client server m).accounts fresh.account) h.reading h.request (h.kind ∙ k)
+    (account_stays f server seconds m outcome.client told.left reply act
+    (keeps f.kept.client server m).accounts fresh.account) h.reading h.request (h.kind ∙ k)
     (found f server seconds m n outcome.client told.left reply act fresh.first here h.kind h.mid))
-    ∙ ap (λ o. record { outputs = o; flat = later then seconds }) (sym (only_sent server (option_map spelling reply) act)))
+    ∙ ap (λ o. record { outputs = o; flat = later then seconds })
+    (sym (only_sent server (option_map spelling reply) act)))
 
 -- a fresh non-confirmable request and its repeat
-pub non_confirmable : (f : Machine) (server seconds : ℕ) (bytes more : List ℕ) (m n : Message) → IsFresh f server bytes m → m.kind ≡ Non → seconds < lifetime Non → IsAgain m more n
+pub non_confirmable : (f : Machine) (server seconds : ℕ) (bytes more : List ℕ) (m n : Message)
+    → IsFresh f server bytes m → m.kind ≡ Non → seconds < lifetime Non → IsAgain m more n
     → reaction_to (later (reaction_to f (Recv server bytes)).flat seconds) (Recv server more)
     ≡ record { outputs = []; flat = later (reaction_to f (Recv server bytes)).flat seconds }
 non_confirmable f server seconds bytes more m n fresh k short h =
@@ -167,8 +207,10 @@ non_confirmable f server seconds bytes more m n fresh k short h =
     let act = outcome.answer.act in
     let then = (on_fresh f server m (with_observations (with_client f.kept outcome.client) told.left) reply act).flat in
     let here : seconds < lifetime m.kind = subst (λ kind. seconds < lifetime kind) (sym k) short in
-    subst (λ r. reaction_to (later r.flat seconds) (Recv server more) ≡ record { outputs = []; flat = later r.flat seconds })
+    subst (λ r. reaction_to (later r.flat seconds) (Recv server more)
+    ≡ record { outputs = []; flat = later r.flat seconds })
     (sym (first_non f server bytes m fresh k))
     (again_non (later then seconds) server more n (record_of f.kept server m (option_map spelling reply))
-    (account_stays f server seconds m outcome.client told.left reply act (keeps f.kept.client server m).accounts fresh.account) h.reading h.request (h.kind ∙ k)
+    (account_stays f server seconds m outcome.client told.left reply act
+    (keeps f.kept.client server m).accounts fresh.account) h.reading h.request (h.kind ∙ k)
     (found f server seconds m n outcome.client told.left reply act fresh.first here h.kind h.mid))

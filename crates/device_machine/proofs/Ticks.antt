@@ -15,7 +15,8 @@ add f a b =
     let all = seconds_add f.kept.client f.kept.clock a b f.kept.next_id f.kept.observations in
     let at : f.kept.clock + (a + b) ≡ f.kept.clock + a + b = omega arith in
     record {
-      sent = ap (λ t. map send_of t.sent) all ∙ map-append send_of (turn_in f.kept a).sent (turn_in (later f a).kept b).sent;
+      sent = ap (λ t. map send_of t.sent) all ∙ map-append send_of (turn_in f.kept a).sent
+          (turn_in (later f a).kept b).sent;
       then_flat = λ j. record {
         kept = record { client = f.kept.client; observations = (all j).left; clock = at j; next_id = (all j).next_id };
         recorded = f.recorded;
@@ -38,7 +39,8 @@ count f n before after o is =
     record {
       datagrams = (turn_in f.kept n).sent;
       sent = refl;
-      rises = subst (λ os. RisesByOne o (before ++ after) (seconds f.kept.client f.kept.clock n f.kept.next_id os).sent (seconds f.kept.client f.kept.clock n f.kept.next_id os).left)
+      rises = subst (λ os. RisesByOne o (before ++ after) (seconds f.kept.client f.kept.clock n f.kept.next_id os).sent
+          (seconds f.kept.client f.kept.clock n f.kept.next_id os).left)
           (sym is) (seconds_count f.kept.client f.kept.clock n f.kept.next_id before after o);
     }
 

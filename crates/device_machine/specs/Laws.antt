@@ -1,5 +1,6 @@
 -- What follows from the tables, in the words of the standard.
-use Rattle.std.specs.Prelude.{◌≡◌, ℕ, ◌+◌, ◌<◌, is_some, if◌then◌else◌, Bool, true, false, ◌⊎◌, List, [], ◌∷◌, ◌++◌, find, map, Option, None, Some, option_map, Ok}
+use Rattle.std.specs.Prelude.{◌≡◌, ℕ, ◌+◌, ◌<◌, is_some, if◌then◌else◌, Bool, true, false, ◌⊎◌, List, [], ◌∷◌, ◌++◌}
+use Rattle.std.specs.Prelude.{find, map, Option, None, Some, option_map, Ok}
 use Rattle.std.specs.List.{AllByRecursion, filter, list_any}
 use Rattle.coap_codec.specs.Message.{Message, spelling}
 use Rattle.coap_codec.specs.Reading.{reading_of}
@@ -30,7 +31,8 @@ use Rattle.device_machine.specs.State.{Machine, lifetime}
 use Rattle.device_requests.specs.Client.{has_account}
 use Rattle.device_requests.specs.Options.{has_unrecognized_critical}
 use Rattle.device_requests.specs.Laws.{is_refusal, request_lines}
-use Rattle.device_machine.specs.Reactions.{Reaction, acted, outputs_of, flat_after, is_request, later, reaction_to, repeat_of, send_of}
+use Rattle.device_machine.specs.Reactions.{Reaction, acted, outputs_of, flat_after, is_request, later, reaction_to}
+use Rattle.device_machine.specs.Reactions.{repeat_of, send_of}
 
 -- the bytes are a request of this server that is no repeat
 pub record IsFresh (f : Machine) (server : ℕ) (bytes : List ℕ) (m : Message) : Type 0 where
@@ -50,14 +52,16 @@ abbrev pub is_sent : Output → Bool
 is_sent (Send server bytes) = true
 is_sent (Act act) = false
 
--- a confirmable request that comes again within its lifetime gets the same bytes again, and changes nothing (RFC 7252 section 4.5);
--- what the device did behind the first reply it does not do again
+-- a confirmable request that comes again within its lifetime gets the same bytes again, and changes nothing (RFC 7252
+-- section 4.5); what the device did behind the first reply it does not do again
 abbrev pub ConfirmableRepeats : Type 0
 ConfirmableRepeats =
     (f : Machine) (server seconds : ℕ) (bytes again : List ℕ) (m n : Message)
     → IsFresh f server bytes m → m.kind ≡ Con → seconds < lifetime Con → IsAgain m again n
-    → (outputs_of (later (flat_after f (Recv server bytes)) seconds) (Recv server again) ≡ filter is_sent (outputs_of f (Recv server bytes)))
-    × (flat_after (later (flat_after f (Recv server bytes)) seconds) (Recv server again) ≡ later (flat_after f (Recv server bytes)) seconds)
+    → (outputs_of (later (flat_after f (Recv server bytes)) seconds) (Recv server again)
+    ≡ filter is_sent (outputs_of f (Recv server bytes)))
+    × (flat_after (later (flat_after f (Recv server bytes)) seconds) (Recv server again)
+    ≡ later (flat_after f (Recv server bytes)) seconds)
 
 -- a non-confirmable one gets nothing then, and changes nothing
 abbrev pub NonConfirmableRepeats : Type 0
@@ -65,9 +69,11 @@ NonConfirmableRepeats =
     (f : Machine) (server seconds : ℕ) (bytes again : List ℕ) (m n : Message)
     → IsFresh f server bytes m → m.kind ≡ Non → seconds < lifetime Non → IsAgain m again n
     → (outputs_of (later (flat_after f (Recv server bytes)) seconds) (Recv server again) ≡ [])
-    × (flat_after (later (flat_after f (Recv server bytes)) seconds) (Recv server again) ≡ later (flat_after f (Recv server bytes)) seconds)
+    × (flat_after (later (flat_after f (Recv server bytes)) seconds) (Recv server again)
+    ≡ later (flat_after f (Recv server bytes)) seconds)
 
--- a request gets one datagram, behind which the device may act: a message of this type and message ID, with its token, whose code is that of the first line that applies
+-- a request gets one datagram, behind which the device may act: a message of this type and message ID, with its token,
+-- whose code is that of the first line that applies
 pub record IsAnswered (f : Machine) (server : ℕ) (bytes : List ℕ) (m : Message) (kind : Kind) (mid : ℕ) : Type 0 where
   pub reply : Message
   pub act : Option Deed
@@ -82,22 +88,25 @@ pub record IsAnswered (f : Machine) (server : ℕ) (bytes : List ℕ) (m : Messa
 -- a confirmable request is answered by an acknowledgement with its message ID (RFC 7252 section 5.2.1)
 abbrev pub ConfirmableAnswers : Type 0
 ConfirmableAnswers =
-    (f : Machine) (server : ℕ) (bytes : List ℕ) (m : Message) → IsFresh f server bytes m → m.kind ≡ Con → IsAnswered f server bytes m Ack m.mid
+    (f : Machine) (server : ℕ) (bytes : List ℕ) (m : Message) → IsFresh f server bytes m → m.kind ≡ Con
+    → IsAnswered f server bytes m Ack m.mid
 
 -- a non-confirmable one by a message with the device's next message ID (section 5.2.3)
 abbrev pub NonConfirmableAnswers : Type 0
 NonConfirmableAnswers =
-    (f : Machine) (server : ℕ) (bytes : List ℕ) (m : Message) → IsFresh f server bytes m → m.kind ≡ Non → has_unrecognized_critical m.options ≡ false
+    (f : Machine) (server : ℕ) (bytes : List ℕ) (m : Message) → IsFresh f server bytes m → m.kind ≡ Non
+    → has_unrecognized_critical m.options ≡ false
     → IsAnswered f server bytes m Non f.kept.next_id
 
 -- or by nothing, where an option that must be understood isn't (section 5.4.1)
 abbrev pub NonConfirmableRejects : Type 0
 NonConfirmableRejects =
-    (f : Machine) (server : ℕ) (bytes : List ℕ) (m : Message) → IsFresh f server bytes m → m.kind ≡ Non → has_unrecognized_critical m.options ≡ true
+    (f : Machine) (server : ℕ) (bytes : List ℕ) (m : Message) → IsFresh f server bytes m → m.kind ≡ Non
+    → has_unrecognized_critical m.options ≡ true
     → outputs_of f (Recv server bytes) ≡ []
 
--- a request is added to the recorded ones, the next message ID may be counted on, and a Read that says Observe 0 or 1 ends the observation of its
--- name; all else is as it was
+-- a request is added to the recorded ones, the next message ID may be counted on, and a Read that says Observe 0 or 1
+-- ends the observation of its name; all else is as it was
 pub record OnlyRecords (f : Machine) (server : ℕ) (m : Message) (g : Machine) : Type 0 where
   pub client : g.kept.client ≡ f.kept.client
   pub observations : g.kept.observations
@@ -109,20 +118,26 @@ pub record OnlyRecords (f : Machine) (server : ℕ) (m : Message) (g : Machine) 
 -- a request that is refused changes nothing else
 abbrev pub RefusedChangesNothing : Type 0
 RefusedChangesNothing =
-    (f : Machine) (server : ℕ) (bytes : List ℕ) (m : Message) → IsFresh f server bytes m → (m.kind ≡ Con) ⊎ (m.kind ≡ Non)
-    → is_refusal (outcome_of f.kept.client server m).answer.code ≡ true → OnlyRecords f server m (flat_after f (Recv server bytes))
+    (f : Machine) (server : ℕ) (bytes : List ℕ) (m : Message) → IsFresh f server bytes m → (m.kind ≡ Con)
+    ⊎ (m.kind ≡ Non)
+    → is_refusal (outcome_of f.kept.client server m).answer.code ≡ true
+    → OnlyRecords f server m (flat_after f (Recv server bytes))
 
--- behind a Read that says Observe 1 there is no observation of its name, whatever it was answered (RFC 7641 section 3.6)
+-- behind a Read that says Observe 1 there is no observation of its name, whatever it was answered (RFC 7641 section
+-- 3.6)
 abbrev pub CancelsEnd : Type 0
 CancelsEnd =
-    (f : Machine) (server : ℕ) (bytes : List ℕ) (m : Message) → IsFresh f server bytes m → (m.kind ≡ Con) ⊎ (m.kind ≡ Non)
+    (f : Machine) (server : ℕ) (bytes : List ℕ) (m : Message) → IsFresh f server bytes m → (m.kind ≡ Con)
+    ⊎ (m.kind ≡ Non)
     → interest_of m ≡ Some Cancel → has_name (flat_after f (Recv server bytes)).kept.observations server m.token ≡ false
 
 -- behind an empty Reset there is no observation of its server whose last message was a NON with its message ID
 abbrev pub ResetsEnd : Type 0
 ResetsEnd =
-    (f : Machine) (server : ℕ) (bytes : List ℕ) (m : Message) → has_account f.kept.client server ≡ true → reading_of bytes ≡ Ok m
-    → m.kind ≡ Rst → m.code ≡ 0 → list_any (was_sent server m.mid) (flat_after f (Recv server bytes)).kept.observations ≡ false
+    (f : Machine) (server : ℕ) (bytes : List ℕ) (m : Message) → has_account f.kept.client server ≡ true
+    → reading_of bytes ≡ Ok m
+    → m.kind ≡ Rst → m.code ≡ 0
+    → list_any (was_sent server m.mid) (flat_after f (Recv server bytes)).kept.observations ≡ false
 
 -- the Observe number of the last message of the observation of this name, where there is one
 abbrev pub number_noted : List Observation → ℕ → List ℕ → Option ℕ
@@ -137,11 +152,12 @@ pub record IsCounted (reaction : Reaction) (server : ℕ) (m : Message) (number 
   pub options : List Opt
   pub observe : reply.options ≡ observe_option (Some number) ++ options
 
--- the reply to a Read that registers and is answered by content has, where there is a place, Observe 0 for a new name, else one more than the
--- observation's last message, modulo 2^24 (RFC 7641 section 3.4)
+-- the reply to a Read that registers and is answered by content has, where there is a place, Observe 0 for a new name,
+-- else one more than the observation's last message, modulo 2^24 (RFC 7641 section 3.4)
 abbrev pub RegistrationsCount : Type 0
 RegistrationsCount =
-    (f : Machine) (server : ℕ) (bytes : List ℕ) (m : Message) (path : Path) (accept : Option ℕ) → IsFresh f server bytes m → (m.kind ≡ Con) ⊎ (m.kind ≡ Non)
+    (f : Machine) (server : ℕ) (bytes : List ℕ) (m : Message) (path : Path) (accept : Option ℕ)
+    → IsFresh f server bytes m → (m.kind ≡ Con) ⊎ (m.kind ≡ Non)
     → interest_of m ≡ Some (Register path accept) → is_content (outcome_of f.kept.client server m).answer ≡ true
     → lacks_place f.kept.observations server m.token ≡ false
     → IsCounted (reaction_to f (Recv server bytes)) server m (number_for f.kept.observations server m.token)
@@ -154,8 +170,8 @@ pub record AddsUp (f : Machine) (a b : ℕ) : Type 0 where
 abbrev pub TicksAdd : Type 0
 TicksAdd = (f : Machine) (a b : ℕ) → AddsUp f a b
 
--- a datagram is sent in a second of a tick by an observation that is there then: a notification that keeps it, pmin seconds or more behind its last
--- message, or the message that ends it
+-- a datagram is sent in a second of a tick by an observation that is there then: a notification that keeps it, pmin
+-- seconds or more behind its last message, or the message that ends it
 abbrev pub IsSentIn : Machine → ℕ → Datagram → Type 0
 IsSentIn f n d =
     (k : ℕ) × (k < n) × IsOf f.kept.client (f.kept.clock + (k + 1)) (flat_after f (Tick k)).kept.observations d
@@ -172,9 +188,12 @@ TicksSendAfterPmin = (f : Machine) (n : ℕ) → SendsInTime f n
 -- behind each second no observation whose pmax has effect has a last message that is pmax seconds old
 abbrev pub TicksSendBeforePmax : Type 0
 TicksSendBeforePmax =
-    (f : Machine) (n : ℕ) → AllByRecursion (IsYoung f.kept.client (flat_after f (Tick (n + 1))).kept.clock) (flat_after f (Tick (n + 1))).kept.observations
+    (f : Machine) (n : ℕ)
+    → AllByRecursion (IsYoung f.kept.client (flat_after f (Tick (n + 1))).kept.clock)
+    (flat_after f (Tick (n + 1))).kept.observations
 
--- the Observe numbers of an observation's messages rise by one with each of them, modulo 2^24, whatever is sent between (RFC 7641 section 3.4)
+-- the Observe numbers of an observation's messages rise by one with each of them, modulo 2^24, whatever is sent between
+-- (RFC 7641 section 3.4)
 pub record CountsOn (f : Machine) (n : ℕ) (o : Observation) (others : List Observation) : Type 0 where
   pub datagrams : List Datagram
   pub sent : outputs_of f (Tick n) ≡ map send_of datagrams
@@ -182,5 +201,6 @@ pub record CountsOn (f : Machine) (n : ℕ) (o : Observation) (others : List Obs
 
 abbrev pub TicksCount : Type 0
 TicksCount =
-    (f : Machine) (n : ℕ) (before after : List Observation) (o : Observation) → f.kept.observations ≡ before ++ o ∷ after
+    (f : Machine) (n : ℕ) (before after : List Observation) (o : Observation)
+    → f.kept.observations ≡ before ++ o ∷ after
     → CountsOn f n o (before ++ after)

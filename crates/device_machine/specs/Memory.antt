@@ -1,5 +1,6 @@
 -- Which events may take memory, and what is left of a device where there is none.
-use Rattle.std.specs.Prelude.{◌≡◌, ℕ, nat_lt, Bool, true, false, not, ◌&&◌, ◌||◌, List, length, Option, None, Some, is_some}
+use Rattle.std.specs.Prelude.{◌≡◌, ℕ, nat_lt, Bool, true, false, not, ◌&&◌, ◌||◌, List, length, Option, None, Some}
+use Rattle.std.specs.Prelude.{is_some}
 use Rattle.coap_codec.specs.declared.kind.Kind.{Kind}
 use Rattle.coap_codec.specs.declared.kind.Kind.TheVariants.{Con, Non, Ack, Rst}
 use Rattle.coap_codec.specs.Message.{Message}
@@ -31,8 +32,9 @@ message_grows f server m Non = is_request m.code && request_grows Non (repeat_of
 message_grows f server m Ack = false
 message_grows f server m Rst = false
 
--- an event may take memory: a datagram of a server that has an account, a value, an end of a download or an update where
--- there is none or Package URI, State and Update Result are not all held, and seconds in which observations have turns
+-- an event may take memory: a datagram of a server that has an account, a value, an end of a download or an update
+-- where there is none or Package URI, State and Update Result are not all held, and seconds in which observations have
+-- turns
 abbrev pub event_grows : Kept → Event → Bool
 event_grows kept (Recv server bytes) = has_account kept.client server
 event_grows kept (Put path value) = true

@@ -1,5 +1,7 @@
--- What the reply to a request leaves of the observations (RFC 7641 sections 3 and 4; that there are 32 at most is this profile's).
-use Rattle.std.specs.Prelude.{◌≡◌, ℕ, nat_le, Bool, true, false, not, ◌&&◌, List, length, Option, None, Some, if◌then◌else◌}
+-- What the reply to a request leaves of the observations (RFC 7641 sections 3 and 4; that there are 32 at most is this
+-- profile's).
+use Rattle.std.specs.Prelude.{◌≡◌, ℕ, nat_le, Bool, true, false, not, ◌&&◌, List, length, Option, None, Some}
+use Rattle.std.specs.Prelude.{if◌then◌else◌}
 use Rattle.coap_codec.specs.Message.{Message}
 use Rattle.coap_codec.specs.declared.kind.Kind.{Kind}
 use Rattle.coap_codec.specs.declared.kind.Kind.TheVariants.{Con, Non, Ack, Rst}

@@ -1,5 +1,7 @@
 -- What a device sends on a datagram, and the flat state behind it (RFC 7252 sections 4.2 and 4.3).
-use Rattle.std.specs.Prelude.{◌≡◌, ◌≤◌, ℕ, ◌+◌, ◌*◌, ◌/◌, ◌%◌, ◌==◌, nat_le, nat_lt, ◌++◌, find, map, option_map, Bool, false, not, ◌&&◌, ◌||◌, List, [], ◌∷◌, length, slice_index, Option, None, Some, Result, Ok, Err, if◌then◌else◌}
+use Rattle.std.specs.Prelude.{◌≡◌, ◌≤◌, ℕ, ◌+◌, ◌*◌, ◌/◌, ◌%◌, ◌==◌, nat_le, nat_lt, ◌++◌, find, map, option_map, Bool}
+use Rattle.std.specs.Prelude.{false, not, ◌&&◌, ◌||◌, List, [], ◌∷◌, length, slice_index, Option, None, Some, Result}
+use Rattle.std.specs.Prelude.{Ok, Err, if◌then◌else◌}
 use Rattle.coap_codec.specs.declared.kind.Kind.{Kind}
 use Rattle.coap_codec.specs.declared.kind.Kind.TheVariants.{Con, Non, Ack, Rst}
 use Rattle.coap_codec.specs.declared.fault.CoapFault.{CoapFault}
@@ -89,13 +91,20 @@ is_request code = code / 32 == 0 && not (code == 0)
 -- the next message ID is counted on, modulo 65,536
 abbrev pub counted : Kept → Kept
 counted kept =
-    record { client = kept.client; observations = kept.observations; clock = kept.clock; next_id = (kept.next_id + 1) % 65536 }
+    record {
+      client = kept.client;
+      observations = kept.observations;
+      clock = kept.clock;
+      next_id =
+          (kept.next_id + 1) % 65536;
+    }
 
 -- a confirmable request is acknowledged; a non-confirmable one is answered by a message of the device's next
 -- message ID, or not at all where an option isn't understood
 abbrev pub reply_to : ℕ → Message → Kind → Option ℕ → Answer → Option Message
 reply_to next_id m Con number answer = Some (response Ack m.mid m.token number answer)
-reply_to next_id m Non number answer = if has_unrecognized_critical m.options then None else Some (response Non next_id m.token number answer)
+reply_to next_id m Non number answer =
+    if has_unrecognized_critical m.options then None else Some (response Non next_id m.token number answer)
 reply_to next_id m Ack number answer = None
 reply_to next_id m Rst number answer = None
 
@@ -115,7 +124,8 @@ acted (Some act) = Act act ∷ []
 
 -- a request, as it is recorded with the datagram that replied
 abbrev pub record_of : Kept → ℕ → Message → Option (List ℕ) → Recorded
-record_of kept server m reply = record { server = server; kind = m.kind; mid = m.mid; second = kept.clock; reply = reply }
+record_of kept server m reply =
+    record { server = server; kind = m.kind; mid = m.mid; second = kept.clock; reply = reply }
 
 -- a request is answered and recorded, refusals included; this is kept then, and the device acts behind the reply
 abbrev pub on_fresh : Machine → ℕ → Message → Kept → Option Message → Option Deed → Reaction
@@ -136,9 +146,11 @@ on_noted f server m outcome noted =
 
 -- what a request that is no repeat answers and changes
 abbrev pub on_outcome : Machine → ℕ → Message → Outcome → Reaction
-on_outcome f server m outcome = on_noted f server m outcome (noted (with_client f.kept outcome.client) server m outcome.answer)
+on_outcome f server m outcome =
+    on_noted f server m outcome (noted (with_client f.kept outcome.client) server m outcome.answer)
 
--- a recorded request of the same server, type and message ID, whose age is below its lifetime (RFC 7252 section 4.5); bytes are not compared
+-- a recorded request of the same server, type and message ID, whose age is below its lifetime (RFC 7252 section 4.5);
+-- bytes are not compared
 abbrev pub is_same : ℕ → Message → Recorded → Bool
 is_same server m r = r.server == server && (r.mid == m.mid && kind_number r.kind == kind_number m.kind)
 
@@ -156,17 +168,23 @@ abbrev pub on_request : Machine → ℕ → Message → Option Recorded → Reac
 on_request f server m None = on_outcome f server m (outcome_of f.kept.client server m)
 on_request f server m (Some r) = record { outputs = again server m.kind r.reply; flat = f }
 
--- an empty Reset ends the observations of its server whose last message was a NON with its message ID (RFC 7641 section 3.6)
+-- an empty Reset ends the observations of its server whose last message was a NON with its message ID (RFC 7641 section
+-- 3.6)
 abbrev pub on_reset : Machine → ℕ → ℕ → Reaction
 on_reset f server mid =
     record {
       outputs = [];
-      flat = record { kept = with_observations f.kept (without_reset f.kept.observations server mid); recorded = f.recorded };
+      flat = record {
+        kept = with_observations f.kept (without_reset f.kept.observations server mid);
+        recorded =
+            f.recorded;
+      };
     }
 
 -- requests are answered; another confirmable message is reset, all else but an empty Reset ignored
 abbrev pub on_message : Machine → ℕ → Message → Kind → Reaction
-on_message f server m Con = if is_request m.code then on_request f server m (repeat_of f server m) else sends f server (reset m.mid)
+on_message f server m Con =
+    if is_request m.code then on_request f server m (repeat_of f server m) else sends f server (reset m.mid)
 on_message f server m Non = if is_request m.code then on_request f server m (repeat_of f server m) else silence f
 on_message f server m Ack = silence f
 on_message f server m Rst = if m.code == 0 then on_reset f server m.mid else silence f
@@ -215,7 +233,8 @@ on_tick f count = record { outputs = map send_of (turn_in f.kept count).sent; fl
 -- a value is set where it fits; else the device does no more than say so
 abbrev pub on_put : Machine → Option FullPath → Value → Reaction
 on_put f place value =
-    if misses f.kept.client.catalogue f.kept.client.store place value then record { outputs = Act Missed ∷ []; flat = f }
+    if misses f.kept.client.catalogue f.kept.client.store place value
+    then record { outputs = Act Missed ∷ []; flat = f }
     else record {
       outputs = [];
       flat = record {

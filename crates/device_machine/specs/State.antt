@@ -9,8 +9,8 @@ use Rattle.lwm2m_values.specs.declared.value.Value.{Value}
 use Rattle.object_defs.specs.declared.path.FullPath.{FullPath}
 use Rattle.device_machine.specs.declared.recorded.Recorded.{Recorded}
 
--- all of the flat state but the recorded requests: what device management looks at, the observations in the order of registration,
--- the clock, and the device's next message ID
+-- all of the flat state but the recorded requests: what device management looks at, the observations in the order of
+-- registration, the clock, and the device's next message ID
 pub record Kept : Type 0 where
   pub client : Client
   pub observations : List Observation
@@ -19,11 +19,13 @@ pub record Kept : Type 0 where
 
 -- the same with this client
 abbrev pub with_client : Kept → Client → Kept
-with_client kept client = record { client = client; observations = kept.observations; clock = kept.clock; next_id = kept.next_id }
+with_client kept client =
+    record { client = client; observations = kept.observations; clock = kept.clock; next_id = kept.next_id }
 
 -- the same with these observations
 abbrev pub with_observations : Kept → List Observation → Kept
-with_observations kept observations = record { client = kept.client; observations = observations; clock = kept.clock; next_id = kept.next_id }
+with_observations kept observations =
+    record { client = kept.client; observations = observations; clock = kept.clock; next_id = kept.next_id }
 
 -- the flat state: what is kept, and all the requests since the start, oldest first
 pub record Machine : Type 0 where

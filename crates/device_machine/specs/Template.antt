@@ -8,7 +8,13 @@ use Rattle.device_machine.specs.State.{Kept}
 abbrev pub start_of : Template → Kept
 start_of class =
     record {
-      client = record { accounts = class.accounts; catalogue = class.catalogue; store = with_idle_firmware class.store; attributes = map.empty };
+      client = record {
+        accounts = class.accounts;
+        catalogue = class.catalogue;
+        store =
+            with_idle_firmware class.store;
+        attributes = map.empty;
+      };
       observations = [];
       clock = 0;
       next_id = 0;

@@ -1,6 +1,9 @@
 //! What follows from the tables, for their readers. The calls do nothing; their contracts are the laws.
 
-ghost use Rattle.device_machine.specs.Laws.{CancelsEnd, ConfirmableAnswers, ConfirmableRepeats, NonConfirmableAnswers, NonConfirmableRejects, NonConfirmableRepeats, RefusedChangesNothing, RegistrationsCount, ResetsEnd, TicksAdd, TicksCount, TicksSendAfterPmin, TicksSendBeforePmax};
+ghost use Rattle.device_machine.specs.Laws.{CancelsEnd, ConfirmableAnswers, ConfirmableRepeats, NonConfirmableAnswers};
+ghost use Rattle.device_machine.specs.Laws.{NonConfirmableRejects, NonConfirmableRepeats, RefusedChangesNothing};
+ghost use Rattle.device_machine.specs.Laws.{RegistrationsCount, ResetsEnd, TicksAdd, TicksCount, TicksSendAfterPmin};
+ghost use Rattle.device_machine.specs.Laws.{TicksSendBeforePmax};
 
 /// A request that comes again within its lifetime is not processed again (RFC 7252 section 4.5): a
 /// confirmable one gets the bytes that it got, and neither changes anything.

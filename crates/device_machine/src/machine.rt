@@ -177,7 +177,8 @@ impl Machine {
 
     /// Ends a download or an update of the firmware, where there is one.
     fn end_firmware(&mut self, code: u8) -> Result<Outputs, AllocError>
-        ensures gives { IfOk result (λ o. Gives o self.new (on_firmware self.old (firmware_after self.old.kept.client.store (Ended code)))) }
+        ensures gives { IfOk result (λ o. Gives o self.new
+            (on_firmware self.old (firmware_after self.old.kept.client.store (Ended code)))) }
         ensures grows { OnErr result (event_grows self.old.kept (Firmware code) ≡ true) }
         ensures unchanged { OnErr result (self.new ≡ self.old) }
     {

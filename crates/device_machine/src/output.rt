@@ -74,7 +74,7 @@ impl Outputs {
         Ok(Outputs { items })
     }
 
-    /// Adds what the device does behind the others, if there is something.
+    /// Adds what the device does after the others, if there is something.
     pub(crate) fn act(&mut self, act: Option<Act>) -> Result<(), AllocError>
         ensures acts { OnOk result (self.new ≡ self.old ++ acted act) }
         ensures grows { OnErr result (acted act ≢ []) }

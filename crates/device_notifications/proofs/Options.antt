@@ -1,5 +1,6 @@
 -- The options of a notification are in order, and short.
-use Rattle.std.proofs.Common.{ℕ, ◌/◌, ◌%◌, ◌≤◌, nat_lt, Bool, true, false, [], ◌∷◌, ◌++◌, length, Option, None, Some, arith}
+use Rattle.std.proofs.Common.{ℕ, ◌/◌, ◌%◌, ◌≤◌, nat_lt, Bool, true, false, [], ◌∷◌, ◌++◌, length, Option, None, Some}
+use Rattle.std.proofs.Common.{arith}
 use Rattle.std.specs.Bool.{if◌then◌else◌}
 use Rattle.coap_codec.specs.Message.{IsOptionList}
 use Rattle.coap_codec.specs.Number.{shortest}
@@ -24,5 +25,7 @@ format_follows before (Some f) h = (record { ascends = h; in_range = omega (arit
 
 pub in_order : (number format : Option ℕ) → IsOptionList 0 (observe_option number ++ format_option format)
 in_order None format = format_follows 0 format (omega (arith))
-in_order (Some n) format =
-    (record { ascends = omega (arith); in_range = omega (arith); fits = short_number n }, format_follows 6 format (omega (arith)))
+in_order (Some n) format = (
+  record { ascends = omega (arith); in_range = omega (arith); fits = short_number n },
+  format_follows 6 format (omega (arith)),
+)

@@ -1,5 +1,6 @@
 -- The turn of the observation at a place, by its verdict.
-use Rattle.std.proofs.Common.{◌≡◌, ℕ, ◌+◌, List, [], ◌∷◌, ◌++◌, take, drop, slice_get, slice_set, remove, Option, None, Some, refl, sym, ap, subst, ◌∙◌}
+use Rattle.std.proofs.Common.{◌≡◌, ℕ, ◌+◌, List, [], ◌∷◌, ◌++◌, take, drop, slice_get, slice_set, remove, Option, None}
+use Rattle.std.proofs.Common.{Some, refl, sym, ap, subst, ◌∙◌}
 use Rattle.std.proofs.lemmas.List.{append-nil}
 use Rattle.std.specs.Option.{option_map_or}
 use Rattle.notifier.specs.Observed.{next_number, notified, with_sent}
@@ -22,7 +23,8 @@ passes_quiet client clock os place o now at is =
     subst (λ v. Passes (turn_by client clock now.next_id o v) os os place (place + 1) now now) is
     (record { sent = sym (append-nil now.sent); next_id = refl; passed = taken os place o at; coming = refl })
 
-pub passes_sends : (client : Client) (clock : ℕ) (os left : List Observation) (place : ℕ) (o : Observation) (now after : Outbox) (answer : Answer) (d : Datagram)
+pub passes_sends : (client : Client) (clock : ℕ) (os left : List Observation) (place : ℕ) (o : Observation)
+    (now after : Outbox) (answer : Answer) (d : Datagram)
     → slice_get os place ≡ Some o → Sends answer ≡ verdict_of client clock o
     → d ≡ datagram_of o now.next_id (Some (next_number o.number)) answer
     → left ≡ with_sent os place clock now.next_id (report_of client o.path answer.payload)
@@ -31,7 +33,8 @@ pub passes_sends : (client : Client) (clock : ℕ) (os left : List Observation) 
 passes_sends client clock os left place o now after answer d at is message then_left then_after =
     let new = notified clock now.next_id (report_of client o.path answer.payload) o in
     let same : left ≡ slice_set os place new =
-    then_left ∙ ap (λ (r : Option Observation). option_map_or (λ x. slice_set os place (notified clock now.next_id (report_of client o.path answer.payload) x)) r os) at in
+    then_left ∙ ap (λ (r : Option Observation). option_map_or
+    (λ x. slice_set os place (notified clock now.next_id (report_of client o.path answer.payload) x)) r os) at in
     subst (λ v. Passes (turn_by client clock now.next_id o v) os left place (place + 1) now after) is
     (record {
       sent = ap (λ b. b.sent) then_after ∙ ap (λ x. now.sent ++ x ∷ []) message;
@@ -40,7 +43,8 @@ passes_sends client clock os left place o now after answer d at is message then_
       coming = ap (λ xs. drop (place + 1) xs) same ∙ dropped_set os place new;
     })
 
-pub passes_gone : (client : Client) (clock : ℕ) (os left : List Observation) (place : ℕ) (o : Observation) (now after : Outbox) (answer : Answer) (d : Datagram)
+pub passes_gone : (client : Client) (clock : ℕ) (os left : List Observation) (place : ℕ) (o : Observation)
+    (now after : Outbox) (answer : Answer) (d : Datagram)
     → Gone answer ≡ verdict_of client clock o
     → d ≡ datagram_of o now.next_id None answer
     → left ≡ remove os place

@@ -30,13 +30,15 @@ seconds_add client clock (suc a) b next_id os =
 
 -- ---- each datagram of many seconds is some observation's, in one of them
 
-in_first : (client : Client) (clock n next_id : ℕ) (os : List Observation) (d : Datagram) → IsOf client (clock + 1) os d → IsInOneOf client clock (suc n) next_id os d
+in_first : (client : Client) (clock n next_id : ℕ) (os : List Observation) (d : Datagram) → IsOf client (clock + 1) os d
+    → IsInOneOf client clock (suc n) next_id os d
 in_first client clock n next_id os d h =
     let at : clock + 1 ≡ clock + (0 + 1) = omega arith in
     (0, omega arith, subst (λ c. IsOf client c os d) at h)
 
 in_later : (client : Client) (clock n next_id : ℕ) (os : List Observation) (d : Datagram)
-    → IsInOneOf client (clock + 1) n (second client (clock + 1) next_id os).next_id (second client (clock + 1) next_id os).left d
+    → IsInOneOf client (clock + 1) n (second client (clock + 1) next_id os).next_id
+    (second client (clock + 1) next_id os).left d
     → IsInOneOf client clock (suc n) next_id os d
 in_later client clock n next_id os d h =
     let at : clock + 1 + (h.0 + 1) ≡ clock + (suc h.0 + 1) = omega arith in
@@ -47,6 +49,9 @@ seconds_send_after_pmin client clock zero next_id os = tt
 seconds_send_after_pmin client clock (suc n) next_id os =
     let t = second client (clock + 1) next_id os in
     both (IsInOneOf client clock (suc n) next_id os) t.sent (seconds client (clock + 1) n t.next_id t.left).sent
-    (weaker (IsOf client (clock + 1) os) (IsInOneOf client clock (suc n) next_id os) (in_first client clock n next_id os) t.sent (sends_after_pmin client (clock + 1) next_id os))
-    (weaker (IsInOneOf client (clock + 1) n t.next_id t.left) (IsInOneOf client clock (suc n) next_id os) (in_later client clock n next_id os)
-    (seconds client (clock + 1) n t.next_id t.left).sent (seconds_send_after_pmin client (clock + 1) n t.next_id t.left))
+    (weaker (IsOf client (clock + 1) os) (IsInOneOf client clock (suc n) next_id os)
+    (in_first client clock n next_id os) t.sent (sends_after_pmin client (clock + 1) next_id os))
+    (weaker (IsInOneOf client (clock + 1) n t.next_id t.left) (IsInOneOf client clock (suc n) next_id os)
+    (in_later client clock n next_id os)
+    (seconds client (clock + 1) n t.next_id t.left).sent
+    (seconds_send_after_pmin client (clock + 1) n t.next_id t.left))

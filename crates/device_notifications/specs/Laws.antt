@@ -1,5 +1,7 @@
--- What follows of notifications and their times, in the words of those who observe (RFC 7641; OMA LwM2M 1.1 Core, attributes).
-use Rattle.std.specs.Prelude.{◌≡◌, ℕ, ◌+◌, ◌%◌, ◌<◌, ◌≤◌, true, false, List, [], ◌∷◌, ◌++◌, length, Option, None, Some, ◌⊎◌}
+-- What follows of notifications and their times, in the words of those who observe (RFC 7641; OMA LwM2M 1.1 Core,
+-- attributes).
+use Rattle.std.specs.Prelude.{◌≡◌, ℕ, ◌+◌, ◌%◌, ◌<◌, ◌≤◌, true, false, List, [], ◌∷◌, ◌++◌, length, Option, None, Some}
+use Rattle.std.specs.Prelude.{◌⊎◌}
 use Rattle.std.specs.List.{AllByRecursion, Contains}
 use Rattle.notifier.specs.Observed.{next_number, notified}
 use Rattle.notifier.specs.declared.observation.Observation.{Observation}
@@ -11,8 +13,8 @@ use Rattle.device_notifications.specs.Period.{pmin_of, pmax_of}
 use Rattle.device_notifications.specs.Report.{report_of}
 use Rattle.device_notifications.specs.Second.{age_of, and_then, is_content, present, second, seconds, turn_of}
 
--- a datagram is a notification that keeps the observation: its present answer, which is content, with the next Observe number;
--- and pmin seconds or more have passed since the observation's last message
+-- a datagram is a notification that keeps the observation: its present answer, which is content, with the next Observe
+-- number; and pmin seconds or more have passed since the observation's last message
 pub record Notifies (client : Client) (clock : ℕ) (o : Observation) (d : Datagram) : Type 0 where
   pub mid : ℕ
   pub message : d ≡ datagram_of o mid (Some (next_number o.number)) (present client o)
@@ -30,50 +32,66 @@ abbrev pub IsOf : Client → ℕ → List Observation → Datagram → Type 0
 IsOf client clock os d = (o : Observation) × Contains os o × (Notifies client clock o d ⊎ Ends client o d)
 
 abbrev pub SendsAfterPmin : Type 0
-SendsAfterPmin = (client : Client) (clock next_id : ℕ) (os : List Observation) → AllByRecursion (IsOf client clock os) (second client clock next_id os).sent
+SendsAfterPmin =
+    (client : Client) (clock next_id : ℕ) (os : List Observation)
+    → AllByRecursion (IsOf client clock os) (second client clock next_id os).sent
 
 -- and so is each datagram of so many seconds, in one of them, of an observation that was there then
 abbrev pub IsInOneOf : Client → ℕ → ℕ → ℕ → List Observation → Datagram → Type 0
-IsInOneOf client clock n next_id os d = (k : ℕ) × (k < n) × IsOf client (clock + (k + 1)) (seconds client clock k next_id os).left d
+IsInOneOf client clock n next_id os d =
+    (k : ℕ) × (k < n) × IsOf client (clock + (k + 1)) (seconds client clock k next_id os).left d
 
 abbrev pub SecondsSendAfterPmin : Type 0
 SecondsSendAfterPmin =
-    (client : Client) (clock n next_id : ℕ) (os : List Observation) → AllByRecursion (IsInOneOf client clock n next_id os) (seconds client clock n next_id os).sent
+    (client : Client) (clock n next_id : ℕ) (os : List Observation)
+    → AllByRecursion (IsInOneOf client clock n next_id os) (seconds client clock n next_id os).sent
 
--- where pmax has effect, which is where it is above 0 and not below pmin, the last message is less than pmax seconds old
+-- where pmax has effect, which is where it is above 0 and not below pmin, the last message is less than pmax seconds
+-- old
 abbrev pub IsFresh : Client → ℕ → Observation → Type 0
 IsFresh client clock o =
-    (pmax : ℕ) → pmax_of client o.server o.path ≡ Some pmax → 0 < pmax → pmin_of client o.server o.path ≤ pmax → age_of clock o < pmax
+    (pmax : ℕ) → pmax_of client o.server o.path ≡ Some pmax → 0 < pmax → pmin_of client o.server o.path ≤ pmax
+    → age_of clock o < pmax
 
--- behind each second that is so of each observation that is left
+-- after each second that is so of each observation that is left
 abbrev pub SendsBeforePmax : Type 0
-SendsBeforePmax = (client : Client) (clock next_id : ℕ) (os : List Observation) → AllByRecursion (IsFresh client clock) (second client clock next_id os).left
+SendsBeforePmax =
+    (client : Client) (clock next_id : ℕ) (os : List Observation)
+    → AllByRecursion (IsFresh client clock) (second client clock next_id os).left
 
--- and so it is behind the last of one second or more
+-- and so it is after the last of one second or more
 abbrev pub SecondsSendBeforePmax : Type 0
 SecondsSendBeforePmax =
-    (client : Client) (clock n next_id : ℕ) (os : List Observation) → AllByRecursion (IsFresh client (clock + (n + 1))) (seconds client clock (n + 1) next_id os).left
+    (client : Client) (clock n next_id : ℕ) (os : List Observation)
+    → AllByRecursion (IsFresh client (clock + (n + 1))) (seconds client clock (n + 1) next_id os).left
 
--- an observation keeps all that it was, its last report among them, or its server has been notified, pmin seconds or more behind its last message
+-- an observation keeps all that it was, its last report among them, or its server has been notified, pmin seconds or
+-- more after its last message
 pub data Stays (client : Client) (clock : ℕ) (o : Observation) : Observation → Type 0 where
   as_it_was : Stays client clock o o
-  told : (mid : ℕ) → pmin_of client o.server o.path ≤ age_of clock o → Stays client clock o (notified clock mid (report_of client o.path (present client o).payload) o)
+  told : (mid : ℕ) → pmin_of client o.server o.path ≤ age_of clock o
+      → Stays client clock o (notified clock mid (report_of client o.path (present client o).payload) o)
 
 -- observations stay in their order, and go only where their present answer is no content
 pub data StayInOrder (client : Client) (clock : ℕ) : List Observation → List Observation → Type 0 where
   none : StayInOrder client clock [] []
-  stays : (o p : Observation) (os ps : List Observation) → Stays client clock o p → StayInOrder client clock os ps → StayInOrder client clock (o ∷ os) (p ∷ ps)
-  goes : (o : Observation) (os ps : List Observation) → is_content (present client o) ≡ false → StayInOrder client clock os ps → StayInOrder client clock (o ∷ os) ps
+  stays : (o p : Observation) (os ps : List Observation) → Stays client clock o p → StayInOrder client clock os ps
+      → StayInOrder client clock (o ∷ os) (p ∷ ps)
+  goes : (o : Observation) (os ps : List Observation) → is_content (present client o) ≡ false
+      → StayInOrder client clock os ps → StayInOrder client clock (o ∷ os) ps
 
 abbrev pub KeepsOrder : Type 0
-KeepsOrder = (client : Client) (clock next_id : ℕ) (os : List Observation) → StayInOrder client clock os (second client clock next_id os).left
+KeepsOrder = (client : Client) (clock next_id : ℕ) (os : List Observation)
+    → StayInOrder client clock os (second client clock next_id os).left
 
--- an observation that stays has sent nothing and is as it was, or has sent its Observe number, which is one more than before modulo 2^24
+-- an observation that stays has sent nothing and is as it was, or has sent its Observe number, which is one more than
+-- before modulo 2^24
 abbrev pub CountsObserveNumbers : Type 0
 CountsObserveNumbers =
     (client : Client) (clock next_id : ℕ) (o p : Observation) → (turn_of client clock next_id o).left ≡ p ∷ []
     → (((turn_of client clock next_id o).sent ≡ []) × (p ≡ o))
-    ⊎ (((turn_of client clock next_id o).sent ≡ datagram_of o next_id (Some p.number) (present client o) ∷ []) × (p.number ≡ (o.number + 1) % 16777216))
+    ⊎ (((turn_of client clock next_id o).sent ≡ datagram_of o next_id (Some p.number) (present client o) ∷ [])
+    × (p.number ≡ (o.number + 1) % 16777216))
 
 -- two observations are of one server under one token
 abbrev pub AreNamesakes : Observation → Observation → Type 0
@@ -95,14 +113,16 @@ IsOfOneOf (o ∷ os) d = IsMessageOf o d ⊎ IsOfOneOf os d
 
 -- a datagram is a notification of this observation with this Observe number
 abbrev pub IsNumbered : Observation → ℕ → Datagram → Type 0
-IsNumbered o number d = (mid : ℕ) × (answer : Answer) × (d ≡ datagram_of o mid (Some number) answer) × (is_content answer ≡ true)
+IsNumbered o number d =
+    (mid : ℕ) × (answer : Answer) × (d ≡ datagram_of o mid (Some number) answer) × (is_content answer ≡ true)
 
 -- a datagram is the message that ends this observation
 abbrev pub IsEnd : Observation → Datagram → Type 0
 IsEnd o d = (mid : ℕ) × (answer : Answer) × (d ≡ datagram_of o mid None answer) × (is_content answer ≡ false)
 
--- among these datagrams each notification of an observation has one number more than the one before it, modulo 2^24, and none comes behind the one
--- that ends it; all the others are messages of these other observations. The last number is this, or none where it has ended
+-- among these datagrams each notification of an observation has one number more than the one before it, modulo 2^24,
+-- and none comes after the one that ends it; all the others are messages of these other observations. The last number
+-- is this, or none where it has ended
 abbrev pub Counts : Observation → List Observation → ℕ → List Datagram → Option ℕ → Type 0
 Counts o others number [] last = last ≡ Some number
 Counts o others number (d ∷ ds) last =
@@ -115,8 +135,10 @@ abbrev pub IsLeft : Observation → List Observation → Option ℕ → List Obs
 IsLeft o others None left = AllByRecursion (HasNamesake others) left
 IsLeft o others (Some number) left = (p : Observation) × Contains left p × AreNamesakes o p × (p.number ≡ number)
 
--- of an observation beside these others: its numbers rise by one with each message, from that of its last one, and what is left of it has the last of them
-pub record RisesByOne (o : Observation) (others : List Observation) (sent : List Datagram) (left : List Observation) : Type 0 where
+-- of an observation beside these others: its numbers rise by one with each message, from that of its last one, and what
+-- is left of it has the last of them
+pub record RisesByOne (o : Observation) (others : List Observation) (sent : List Datagram)
+    (left : List Observation) : Type 0 where
   pub last : Option ℕ
   pub counts : Counts o others o.number sent last
   pub is_left : IsLeft o others last left
@@ -125,9 +147,10 @@ pub record RisesByOne (o : Observation) (others : List Observation) (sent : List
 abbrev pub SecondsCountObserveNumbers : Type 0
 SecondsCountObserveNumbers =
     (client : Client) (clock n next_id : ℕ) (before after : List Observation) (o : Observation)
-    → RisesByOne o (before ++ after) (seconds client clock n next_id (before ++ o ∷ after)).sent (seconds client clock n next_id (before ++ o ∷ after)).left
+    → RisesByOne o (before ++ after) (seconds client clock n next_id (before ++ o ∷ after)).sent
+    (seconds client clock n next_id (before ++ o ∷ after)).left
 
--- so many seconds, and so many more behind them, are all of them
+-- so many seconds, and so many more after them, are all of them
 abbrev pub SecondsAdd : Type 0
 SecondsAdd =
     (client : Client) (clock a b next_id : ℕ) (os : List Observation)

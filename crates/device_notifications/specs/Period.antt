@@ -1,5 +1,7 @@
--- The minimum and the maximum period of an observation, in seconds (OMA LwM2M 1.1 Core, attributes, and object 1 LwM2M Server).
-use Rattle.std.specs.Prelude.{ℕ, ◌==◌, nat_lt, ℤ, pos, negsuc, Bool, false, find, cond, Option, None, Some, option_and_then}
+-- The minimum and the maximum period of an observation, in seconds (OMA LwM2M 1.1 Core, attributes, and object 1 LwM2M
+-- Server).
+use Rattle.std.specs.Prelude.{ℕ, ◌==◌, nat_lt, ℤ, pos, negsuc, Bool, false, find, cond, Option, None, Some}
+use Rattle.std.specs.Prelude.{option_and_then}
 use Rattle.std.specs.Option.{option_or, unwrap_or}
 use Rattle.object_defs.specs.Path.{single_of}
 use Rattle.object_defs.specs.declared.path.FullPath.{FullPath}
@@ -38,12 +40,14 @@ account_of stored server = find (λ instance. is_account stored server instance)
 -- the seconds that this resource of it says; where that one says none, a higher instance is not asked
 abbrev pub default_period : Stored → ℕ → ℕ → Option ℕ
 default_period stored server resource =
-    option_and_then (λ instance. option_and_then seconds_in (number_in (value_at stored (account_path instance resource)))) (account_of stored server)
+    option_and_then (λ instance. option_and_then seconds_in
+    (number_in (value_at stored (account_path instance resource)))) (account_of stored server)
 
 -- the attribute of the lowest level that has one, else the default of the server
 abbrev pub period_of : Client → ℕ → Path → Name → ℕ → Option ℕ
 period_of client server path n resource =
-    option_or (option_and_then seconds_in (effective client.attributes server path n)) (default_period client.store server resource)
+    option_or (option_and_then seconds_in (effective client.attributes server path n))
+    (default_period client.store server resource)
 
 -- the minimum period that has effect, 0 where none is set
 abbrev pub pmin_of : Client → ℕ → Path → ℕ

@@ -5,13 +5,14 @@ use Rattle.device_notifications.specs.Outbox.{Outbox}
 use Rattle.device_requests.specs.Client.{Client}
 use Rattle.device_notifications.specs.Second.{Turn, second, seconds}
 
--- behind what was to be sent already stands what the turn sends, and the rest is as the turn leaves it
+-- after what was to be sent already stands what the turn sends, and the rest is as the turn leaves it
 pub record Leaves (before : Outbox) (turn : Turn) (left : List Observation) (after : Outbox) : Type 0 where
   pub sent : after.sent ≡ before.sent ++ turn.sent
   pub left_is : left ≡ turn.left
   pub next_id : after.next_id ≡ turn.next_id
 
--- the observation at a place has had its turn: what is left of it stands before the next place, and those behind it are still to come
+-- the observation at a place has had its turn: what is left of it stands before the next place, and those after it are
+-- still to come
 pub record Passes (turn : Turn) (all left : List Observation) (place next : ℕ) (before after : Outbox) : Type 0 where
   pub sent : after.sent ≡ before.sent ++ turn.sent
   pub next_id : after.next_id ≡ turn.next_id
@@ -26,7 +27,8 @@ pub record Progress (client : Client) (clock : ℕ) (all : List Observation) (be
       ≡ before.sent ++ (second client clock before.next_id all).sent
   pub left : take place os ++ (second client clock now.next_id (drop place os)).left
       ≡ (second client clock before.next_id all).left
-  pub next_id : (second client clock now.next_id (drop place os)).next_id ≡ (second client clock before.next_id all).next_id
+  pub next_id : (second client clock now.next_id (drop place os)).next_id
+      ≡ (second client clock before.next_id all).next_id
 
 -- a second stops before the turn of one of them
 pub record Stops (client : Client) (clock : ℕ) (all : List Observation) (before : Outbox) (os : List Observation)
@@ -35,8 +37,8 @@ pub record Stops (client : Client) (clock : ℕ) (all : List Observation) (befor
   pub inside : place < length os
   pub progress : Progress client clock all before os place now
 
--- so many of the seconds have passed: with what has been sent, and what still will be, stands what all of them send; and
--- so with what is left
+-- so many of the seconds have passed: with what has been sent, and what still will be, stands what all of them send;
+-- and so with what is left
 pub record Elapsed (client : Client) (clock count : ℕ) (all : List Observation) (before : Outbox) (passed : ℕ)
     (os : List Observation) (now : Outbox) : Type 0 where
   pub sent : now.sent ++ (seconds client (clock + passed) (count - passed) now.next_id os).sent
@@ -46,7 +48,7 @@ pub record Elapsed (client : Client) (clock count : ℕ) (all : List Observation
   pub next_id : (seconds client (clock + passed) (count - passed) now.next_id os).next_id
       ≡ (seconds client clock count before.next_id all).next_id
 
--- one of the seconds stops, behind those that have passed
+-- one of the seconds stops, after those that have passed
 pub record StopsIn (client : Client) (clock count : ℕ) (all : List Observation) (before : Outbox)
     (os : List Observation) (now : Outbox) : Type 0 where
   pub passed : ℕ

@@ -30,7 +30,9 @@ single_number false value = number_in value
 abbrev pub number_at : Client → Path → Option ℤ
 number_at client (Object _) = None
 number_at client (Instance _ _) = None
-number_at client (Resource o i r) = single_number (is_multiple (definition_of client.catalogue o r)) (value_at client.store (single_of (resource_place o i r)))
+number_at client (Resource o i r) =
+    single_number (is_multiple (definition_of client.catalogue o r))
+    (value_at client.store (single_of (resource_place o i r)))
 number_at client (Part _ _ _ _) = None
 
 -- a message with this payload reports the payload, and the number at the path

@@ -42,12 +42,14 @@ age_of clock o = clock - o.second
 -- whether the present answer is sent now
 abbrev pub is_due_now : Client → ℕ → Observation → List ℕ → Bool
 is_due_now client clock o payload =
-    is_due (age_of clock o) (pmin_of client o.server o.path) (pmax_of client o.server o.path) (triggers_now client o payload)
+    is_due (age_of clock o) (pmin_of client o.server o.path) (pmax_of client o.server o.path)
+    (triggers_now client o payload)
 
 -- content is sent when it is due; any other answer is sent at once, and the observation goes
 abbrev pub verdict_on : Client → ℕ → Observation → Answer → Verdict
 verdict_on client clock o answer =
-    if is_content answer then (if is_due_now client clock o answer.payload then Sends answer else Quiet) else Gone answer
+    if is_content answer then (if is_due_now client clock o answer.payload then Sends answer else Quiet)
+    else Gone answer
 
 abbrev pub verdict_of : Client → ℕ → Observation → Verdict
 verdict_of client clock o = verdict_on client clock o (present client o)
@@ -78,7 +80,7 @@ turn_by client clock next_id o (Gone answer) =
 abbrev pub turn_of : Client → ℕ → ℕ → Observation → Turn
 turn_of client clock next_id o = turn_by client clock next_id o (verdict_of client clock o)
 
--- one behind the other: what both send, and leave
+-- one after the other: what both send, and leave
 abbrev pub beside : Turn → Turn → Turn
 beside a b = record { sent = a.sent ++ b.sent; left = a.left ++ b.left; next_id = b.next_id }
 
@@ -97,4 +99,5 @@ abbrev pub seconds : Client → ℕ → ℕ → ℕ → List Observation → Tur
 seconds client clock zero next_id os = quiet next_id os
 seconds client clock (suc n) next_id os =
     and_then (second client (clock + 1) next_id os)
-    (seconds client (clock + 1) n (second client (clock + 1) next_id os).next_id (second client (clock + 1) next_id os).left)
+    (seconds client (clock + 1) n (second client (clock + 1) next_id os).next_id
+    (second client (clock + 1) next_id os).left)

@@ -1,7 +1,9 @@
 //! What follows of notifications, for those who observe. The calls do nothing; their contracts are
 //! the laws.
 
-ghost use Rattle.device_notifications.specs.Laws.{CountsMessageIds, CountsObserveNumbers, KeepsOrder, SecondsAdd, SecondsCountObserveNumbers, SecondsSendAfterPmin, SecondsSendBeforePmax, SendsAfterPmin, SendsBeforePmax};
+ghost use Rattle.device_notifications.specs.Laws.{CountsMessageIds, CountsObserveNumbers, KeepsOrder, SecondsAdd};
+ghost use Rattle.device_notifications.specs.Laws.{SecondsCountObserveNumbers, SecondsSendAfterPmin};
+ghost use Rattle.device_notifications.specs.Laws.{SecondsSendBeforePmax, SendsAfterPmin, SendsBeforePmax};
 
 /// A notification that keeps its observation is sent only where pmin seconds have passed since the
 /// observation's last message. Every other datagram of a second ends its observation. And so it is of
@@ -11,8 +13,8 @@ pub fn sends_after_pmin()
     ensures more { SecondsSendAfterPmin }
 {}
 
-/// Behind a second no observation whose pmax has effect has a last message that is pmax seconds old
-/// or older; and so it is behind more of them.
+/// After a second no observation whose pmax has effect has a last message that is pmax seconds old
+/// or older; and so it is after more of them.
 pub fn sends_before_pmax()
     ensures one { SendsBeforePmax }
     ensures more { SecondsSendBeforePmax }
@@ -37,7 +39,7 @@ pub fn counts_message_ids()
     ensures { CountsMessageIds }
 {}
 
-/// So many seconds, and so many more behind them, are all of them.
+/// So many seconds, and so many more after them, are all of them.
 pub fn seconds_add()
     ensures { SecondsAdd }
 {}

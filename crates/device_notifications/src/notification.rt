@@ -3,7 +3,8 @@
 ghost use Rattle.std.specs.Prelude.{◌≡◌, ◌++◌, ℕ, Option, IfOk, OnOk};
 ghost use Rattle.coap_codec.specs.Message.{IsOptionList, spelling};
 ghost use Rattle.notifier.specs.Observed.{HasToken};
-ghost use Rattle.device_notifications.specs.Message.{datagram_of, format_option, notification, number_option, observe_option};
+ghost use Rattle.device_notifications.specs.Message.{datagram_of, format_option, notification, number_option};
+ghost use Rattle.device_notifications.specs.Message.{observe_option};
 
 use crate::datagram::Datagram;
 use coap_codec::{Kind, Message, Opt, Options, encode, uint_bytes};

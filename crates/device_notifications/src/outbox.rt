@@ -38,7 +38,7 @@ impl Outbox {
         self.next_id
     }
 
-    /// Adds a datagram behind the others, and counts the message ID on, modulo 65,536.
+    /// Adds a datagram after the others, and counts the message ID on, modulo 65,536.
     pub(crate) fn post(&mut self, datagram: Datagram) -> Result<(), AllocError>
         ensures posted { OnOk result (self.new ≡ posted self.old datagram) }
         ensures unchanged { OnErr result (self.new ≡ self.old) }

@@ -1,7 +1,8 @@
 ghost use Rattle.std.specs.Prelude.{◌≡◌, option_and_then};
 ghost use Rattle.notifier.specs.Attributes.{effective};
 ghost use Rattle.instance_store.specs.Stored.{value_at};
-ghost use Rattle.device_notifications.specs.Period.{account_of, account_path, default_period, is_account, is_number, period_of, pmax_of, pmin_of, seconds_in};
+ghost use Rattle.device_notifications.specs.Period.{account_of, account_path, default_period, is_account, is_number};
+ghost use Rattle.device_notifications.specs.Period.{period_of, pmax_of, pmin_of, seconds_in};
 ghost use Rattle.device_notifications.specs.Report.{number_in};
 
 use crate::report::number_in;

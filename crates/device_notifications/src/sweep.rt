@@ -25,7 +25,8 @@ fn take_turn(
     requires within { place < length observations.old }
     requires few { place < 32 }
     ensures passes { IfOk result (λ next. (o : Observation) → slice_get observations.old place ≡ Some o
-        → Passes (turn_of client.now clock outbox.old.next_id o) observations.old observations.new place next outbox.old outbox.new) }
+        → Passes (turn_of client.now clock outbox.old.next_id o) observations.old observations.new place next outbox.old
+        outbox.new) }
     ensures unchanged { OnErr result (observations.new ≡ observations.old) }
     ensures unposted { OnErr result (outbox.new ≡ outbox.old) }
 {
@@ -60,7 +61,8 @@ pub fn second(
     clock: u64,
     outbox: &mut Outbox,
 ) -> Result<(), AllocError>
-    ensures done { OnOk result (Leaves outbox.old (second client.now clock outbox.old.next_id observations.old) observations.new outbox.new) }
+    ensures done { OnOk result (Leaves outbox.old
+        (second client.now clock outbox.old.next_id observations.old) observations.new outbox.new) }
     ensures some { OnErr result (observations.old ≢ []) }
     ensures stops { OnErr result (Stops client.now clock observations.old outbox.old observations.new outbox.new) }
 {
@@ -73,7 +75,7 @@ pub fn second(
 
 /// What the observations do in so many seconds, where the clock shows `clock` before the first of
 /// them: it goes up by one, then each has its turn. Nothing else changes. Want of memory, which only an
-/// observation can have, leaves them half done: one second stops, and those behind it are still to come.
+/// observation can have, leaves them half done: one second stops, and those after it are still to come.
 pub fn seconds(
     alloc: Global,
     client: &Client,
@@ -83,9 +85,11 @@ pub fn seconds(
     outbox: &mut Outbox,
 ) -> Result<(), AllocError>
     requires { clock + count < 2 ^ 64 }
-    ensures done { OnOk result (Leaves outbox.old (seconds client.now clock count outbox.old.next_id observations.old) observations.new outbox.new) }
+    ensures done { OnOk result (Leaves outbox.old
+        (seconds client.now clock count outbox.old.next_id observations.old) observations.new outbox.new) }
     ensures some { OnErr result (observations.old ≢ []) }
-    ensures stops { OnErr result (StopsIn client.now clock count observations.old outbox.old observations.new outbox.new) }
+    ensures stops { OnErr result (StopsIn client.now clock count observations.old outbox.old observations.new
+        outbox.new) }
 {
     for passed in 0..count {
         let now = clock + 1 + u64::from(passed);

@@ -1,5 +1,6 @@
 -- What is among the elements of a list.
-use Rattle.std.proofs.Common.{◌≡◌, Bool, true, false, cond, ◌||◌, ◌⊎◌, inl, inr, List, [], ◌∷◌, ◌++◌, map, Some, refl, ap}
+use Rattle.std.proofs.Common.{◌≡◌, Bool, true, false, cond, ◌||◌, ◌⊎◌, inl, inr, List, [], ◌∷◌, ◌++◌, map, Some, refl}
+use Rattle.std.proofs.Common.{ap}
 use Rattle.std.specs.List.{filter, find, flat_map, list_any}
 use Rattle.device_requests.specs.Laws.{IsAmong}
 

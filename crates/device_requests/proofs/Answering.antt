@@ -1,5 +1,6 @@
 -- A request is answered by the first line that it meets.
-use Rattle.std.proofs.Common.{◌≡◌, ℕ, Bool, true, false, not, cond, ◌==◌, List, [], ◌∷◌, ◌++◌, Option, None, Some, is_some, refl, ap, ◌∙◌}
+use Rattle.std.proofs.Common.{◌≡◌, ℕ, Bool, true, false, not, cond, ◌==◌, List, [], ◌∷◌, ◌++◌, Option, None, Some}
+use Rattle.std.proofs.Common.{is_some, refl, ap, ◌∙◌}
 use Rattle.std.specs.Bool.{if◌then◌else◌}
 use Rattle.std.specs.Option.{unwrap_or}
 use Rattle.coap_codec.specs.Message.{Message}
@@ -11,9 +12,14 @@ use Rattle.lwm2m_payloads.specs.declared.given.Mode.{Mode}
 use Rattle.lwm2m_payloads.specs.declared.given.Mode.TheVariants.{Replace, Update}
 use Rattle.device_requests.specs.declared.answer.Answer.{Answer}
 use Rattle.device_requests.specs.declared.answer.Code.{Code}
-use Rattle.device_requests.specs.declared.answer.Code.TheVariants.{Created, Deleted, BadRequest, UnsupportedContentFormat, Changed, Content, Unauthorized, BadOption, NotFound, MethodNotAllowed, NotAcceptable, InternalServerError}
+use Rattle.device_requests.specs.declared.answer.Code.TheVariants.{Created, Deleted, BadRequest}
+use Rattle.device_requests.specs.declared.answer.Code.TheVariants.{UnsupportedContentFormat, Changed, Content}
+use Rattle.device_requests.specs.declared.answer.Code.TheVariants.{Unauthorized, BadOption, NotFound, MethodNotAllowed}
+use Rattle.device_requests.specs.declared.answer.Code.TheVariants.{NotAcceptable, InternalServerError}
 use Rattle.device_requests.specs.declared.operation.Operation.{Operation}
-use Rattle.device_requests.specs.declared.operation.Operation.TheVariants.{Read, Discover, WriteAttributes, WriteReplace, WritePartial, Create, Execute, Delete}
+use Rattle.device_requests.specs.declared.operation.Operation.TheVariants.{Read, Discover, WriteAttributes}
+use Rattle.device_requests.specs.declared.operation.Operation.TheVariants.{WriteReplace, WritePartial, Create, Execute}
+use Rattle.device_requests.specs.declared.operation.Operation.TheVariants.{Delete}
 use Rattle.notifier.specs.Attributes.{Numbers}
 use Rattle.device_requests.specs.WriteAttributes.{annotate_unless, attributes_given, may_annotate}
 use Rattle.device_requests.specs.Answer.{Outcome, answered, bare, content, refused_or}
@@ -24,7 +30,8 @@ use Rattle.device_requests.specs.Delete.{delete_lines, delete_unless}
 use Rattle.device_requests.specs.Execute.{execute_lines, execute_unless}
 use Rattle.device_requests.specs.Discover.{discover_answer, discover_lines, discover_payload}
 use Rattle.device_requests.specs.Operation.{operation_of}
-use Rattle.device_requests.specs.Options.{accept_of, content_format_of, has_query, has_unrecognized_critical, queries_of, segments_of, path_of}
+use Rattle.device_requests.specs.Options.{accept_of, content_format_of, has_query, has_unrecognized_critical}
+use Rattle.device_requests.specs.Options.{queries_of, segments_of, path_of}
 use Rattle.device_requests.specs.Read.{can_be_read, content_in, format_at, read_payload}
 use Rattle.device_requests.specs.Request.{outcome_at, outcome_by, outcome_on, outcome_of}
 use Rattle.device_requests.specs.Access.{may_read, rights_on}

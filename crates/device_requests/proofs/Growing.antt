@@ -1,5 +1,6 @@
 -- Which answers may take memory.
-use Rattle.std.proofs.Common.{◌≡◌, ℕ, Bool, true, false, not, ◌==◌, List, [], ◌∷◌, Option, None, Some, Result, Ok, Err, OnErr, is_some, refl, ap, ◌∙◌}
+use Rattle.std.proofs.Common.{◌≡◌, ℕ, Bool, true, false, not, ◌==◌, List, [], ◌∷◌, Option, None, Some, Result, Ok, Err}
+use Rattle.std.proofs.Common.{OnErr, is_some, refl, ap, ◌∙◌}
 use Rattle.instance_store.specs.Stored.{Stored}
 use Rattle.object_defs.specs.Lines.{first_line}
 use Rattle.object_defs.specs.Path.{object_in}
@@ -7,13 +8,15 @@ use Rattle.object_defs.specs.declared.path.Path.{Path}
 use Rattle.device_firmware.specs.declared.event.FirmwareEvent.{FirmwareEvent}
 use Rattle.lwm2m_payloads.specs.declared.given.Mode.{Mode}
 use Rattle.device_requests.specs.declared.answer.Code.{Code}
-use Rattle.device_requests.specs.declared.answer.Code.TheVariants.{Unauthorized, NotFound, MethodNotAllowed, UnsupportedContentFormat, InternalServerError}
+use Rattle.device_requests.specs.declared.answer.Code.TheVariants.{Unauthorized, NotFound, MethodNotAllowed}
+use Rattle.device_requests.specs.declared.answer.Code.TheVariants.{UnsupportedContentFormat, InternalServerError}
 use Rattle.device_requests.specs.declared.write.NewValues.{NewValues}
 use Rattle.device_requests.specs.Access.{rights_on}
 use Rattle.device_requests.specs.Answer.{takes_memory}
 use Rattle.device_requests.specs.Client.{Client}
 use Rattle.device_requests.specs.Read.{format_at}
-use Rattle.device_requests.specs.Write.{can_be_written, event_of, is_target, left, mode_at, new_values, turn_lines, value_lines, write_outcome, write_unless}
+use Rattle.device_requests.specs.Write.{can_be_written, event_of, is_target, left, mode_at, new_values, turn_lines}
+use Rattle.device_requests.specs.Write.{value_lines, write_outcome, write_unless}
 
 -- what an error says, said otherwise
 pub of_error : {X E : Type 0} (r : Result X E) (P Q : Type 0) → (P → Q) → OnErr r P → OnErr r Q
@@ -27,7 +30,8 @@ late_code false code client stored h = refl
 
 late_turn : (client : Client) (mode : Mode) (path : Path) (values : Option NewValues) (event : Option FirmwareEvent)
     (stored : Stored)
-    → takes_memory (write_unless (first_line (turn_lines client mode path values event)) client stored).answer.code ≡ true
+    → takes_memory (write_unless (first_line (turn_lines client mode path values event)) client stored).answer.code
+    ≡ true
 late_turn client mode path values None stored = late_code _ InternalServerError client stored refl
 late_turn client mode path values (Some event) stored = late_code _ MethodNotAllowed client stored refl
 
@@ -44,7 +48,10 @@ late_write : (o t r w f : Bool) (lines : List (Bool × Code)) → o ≡ false �
     ≡ first_line lines
 late_write o t r w f lines other target may can served =
     λ j. first_line
-    ((other j, Unauthorized) ∷ (not (target j), NotFound) ∷ (not (may j), Unauthorized) ∷ (not (can j), MethodNotAllowed)
+    ((other j, Unauthorized) ∷ (not (target j), NotFound) ∷ (not (may j), Unauthorized) ∷ (
+      not (can j),
+      MethodNotAllowed,
+    )
     ∷ (not (served j), UnsupportedContentFormat) ∷ lines)
 
 -- a Write whose target, server and format are not refused may take memory
@@ -57,7 +64,8 @@ write_grows client server mode path number payload other target may can served =
     let values = new_values client path number payload in
     let stored = left (mode_at mode path) client path values (event_of path values) in
     ap (λ code. takes_memory (write_unless code client stored).answer.code)
-    (late_write (object_in path == 0) (is_target client.catalogue client.store path) (rights_on client server path).write
+    (late_write (object_in path == 0) (is_target client.catalogue client.store path)
+    (rights_on client server path).write
     (can_be_written client.catalogue path) (is_some (format_at client.catalogue path number))
     (value_lines client mode path values) other target may can served)
     ∙ late_values client mode path values stored

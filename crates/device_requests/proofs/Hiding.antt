@@ -1,5 +1,6 @@
 -- What a server may not read does not show.
-use Rattle.std.proofs.Common.{◌≡◌, ℕ, Bool, true, false, not, ◌||◌, ◌==◌, cond, List, [], ◌∷◌, map, length, ◌⊎◌, inl, inr, Option, is_some, refl, ap, ◌∙◌}
+use Rattle.std.proofs.Common.{◌≡◌, ℕ, Bool, true, false, not, ◌||◌, ◌==◌, cond, List, [], ◌∷◌, map, length, ◌⊎◌, inl}
+use Rattle.std.proofs.Common.{inr, Option, is_some, refl, ap, ◌∙◌}
 use Rattle.std.specs.List.{filter, list_any}
 use Rattle.std.specs.Option.{option_and_then}
 use Rattle.lwm2m_values.specs.Tlv.{shortest_tlv}
@@ -13,7 +14,8 @@ use Rattle.lwm2m_payloads.specs.Nodes.{instance_node, nodes_of, within_limit}
 use Rattle.lwm2m_values.specs.Tree.{instance}
 use Rattle.device_requests.specs.declared.answer.Answer.{Answer}
 use Rattle.device_requests.specs.declared.answer.Code.{Code}
-use Rattle.device_requests.specs.declared.answer.Code.TheVariants.{Unauthorized, NotFound, MethodNotAllowed, NotAcceptable, InternalServerError}
+use Rattle.device_requests.specs.declared.answer.Code.TheVariants.{Unauthorized, NotFound, MethodNotAllowed}
+use Rattle.device_requests.specs.declared.answer.Code.TheVariants.{NotAcceptable, InternalServerError}
 use Rattle.device_requests.specs.Access.{may_read, reads}
 use Rattle.device_requests.specs.Answer.{bare, refused_or}
 use Rattle.device_requests.specs.Hiding.{UnreadableIsHidden, UnreadableIsRefused}

@@ -10,7 +10,9 @@ use Rattle.lwm2m_payloads.specs.declared.given.Mode.TheVariants.{Replace, Update
 use Rattle.device_requests.specs.declared.answer.Code.{Code}
 use Rattle.device_requests.specs.declared.answer.Code.TheVariants.{BadOption}
 use Rattle.device_requests.specs.declared.operation.Operation.{Operation}
-use Rattle.device_requests.specs.declared.operation.Operation.TheVariants.{Read, Discover, WriteAttributes, WriteReplace, WritePartial, Create, Execute, Delete}
+use Rattle.device_requests.specs.declared.operation.Operation.TheVariants.{Read, Discover, WriteAttributes}
+use Rattle.device_requests.specs.declared.operation.Operation.TheVariants.{WriteReplace, WritePartial, Create, Execute}
+use Rattle.device_requests.specs.declared.operation.Operation.TheVariants.{Delete}
 use Rattle.notifier.specs.Attributes.{Numbers}
 use Rattle.device_requests.specs.WriteAttributes.{annotate_unless, attribute_lines, attributes_given}
 use Rattle.device_requests.specs.Answer.{Outcome, answered, bare}
@@ -20,7 +22,8 @@ use Rattle.device_requests.specs.Create.{Newborn, create_lines, create_unless, n
 use Rattle.device_requests.specs.Delete.{delete_lines, delete_unless}
 use Rattle.device_requests.specs.Execute.{execute_lines, execute_unless}
 use Rattle.device_requests.specs.Operation.{operation_of}
-use Rattle.device_requests.specs.Options.{accept_of, content_format_of, has_query, has_unrecognized_critical, queries_of, segments_of, path_of}
+use Rattle.device_requests.specs.Options.{accept_of, content_format_of, has_query, has_unrecognized_critical}
+use Rattle.device_requests.specs.Options.{queries_of, segments_of, path_of}
 use Rattle.device_requests.specs.Request.{outcome_at, outcome_by, outcome_on, outcome_of}
 use Rattle.device_requests.specs.Write.{event_of, left, mode_at, new_values, write_lines, write_outcome, write_unless}
 use Rattle.device_requests.specs.Laws.{KeepsFrame}

@@ -1,5 +1,6 @@
 -- The paths that a Discover shows are those that exist.
-use Rattle.std.proofs.Common.{◌≡◌, ℕ, Bool, true, false, ◌&&◌, ◌==◌, inl, inr, List, map, Option, None, Some, is_some, Ordering, refl, sym, ap, subst, ◌∙◌, arith}
+use Rattle.std.proofs.Common.{◌≡◌, ℕ, Bool, true, false, ◌&&◌, ◌==◌, inl, inr, List, map, Option, None, Some, is_some}
+use Rattle.std.proofs.Common.{Ordering, refl, sym, ap, subst, ◌∙◌, arith}
 use Rattle.std.specs.List.{filter}
 use Rattle.std.specs.Option.{option_and_then}
 use Rattle.std.specs.Ordering.{eq_by_cmp, is_eq}
@@ -21,7 +22,8 @@ use Rattle.instance_store.specs.Stored.{Stored, has_instance, instances_of}
 use Rattle.device_requests.specs.Laws.{IsAmong, LinksWhatExists, is_part, lies_at}
 use Rattle.device_requests.specs.Discover.{instance_paths, linked, paths_below, resources_below}
 use Rattle.device_requests.specs.Targets.{defined, exists, place_of, resource_place, resources_as}
-use Rattle.device_requests.proofs.Among.{among-any, among-filter, among-flat, among-map, any_found, filtered, flattened, found, mapped}
+use Rattle.device_requests.proofs.Among.{among-any, among-filter, among-flat, among-map, any_found, filtered, flattened}
+use Rattle.device_requests.proofs.Among.{found, mapped}
 
 same_number : (a b : ℕ) → (a == b) ≡ true → a ≡ b
 same_number a b h = grind (arith, nat_tests)

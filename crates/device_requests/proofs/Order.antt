@@ -1,5 +1,6 @@
 -- The first rule that holds decides.
-use Rattle.std.proofs.Common.{◌≡◌, ℕ, Bool, true, false, not, cond, ◌||◌, ◌==◌, List, [], ◌∷◌, ◌++◌, Option, None, Some, is_some, inl, inr, refl, sym, ap, ◌∙◌}
+use Rattle.std.proofs.Common.{◌≡◌, ℕ, Bool, true, false, not, cond, ◌||◌, ◌==◌, List, [], ◌∷◌, ◌++◌, Option, None, Some}
+use Rattle.std.proofs.Common.{is_some, inl, inr, refl, sym, ap, ◌∙◌}
 use Rattle.std.specs.Bool.{if◌then◌else◌}
 use Rattle.std.proofs.lemmas.Bool.{ne_eqb}
 use Rattle.coap_codec.specs.Message.{Message}
@@ -10,18 +11,29 @@ use Rattle.device_firmware.specs.declared.event.FirmwareEvent.{FirmwareEvent}
 use Rattle.lwm2m_payloads.specs.declared.given.Mode.{Mode}
 use Rattle.lwm2m_payloads.specs.declared.given.Mode.TheVariants.{Replace, Update}
 use Rattle.device_requests.specs.declared.answer.Code.{Code}
-use Rattle.device_requests.specs.declared.answer.Code.TheVariants.{Changed, BadRequest, Unauthorized, BadOption, NotFound, MethodNotAllowed, UnsupportedContentFormat, InternalServerError}
+use Rattle.device_requests.specs.declared.answer.Code.TheVariants.{Changed, BadRequest, Unauthorized, BadOption}
+use Rattle.device_requests.specs.declared.answer.Code.TheVariants.{NotFound, MethodNotAllowed, UnsupportedContentFormat}
+use Rattle.device_requests.specs.declared.answer.Code.TheVariants.{InternalServerError}
 use Rattle.device_requests.specs.declared.observe.Interest.{Interest}
 use Rattle.device_requests.specs.declared.operation.Operation.{Operation}
-use Rattle.device_requests.specs.declared.operation.Operation.TheVariants.{Read, Discover, WriteAttributes, WriteReplace, WritePartial, Create, Execute, Delete}
+use Rattle.device_requests.specs.declared.operation.Operation.TheVariants.{Read, Discover, WriteAttributes}
+use Rattle.device_requests.specs.declared.operation.Operation.TheVariants.{WriteReplace, WritePartial, Create, Execute}
+use Rattle.device_requests.specs.declared.operation.Operation.TheVariants.{Delete}
 use Rattle.device_requests.specs.declared.write.NewValues.{NewValues}
 use Rattle.device_requests.specs.Access.{rights_on}
 use Rattle.device_requests.specs.Client.{Client}
 use Rattle.device_requests.specs.Laws.{IsAmong, lines_by, lines_on, operation_lines, request_lines}
 use Rattle.device_requests.specs.Observe.{interest_in, interest_on, is_read}
 use Rattle.device_requests.specs.Operation.{operation_of}
-use Rattle.device_requests.specs.Options.{accept_of, content_format_of, has_query, has_unrecognized_critical, observe_of, segments_of, path_of}
-use Rattle.device_requests.specs.Order.{Asks, AsksToRead, FormatsPrecedePayloads, MethodsPrecedeObjects, OneTable, OnlyReadsObserve, OperationsPrecedeFormats, OptionsComeFirst, PathsPrecedeMethods, PayloadsPrecedeStates, RefusalsHaveReasons, RightsPrecedeOperations, SecurityPrecedesTargets, TargetsPrecedeRights, done_code, format_refusal, given_by, has_reason, is_invalid, is_out_of_turn, is_refused_now, is_too_much, lacks_format, lacks_operation, lacks_right, lacks_target, rules_of, unless_taken}
+use Rattle.device_requests.specs.Options.{accept_of, content_format_of, has_query, has_unrecognized_critical}
+use Rattle.device_requests.specs.Options.{observe_of, segments_of, path_of}
+use Rattle.device_requests.specs.Order.{Asks, AsksToRead, FormatsPrecedePayloads, MethodsPrecedeObjects, OneTable}
+use Rattle.device_requests.specs.Order.{OnlyReadsObserve, OperationsPrecedeFormats, OptionsComeFirst}
+use Rattle.device_requests.specs.Order.{PathsPrecedeMethods, PayloadsPrecedeStates, RefusalsHaveReasons}
+use Rattle.device_requests.specs.Order.{RightsPrecedeOperations, SecurityPrecedesTargets, TargetsPrecedeRights}
+use Rattle.device_requests.specs.Order.{done_code, format_refusal, given_by, has_reason, is_invalid, is_out_of_turn}
+use Rattle.device_requests.specs.Order.{is_refused_now, is_too_much, lacks_format, lacks_operation, lacks_right}
+use Rattle.device_requests.specs.Order.{lacks_target, rules_of, unless_taken}
 use Rattle.device_requests.specs.Read.{format_at}
 use Rattle.device_requests.specs.Request.{outcome_of}
 use Rattle.device_requests.specs.Write.{can_be_written, event_of, exceeds, is_target, mode_at, turn_lines, write_lines}

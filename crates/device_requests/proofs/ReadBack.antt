@@ -1,5 +1,6 @@
 -- A single resource that was written is read again.
-use Rattle.std.proofs.Common.{◌≡◌, ℕ, Bool, true, false, not, ◌&&◌, ◌||◌, ◌==◌, List, [], ◌∷◌, length, Option, None, Some, option_map, is_some, refl, sym, ap, subst, ◌∙◌}
+use Rattle.std.proofs.Common.{◌≡◌, ℕ, Bool, true, false, not, ◌&&◌, ◌||◌, ◌==◌, List, [], ◌∷◌, length, Option, None}
+use Rattle.std.proofs.Common.{Some, option_map, is_some, refl, sym, ap, subst, ◌∙◌}
 use Rattle.std.specs.Bool.{if◌then◌else◌}
 use Rattle.std.specs.Option.{option_and_then}
 use Rattle.std.specs.Cmp.{eq_by_cmp_equiv}
@@ -26,18 +27,23 @@ use Rattle.lwm2m_payloads.specs.declared.given.Given.{Given}
 use Rattle.lwm2m_payloads.specs.declared.given.Given.TheVariants.{Single}
 use Rattle.lwm2m_payloads.specs.declared.given.Mode.TheVariants.{Replace}
 use Rattle.lwm2m_payloads.specs.Formats.{one, many, extent_as, format_for}
-use Rattle.lwm2m_payloads.specs.Given.{given_by, given_if, lone_record, number_in, resource_given, some_parts, parts_given}
+use Rattle.lwm2m_payloads.specs.Given.{given_by, given_if, lone_record, number_in, resource_given, some_parts}
+use Rattle.lwm2m_payloads.specs.Given.{parts_given}
 use Rattle.lwm2m_payloads.specs.Nodes.{value_payload, within_limit}
 use Rattle.device_requests.specs.declared.write.NewValues.{NewValues}
 use Rattle.device_requests.specs.declared.write.NewValues.TheVariants.{One, Several}
-use Rattle.device_requests.specs.declared.answer.Code.TheVariants.{Changed, Unauthorized, NotFound, MethodNotAllowed, NotAcceptable, UnsupportedContentFormat, BadRequest, InternalServerError}
+use Rattle.device_requests.specs.declared.answer.Code.TheVariants.{Changed, Unauthorized, NotFound, MethodNotAllowed}
+use Rattle.device_requests.specs.declared.answer.Code.TheVariants.{NotAcceptable, UnsupportedContentFormat, BadRequest}
+use Rattle.device_requests.specs.declared.answer.Code.TheVariants.{InternalServerError}
 use Rattle.device_requests.specs.Access.{may_read, rights_on, shown_instances}
 use Rattle.device_requests.specs.Answer.{Outcome, refused_or}
 use Rattle.object_defs.specs.Lines.{first_line}
 use Rattle.device_requests.specs.Read.{content_in, format_at, payload_in, read_answer, read_payload}
 use Rattle.device_requests.specs.Client.{Client, with_stored}
 use Rattle.device_requests.specs.Targets.{is_readable, place_of, resource_place}
-use Rattle.device_requests.specs.Write.{can_be_written, event_of, exceeds, left, turn_lines, values_given, given_to_resource, is_target, resource_written, new_values, write_unless, written}
+use Rattle.device_requests.specs.Write.{can_be_written, event_of, exceeds, left, turn_lines, values_given}
+use Rattle.device_requests.specs.Write.{given_to_resource, is_target, resource_written, new_values, write_unless}
+use Rattle.device_requests.specs.Write.{written}
 use Rattle.device_requests.specs.Laws.{IsReadBack, WrittenIsRead}
 
 -- one value is given

@@ -4,7 +4,10 @@ use Rattle.object_defs.specs.declared.path.InstancePath.{InstancePath}
 use Rattle.device_requests.specs.declared.answer.Act.{Act}
 use Rattle.device_requests.specs.declared.answer.Answer.{Answer}
 use Rattle.device_requests.specs.declared.answer.Code.{Code}
-use Rattle.device_requests.specs.declared.answer.Code.TheVariants.{Created, Deleted, Changed, Content, BadRequest, Unauthorized, BadOption, NotFound, MethodNotAllowed, NotAcceptable, UnsupportedContentFormat, InternalServerError}
+use Rattle.device_requests.specs.declared.answer.Code.TheVariants.{Created, Deleted, Changed, Content, BadRequest}
+use Rattle.device_requests.specs.declared.answer.Code.TheVariants.{Unauthorized, BadOption, NotFound, MethodNotAllowed}
+use Rattle.device_requests.specs.declared.answer.Code.TheVariants.{NotAcceptable, UnsupportedContentFormat}
+use Rattle.device_requests.specs.declared.answer.Code.TheVariants.{InternalServerError}
 use Rattle.device_requests.specs.Client.{Client}
 
 -- the code's class in the three high bits, its detail in the five low ones (RFC 7252 section 12.1.2)

@@ -1,5 +1,6 @@
 -- What a Create answers and changes (OMA LwM2M 1.1 Core, Create).
-use Rattle.std.specs.Prelude.{ℕ, ◌==◌, Bool, true, false, not, List, [], ◌∷◌, length, Option, None, Some, option_map, is_some}
+use Rattle.std.specs.Prelude.{ℕ, ◌==◌, Bool, true, false, not, List, [], ◌∷◌, length, Option, None, Some, option_map}
+use Rattle.std.specs.Prelude.{is_some}
 use Rattle.object_defs.specs.Lines.{first_line}
 use Rattle.object_defs.specs.Path.{object_in}
 use Rattle.object_defs.specs.declared.path.Path.{Path}
@@ -10,7 +11,8 @@ use Rattle.lwm2m_payloads.specs.Given.{creation_given}
 use Rattle.lwm2m_payloads.specs.declared.given.Assignment.{Assignment}
 use Rattle.lwm2m_payloads.specs.declared.given.Creation.{Creation}
 use Rattle.device_requests.specs.declared.answer.Code.{Code}
-use Rattle.device_requests.specs.declared.answer.Code.TheVariants.{BadRequest, Unauthorized, NotFound, MethodNotAllowed, UnsupportedContentFormat, InternalServerError}
+use Rattle.device_requests.specs.declared.answer.Code.TheVariants.{BadRequest, Unauthorized, NotFound, MethodNotAllowed}
+use Rattle.device_requests.specs.declared.answer.Code.TheVariants.{UnsupportedContentFormat, InternalServerError}
 use Rattle.device_requests.specs.Access.{rights_on}
 use Rattle.device_requests.specs.Answer.{Outcome, answered, bare, created}
 use Rattle.device_requests.specs.Client.{Client, with_stored}

@@ -1,6 +1,7 @@
 -- What a Discover answers: its rules and its links (OMA LwM2M 1.1 Core; RFC 6690). Which links it shows is this
 -- profile's.
-use Rattle.std.specs.Prelude.{ℕ, ◌==◌, ◌/◌, ◌%◌, ℤ, unsigned_abs, Bool, true, false, ◌&&◌, List, [], ◌∷◌, ◌++◌, map, length, Option, None, Some, codes, if◌then◌else◌, nat_lt, not}
+use Rattle.std.specs.Prelude.{ℕ, ◌==◌, ◌/◌, ◌%◌, ℤ, unsigned_abs, Bool, true, false, ◌&&◌, List, [], ◌∷◌, ◌++◌, map}
+use Rattle.std.specs.Prelude.{length, Option, None, Some, codes, if◌then◌else◌, nat_lt, not}
 use Rattle.std.specs.List.{filter, flat_map}
 use Rattle.std.specs.Fmt.{decimal, signed_decimal}
 use Rattle.std.specs.Int.{is_negative}

@@ -1,5 +1,6 @@
 -- What follows from the tables, in the words of the standard.
-use Rattle.std.specs.Prelude.{◌≡◌, ◌≢◌, ℕ, ◌==◌, nat_le, Bool, true, false, List, [], ◌∷◌, ◌++◌, Option, None, Some, ◌*◌, ◌&&◌, ◌⊎◌, ◌↔◌}
+use Rattle.std.specs.Prelude.{◌≡◌, ◌≢◌, ℕ, ◌==◌, nat_le, Bool, true, false, List, [], ◌∷◌, ◌++◌, Option, None, Some}
+use Rattle.std.specs.Prelude.{◌*◌, ◌&&◌, ◌⊎◌, ◌↔◌}
 use Rattle.coap_codec.specs.Message.{Message}
 use Rattle.lwm2m_values.specs.Tree.{single}
 use Rattle.lwm2m_values.specs.declared.value.Value.{Value}
@@ -17,9 +18,12 @@ use Rattle.lwm2m_payloads.specs.Given.{resource_given}
 use Rattle.lwm2m_payloads.specs.Nodes.{value_payload, within_limit}
 use Rattle.device_requests.specs.declared.answer.Answer.{Answer}
 use Rattle.device_requests.specs.declared.answer.Code.{Code}
-use Rattle.device_requests.specs.declared.answer.Code.TheVariants.{Created, Deleted, Changed, Content, BadOption, NotFound, MethodNotAllowed}
+use Rattle.device_requests.specs.declared.answer.Code.TheVariants.{Created, Deleted, Changed, Content, BadOption}
+use Rattle.device_requests.specs.declared.answer.Code.TheVariants.{NotFound, MethodNotAllowed}
 use Rattle.device_requests.specs.declared.operation.Operation.{Operation}
-use Rattle.device_requests.specs.declared.operation.Operation.TheVariants.{Read, Discover, WriteAttributes, WriteReplace, WritePartial, Create, Execute, Delete}
+use Rattle.device_requests.specs.declared.operation.Operation.TheVariants.{Read, Discover, WriteAttributes}
+use Rattle.device_requests.specs.declared.operation.Operation.TheVariants.{WriteReplace, WritePartial, Create, Execute}
+use Rattle.device_requests.specs.declared.operation.Operation.TheVariants.{Delete}
 use Rattle.device_requests.specs.Access.{may_read}
 use Rattle.device_requests.specs.WriteAttributes.{attribute_lines, attributes_given}
 use Rattle.device_requests.specs.Answer.{code_byte}
@@ -29,7 +33,8 @@ use Rattle.device_requests.specs.Discover.{discover_lines, linked}
 use Rattle.device_requests.specs.Execute.{execute_lines}
 use Rattle.object_defs.specs.Lines.{first_line}
 use Rattle.device_requests.specs.Operation.{operation_of}
-use Rattle.device_requests.specs.Options.{accept_of, content_format_of, has_query, has_unrecognized_critical, queries_of, segments_of, path_of}
+use Rattle.device_requests.specs.Options.{accept_of, content_format_of, has_query, has_unrecognized_critical}
+use Rattle.device_requests.specs.Options.{queries_of, segments_of, path_of}
 use Rattle.device_requests.specs.Read.{content_in, read_answer, read_lines}
 use Rattle.device_requests.specs.Request.{outcome_of}
 use Rattle.device_requests.specs.Client.{Client, with_stored}

@@ -5,9 +5,12 @@ use Rattle.object_defs.specs.declared.path.Path.{Path}
 use Rattle.device_requests.specs.declared.observe.Interest.{Interest}
 use Rattle.device_requests.specs.declared.observe.Interest.TheVariants.{Register, Cancel}
 use Rattle.device_requests.specs.declared.operation.Operation.{Operation}
-use Rattle.device_requests.specs.declared.operation.Operation.TheVariants.{Read, Discover, WriteAttributes, WriteReplace, WritePartial, Create, Execute, Delete}
+use Rattle.device_requests.specs.declared.operation.Operation.TheVariants.{Read, Discover, WriteAttributes}
+use Rattle.device_requests.specs.declared.operation.Operation.TheVariants.{WriteReplace, WritePartial, Create, Execute}
+use Rattle.device_requests.specs.declared.operation.Operation.TheVariants.{Delete}
 use Rattle.device_requests.specs.Operation.{operation_of}
-use Rattle.device_requests.specs.Options.{accept_of, has_query, has_unrecognized_critical, observe_of, segments_of, path_of}
+use Rattle.device_requests.specs.Options.{accept_of, has_query, has_unrecognized_critical, observe_of, segments_of}
+use Rattle.device_requests.specs.Options.{path_of}
 
 abbrev pub is_read : Option Operation → Bool
 is_read None = false

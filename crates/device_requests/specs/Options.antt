@@ -1,5 +1,6 @@
 -- What the options of a request say (RFC 7252 sections 5.4 and 5.10).
-use Rattle.std.specs.Prelude.{ℕ, ◌%◌, ◌==◌, nat_lt, nat_le, Bool, ◌&&◌, ◌||◌, not, List, [], ◌∷◌, length, map, filter, find, count_by, Option, None, Some, option_and_then, if◌then◌else◌, option_map}
+use Rattle.std.specs.Prelude.{ℕ, ◌%◌, ◌==◌, nat_lt, nat_le, Bool, ◌&&◌, ◌||◌, not, List, [], ◌∷◌, length, map, filter}
+use Rattle.std.specs.Prelude.{find, count_by, Option, None, Some, option_and_then, if◌then◌else◌, option_map}
 use Rattle.std.specs.List.{list_any}
 use Rattle.coap_codec.specs.Number.{big_endian}
 use Rattle.coap_codec.specs.declared.option.Opt.{Opt}

@@ -1,5 +1,6 @@
 -- The answer to a Read (OMA LwM2M 1.1 Core). A notification is the same answer.
-use Rattle.std.specs.Prelude.{ℕ, ◌==◌, Bool, true, not, List, [], ◌∷◌, length, Option, Some, option_and_then, is_some, if◌then◌else◌}
+use Rattle.std.specs.Prelude.{ℕ, ◌==◌, Bool, true, not, List, [], ◌∷◌, length, Option, Some, option_and_then, is_some}
+use Rattle.std.specs.Prelude.{if◌then◌else◌}
 use Rattle.lwm2m_values.specs.Tlv.{shortest_tlv}
 use Rattle.lwm2m_values.specs.Tree.{Tree, part, single}
 use Rattle.lwm2m_values.specs.declared.value.Value.{Value}
@@ -14,7 +15,8 @@ use Rattle.lwm2m_payloads.specs.Formats.{number_of, extent_of, format_for}
 use Rattle.lwm2m_payloads.specs.Nodes.{shown_in, nodes_of, object_nodes, value_payload, within_limit}
 use Rattle.device_requests.specs.declared.answer.Answer.{Answer}
 use Rattle.device_requests.specs.declared.answer.Code.{Code}
-use Rattle.device_requests.specs.declared.answer.Code.TheVariants.{Unauthorized, NotFound, MethodNotAllowed, NotAcceptable, InternalServerError}
+use Rattle.device_requests.specs.declared.answer.Code.TheVariants.{Unauthorized, NotFound, MethodNotAllowed}
+use Rattle.device_requests.specs.declared.answer.Code.TheVariants.{NotAcceptable, InternalServerError}
 use Rattle.device_requests.specs.Access.{may_read, shown_instances}
 use Rattle.device_requests.specs.Answer.{bare, content, refused_or}
 use Rattle.object_defs.specs.Lines.{first_line}

@@ -5,7 +5,9 @@ use Rattle.object_defs.specs.declared.path.Path.{Path}
 use Rattle.lwm2m_payloads.specs.declared.given.Mode.TheVariants.{Replace, Update}
 use Rattle.device_requests.specs.declared.answer.Code.TheVariants.{BadOption, NotFound, MethodNotAllowed}
 use Rattle.device_requests.specs.declared.operation.Operation.{Operation}
-use Rattle.device_requests.specs.declared.operation.Operation.TheVariants.{Read, Discover, WriteAttributes, WriteReplace, WritePartial, Create, Execute, Delete}
+use Rattle.device_requests.specs.declared.operation.Operation.TheVariants.{Read, Discover, WriteAttributes}
+use Rattle.device_requests.specs.declared.operation.Operation.TheVariants.{WriteReplace, WritePartial, Create, Execute}
+use Rattle.device_requests.specs.declared.operation.Operation.TheVariants.{Delete}
 use Rattle.device_requests.specs.WriteAttributes.{attributes_outcome}
 use Rattle.device_requests.specs.Answer.{Outcome, answered, bare}
 use Rattle.device_requests.specs.Create.{create_outcome}
@@ -13,7 +15,8 @@ use Rattle.device_requests.specs.Delete.{delete_outcome}
 use Rattle.device_requests.specs.Discover.{discover_answer}
 use Rattle.device_requests.specs.Execute.{execute_outcome}
 use Rattle.device_requests.specs.Operation.{operation_of}
-use Rattle.device_requests.specs.Options.{accept_of, content_format_of, has_query, has_unrecognized_critical, queries_of, segments_of, path_of}
+use Rattle.device_requests.specs.Options.{accept_of, content_format_of, has_query, has_unrecognized_critical}
+use Rattle.device_requests.specs.Options.{queries_of, segments_of, path_of}
 use Rattle.device_requests.specs.Read.{read_answer}
 use Rattle.device_requests.specs.Client.{Client}
 use Rattle.device_requests.specs.Write.{write_outcome}

@@ -1,5 +1,6 @@
 -- What a Write answers and changes (OMA LwM2M 1.1 Core, Write: Replace and Partial Update).
-use Rattle.std.specs.Prelude.{ℕ, ◌==◌, Bool, false, not, ◌&&◌, List, [], ◌∷◌, Option, None, Some, option_map, option_and_then, is_some, if◌then◌else◌}
+use Rattle.std.specs.Prelude.{ℕ, ◌==◌, Bool, false, not, ◌&&◌, List, [], ◌∷◌, Option, None, Some, option_map}
+use Rattle.std.specs.Prelude.{option_and_then, is_some, if◌then◌else◌}
 use Rattle.object_defs.specs.Catalogue.{object_of, definition_of}
 use Rattle.object_defs.specs.Operations.{can_write}
 use Rattle.object_defs.specs.Path.{object_in}
@@ -23,7 +24,9 @@ use Rattle.lwm2m_payloads.specs.Given.{instance_given, resource_given, part_give
 use Rattle.device_requests.specs.declared.write.NewValues.{NewValues}
 use Rattle.device_requests.specs.declared.write.NewValues.TheVariants.{Several, One}
 use Rattle.device_requests.specs.declared.answer.Code.{Code}
-use Rattle.device_requests.specs.declared.answer.Code.TheVariants.{Changed, BadRequest, Unauthorized, NotFound, MethodNotAllowed, UnsupportedContentFormat, InternalServerError}
+use Rattle.device_requests.specs.declared.answer.Code.TheVariants.{Changed, BadRequest, Unauthorized, NotFound}
+use Rattle.device_requests.specs.declared.answer.Code.TheVariants.{MethodNotAllowed, UnsupportedContentFormat}
+use Rattle.device_requests.specs.declared.answer.Code.TheVariants.{InternalServerError}
 use Rattle.device_requests.specs.Access.{rights_on}
 use Rattle.device_requests.specs.Answer.{Outcome, answered, bare}
 use Rattle.object_defs.specs.Lines.{first_line}

@@ -1,5 +1,6 @@
 -- What a Write-Attributes answers and changes (OMA LwM2M 1.1 Core, Write-Attributes).
-use Rattle.std.specs.Prelude.{ℕ, ◌==◌, Bool, true, false, not, ◌&&◌, List, [], ◌∷◌, Option, None, Some, option_and_then, is_some, Result, Ok, Err, if◌then◌else◌}
+use Rattle.std.specs.Prelude.{ℕ, ◌==◌, Bool, true, false, not, ◌&&◌, List, [], ◌∷◌, Option, None, Some, option_and_then}
+use Rattle.std.specs.Prelude.{is_some, Result, Ok, Err, if◌then◌else◌}
 use Rattle.lwm2m_values.specs.declared.kind.ValueKind.{ValueKind}
 use Rattle.lwm2m_values.specs.declared.kind.ValueKind.TheVariants.{Text, Whole, Flag, Opaque, Moment, Link}
 use Rattle.access_control.specs.declared.letters.Rights.{Rights}

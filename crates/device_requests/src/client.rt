@@ -1,6 +1,7 @@
 //! What of a device the requests of device management look at and change.
 
-ghost use Rattle.std.specs.Prelude.{◌≡◌, ◌≢◌, ◌↔◌, false, length, Err, IfOk, IsErrOf, IsFalse, IsTrue, OnOk, OnErr, Some};
+ghost use Rattle.std.specs.Prelude.{◌≡◌, ◌≢◌, ◌↔◌, false, length, Err, IfOk, IsErrOf, IsFalse, IsTrue, OnOk, OnErr};
+ghost use Rattle.std.specs.Prelude.{Some};
 ghost use Rattle.instance_store.specs.Stored.{has_instance};
 ghost use Rattle.device_requests.specs.Client.{has_account, with_stored};
 ghost use Rattle.std.specs.FinMap as map;

@@ -2,7 +2,8 @@
 
 ghost use Rattle.std.specs.Prelude.{◌≡◌, ◌≢◌, ◌∷◌, [], true, false, length, IfOk, OnErr, OnOk, Some};
 ghost use Rattle.device_requests.specs.Answer.{Leaves, takes_memory};
-ghost use Rattle.device_requests.specs.Create.{create_outcome, create_unless, is_tlv, lacks_room, newborn, newborn_lines};
+ghost use Rattle.device_requests.specs.Create.{create_outcome, create_unless, is_tlv, lacks_room, newborn};
+ghost use Rattle.device_requests.specs.Create.{newborn_lines};
 ghost use Rattle.device_requests.specs.Client.{with_stored};
 ghost use Rattle.device_requests.specs.Options.{content_format_of};
 ghost use Rattle.device_requests.specs.Targets.{defined, place_of};

@@ -4,9 +4,11 @@ ghost use Rattle.std.specs.Prelude.{◌≡◌, ◌||◌, true, false, pos, IfOk,
 ghost use Rattle.lwm2m_values.specs.declared.value.Value.TheVariants.{Whole};
 ghost use Rattle.object_defs.specs.Lines.{first_line};
 ghost use Rattle.object_defs.specs.Path.{part_of};
-ghost use Rattle.instance_store.specs.Stored.{has_instance, instance_of, is_full, resource_path, with_value, without_values};
+ghost use Rattle.instance_store.specs.Stored.{has_instance, instance_of, is_full, resource_path, with_value};
+ghost use Rattle.instance_store.specs.Stored.{without_values};
 ghost use Rattle.device_requests.specs.Answer.{Leaves};
-ghost use Rattle.device_requests.specs.Execute.{act_of, argument_lines, execute_lines, execute_outcome, executed, is_executable, is_plain, is_resource, is_untimely, with_no_error};
+ghost use Rattle.device_requests.specs.Execute.{act_of, argument_lines, execute_lines, execute_outcome, executed};
+ghost use Rattle.device_requests.specs.Execute.{is_executable, is_plain, is_resource, is_untimely, with_no_error};
 ghost use Rattle.device_requests.specs.Client.{with_stored};
 ghost use Rattle.device_requests.specs.Options.{content_format_of};
 ghost use Rattle.device_requests.specs.Inside.{has_place};
@@ -188,8 +190,8 @@ impl Client {
             (λ a. Leaves a self.new
             (execute_outcome self.old server path (content_format_of message.now.options) message.now.payload)) }
 
-        // Only Update and Reset Error Code take memory, where nothing refuses them. After an error the error codes may be
-        // gone.
+        // Only Update and Reset Error Code take memory, where nothing refuses them. After an error the error codes may
+        // be gone.
         ensures grows { OnErr result ((is_resource 5 2 path || is_resource 3 12 path) ≡ true) }
         ensures unrefused { OnErr result (let number = content_format_of message.now.options in
             first_line (execute_lines self.old server path number message.now.payload) ≡ None) }

@@ -2,8 +2,12 @@
 
 ghost use Rattle.device_requests.specs.Execute.{ArgumentsAreTested};
 ghost use Rattle.device_requests.specs.Hiding.{UnreadableIsHidden, UnreadableIsRefused};
-ghost use Rattle.device_requests.specs.Laws.{FirstLineAnswers, LinksWhatExists, RefusalIsCodeAlone, RefusalKeeps, RequestsKeepFrame, WrittenIsRead};
-ghost use Rattle.device_requests.specs.Order.{FormatsPrecedePayloads, MethodsPrecedeObjects, OneTable, OnlyReadsObserve, OperationsPrecedeFormats, OptionsComeFirst, PathsPrecedeMethods, PayloadsPrecedeStates, RefusalsHaveReasons, RightsPrecedeOperations, SecurityPrecedesTargets, TargetsPrecedeRights};
+ghost use Rattle.device_requests.specs.Laws.{FirstLineAnswers, LinksWhatExists, RefusalIsCodeAlone, RefusalKeeps};
+ghost use Rattle.device_requests.specs.Laws.{RequestsKeepFrame, WrittenIsRead};
+ghost use Rattle.device_requests.specs.Order.{FormatsPrecedePayloads, MethodsPrecedeObjects, OneTable};
+ghost use Rattle.device_requests.specs.Order.{OnlyReadsObserve, OperationsPrecedeFormats, OptionsComeFirst};
+ghost use Rattle.device_requests.specs.Order.{PathsPrecedeMethods, PayloadsPrecedeStates, RefusalsHaveReasons};
+ghost use Rattle.device_requests.specs.Order.{RightsPrecedeOperations, SecurityPrecedesTargets, TargetsPrecedeRights};
 
 /// A request's answer is that of the first line of the tables that it meets, of which the last is
 /// its success. So each request has exactly one answer.

@@ -2,7 +2,9 @@
 
 ghost use Rattle.std.specs.Prelude.{◌≡◌, ◌==◌, ◌++◌, ◌∷◌, [], find, None};
 ghost use Rattle.std.specs.Option.{option_copied};
-ghost use Rattle.device_requests.specs.Options.{has_known_form, is_critical, repeats, has_unknown_critical, has_unrecognized_critical, short_number, accept_of, content_format_of, has_query, observe_number, observe_of, segments_of, path_of, path_from};
+ghost use Rattle.device_requests.specs.Options.{has_known_form, is_critical, repeats, has_unknown_critical};
+ghost use Rattle.device_requests.specs.Options.{has_unrecognized_critical, short_number, accept_of, content_format_of};
+ghost use Rattle.device_requests.specs.Options.{has_query, observe_number, observe_of, segments_of, path_of, path_from};
 ghost use Rattle.device_requests.specs.Inside.{numbers_in};
 
 use coap_codec::{Opt, uint};

@@ -11,7 +11,11 @@ ghost use Rattle.device_requests.specs.Client.{with_stored};
 ghost use Rattle.device_requests.specs.Options.{content_format_of};
 ghost use Rattle.device_requests.specs.Read.{format_at};
 ghost use Rattle.device_requests.specs.Inside.{has_place};
-ghost use Rattle.device_requests.specs.Write.{can_be_written, event_at, event_in, give, given_to_part, given_to_resource, is_target, is_writable, mode_at, new_values, package_in, payload_lines, resource_exceeds, resource_written, uri_in, value_lines, values_exceed, values_given, values_written, write_outcome, write_unless};
+ghost use Rattle.device_requests.specs.Write.{can_be_written, event_at, event_in, give, given_to_part};
+ghost use Rattle.device_requests.specs.Write.{given_to_resource, is_target, is_writable, mode_at, new_values};
+ghost use Rattle.device_requests.specs.Write.{package_in, payload_lines, resource_exceeds, resource_written, uri_in};
+ghost use Rattle.device_requests.specs.Write.{value_lines, values_exceed, values_given, values_written, write_outcome};
+ghost use Rattle.device_requests.specs.Write.{write_unless};
 
 use crate::answer::{Answer, Code};
 use crate::client::Client;

@@ -6,7 +6,9 @@ ghost use Rattle.notifier.specs.Query.{changes_of};
 ghost use Rattle.object_defs.specs.Lines.{first_line};
 ghost use Rattle.device_requests.specs.Answer.{Leaves, takes_memory};
 ghost use Rattle.device_requests.specs.Options.{queries_of};
-ghost use Rattle.device_requests.specs.WriteAttributes.{agreed, annotate_unless, annotates, annotates_at, attributes_outcome, changes_given, is_number, is_number_kind, level_at, spelled};
+ghost use Rattle.device_requests.specs.WriteAttributes.{agreed, annotate_unless, annotates, annotates_at};
+ghost use Rattle.device_requests.specs.WriteAttributes.{attributes_outcome, changes_given, is_number, is_number_kind};
+ghost use Rattle.device_requests.specs.WriteAttributes.{level_at, spelled};
 
 use crate::answer::{Answer, Code};
 use crate::client::Client;

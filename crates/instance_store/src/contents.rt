@@ -17,7 +17,8 @@ pub(crate) fn all_pairs<'a>(
     alloc: Global,
     values: &'a BTreeMap<FullPath, Value>,
 ) -> Result<Vec<(FullPath, &'a Value)>, AllocError>
-    ensures { IfOk result (λ v. shown_pairs v.items ≡ map.entries (map.from_entries {R = path_cmp} values.now.entries)) }
+    ensures { IfOk result (λ v.
+        shown_pairs v.items ≡ map.entries (map.from_entries {R = path_cmp} values.now.entries)) }
 {
     let mut found = Vec::new(alloc);
     for (place, value) in values.iter() {
@@ -26,7 +27,7 @@ pub(crate) fn all_pairs<'a>(
     Ok(found)
 }
 
-/// Puts the instances of an object that have these numbers behind others.
+/// Puts the instances of an object that have these numbers after others.
 fn push_places(
     found: &mut Vec<InstancePath>,
     object: u16,

@@ -10,12 +10,14 @@ is_digit byte = is_between 48 57 byte
 
 -- a byte of a quoted text, in hexadecimal: 21, 23 to 26, 28 to 5B, 5D to 7E
 abbrev pub is_text_byte : ℕ → Bool
-is_text_byte byte = byte == 0x21 || (is_between 0x23 0x26 byte || (is_between 0x28 0x5B byte || is_between 0x5D 0x7E byte))
+is_text_byte byte =
+    byte == 0x21 || (is_between 0x23 0x26 byte || (is_between 0x28 0x5B byte || is_between 0x5D 0x7E byte))
 
 -- an argument: a digit, or a digit, `=` and a text in single quotes
 pub data IsArgument : List ℕ → Type 0 where
   digit : (d : ℕ) → is_digit d ≡ true → IsArgument (d ∷ [])
-  valued : (d : ℕ) (text : List ℕ) → is_digit d ≡ true → list_all is_text_byte text ≡ true → IsArgument (d ∷ 61 ∷ 39 ∷ (text ++ 39 ∷ []))
+  valued : (d : ℕ) (text : List ℕ) → is_digit d ≡ true → list_all is_text_byte text ≡ true
+      → IsArgument (d ∷ 61 ∷ 39 ∷ (text ++ 39 ∷ []))
 
 -- one argument, or one before a comma and others
 pub data AreSome : List ℕ → Type 0 where

@@ -12,7 +12,8 @@ with_last (more s nodes) t = more s (with_last nodes t)
 
 -- a part behind a record: in it, where it is the Multiple Resource of this number, else in one of its own
 abbrev pub part_after : ℕ → Tree → Tree → Trees
-part_after r p (multi q parts) = if r == q then more (multi q (with_last parts p)) none else more (multi q parts) (more (multi r (more p none)) none)
+part_after r p (multi q parts) =
+    if r == q then more (multi q (with_last parts p)) none else more (multi q parts) (more (multi r (more p none)) none)
 part_after r p (instance i inner) = more (instance i inner) (more (multi r (more p none)) none)
 part_after r p (part n bytes) = more (part n bytes) (more (multi r (more p none)) none)
 part_after r p (single q bytes) = more (single q bytes) (more (multi r (more p none)) none)

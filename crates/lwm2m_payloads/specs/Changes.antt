@@ -1,5 +1,6 @@
 -- What a Write changes (OMA LwM2M 1.1 Core, Write: Replace and Partial Update).
-use Rattle.std.specs.Prelude.{◌≡◌, ℕ, ◌+◌, ◌==◌, nat_lt, Bool, false, not, ◌&&◌, List, [], ◌∷◌, length, Option, None, Some, if◌then◌else◌}
+use Rattle.std.specs.Prelude.{◌≡◌, ℕ, ◌+◌, ◌==◌, nat_lt, Bool, false, not, ◌&&◌, List, [], ◌∷◌, length, Option, None}
+use Rattle.std.specs.Prelude.{Some, if◌then◌else◌}
 use Rattle.std.specs.List.{filter, list_any}
 use Rattle.object_defs.specs.Catalogue.{resource_in}
 use Rattle.object_defs.specs.Operations.{can_read, can_write}
@@ -41,7 +42,8 @@ is_kept resources a = is_kept_as (resource_in resources a.resource)
 abbrev pub with_assignments : Mode → List ResourceDef → Stored → InstancePath → List Assignment → Stored
 with_assignments mode resources stored place [] = stored
 with_assignments mode resources stored place (a ∷ given) =
-    with_assignments mode resources (if is_kept resources a then with_given mode stored (resource_of place a.resource) a.given else stored) place given
+    with_assignments mode resources (if is_kept resources a
+    then with_given mode stored (resource_of place a.resource) a.given else stored) place given
 
 -- Replace takes away the optional writable resources that are not named
 abbrev pub is_lost : List Assignment → ResourceDef → Bool
@@ -50,11 +52,13 @@ is_lost given d = not d.mandatory && (can_write d.ops && not (list_any (λ a. a.
 abbrev pub without_lost : List ResourceDef → Stored → InstancePath → List Assignment → Stored
 without_lost [] stored place given = stored
 without_lost (d ∷ ds) stored place given =
-    without_lost ds (if is_lost given d then without_values stored (resource_path (resource_of place d.id)) else stored) place given
+    without_lost ds (if is_lost given d then without_values stored (resource_path (resource_of place d.id)) else stored)
+    place given
 
 -- an instance behind a Write
 abbrev pub instance_written : Mode → List ResourceDef → Stored → InstancePath → List Assignment → Stored
-instance_written Replace resources stored place given = with_assignments Replace resources (without_lost resources stored place given) place given
+instance_written Replace resources stored place given =
+    with_assignments Replace resources (without_lost resources stored place given) place given
 instance_written Update resources stored place given = with_assignments Update resources stored place given
 
 -- the number is none of the parts given

@@ -1,5 +1,6 @@
 -- What the payload of a Write or a Create gives to resources (OMA LwM2M 1.1 Core, data formats).
-use Rattle.std.specs.Prelude.{ℕ, ◌==◌, Bool, true, false, not, ◌&&◌, List, [], ◌∷◌, Option, None, Some, option_map, option_and_then, if◌then◌else◌}
+use Rattle.std.specs.Prelude.{ℕ, ◌==◌, Bool, true, false, not, ◌&&◌, List, [], ◌∷◌, Option, None, Some, option_map}
+use Rattle.std.specs.Prelude.{option_and_then, if◌then◌else◌}
 use Rattle.std.specs.List.{list_any}
 use Rattle.lwm2m_values.specs.declared.kind.ValueKind.{ValueKind}
 use Rattle.lwm2m_values.specs.declared.value.Value.{Value}
@@ -38,7 +39,8 @@ some_parts mandatory None = None
 some_parts mandatory (Some []) = if mandatory then None else Some (Parts [])
 some_parts mandatory (Some (p ∷ ps)) = Some (Parts (p ∷ ps))
 
--- what a record gives to the resource of this definition: a Resource to a single one, a Multiple Resource to a multiple one
+-- what a record gives to the resource of this definition: a Resource to a single one, a Multiple Resource to a multiple
+-- one
 abbrev pub given_by : ResourceDef → Tree → Option Given
 given_by d (single r bytes) = if d.multiple then None else option_map Single (value_of_bytes d.kind bytes)
 given_by d (multi r inner) = if d.multiple then some_parts d.mandatory (parts_given d.kind inner) else None
@@ -59,7 +61,8 @@ number_in (single r bytes) = r
 abbrev pub assigned_as : Purpose → Tree → Option ResourceDef → Option Assignment
 assigned_as purpose node None = None
 assigned_as purpose node (Some d) =
-    if may_be_given purpose d.ops then option_map (λ g. record { resource = d.id; given = g }) (given_by d node) else None
+    if may_be_given purpose d.ops then option_map (λ g. record { resource = d.id; given = g }) (given_by d node)
+    else None
 
 -- what a record of an instance gives to the resource of its number
 abbrev pub assigned_by : Purpose → List ResourceDef → Tree → Option Assignment
@@ -67,13 +70,15 @@ assigned_by purpose resources node = assigned_as purpose node (resource_in resou
 
 -- an assignment before others, where it is to none of their resources
 abbrev pub with_assignment : Option Assignment → Option (List Assignment) → Option (List Assignment)
-with_assignment (Some a) (Some others) = if list_any (λ b. b.resource == a.resource) others then None else Some (a ∷ others)
+with_assignment (Some a) (Some others) =
+    if list_any (λ b. b.resource == a.resource) others then None else Some (a ∷ others)
 with_assignment a others = None
 
 -- what the records of an instance give: to defined resources, each once
 abbrev pub assignments : Purpose → List ResourceDef → Trees → Option (List Assignment)
 assignments purpose resources none = Some []
-assignments purpose resources (more node nodes) = with_assignment (assigned_by purpose resources node) (assignments purpose resources nodes)
+assignments purpose resources (more node nodes) =
+    with_assignment (assigned_by purpose resources node) (assignments purpose resources nodes)
 
 -- what stands in an Object Instance that is alone and of this number; else what stands there itself
 abbrev pub content_of : ℕ → Trees → Option Trees
@@ -128,7 +133,8 @@ lacks_mandatory resources others =
 
 abbrev pub complete : List ResourceDef → Option ℕ → Option (List Assignment) → Option Creation
 complete resources number None = None
-complete resources number (Some others) = if lacks_mandatory resources others then None else Some (record { number = number; assigned = others })
+complete resources number (Some others) =
+    if lacks_mandatory resources others then None else Some (record { number = number; assigned = others })
 
 abbrev pub creation_in : List ResourceDef → Trees → Option Creation
 creation_in resources (more (instance i inner) none) = complete resources (Some i) (assignments Create resources inner)

@@ -1,5 +1,6 @@
 -- The payload of a Read (OMA LwM2M 1.1 Core, data formats): values as TLV records, and one value in each format.
-use Rattle.std.specs.Prelude.{ℕ, ◌==◌, nat_lt, Bool, false, not, ◌&&◌, List, [], ◌∷◌, map, length, Option, None, Some, is_some, if◌then◌else◌}
+use Rattle.std.specs.Prelude.{ℕ, ◌==◌, nat_lt, Bool, false, not, ◌&&◌, List, [], ◌∷◌, map, length, Option, None, Some}
+use Rattle.std.specs.Prelude.{is_some, if◌then◌else◌}
 use Rattle.std.specs.List.{filter}
 use Rattle.lwm2m_values.specs.Value.{text_of, bytes_of}
 use Rattle.lwm2m_values.specs.Tlv.{shortest_tlv}
@@ -31,9 +32,11 @@ is_shown resources p = is_shown_as p.part (resource_in resources p.resource)
 abbrev pub shown_in : Stored → List ResourceDef → Path → Pairs
 shown_in stored resources place = filter (λ e. is_shown resources e.0) (values_in stored place)
 
--- a part before the records behind it: in the Multiple Resource of its resource, where this comes next, else in one of its own
+-- a part before the records behind it: in the Multiple Resource of its resource, where this comes next, else in one of
+-- its own
 abbrev pub before_part : ℕ → Tree → Trees → Trees
-before_part r p (more (multi q parts) nodes) = if q == r then more (multi r (more p parts)) nodes else more (multi r (more p none)) (more (multi q parts) nodes)
+before_part r p (more (multi q parts) nodes) =
+    if q == r then more (multi r (more p parts)) nodes else more (multi r (more p none)) (more (multi q parts) nodes)
 before_part r p none = more (multi r (more p none)) none
 before_part r p (more (instance i inner) nodes) = more (multi r (more p none)) (more (instance i inner) nodes)
 before_part r p (more (part n bytes) nodes) = more (multi r (more p none)) (more (part n bytes) nodes)

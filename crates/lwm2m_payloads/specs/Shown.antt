@@ -1,5 +1,6 @@
 -- What the records of a Read say: the values that it lists, with their resources and parts.
-use Rattle.std.specs.Prelude.{◌≡◌, ℕ, ◌≤◌, List, [], ◌∷◌, ◌++◌, map, length, Option, None, Some, option_map, option_and_then}
+use Rattle.std.specs.Prelude.{◌≡◌, ℕ, ◌≤◌, List, [], ◌∷◌, ◌++◌, map, length, Option, None, Some, option_map}
+use Rattle.std.specs.Prelude.{option_and_then}
 use Rattle.lwm2m_values.specs.declared.value.Value.{Value}
 use Rattle.lwm2m_values.specs.Reading.{value_of_bytes, nodes_of_bytes}
 use Rattle.lwm2m_values.specs.Tlv.{shortest_tlv}
@@ -31,7 +32,8 @@ joined_to (Some first) others = option_map (λ o. first ++ o) others
 -- the values of the Resource Instances of a resource
 abbrev pub parts_listed : List ResourceDef → ℕ → Trees → Option Listing
 parts_listed resources r none = Some []
-parts_listed resources r (more (part n bytes) parts) = with_shown r (Some n) (value_in resources r bytes) (parts_listed resources r parts)
+parts_listed resources r (more (part n bytes) parts) =
+    with_shown r (Some n) (value_in resources r bytes) (parts_listed resources r parts)
 parts_listed resources r (more (instance i inner) parts) = None
 parts_listed resources r (more (multi q inner) parts) = None
 parts_listed resources r (more (single q bytes) parts) = None
@@ -39,8 +41,10 @@ parts_listed resources r (more (single q bytes) parts) = None
 -- the values of records of Resources and Multiple Resources, in their order
 abbrev pub values_listed : List ResourceDef → Trees → Option Listing
 values_listed resources none = Some []
-values_listed resources (more (single r bytes) nodes) = with_shown r None (value_in resources r bytes) (values_listed resources nodes)
-values_listed resources (more (multi r inner) nodes) = joined_to (parts_listed resources r inner) (values_listed resources nodes)
+values_listed resources (more (single r bytes) nodes) =
+    with_shown r None (value_in resources r bytes) (values_listed resources nodes)
+values_listed resources (more (multi r inner) nodes) =
+    joined_to (parts_listed resources r inner) (values_listed resources nodes)
 values_listed resources (more (instance i inner) nodes) = None
 values_listed resources (more (part n bytes) nodes) = None
 
@@ -48,12 +52,15 @@ values_listed resources (more (part n bytes) nodes) = None
 abbrev pub AreOfTheirKinds : List ResourceDef → Pairs → Type 0
 AreOfTheirKinds resources [] = Unit {0}
 AreOfTheirKinds resources (e ∷ es) =
-    IsGood e.1 × (option_map (λ d. d.kind) (resource_in resources e.0.resource) ≡ Some (kind_of e.1)) × AreOfTheirKinds resources es
+    IsGood e.1 × (option_map (λ d. d.kind) (resource_in resources e.0.resource) ≡ Some (kind_of e.1))
+    × AreOfTheirKinds resources es
 
 -- the TLV that a Read shows is read as the values that it lists, in their order
 abbrev pub ShownIsRead : Type 0
 ShownIsRead =
     (stored : Stored) (resources : List ResourceDef) (place : Path)
-    → AreOfTheirKinds resources (shown_in stored resources place) → length (shortest_tlv (nodes_of (shown_in stored resources place))) ≤ 1024
-    → option_and_then (values_listed resources) (nodes_of_bytes (shortest_tlv (nodes_of (shown_in stored resources place))))
+    → AreOfTheirKinds resources (shown_in stored resources place)
+    → length (shortest_tlv (nodes_of (shown_in stored resources place))) ≤ 1024
+    → option_and_then (values_listed resources)
+    (nodes_of_bytes (shortest_tlv (nodes_of (shown_in stored resources place))))
     ≡ Some (map (λ e. ((e.0.resource, e.0.part), e.1)) (shown_in stored resources place))

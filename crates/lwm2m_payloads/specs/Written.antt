@@ -1,5 +1,6 @@
 -- What stands at each full path of an instance behind a Write (OMA LwM2M 1.1 Core, Write: Replace and Partial Update).
-use Rattle.std.specs.Prelude.{◌≡◌, ℕ, ◌==◌, false, ◌&&◌, Bool, List, [], ◌∷◌, Option, None, Some, find, option_map, if◌then◌else◌}
+use Rattle.std.specs.Prelude.{◌≡◌, ℕ, ◌==◌, false, ◌&&◌, Bool, List, [], ◌∷◌, Option, None, Some, find, option_map}
+use Rattle.std.specs.Prelude.{if◌then◌else◌}
 use Rattle.std.specs.List.{list_any}
 use Rattle.std.specs.Option.{option_or}
 use Rattle.lwm2m_values.specs.declared.value.Value.{Value}
@@ -50,11 +51,13 @@ unnamed Update resources given r before = before
 -- a value behind a Write of its instance, by what its resource is given
 abbrev pub value_by : Mode → List ResourceDef → Option Assignment → Option ℕ → Option Value → Option Value
 value_by mode resources None number before = before
-value_by mode resources (Some a) number before = if is_kept resources a then value_with mode a.given number before else before
+value_by mode resources (Some a) number before =
+    if is_kept resources a then value_with mode a.given number before else before
 
 abbrev pub value_behind : Mode → List ResourceDef → List Assignment → FullPath → Option Value → Option Value
 value_behind mode resources given q before =
-    value_by mode resources (find (λ a. a.resource == q.resource) given) q.part (unnamed mode resources given q.resource before)
+    value_by mode resources (find (λ a. a.resource == q.resource) given) q.part
+    (unnamed mode resources given q.resource before)
 
 -- each part is given once
 abbrev pub PartsOnce : PartList → Type 0
@@ -73,14 +76,18 @@ EachOnce (a ∷ given) = (list_any (λ b. b.resource == a.resource) given ≡ fa
 -- a Write of an instance changes the values of that instance as said above, and no others
 abbrev pub WritesValues : Type 0
 WritesValues =
-    (mode : Mode) (resources : List ResourceDef) (stored : Stored) (place : InstancePath) (given : List Assignment) (q : FullPath) → EachOnce given
-    → value_at (instance_written mode resources stored place given) q ≡ (if lies_in (instance_path place) q then value_behind mode resources given q (value_at stored q) else value_at stored q)
+    (mode : Mode) (resources : List ResourceDef) (stored : Stored) (place : InstancePath) (given : List Assignment)
+    (q : FullPath) → EachOnce given
+    → value_at (instance_written mode resources stored place given) q
+    ≡ (if lies_in (instance_path place) q then value_behind mode resources given q (value_at stored q)
+    else value_at stored q)
 
 -- a Write of a resource changes its values as said above, and no others
 abbrev pub WritesResource : Type 0
 WritesResource =
     (mode : Mode) (given : Given) (stored : Stored) (p : ResourcePath) (q : FullPath) → GivenOnce given
-    → (value_at (with_given mode stored p given) q ≡ (if lies_in (resource_path p) q then value_with mode given q.part (value_at stored q) else value_at stored q))
+    → (value_at (with_given mode stored p given) q
+    ≡ (if lies_in (resource_path p) q then value_with mode given q.part (value_at stored q) else value_at stored q))
     × ((with_given mode stored p given).instances ≡ stored.instances)
 
 -- and no instance comes or goes
@@ -92,7 +99,11 @@ KeepsInstances =
 -- what payloads give, they give once
 abbrev pub PayloadsGiveOnce : Type 0
 PayloadsGiveOnce =
-    ((d : ResourceDef) (format : Format) (payload : List ℕ) (given : Given) → resource_given d format payload ≡ Some given → GivenOnce given)
-    × ((d : ResourceDef) (n : ℕ) (format : Format) (payload : List ℕ) (given : Given) → part_given d n format payload ≡ Some given → GivenOnce given)
-    × ((resources : List ResourceDef) (i : ℕ) (payload : List ℕ) (given : List Assignment) → instance_given resources i payload ≡ Some given → EachOnce given)
-    × ((resources : List ResourceDef) (payload : List ℕ) (creation : Creation) → creation_given resources payload ≡ Some creation → EachOnce creation.assigned)
+    ((d : ResourceDef) (format : Format) (payload : List ℕ) (given : Given)
+    → resource_given d format payload ≡ Some given → GivenOnce given)
+    × ((d : ResourceDef) (n : ℕ) (format : Format) (payload : List ℕ) (given : Given)
+    → part_given d n format payload ≡ Some given → GivenOnce given)
+    × ((resources : List ResourceDef) (i : ℕ) (payload : List ℕ) (given : List Assignment)
+    → instance_given resources i payload ≡ Some given → EachOnce given)
+    × ((resources : List ResourceDef) (payload : List ℕ) (creation : Creation)
+    → creation_given resources payload ≡ Some creation → EachOnce creation.assigned)

@@ -125,8 +125,8 @@ fn are_read(payload: &[u8]) -> bool
     place.is_end()
 }
 
-/// Whether the payload of an Execute is arguments (OMA LwM2M 1.1 Core): none, or items joined by commas, each a digit, or a
-/// digit, `=` and a text in single quotes of the bytes 21, 23 to 26, 28 to 5B and 5D to 7E in hexadecimal.
+/// Whether the payload of an Execute is arguments (OMA LwM2M 1.1 Core): none, or items joined by commas, each a digit,
+/// or a digit, `=` and a text in single quotes of the bytes 21, 23 to 26, 28 to 5B and 5D to 7E in hexadecimal.
 pub fn are_arguments(payload: &[u8]) -> bool
     ensures arguments { IsTrue result ↔ AreArguments payload.now }
     ensures test { result ≡ are_arguments payload.now }

@@ -1,6 +1,7 @@
 ghost use Rattle.std.specs.Prelude.{◌≡◌, ◌≢◌, ◌&&◌, Err, IsErrOf, IsFalse, IsTrue, OnOk, if◌then◌else◌};
 ghost use Rattle.instance_store.specs.Stored.{has_instance, instance_of};
-ghost use Rattle.lwm2m_payloads.specs.Changes.{is_kept, is_lost, is_too_many, has_too_many, resource_of, with_parts, with_given, with_assignments, without_lost, instance_written};
+ghost use Rattle.lwm2m_payloads.specs.Changes.{is_kept, is_lost, is_too_many, has_too_many, resource_of, with_parts};
+ghost use Rattle.lwm2m_payloads.specs.Changes.{with_given, with_assignments, without_lost, instance_written};
 ghost use Rattle.lwm2m_payloads.specs.declared.given.Given.TheVariants as given;
 ghost use Rattle.lwm2m_payloads.specs.declared.given.Mode.TheVariants.{Update};
 
@@ -21,8 +22,8 @@ fn put_parts(store: &mut Store, path: ResourcePath, parts: Parts) -> Result<(), 
     Ok(())
 }
 
-/// Sets what a resource is given: its single value, or parts. Under Replace it then has these parts and no others; under
-/// Update it keeps the others. After an error some parts may be gone or set.
+/// Sets what a resource is given: its single value, or parts. Under Replace it then has these parts and no others;
+/// under Update it keeps the others. After an error some parts may be gone or set.
 pub fn set_given(
     mode: Mode,
     store: &mut Store,
@@ -31,7 +32,8 @@ pub fn set_given(
 ) -> Result<(), StoreFault>
     ensures ok { OnOk result (store.new ≡ with_given mode store.old path given) }
 
-    // There is no such instance; or else the resource would have more than 32 parts. Otherwise only memory can be wanting.
+    // There is no such instance; or else the resource would have more than 32 parts. Otherwise only memory can be
+    // wanting.
     ensures absent { IsErrOf result StoreFault.Absent → IsFalse (has_instance store.old (instance_of path)) }
     ensures full { IsErrOf result StoreFault.Full → IsTrue (is_too_many mode store.old path given) }
     ensures never_exists { result ≢ Err StoreFault.Exists }
@@ -55,9 +57,12 @@ fn set_assigned(
     place: InstancePath,
     assignment: Assignment,
 ) -> Result<(), StoreFault>
-    ensures ok { OnOk result (store.new ≡ (if is_kept resources.now assignment then with_given mode store.old (resource_of place assignment.resource) assignment.given else store.old)) }
+    ensures ok { OnOk result (store.new ≡ (if is_kept resources.now assignment
+        then with_given mode store.old (resource_of place assignment.resource) assignment.given else store.old)) }
     ensures absent { IsErrOf result StoreFault.Absent → IsFalse (has_instance store.old place) }
-    ensures full { IsErrOf result StoreFault.Full → IsTrue (is_kept resources.now assignment && is_too_many mode store.old (resource_of place assignment.resource) assignment.given) }
+    ensures full { IsErrOf result StoreFault.Full
+        → IsTrue (is_kept resources.now assignment
+        && is_too_many mode store.old (resource_of place assignment.resource) assignment.given) }
     ensures never_exists { result ≢ Err StoreFault.Exists }
 {
     if !is_kept(resources, assignment.resource) {
@@ -111,8 +116,9 @@ fn clear_lost(
     Ok(())
 }
 
-/// Writes what an instance is given (OMA LwM2M 1.1 Core, Write). Replace first takes away the optional writable resources
-/// that are not named. Values of write-only resources are not kept. After an error a part of this may be done.
+/// Writes what an instance is given (OMA LwM2M 1.1 Core, Write). Replace first takes away the optional writable
+/// resources that are not named. Values of write-only resources are not kept. After an error a part of this may be
+/// done.
 pub fn write_instance(
     mode: Mode,
     resources: &[ResourceDef],
@@ -122,7 +128,8 @@ pub fn write_instance(
 ) -> Result<(), StoreFault>
     ensures ok { OnOk result (store.new ≡ instance_written mode resources.now store.old place given) }
 
-    // There is no such instance; or else some resource would have more than 32 parts. Otherwise only memory can be wanting.
+    // There is no such instance; or else some resource would have more than 32 parts. Otherwise only memory can be
+    // wanting.
     ensures absent { IsErrOf result StoreFault.Absent → IsFalse (has_instance store.old place) }
     ensures full { IsErrOf result StoreFault.Full → IsTrue (has_too_many mode resources.now store.old place given) }
     ensures never_exists { result ≢ Err StoreFault.Exists }

@@ -1,7 +1,8 @@
 ghost use Rattle.std.specs.Prelude.{◌≡◌, ◌&&◌, ◌^◌, ◌-◌, length, min, IfOk, OnErr, IsTrue};
 ghost use Rattle.std.specs.List.{filter, list_any};
 ghost use Rattle.instance_store.specs.Stored.{parts_of};
-ghost use Rattle.lwm2m_payloads.specs.Changes.{KeepsParts, is_kept, is_other, parts_behind, is_too_many, has_too_many, resource_of};
+ghost use Rattle.lwm2m_payloads.specs.Changes.{KeepsParts, is_kept, is_other, parts_behind, is_too_many, has_too_many};
+ghost use Rattle.lwm2m_payloads.specs.Changes.{resource_of};
 ghost use Rattle.lwm2m_payloads.specs.declared.given.Mode.TheVariants.{Update};
 
 use crate::definitions::{is_kept, path_to};

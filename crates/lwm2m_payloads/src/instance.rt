@@ -3,7 +3,8 @@ ghost use Rattle.std.specs.List.{list_any};
 ghost use Rattle.lwm2m_values.specs.Tree.{tree_of, trees_of};
 ghost use Rattle.object_defs.specs.Operations.{can_read};
 ghost use Rattle.object_defs.specs.declared.definition.ResourceDef.{ResourceDef};
-ghost use Rattle.lwm2m_payloads.specs.Given.{may_be_given, assigned_by, assignments, content_of, instance_given, lacks_mandatory, complete, creation_in, creation_given};
+ghost use Rattle.lwm2m_payloads.specs.Given.{may_be_given, assigned_by, assignments, content_of, instance_given};
+ghost use Rattle.lwm2m_payloads.specs.Given.{lacks_mandatory, complete, creation_in, creation_given};
 ghost use Rattle.lwm2m_payloads.specs.declared.given.Purpose.TheVariants.{Create};
 
 use crate::definitions::definition_in;
@@ -92,8 +93,9 @@ fn content_of(instance: u16, nodes: &[Node]) -> Option<&[Node]>
     }
 }
 
-/// What the payload of a Write, in TLV, gives to the resources of an instance (OMA LwM2M 1.1 Core, data formats): records of
-/// writable resources, each number once, alone or in the Object Instance of this number. None where it gives nothing.
+/// What the payload of a Write, in TLV, gives to the resources of an instance (OMA LwM2M 1.1 Core, data formats):
+/// records of writable resources, each number once, alone or in the Object Instance of this number. None where it gives
+/// nothing.
 pub fn instance_given(
     alloc: Global,
     resources: &[ResourceDef],
@@ -113,7 +115,8 @@ pub fn instance_given(
 
 /// Whether a mandatory resource that can be read is not among the assignments.
 fn is_lacking(given: &Assignments, definition: &ResourceDef) -> bool
-    ensures { result ≡ (definition.now.mandatory && (can_read definition.now.ops && not (list_any (λ a. a.resource == definition.now.id) given.now))) }
+    ensures { result ≡ (definition.now.mandatory
+        && (can_read definition.now.ops && not (list_any (λ a. a.resource == definition.now.id) given.now))) }
 {
     definition.mandatory && definition.ops.can_read() && !given.has(definition.id)
 }
@@ -143,7 +146,9 @@ fn complete(
 
 /// The number of an Object Instance that stands alone with what stands in it; else the records themselves.
 fn numbered(nodes: &[Node]) -> (Option<u16>, &[Node])
-    ensures { (resources : List ResourceDef) → creation_in resources (trees_of nodes.now) ≡ complete resources result.0 (assignments Create resources (trees_of result.1.now)) }
+    ensures { (resources : List ResourceDef)
+        → creation_in resources (trees_of nodes.now)
+        ≡ complete resources result.0 (assignments Create resources (trees_of result.1.now)) }
 {
     let Some(node) = sole(nodes) else {
         return (None, nodes);
@@ -157,8 +162,8 @@ fn numbered(nodes: &[Node]) -> (Option<u16>, &[Node])
 }
 
 /// What the payload of a Create, in TLV, gives (OMA LwM2M 1.1 Core, data formats): records of resources that are not
-/// executable, each number once, alone or in an Object Instance, which then names the new instance; each mandatory resource
-/// that can be read is among them. None where it gives nothing.
+/// executable, each number once, alone or in an Object Instance, which then names the new instance; each mandatory
+/// resource that can be read is among them. None where it gives nothing.
 pub fn creation_given(
     alloc: Global,
     resources: &[ResourceDef],

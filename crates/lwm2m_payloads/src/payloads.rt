@@ -34,7 +34,8 @@ fn tlv_of(alloc: Global, nodes: &[Node]) -> Result<Option<Bytes>, AllocError>
     Ok(limited(write_tlv(alloc, nodes)?))
 }
 
-/// The payload that shows a single resource's value in a format; none where it has more than 1,024 bytes (this profile).
+/// The payload that shows a single resource's value in a format; none where it has more than 1,024 bytes (this
+/// profile).
 pub fn write_single(
     alloc: Global,
     format: Format,
@@ -72,8 +73,8 @@ pub fn write_part(
     }
 }
 
-/// The TLV that shows what is at or below an instance or a multiple resource: the values of readable resources by number,
-/// the parts of one in a Multiple Resource. None where it has more than 1,024 bytes (this profile).
+/// The TLV that shows what is at or below an instance or a multiple resource: the values of readable resources by
+/// number, the parts of one in a Multiple Resource. None where it has more than 1,024 bytes (this profile).
 pub fn values_tlv(
     alloc: Global,
     store: &Store,
@@ -86,8 +87,8 @@ pub fn values_tlv(
     tlv_of(alloc, nodes.as_slice())
 }
 
-/// The TLV that shows these instances of an object, an Object Instance for each; none where it has more than 1,024 bytes
-/// (this profile).
+/// The TLV that shows these instances of an object, an Object Instance for each; none where it has more than 1,024
+/// bytes (this profile).
 pub fn object_tlv(
     alloc: Global,
     store: &Store,
@@ -95,7 +96,8 @@ pub fn object_tlv(
     object: u16,
     instances: &[u16],
 ) -> Result<Option<Bytes>, AllocError>
-    ensures { IfOk result (λ b. b ≡ within_limit (shortest_tlv (object_nodes store.now resources.now object instances.now))) }
+    ensures { IfOk result (λ b. b ≡ within_limit
+        (shortest_tlv (object_nodes store.now resources.now object instances.now))) }
 {
     let nodes = instance_records(alloc, store, resources, object, instances)?;
     tlv_of(alloc, nodes.as_slice())

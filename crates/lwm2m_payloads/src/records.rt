@@ -43,7 +43,8 @@ pub(crate) fn single_node(id: u16, bytes: Bytes) -> Node
 fn into_parts(node: Node, resource: u16) -> Result<Vec<Node>, Node>
     ensures parts { IfOk result (λ parts. tree_of node ≡ multi resource (trees_of parts.items)) }
     ensures other { IfErr result (λ other. tree_of other ≡ tree_of node) }
-    ensures apart { OnErr result ((p : Tree) → part_after resource p (tree_of node) ≡ more (tree_of node) (more (multi resource (more p none)) none)) }
+    ensures apart { OnErr result ((p : Tree)
+        → part_after resource p (tree_of node) ≡ more (tree_of node) (more (multi resource (more p none)) none)) }
 {
     match node {
         Node::Multi { id, parts } => {
@@ -61,7 +62,9 @@ fn into_parts(node: Node, resource: u16) -> Result<Vec<Node>, Node>
 
 /// Takes away the last record, where it is the Multiple Resource of this number, and gives its parts; else no parts.
 fn take_parts(alloc: Global, nodes: &mut Vec<Node>, resource: u16) -> Result<Vec<Node>, AllocError>
-    ensures { IfOk result (λ parts. (p : Tree) → with_last (trees_of nodes.new.items) (multi resource (with_last (trees_of parts.items) p)) ≡ part_behind resource p (trees_of nodes.old.items)) }
+    ensures { IfOk result (λ parts. (p : Tree)
+        → with_last (trees_of nodes.new.items) (multi resource (with_last (trees_of parts.items) p))
+        ≡ part_behind resource p (trees_of nodes.old.items)) }
 {
     let Some(last) = nodes.pop() else {
         return Ok(Vec::new(alloc));
@@ -96,7 +99,8 @@ fn push_value(
     path: FullPath,
     value: &Value,
 ) -> Result<(), AllocError>
-    ensures { (es : Pairs) → trees_of nodes.old.items ≡ nodes_of es → OnOk result (trees_of nodes.new.items ≡ nodes_of (es ++ (path, value.now) ∷ [])) }
+    ensures { (es : Pairs) → trees_of nodes.old.items ≡ nodes_of es
+        → OnOk result (trees_of nodes.new.items ≡ nodes_of (es ++ (path, value.now) ∷ [])) }
 {
     let bytes = bytes_of(alloc, value)?;
     match path.part {
@@ -125,7 +129,8 @@ fn records_of(
     resources: &[ResourceDef],
     pairs: &[(FullPath, &Value)],
 ) -> Result<Vec<Node>, AllocError>
-    ensures { IfOk result (λ v. trees_of v.items ≡ nodes_of (filter (λ e. is_shown resources.now e.0) (shown_pairs pairs.now))) }
+    ensures { IfOk result (λ v. trees_of v.items
+        ≡ nodes_of (filter (λ e. is_shown resources.now e.0) (shown_pairs pairs.now))) }
 {
     let mut nodes = Vec::new(alloc);
     for (path, value) in pairs {

@@ -1,6 +1,7 @@
 ghost use Rattle.std.specs.Prelude.{◌≡◌, IfOk};
 ghost use Rattle.lwm2m_values.specs.Tree.{tree_of, trees_of};
-ghost use Rattle.lwm2m_payloads.specs.Given.{number_in, lone_record, lone_part, part_record, resource_given, part_given};
+ghost use Rattle.lwm2m_payloads.specs.Given.{number_in, lone_record, lone_part, part_record, resource_given};
+ghost use Rattle.lwm2m_payloads.specs.Given.{part_given};
 
 use crate::format::Format;
 use crate::given::Given;
@@ -39,8 +40,8 @@ fn lone_record(
     given_by(alloc, definition, node)
 }
 
-/// What the payload of a Write gives to a resource (OMA LwM2M 1.1 Core, data formats): a good value of its kind in plain text
-/// or application/octet-stream, or in TLV a record of its number, alone. None where it gives nothing.
+/// What the payload of a Write gives to a resource (OMA LwM2M 1.1 Core, data formats): a good value of its kind in
+/// plain text or application/octet-stream, or in TLV a record of its number, alone. None where it gives nothing.
 pub fn resource_given(
     alloc: Global,
     definition: ResourceDef,
@@ -116,9 +117,9 @@ fn part_record(
     }
 }
 
-/// What the payload of a Write gives to a part of a multiple resource (OMA LwM2M 1.1 Core, data formats): a good value of its
-/// kind in plain text or application/octet-stream, or in TLV a Resource Instance of the part's number, alone or as the one of a
-/// Multiple Resource of the resource's number. None where it gives nothing.
+/// What the payload of a Write gives to a part of a multiple resource (OMA LwM2M 1.1 Core, data formats): a good value
+/// of its kind in plain text or application/octet-stream, or in TLV a Resource Instance of the part's number, alone or
+/// as the one of a Multiple Resource of the resource's number. None where it gives nothing.
 pub fn part_given(
     alloc: Global,
     definition: ResourceDef,

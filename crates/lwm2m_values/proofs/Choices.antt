@@ -6,7 +6,8 @@ pub chosen : {T : Type 0} (b : Bool) (x y : T) → (if b then Some x else None) 
 chosen true x y e = (refl, cc)
 chosen false x y e = cc e
 
-pub kept_if : {T : Type 0} (b : Bool) (o : Option T) (y : T) → (if b then o else None) ≡ Some y → (b ≡ true) × (o ≡ Some y)
+pub kept_if : {T : Type 0} (b : Bool) (o : Option T) (y : T) → (if b then o else None) ≡ Some y → (b ≡ true)
+    × (o ≡ Some y)
 kept_if true o y e = (refl, e)
 kept_if false o y e = cc e
 
@@ -18,11 +19,13 @@ both false b e = cc e
 pub both_back : (a b : Bool) → a ≡ true → b ≡ true → (a && b) ≡ true
 both_back a b p q = rw (p, q) refl
 
-pub mapped : {A B : Type 0} (f : A → B) (o : Option A) (y : B) → option_map f o ≡ Some y → (x : A) × (o ≡ Some x) × (f x ≡ y)
+pub mapped : {A B : Type 0} (f : A → B) (o : Option A) (y : B) → option_map f o ≡ Some y → (x : A) × (o ≡ Some x)
+    × (f x ≡ y)
 mapped f (Some x) y e = (x, refl, cc)
 mapped f None y e = cc e
 
-pub zipped : {A B : Type 0} (a : Option A) (b : Option B) (x : A) (y : B) → option_zip a b ≡ Some (x, y) → (a ≡ Some x) × (b ≡ Some y)
+pub zipped : {A B : Type 0} (a : Option A) (b : Option B) (x : A) (y : B) → option_zip a b ≡ Some (x, y) → (a ≡ Some x)
+    × (b ≡ Some y)
 zipped {A} {B} (Some u) (Some v) x y e =
     let first : Option (A × B) → Option A = option_map (λ p. p.0) in
     let second : Option (A × B) → Option B = option_map (λ p. p.1) in

@@ -1,5 +1,7 @@
 -- A plain text has one good value of each kind, and the shortest text of a value is a text of it.
-use Rattle.std.proofs.Common.{◌≡◌, ℕ, ◌<◌, ◌^◌, List, [], ◌∷◌, ◌++◌, get_or, ℤ, pos, negsuc, neg_ℤ, inl, inr, Bool, true, false, refl, sym, ap, subst, ◌∙◌, Option, Some, None, unwrap_or, suc, FitsSigned, w64, arith}
+use Rattle.std.proofs.Common.{◌≡◌, ℕ, ◌<◌, ◌^◌, List, [], ◌∷◌, ◌++◌, get_or, ℤ, pos, negsuc, neg_ℤ, inl, inr, Bool}
+use Rattle.std.proofs.Common.{true, false, refl, sym, ap, subst, ◌∙◌, Option, Some, None, unwrap_or, suc, FitsSigned}
+use Rattle.std.proofs.Common.{w64, arith}
 use Rattle.std.specs.Fmt.{decimal, signed_decimal}
 use Rattle.std.specs.Str.Parse.{AllDigits}
 use Rattle.std.proofs.lemmas.Str.Parse.{digit_from_value}
@@ -82,7 +84,8 @@ one_flag true false e = absurd (flags_differ (sym e))
 one_flag false true e = absurd (flags_differ e)
 one_flag false false e = refl
 
-pub one_value : (v w : Value) (t : List ℕ) → IsGood v → IsGood w → kind_of v ≡ kind_of w → IsText v t → IsText w t → v ≡ w
+pub one_value : (v w : Value) (t : List ℕ) → IsGood v → IsGood w → kind_of v ≡ kind_of w → IsText v t → IsText w t
+    → v ≡ w
 one_value (Text a) (Text b) t g h k p q = ap value.Text (sym p ∙ q)
 one_value (Whole a) (Whole b) t g h k p q = ap value.Whole (one_signed a b t p q)
 one_value (Flag a) (Flag b) t g h k p q = ap value.Flag (one_flag a b (sym p ∙ q))
@@ -94,11 +97,15 @@ one_value (Link o i) (Link m j) t g h k p q =
 one_value v w t g h k p q = cc
 
 -- no value of the kind Link has a text that writes no pair, and one that writes a pair is its value's
-pub no_link : (t : List ℕ) (r : Option (ℕ × ℕ)) → r ≡ None → ((o i : ℕ) → o < 65536 → i < 65536 → IsPair o i t → r ≡ Some (o, i)) → (v : Value) → IsGood v → kind_of v ≡ kind.Link → IsText v t → ⊥
+pub no_link : (t : List ℕ) (r : Option (ℕ × ℕ)) → r ≡ None
+    → ((o i : ℕ) → o < 65536 → i < 65536 → IsPair o i t → r ≡ Some (o, i)) → (v : Value) → IsGood v
+    → kind_of v ≡ kind.Link → IsText v t → ⊥
 no_link t r none only (Link o i) good is h = let e = only o i good.0 good.1 h in cc
 no_link t r none only v good is h = cc
 
-pub same_link : (t : List ℕ) (p q : ℕ) (r : Option (ℕ × ℕ)) → r ≡ Some (p, q) → ((o i : ℕ) → o < 65536 → i < 65536 → IsPair o i t → r ≡ Some (o, i)) → (v : Value) → IsGood v → kind_of v ≡ kind.Link → IsText v t → value.Link p q ≡ v
+pub same_link : (t : List ℕ) (p q : ℕ) (r : Option (ℕ × ℕ)) → r ≡ Some (p, q)
+    → ((o i : ℕ) → o < 65536 → i < 65536 → IsPair o i t → r ≡ Some (o, i)) → (v : Value) → IsGood v
+    → kind_of v ≡ kind.Link → IsText v t → value.Link p q ≡ v
 same_link t p q r some only (Link o i) good is h =
     let found : Option (ℕ × ℕ) = Some (p, q) in
     let wanted : Option (ℕ × ℕ) = Some (o, i) in

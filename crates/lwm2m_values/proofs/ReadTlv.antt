@@ -13,11 +13,15 @@ cases_memory Cut = inr (λ e. absurd cc)
 cases_memory Nesting = inr (λ e. absurd cc)
 cases_memory Memory = inl refl
 
-pub is_only : {T : Type 0} (view : T → Trees) (bytes : List ℕ) (r : Result T TlvFault) → IfOk r (λ v. IsTlv (view v) bytes) → IfErr r (λ f. f ≢ Memory → HasFault Top bytes f) → (nodes : Trees) → IsTlv nodes bytes → MatchResult r (λ v. view v ≡ nodes) (λ f. f ≡ Memory)
+pub is_only : {T : Type 0} (view : T → Trees) (bytes : List ℕ) (r : Result T TlvFault)
+    → IfOk r (λ v. IsTlv (view v) bytes) → IfErr r (λ f. f ≢ Memory → HasFault Top bytes f) → (nodes : Trees)
+    → IsTlv nodes bytes → MatchResult r (λ v. view v ≡ nodes) (λ f. f ≡ Memory)
 is_only view bytes (Ok v) p q nodes h = one_reading (view v) nodes Top bytes p h
 is_only view bytes (Err f) p q nodes h =
     elim (cases_memory f) [ inl e ↦ e | inr other ↦ absurd (not_both Top bytes f (q other) nodes h) ]
 
-pub is_refused : {T : Type 0} (view : T → Trees) (bytes : List ℕ) (r : Result T TlvFault) → IfOk r (λ v. IsTlv (view v) bytes) → IfErr r (λ f. f ≢ Memory → HasFault Top bytes f) → (e : TlvFault) → HasFault Top bytes e → IsErrAnd r (λ g. g ≢ Memory → g ≡ e)
+pub is_refused : {T : Type 0} (view : T → Trees) (bytes : List ℕ) (r : Result T TlvFault)
+    → IfOk r (λ v. IsTlv (view v) bytes) → IfErr r (λ f. f ≢ Memory → HasFault Top bytes f) → (e : TlvFault)
+    → HasFault Top bytes e → IsErrAnd r (λ g. g ≢ Memory → g ≡ e)
 is_refused view bytes (Ok v) p q e h = absurd (not_both Top bytes e h (view v) p)
 is_refused view bytes (Err f) p q e h = λ other. one_fault Top bytes f e (q other) h

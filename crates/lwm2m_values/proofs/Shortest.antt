@@ -1,5 +1,6 @@
 -- The shortest TLV of trees is TLV of them.
-use Rattle.std.proofs.Common.{◌≡◌, ℕ, ◌+◌, ◌-◌, ◌*◌, ◌/◌, ◌%◌, ◌<◌, ◌≤◌, List, ◌++◌, length, cond, eqb, ltb, ne_eqb, true, ◌⊎◌, inl, inr, refl, ap, ◌∙◌, arith}
+use Rattle.std.proofs.Common.{◌≡◌, ℕ, ◌+◌, ◌-◌, ◌*◌, ◌/◌, ◌%◌, ◌<◌, ◌≤◌, List, ◌++◌, length, cond, eqb, ltb, ne_eqb}
+use Rattle.std.proofs.Common.{true, ◌⊎◌, inl, inr, refl, ap, ◌∙◌, arith}
 use mathlib.Core.List.{append_assoc}
 use Rattle.std.specs.Int.Digits.{number_from_digits}
 use Rattle.std.proofs.lemmas.Bool.Decides.{nat_tests}
@@ -8,7 +9,8 @@ use Rattle.lwm2m_values.specs.declared.level.RecordType.TheVariants.{Instance, P
 use Rattle.lwm2m_values.specs.declared.level.Level.{Level}
 use Rattle.lwm2m_values.specs.declared.level.Level.TheVariants.{InInstance, InMulti}
 use Rattle.lwm2m_values.specs.Tree.{Tree, Trees, instance, multi, part, single, none, more}
-use Rattle.lwm2m_values.specs.Tlv.{type_bits, is_allowed, IsHead, Holds, IsNodes, id_field, size_field, shortest_head, shortest_node, shortest_tlv, IsNested, AreNested}
+use Rattle.lwm2m_values.specs.Tlv.{type_bits, is_allowed, IsHead, Holds, IsNodes, id_field, size_field, shortest_head}
+use Rattle.lwm2m_values.specs.Tlv.{shortest_node, shortest_tlv, IsNested, AreNested}
 
 id_value : (id : ℕ) → id ≡ number_from_digits 256 (id_field id)
 id_value id = grind (arith, nat_tests)
@@ -17,7 +19,9 @@ id_length : (id : ℕ) → (1 ≤ length (id_field id)) × (length (id_field id)
 id_length id = grind (arith, nat_tests)
 
 -- with no length field the three low bits are the size, else they are 0 and the field is the size
-size_parts : (n : ℕ) → ((length (size_field n) ≡ 0) × (cond (ltb n 8) n 0 ≡ n) × (n < 8)) ⊎ ((1 ≤ length (size_field n)) × (length (size_field n) ≤ 3) × (cond (ltb n 8) n 0 ≡ 0) × (n ≡ number_from_digits 256 (size_field n)))
+size_parts : (n : ℕ) → ((length (size_field n) ≡ 0) × (cond (ltb n 8) n 0 ≡ n) × (n < 8))
+    ⊎ ((1 ≤ length (size_field n)) × (length (size_field n) ≤ 3) × (cond (ltb n 8) n 0 ≡ 0)
+    × (n ≡ number_from_digits 256 (size_field n)))
 size_parts n = grind (arith, nat_tests)
 
 first_kind : (b i w s : ℕ) → i ≤ 1 → w ≤ 3 → s ≤ 7 → b ≡ (64 * b + 32 * i + 8 * w + s) / 64
@@ -33,7 +37,10 @@ first_low : (b i w s : ℕ) → i ≤ 1 → w ≤ 3 → s ≤ 7 → s ≡ (64 * 
 first_low b i w s p q r = omega arith
 
 -- how a reader finds the size
-size_read : (n b i w s : ℕ) → w ≡ length (size_field n) → s ≡ cond (ltb n 8) n 0 → w ≡ (64 * b + 32 * i + 8 * w + s) / 8 % 4 → s ≡ (64 * b + 32 * i + 8 * w + s) % 8 → n ≡ cond (eqb ((64 * b + 32 * i + 8 * w + s) / 8 % 4) 0) ((64 * b + 32 * i + 8 * w + s) % 8) (number_from_digits 256 (size_field n))
+size_read : (n b i w s : ℕ) → w ≡ length (size_field n) → s ≡ cond (ltb n 8) n 0
+    → w ≡ (64 * b + 32 * i + 8 * w + s) / 8 % 4 → s ≡ (64 * b + 32 * i + 8 * w + s) % 8
+    → n ≡ cond (eqb ((64 * b + 32 * i + 8 * w + s) / 8 % 4) 0) ((64 * b + 32 * i + 8 * w + s) % 8)
+    (number_from_digits 256 (size_field n))
 size_read n b i w s w_is s_is width low =
     elim (size_parts n) [
       | inl none_there ↦ let width_zero : w ≡ 0 = omega arith in rw (← width, ← low, width_zero) (omega arith)
@@ -65,12 +72,16 @@ head_written kind id size =
     }
 
 abbrev IsTree : Tree → Level → List ℕ → Type 0
-IsTree t level bytes = (kind : RecordType) × (id : ℕ) × (content : List ℕ) × (bytes ≡ shortest_head kind id (length content) ++ content) × (is_allowed level kind ≡ true) × Holds t kind id content
+IsTree t level bytes =
+    (kind : RecordType) × (id : ℕ) × (content : List ℕ) × (bytes ≡ shortest_head kind id (length content) ++ content)
+    × (is_allowed level kind ≡ true) × Holds t kind id content
 
 mutual
   tree_written : (t : Tree) (level : Level) → IsNested level t → IsTree t level (shortest_node t)
-  tree_written (instance id inner) level p = (Instance, id, shortest_tlv inner, refl, p.0, (refl, refl, nodes_written inner InInstance p.1))
-  tree_written (multi id inner) level p = (Multi, id, shortest_tlv inner, refl, p.0, (refl, refl, nodes_written inner InMulti p.1))
+  tree_written (instance id inner) level p =
+      (Instance, id, shortest_tlv inner, refl, p.0, (refl, refl, nodes_written inner InInstance p.1))
+  tree_written (multi id inner) level p =
+      (Multi, id, shortest_tlv inner, refl, p.0, (refl, refl, nodes_written inner InMulti p.1))
   tree_written (part id bytes) level p = (Part, id, bytes, refl, p, (refl, refl, refl))
   tree_written (single id bytes) level p = (Single, id, bytes, refl, p, (refl, refl, refl))
 
@@ -78,5 +89,15 @@ mutual
   nodes_written none level p = refl
   nodes_written (more n ns) level p =
       let h = tree_written n level p.0 in
-      let head = shortest_head h.0 h.1 (length h.2) in
-      (h.0, h.1, head, h.2, shortest_tlv ns, head_written h.0 h.1 (length h.2), ap (λ x. x ++ shortest_tlv ns) h.3 ∙ append_assoc head h.2 (shortest_tlv ns), h.4, h.5, nodes_written ns level p.1)
+      let head = shortest_head h.0 h.1 (length h.2) in (
+        h.0,
+        h.1,
+        head,
+        h.2,
+        shortest_tlv ns,
+        head_written h.0 h.1 (length h.2),
+        ap (λ x. x ++ shortest_tlv ns) h.3 ∙ append_assoc head h.2 (shortest_tlv ns),
+        h.4,
+        h.5,
+        nodes_written ns level p.1,
+      )

@@ -1,5 +1,8 @@
 -- The trees that are read of bytes are those whose TLV they are.
-use Rattle.std.proofs.Common.{◌≡◌, ℕ, zero, suc, ◌+◌, ◌/◌, ◌%◌, ◌<◌, ◌≤◌, nat_le, List, [], ◌∷◌, ◌++◌, length, take, drop, Bool, true, false, cond, if◌then◌else◌, ◌==◌, Option, Some, None, option_map, Result, Ok, Err, ◌≢◌, refl, sym, ap, subst, ◌∙◌, ◌↔◌, arith, eqb-true, le-leb, leb-true, length-append, length-drop, take-append-drop, length-take-le}
+use Rattle.std.proofs.Common.{◌≡◌, ℕ, zero, suc, ◌+◌, ◌/◌, ◌%◌, ◌<◌, ◌≤◌, nat_le, List, [], ◌∷◌, ◌++◌, length, take}
+use Rattle.std.proofs.Common.{drop, Bool, true, false, cond, if◌then◌else◌, ◌==◌, Option, Some, None, option_map}
+use Rattle.std.proofs.Common.{Result, Ok, Err, ◌≢◌, refl, sym, ap, subst, ◌∙◌, ◌↔◌, arith, eqb-true, le-leb, leb-true}
+use Rattle.std.proofs.Common.{length-append, length-drop, take-append-drop, length-take-le}
 use mathlib.Core.List.{append_assoc}
 use Rattle.std.proofs.Math.Seq.{take-append_seam, drop-append_seam}
 use Rattle.std.specs.Int.Digits.{number_from_digits}
@@ -11,8 +14,10 @@ use Rattle.lwm2m_values.specs.declared.level.RecordType.TheVariants.{Instance, P
 use Rattle.lwm2m_values.specs.declared.level.Level.{Level}
 use Rattle.lwm2m_values.specs.declared.level.Level.TheVariants.{Top, InInstance, InMulti}
 use Rattle.lwm2m_values.specs.Tree.{Tree, Trees, instance, multi, part, single, none, more}
-use Rattle.lwm2m_values.specs.Tlv.{type_bits, is_allowed, IsHead, Holds, IsNodes, IsTlv, HasFault, IsWritable, shortest_tlv}
-use Rattle.lwm2m_values.specs.Reading.{type_of_bits, id_width, size_width, size_of, Record, record_of, is_whole, record_at, tree_of_record, with_tree, nodes_from, read_nodes, nodes_of_bytes}
+use Rattle.lwm2m_values.specs.Tlv.{type_bits, is_allowed, IsHead, Holds, IsNodes, IsTlv, HasFault, IsWritable}
+use Rattle.lwm2m_values.specs.Tlv.{shortest_tlv}
+use Rattle.lwm2m_values.specs.Reading.{type_of_bits, id_width, size_width, size_of, Record, record_of, is_whole}
+use Rattle.lwm2m_values.specs.Reading.{record_at, tree_of_record, with_tree, nodes_from, read_nodes, nodes_of_bytes}
 use Rattle.lwm2m_values.proofs.Choices.{kept_if, mapped}
 use Rattle.lwm2m_values.proofs.OneRecord.{regroup}
 use Rattle.lwm2m_values.proofs.OneTlv.{not_both}
@@ -21,11 +26,14 @@ use Rattle.lwm2m_values.proofs.Shortest.{nodes_written}
 -- the type
 
 type_case : (n : ℕ) (k : RecordType) (a b c d : Bool) → (n == 0) ≡ a → (n == 1) ≡ b → (n == 2) ≡ c → (n == 3) ≡ d
-    → (if a then Some Instance else (if b then Some Part else (if c then Some Multi else (if d then Some Single else None)))) ≡ Some k → type_bits k ≡ n
+    → (if a then Some Instance else (if b then Some Part
+    else (if c then Some Multi else (if d then Some Single else None)))) ≡ Some k → type_bits k ≡ n
 type_case n k true b c d p q r s e = let same : Instance ≡ k = cc e in sym (ap type_bits same) ∙ sym (eqb-true n 0 p)
 type_case n k false true c d p q r s e = let same : Part ≡ k = cc e in sym (ap type_bits same) ∙ sym (eqb-true n 1 q)
-type_case n k false false true d p q r s e = let same : Multi ≡ k = cc e in sym (ap type_bits same) ∙ sym (eqb-true n 2 r)
-type_case n k false false false true p q r s e = let same : Single ≡ k = cc e in sym (ap type_bits same) ∙ sym (eqb-true n 3 s)
+type_case n k false false true d p q r s e = let same : Multi ≡ k =
+    cc e in sym (ap type_bits same) ∙ sym (eqb-true n 2 r)
+type_case n k false false false true p q r s e = let same : Single ≡ k =
+    cc e in sym (ap type_bits same) ∙ sym (eqb-true n 3 s)
 type_case n k false false false false p q r s e = cc e
 
 type_from : (n : ℕ) (k : RecordType) → type_of_bits n ≡ Some k → type_bits k ≡ n
@@ -40,9 +48,11 @@ type_to Single = refl
 -- a record
 
 abbrev IsRecordOf : List ℕ → Record → Type 0
-IsRecordOf bytes r = (head : List ℕ) × IsHead head r.kind r.id (length r.content) × (bytes ≡ head ++ (r.content ++ r.rest))
+IsRecordOf bytes r =
+    (head : List ℕ) × IsHead head r.kind r.id (length r.content) × (bytes ≡ head ++ (r.content ++ r.rest))
 
-whole_from : (first : ℕ) (rest : List ℕ) (kind : RecordType) → is_whole first rest ≡ true → type_bits kind ≡ first / 64 → IsRecordOf (first ∷ rest) (record_of first rest kind)
+whole_from : (first : ℕ) (rest : List ℕ) (kind : RecordType) → is_whole first rest ≡ true → type_bits kind ≡ first / 64
+    → IsRecordOf (first ∷ rest) (record_of first rest kind)
 whole_from first rest kind whole is_kind =
     let w : ℕ = id_width first in
     let u : ℕ = size_width first in
@@ -56,7 +66,8 @@ whole_from first rest kind whole is_kind =
     let inside_len = length-drop u behind in
     let content_size : length (take n inside) ≡ n = length-take-le n inside (omega arith) in
     let parts : rest ≡ (ids ++ sizes) ++ (take n inside ++ drop n inside) =
-    sym (take-append-drop w rest) ∙ ap (λ x. ids ++ x) (sym (take-append-drop u behind)) ∙ ap (λ x. ids ++ (sizes ++ x)) (sym (take-append-drop n inside)) ∙ sym (append_assoc ids sizes _) in (
+    sym (take-append-drop w rest) ∙ ap (λ x. ids ++ x) (sym (take-append-drop u behind))
+    ∙ ap (λ x. ids ++ (sizes ++ x)) (sym (take-append-drop n inside)) ∙ sym (append_assoc ids sizes _) in (
       first ∷ (ids ++ sizes),
       record {
         first = first;
@@ -79,7 +90,8 @@ record_from (first ∷ rest) r e =
     let m = mapped (record_of first rest) (type_of_bits (first / 64)) r h.1 in
     subst (IsRecordOf (first ∷ rest)) m.2 (whole_from first rest m.0 h.0 (type_from (first / 64) m.0 m.1))
 
-record_to : (bytes head content rest : List ℕ) (kind : RecordType) (id : ℕ) → IsHead head kind id (length content) → bytes ≡ head ++ (content ++ rest)
+record_to : (bytes head content rest : List ℕ) (kind : RecordType) (id : ℕ) → IsHead head kind id (length content)
+    → bytes ≡ head ++ (content ++ rest)
     → record_at bytes ≡ Some (record { kind = kind; id = id; content = content; rest = rest })
 record_to bytes head content rest kind id h e =
     let f : ℕ = h.first in
@@ -90,16 +102,30 @@ record_to bytes head content rest kind id h e =
     let tail : List ℕ = h.id_bytes ++ behind in
     let ids : take w tail ≡ h.id_bytes = ap (λ n. take n tail) (sym h.id_width) ∙ take-append_seam h.id_bytes behind in
     let after : drop w tail ≡ behind = ap (λ n. drop n tail) (sym h.id_width) ∙ drop-append_seam h.id_bytes behind in
-    let sizes : take u behind ≡ h.size_bytes = ap (λ n. take n behind) (sym h.size_width) ∙ take-append_seam h.size_bytes held in
-    let inside : drop u behind ≡ held = ap (λ n. drop n behind) (sym h.size_width) ∙ drop-append_seam h.size_bytes held in
-    let size : size_of f behind ≡ length content = ap (λ x. cond (u == 0) (f % 8) (number_from_digits 256 x)) sizes ∙ sym h.size_is in
+    let sizes : take u behind ≡ h.size_bytes =
+    ap (λ n. take n behind) (sym h.size_width) ∙ take-append_seam h.size_bytes held in
+    let inside : drop u behind ≡ held =
+    ap (λ n. drop n behind) (sym h.size_width) ∙ drop-append_seam h.size_bytes held in
+    let size : size_of f behind ≡ length content =
+    ap (λ x. cond (u == 0) (f % 8) (number_from_digits 256 x)) sizes ∙ sym h.size_is in
     let ends : w + u + size_of f behind ≤ length tail =
-    omega (arith, h.id_width, h.size_width, size, length-append h.id_bytes behind, length-append h.size_bytes held, length-append content rest) in
-    let whole : is_whole f tail ≡ true = ap (λ b. nat_le (w + u + size_of f b) (length tail)) after ∙ le-leb (w + u + size_of f behind) (length tail) ends in
+    omega (
+      arith,
+      h.id_width,
+      h.size_width,
+      size,
+      length-append h.id_bytes behind,
+      length-append h.size_bytes held,
+      length-append content rest,
+    ) in
+    let whole : is_whole f tail ≡ true =
+    ap (λ b. nat_le (w + u + size_of f b) (length tail)) after
+    ∙ le-leb (w + u + size_of f behind) (length tail) ends in
     let make : ℕ → List ℕ → List ℕ → Record = λ i c r. record { kind = kind; id = i; content = c; rest = r } in
     let cut : ℕ → List ℕ → Record = λ n x. make id (take n x) (drop n x) in
     let found : record_of f tail kind ≡ make id content rest =
-    ap (λ i. make i (take (size_of f (drop w tail)) (drop u (drop w tail))) (drop (size_of f (drop w tail)) (drop u (drop w tail)))) (ap (number_from_digits 256) ids ∙ sym h.id_is)
+    ap (λ i. make i (take (size_of f (drop w tail)) (drop u (drop w tail)))
+    (drop (size_of f (drop w tail)) (drop u (drop w tail)))) (ap (number_from_digits 256) ids ∙ sym h.id_is)
     ∙ ap (λ b. cut (size_of f b) (drop u b)) after
     ∙ ap (cut (size_of f behind)) inside
     ∙ ap (λ n. cut n held) size
@@ -115,7 +141,9 @@ record_to bytes head content rest kind id h e =
 abbrev IsSound : (Level → List ℕ → Option Trees) → Type 0
 IsSound within = (level : Level) (bytes : List ℕ) (f : Trees) → within level bytes ≡ Some f → IsNodes f level bytes
 
-tree_from : (within : Level → List ℕ → Option Trees) → IsSound within → (kind : RecordType) (id : ℕ) (content : List ℕ) (t : Tree) → tree_of_record within kind id content ≡ Some t → Holds t kind id content
+tree_from : (within : Level → List ℕ → Option Trees) → IsSound within
+    → (kind : RecordType) (id : ℕ) (content : List ℕ) (t : Tree) → tree_of_record within kind id content ≡ Some t
+    → Holds t kind id content
 tree_from within sound Instance id content t e =
     let h = mapped (instance id) (within InInstance content) t e in
     subst (λ (x : Tree). Holds x Instance id content) h.2 (refl, refl, sound InInstance content h.0 h.1)
@@ -129,24 +157,33 @@ tree_from within sound Single id content t e =
     let same : single id content ≡ t = cc e in
     subst (λ (x : Tree). Holds x Single id content) same (refl, refl, refl)
 
-tree_to : (within : Level → List ℕ → Option Trees) (kind : RecordType) (id : ℕ) (content : List ℕ) (t : Tree) → ((level : Level) (f : Trees) → IsNodes f level content → within level content ≡ Some f) → Holds t kind id content → tree_of_record within kind id content ≡ Some t
+tree_to : (within : Level → List ℕ → Option Trees) (kind : RecordType) (id : ℕ) (content : List ℕ) (t : Tree)
+    → ((level : Level) (f : Trees) → IsNodes f level content → within level content ≡ Some f) → Holds t kind id content
+    → tree_of_record within kind id content ≡ Some t
 tree_to within kind id content (instance i inner) complete p =
-    ap (λ k. tree_of_record within k id content) p.0 ∙ ap (option_map (instance id)) (complete InInstance inner p.2) ∙ ap (λ x. Some (instance x inner)) (sym p.1)
+    ap (λ k. tree_of_record within k id content) p.0 ∙ ap (option_map (instance id)) (complete InInstance inner p.2)
+    ∙ ap (λ x. Some (instance x inner)) (sym p.1)
 tree_to within kind id content (multi i inner) complete p =
-    ap (λ k. tree_of_record within k id content) p.0 ∙ ap (option_map (multi id)) (complete InMulti inner p.2) ∙ ap (λ x. Some (multi x inner)) (sym p.1)
+    ap (λ k. tree_of_record within k id content) p.0 ∙ ap (option_map (multi id)) (complete InMulti inner p.2)
+    ∙ ap (λ x. Some (multi x inner)) (sym p.1)
 tree_to within kind id content (part i bytes) complete p =
-    ap (λ k. tree_of_record within k id content) p.0 ∙ ap (λ x. Some (part x content)) (sym p.1) ∙ ap (λ x. Some (part i x)) (sym p.2)
+    ap (λ k. tree_of_record within k id content) p.0 ∙ ap (λ x. Some (part x content)) (sym p.1)
+    ∙ ap (λ x. Some (part i x)) (sym p.2)
 tree_to within kind id content (single i bytes) complete p =
-    ap (λ k. tree_of_record within k id content) p.0 ∙ ap (λ x. Some (single x content)) (sym p.1) ∙ ap (λ x. Some (single i x)) (sym p.2)
+    ap (λ k. tree_of_record within k id content) p.0 ∙ ap (λ x. Some (single x content)) (sym p.1)
+    ∙ ap (λ x. Some (single i x)) (sym p.2)
 
 -- trees
 
-joined : (o : Option Tree) (p : Option Trees) (f : Trees) → with_tree o p ≡ Some f → (t : Tree) × (nodes : Trees) × (o ≡ Some t) × (p ≡ Some nodes) × (more t nodes ≡ f)
+joined : (o : Option Tree) (p : Option Trees) (f : Trees) → with_tree o p ≡ Some f → (t : Tree) × (nodes : Trees)
+    × (o ≡ Some t) × (p ≡ Some nodes) × (more t nodes ≡ f)
 joined (Some t) (Some nodes) f e = (t, nodes, refl, refl, cc e)
 joined (Some t) None f e = cc e
 joined None p f e = cc e
 
-nodes_case : (within : Level → List ℕ → Option Trees) → IsSound within → (level : Level) (bytes : List ℕ) (o : Option Record) → record_at bytes ≡ o → (f : Trees) → nodes_from within level o ≡ Some f → IsNodes f level bytes
+nodes_case : (within : Level → List ℕ → Option Trees) → IsSound within
+    → (level : Level) (bytes : List ℕ) (o : Option Record) → record_at bytes ≡ o → (f : Trees)
+    → nodes_from within level o ≡ Some f → IsNodes f level bytes
 nodes_case within sound level bytes None q f e = cc e
 nodes_case within sound level bytes (Some r) q f e =
     let tree : Option Tree = tree_of_record within r.kind r.id r.content in
@@ -171,7 +208,8 @@ unfolding read_nodes
 read_nil zero level = refl
 read_nil (suc steps) level = refl
 
-read_step : (steps : ℕ) (level : Level) (bytes : List ℕ) → 0 < length bytes → read_nodes (suc steps) level bytes ≡ nodes_from (read_nodes steps) level (record_at bytes)
+read_step : (steps : ℕ) (level : Level) (bytes : List ℕ) → 0 < length bytes
+    → read_nodes (suc steps) level bytes ≡ nodes_from (read_nodes steps) level (record_at bytes)
 unfolding read_nodes
 read_step steps level [] long = absurd (omega arith)
 read_step steps level (b ∷ bytes) long = refl
@@ -179,7 +217,8 @@ read_step steps level (b ∷ bytes) long = refl
 head_long : (head : List ℕ) (kind : RecordType) (id size : ℕ) → IsHead head kind id size → 0 < length head
 head_long head kind id size h = subst (λ (x : List ℕ). 0 < length x) (sym h.parts) (omega arith)
 
-nodes_complete : (steps : ℕ) (level : Level) (bytes : List ℕ) (f : Trees) → length bytes ≤ steps → IsNodes f level bytes → read_nodes steps level bytes ≡ Some f
+nodes_complete : (steps : ℕ) (level : Level) (bytes : List ℕ) (f : Trees) → length bytes ≤ steps → IsNodes f level bytes
+    → read_nodes steps level bytes ≡ Some f
 nodes_complete steps level bytes none enough p = ap (read_nodes steps level) p ∙ read_nil steps level
 nodes_complete zero level bytes (more t nodes) enough p =
     let long = head_long p.2 p.0 p.1 (length p.3) p.5 in
@@ -187,8 +226,10 @@ nodes_complete zero level bytes (more t nodes) enough p =
 nodes_complete (suc steps) level bytes (more t nodes) enough p =
     let within : Level → List ℕ → Option Trees = read_nodes steps in
     let long : 0 < length p.2 = head_long p.2 p.0 p.1 (length p.3) p.5 in
-    let size : length bytes ≡ length p.2 + (length p.3 + length p.4) = ap length p.6 ∙ length-append p.2 (p.3 ++ p.4) ∙ ap (λ n. length p.2 + n) (length-append p.3 p.4) in
-    let inner : (l : Level) (g : Trees) → IsNodes g l p.3 → within l p.3 ≡ Some g = λ l g. nodes_complete steps l p.3 g (omega arith) in
+    let size : length bytes ≡ length p.2 + (length p.3 + length p.4) =
+    ap length p.6 ∙ length-append p.2 (p.3 ++ p.4) ∙ ap (λ n. length p.2 + n) (length-append p.3 p.4) in
+    let inner : (l : Level) (g : Trees) → IsNodes g l p.3 → within l p.3 ≡ Some g =
+    λ l g. nodes_complete steps l p.3 g (omega arith) in
     let tree : tree_of_record within p.0 p.1 p.3 ≡ Some t = tree_to within p.0 p.1 p.3 t inner p.8 in
     let later : within level p.4 ≡ Some nodes = nodes_complete steps level p.4 nodes (omega arith) p.9 in
     read_step steps level bytes (omega arith)
@@ -213,10 +254,13 @@ nodes_of_bytes_written f p = tlv_to f (shortest_tlv f) (nodes_written f Top p.0)
 
 -- what a reader owes
 
-none_case : (bytes : List ℕ) (e : TlvFault) (o : Option Trees) → nodes_of_bytes bytes ≡ o → HasFault Top bytes e → nodes_of_bytes bytes ≡ None
+none_case : (bytes : List ℕ) (e : TlvFault) (o : Option Trees) → nodes_of_bytes bytes ≡ o → HasFault Top bytes e
+    → nodes_of_bytes bytes ≡ None
 none_case bytes e None q h = q
 none_case bytes e (Some f) q h = absurd (not_both Top bytes e h f (tlv_from f bytes q))
 
-pub is_reading : {T : Type 0} (view : T → Trees) (bytes : List ℕ) (r : Result T TlvFault) → IfOk r (λ v. IsTlv (view v) bytes) → IfErr r (λ f. f ≢ Memory → HasFault Top bytes f) → MatchResult r (λ v. nodes_of_bytes bytes ≡ Some (view v)) (λ f. f ≢ Memory → nodes_of_bytes bytes ≡ None)
+pub is_reading : {T : Type 0} (view : T → Trees) (bytes : List ℕ) (r : Result T TlvFault)
+    → IfOk r (λ v. IsTlv (view v) bytes) → IfErr r (λ f. f ≢ Memory → HasFault Top bytes f)
+    → MatchResult r (λ v. nodes_of_bytes bytes ≡ Some (view v)) (λ f. f ≢ Memory → nodes_of_bytes bytes ≡ None)
 is_reading view bytes (Ok v) p q = tlv_to (view v) bytes p
 is_reading view bytes (Err f) p q = λ other. none_case bytes f (nodes_of_bytes bytes) refl (q other)

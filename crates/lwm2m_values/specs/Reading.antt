@@ -1,5 +1,6 @@
 -- What payloads say, as functions: the value that a plain text or bytes spell, and the trees of TLV.
-use Rattle.std.specs.Prelude.{ℕ, zero, suc, ◌+◌, ◌/◌, ◌%◌, ◌==◌, nat_lt, nat_le, ℤ, pos, neg_ℤ, List, [], ◌∷◌, length, take, drop, Bool, true, false, ◌&&◌, if◌then◌else◌, Option, Some, None, option_map}
+use Rattle.std.specs.Prelude.{ℕ, zero, suc, ◌+◌, ◌/◌, ◌%◌, ◌==◌, nat_lt, nat_le, ℤ, pos, neg_ℤ, List, [], ◌∷◌, length}
+use Rattle.std.specs.Prelude.{take, drop, Bool, true, false, ◌&&◌, if◌then◌else◌, Option, Some, None, option_map}
 use Rattle.std.specs.List.{list_all, before_first, after_first}
 use Rattle.std.specs.Option.{option_zip}
 use Rattle.std.specs.Result.{result_ok}
@@ -43,12 +44,14 @@ if_good (Some v) = if is_good v then Some v else None
 -- the number that one decimal digit or more write
 abbrev pub number_of_text : List ℕ → Option ℕ
 number_of_text [] = None
-number_of_text (c ∷ cs) = if list_all (λ d. nat_lt (digit_value d) 10) (c ∷ cs) then Some (digits_value 10 (c ∷ cs)) else None
+number_of_text (c ∷ cs) =
+    if list_all (λ d. nat_lt (digit_value d) 10) (c ∷ cs) then Some (digits_value 10 (c ∷ cs)) else None
 
 -- the number that such digits write, alone or behind a minus sign
 abbrev pub signed_of_text : List ℕ → Option ℤ
 signed_of_text [] = None
-signed_of_text (c ∷ cs) = if c == 45 then option_map (λ n. neg_ℤ (pos n)) (number_of_text cs) else option_map pos (number_of_text (c ∷ cs))
+signed_of_text (c ∷ cs) =
+    if c == 45 then option_map (λ n. neg_ℤ (pos n)) (number_of_text cs) else option_map pos (number_of_text (c ∷ cs))
 
 -- false where the bytes are `off` alone, true where they are `on` alone
 abbrev pub flag_by : ℕ → ℕ → List ℕ → Option Bool
@@ -58,7 +61,8 @@ flag_by off on (b ∷ c ∷ bytes) = None
 
 -- the two numbers before and behind the first colon
 abbrev pub pair_of_text : List ℕ → Option (ℕ × ℕ)
-pair_of_text t = option_zip (number_of_text (before_first (λ c. c == 58) t)) (number_of_text (after_first (λ c. c == 58) t))
+pair_of_text t =
+    option_zip (number_of_text (before_first (λ c. c == 58) t)) (number_of_text (after_first (λ c. c == 58) t))
 
 -- the bytes that base64 decodes to (RFC 4648 section 4)
 abbrev pub opaque_of_text : List ℕ → Option (List ℕ)
@@ -79,15 +83,19 @@ value_of_text kind text = if_good (spelled_by_text kind text)
 
 -- the width of an Integer of so many bytes
 abbrev pub width_of : ℕ → Option Width
-width_of n = if n == 1 then Some w8 else (if n == 2 then Some w16 else (if n == 4 then Some w32 else (if n == 8 then Some w64 else None)))
+width_of n = if n == 1 then Some w8 else (if n == 2 then Some w16
+    else (if n == 4 then Some w32 else (if n == 8 then Some w64 else None)))
 
 -- the number that one, two, four or eight bytes are in two's complement, the highest byte first
 abbrev pub integer_of_bytes : List ℕ → Option ℤ
-integer_of_bytes bytes = if are_bytes bytes then option_map (λ w. cast_signed w (from_be_bytes w bytes)) (width_of (length bytes)) else None
+integer_of_bytes bytes =
+    if are_bytes bytes then option_map (λ w. cast_signed w (from_be_bytes w bytes)) (width_of (length bytes)) else None
 
 -- the two numbers that four bytes are
 abbrev pub pair_of_bytes : List ℕ → Option (ℕ × ℕ)
-pair_of_bytes bytes = if are_bytes bytes && (length bytes == 4) then Some (from_be_bytes w16 (take 2 bytes), from_be_bytes w16 (drop 2 bytes)) else None
+pair_of_bytes bytes =
+    if are_bytes bytes && (length bytes == 4)
+    then Some (from_be_bytes w16 (take 2 bytes), from_be_bytes w16 (drop 2 bytes)) else None
 
 -- the value of this kind that the bytes are, its limits left aside
 abbrev pub spelled_by_bytes : ValueKind → List ℕ → Option Value
@@ -104,7 +112,9 @@ value_of_bytes kind bytes = if_good (spelled_by_bytes kind bytes)
 
 -- the type of bits 7 and 6
 abbrev pub type_of_bits : ℕ → Option RecordType
-type_of_bits n = if n == 0 then Some Instance else (if n == 1 then Some Part else (if n == 2 then Some Multi else (if n == 3 then Some Single else None)))
+type_of_bits n =
+    if n == 0 then Some Instance else (if n == 1 then Some Part
+    else (if n == 2 then Some Multi else (if n == 3 then Some Single else None)))
 
 -- how many bytes the identifier has, by bit 5
 abbrev pub id_width : ℕ → ℕ
@@ -116,7 +126,8 @@ size_width first = first / 8 % 4
 
 -- the length of the content, by the bytes behind the identifier
 abbrev pub size_of : ℕ → List ℕ → ℕ
-size_of first behind = if size_width first == 0 then first % 8 else number_from_digits 256 (take (size_width first) behind)
+size_of first behind =
+    if size_width first == 0 then first % 8 else number_from_digits 256 (take (size_width first) behind)
 
 -- a record: its type, its identifier, its content, and what stands behind it
 pub record Record : Type 0 where
@@ -130,16 +141,24 @@ abbrev pub record_of : ℕ → List ℕ → RecordType → Record
 record_of first rest kind =
     let behind = drop (id_width first) rest in
     let inside = drop (size_width first) behind in
-    record { kind = kind; id = number_from_digits 256 (take (id_width first) rest); content = take (size_of first behind) inside; rest = drop (size_of first behind) inside }
+    record {
+      kind = kind;
+      id = number_from_digits 256 (take (id_width first) rest);
+      content =
+          take (size_of first behind) inside;
+      rest = drop (size_of first behind) inside;
+    }
 
 -- whether its head and its content end within the bytes
 abbrev pub is_whole : ℕ → List ℕ → Bool
-is_whole first rest = nat_le (id_width first + size_width first + size_of first (drop (id_width first) rest)) (length rest)
+is_whole first rest =
+    nat_le (id_width first + size_width first + size_of first (drop (id_width first) rest)) (length rest)
 
 -- the record that the bytes begin with, where it is whole
 abbrev pub record_at : List ℕ → Option Record
 record_at [] = None
-record_at (first ∷ rest) = if is_whole first rest then option_map (record_of first rest) (type_of_bits (first / 64)) else None
+record_at (first ∷ rest) =
+    if is_whole first rest then option_map (record_of first rest) (type_of_bits (first / 64)) else None
 
 -- the tree of a record of this type, with what it holds read by its level
 abbrev pub tree_of_record : (Level → List ℕ → Option Trees) → RecordType → ℕ → List ℕ → Option Tree
@@ -157,9 +176,12 @@ with_tree (Some t) (Some nodes) = Some (more t nodes)
 -- the trees of a record, where it may stand there, and of what stands behind it
 abbrev pub nodes_from : (Level → List ℕ → Option Trees) → Level → Option Record → Option Trees
 nodes_from within level None = None
-nodes_from within level (Some r) = if is_allowed level r.kind then with_tree (tree_of_record within r.kind r.id r.content) (within level r.rest) else None
+nodes_from within level (Some r) =
+    if is_allowed level r.kind then with_tree (tree_of_record within r.kind r.id r.content) (within level r.rest)
+    else None
 
--- the trees whose records the bytes are, at this level; the first number bounds the steps, of which each takes two bytes or more
+-- the trees whose records the bytes are, at this level; the first number bounds the steps, of which each takes two
+-- bytes or more
 unfoldable pub read_nodes : ℕ → Level → List ℕ → Option Trees
 read_nodes steps level [] = Some none
 read_nodes zero level (b ∷ bytes) = None

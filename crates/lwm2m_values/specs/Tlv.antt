@@ -1,5 +1,7 @@
--- TLV (OMA LwM2M 1.1 Core, TLV format): which bytes are records of which trees, and what is at fault where they are none.
-use Rattle.std.specs.Prelude.{◌≡◌, ℕ, ◌+◌, ◌-◌, ◌*◌, ◌/◌, ◌%◌, ◌<◌, nat_lt, List, [], ◌∷◌, ◌++◌, length, Bool, true, false, if◌then◌else◌, ◌==◌, Option, Some, None}
+-- TLV (OMA LwM2M 1.1 Core, TLV format): which bytes are records of which trees, and what is at fault where they are
+-- none.
+use Rattle.std.specs.Prelude.{◌≡◌, ℕ, ◌+◌, ◌-◌, ◌*◌, ◌/◌, ◌%◌, ◌<◌, nat_lt, List, [], ◌∷◌, ◌++◌, length, Bool, true}
+use Rattle.std.specs.Prelude.{false, if◌then◌else◌, ◌==◌, Option, Some, None}
 use Rattle.std.specs.Int.Digits.{number_from_digits}
 use Rattle.lwm2m_values.specs.declared.level.RecordType.{RecordType}
 use Rattle.lwm2m_values.specs.declared.level.RecordType.TheVariants.{Instance, Part, Multi, Single}
@@ -16,7 +18,8 @@ type_bits Part = 1
 type_bits Multi = 2
 type_bits Single = 3
 
--- an Instance holds Multiple Resources and Resources, a Multiple Resource holds Resource Instances, and all may stand at the top
+-- an Instance holds Multiple Resources and Resources, a Multiple Resource holds Resource Instances, and all may stand
+-- at the top
 abbrev pub is_allowed : Level → RecordType → Bool
 is_allowed Top _ = true
 is_allowed InInstance Multi = true
@@ -35,8 +38,8 @@ inside Multi = Some InMulti
 inside Part = None
 inside Single = None
 
--- these bytes stand before a content of this size: the first byte, the identifier in one byte or two by bit 5, and a length field
--- of as many bytes as bits 4 and 3 say; with none, bits 2 to 0 are the length
+-- these bytes stand before a content of this size: the first byte, the identifier in one byte or two by bit 5, and a
+-- length field of as many bytes as bits 4 and 3 say; with none, bits 2 to 0 are the length
 pub record IsHead (head : List ℕ) (kind : RecordType) (id size : ℕ) : Type 0 where
   pub first : ℕ
   pub id_bytes : List ℕ
@@ -50,7 +53,8 @@ pub record IsHead (head : List ℕ) (kind : RecordType) (id size : ℕ) : Type 0
 
 -- no record stands at the front of the bytes: the first would go past their end
 abbrev pub IsCut : List ℕ → Type 0
-IsCut bytes = (head content rest : List ℕ) (kind : RecordType) (id : ℕ) → IsHead head kind id (length content) → bytes ≡ head ++ (content ++ rest) → ⊥
+IsCut bytes = (head content rest : List ℕ) (kind : RecordType) (id : ℕ) → IsHead head kind id (length content)
+    → bytes ≡ head ++ (content ++ rest) → ⊥
 
 abbrev mutual
   -- a record of this type, identifier and content is the record of this tree
@@ -64,8 +68,10 @@ abbrev mutual
   pub IsNodes : Trees → Level → List ℕ → Type 0
   IsNodes none level bytes = bytes ≡ []
   IsNodes (more node nodes) level bytes =
-      (kind : RecordType) × (id : ℕ) × (head : List ℕ) × (content : List ℕ) × (rest : List ℕ) × IsHead head kind id (length content)
-      × (bytes ≡ head ++ (content ++ rest)) × (is_allowed level kind ≡ true) × Holds node kind id content × IsNodes nodes level rest
+      (kind : RecordType) × (id : ℕ) × (head : List ℕ) × (content : List ℕ) × (rest : List ℕ)
+      × IsHead head kind id (length content)
+      × (bytes ≡ head ++ (content ++ rest)) × (is_allowed level kind ≡ true) × Holds node kind id content
+      × IsNodes nodes level rest
 
 -- the bytes are TLV of these trees
 abbrev pub IsTlv : Trees → List ℕ → Type 0
@@ -75,15 +81,18 @@ IsTlv nodes bytes = IsNodes nodes Top bytes
 abbrev pub IsFront : Level → List ℕ → Trees → List ℕ → Type 0
 IsFront level bytes nodes rest = (front : List ℕ) × IsNodes nodes level front × (bytes ≡ front ++ rest)
 
--- Behind whole records stands the first fault from the left: a record that is cut, one that may not stand there, or one with a
--- fault in its content.
+-- Behind whole records stands the first fault from the left: a record that is cut, one that may not stand there, or one
+-- with a fault in its content.
 pub data HasFault : Level → List ℕ → TlvFault → Type 0 where
   cut : (level : Level) (bytes : List ℕ) (nodes : Trees) (rest : List ℕ) → IsFront level bytes nodes rest
       → 0 < length rest → IsCut rest → HasFault level bytes Cut
-  nesting : (level : Level) (bytes : List ℕ) (nodes : Trees) (kind : RecordType) (id : ℕ) (head content rest : List ℕ) → IsFront level bytes nodes (head ++ (content ++ rest))
+  nesting : (level : Level) (bytes : List ℕ) (nodes : Trees) (kind : RecordType) (id : ℕ) (head content rest : List ℕ)
+      → IsFront level bytes nodes (head ++ (content ++ rest))
       → IsHead head kind id (length content) → is_allowed level kind ≡ false → HasFault level bytes Nesting
-  within : (level inner : Level) (bytes : List ℕ) (nodes : Trees) (kind : RecordType) (id : ℕ) (head content rest : List ℕ) (fault : TlvFault) → IsFront level bytes nodes (head ++ (content ++ rest))
-      → IsHead head kind id (length content) → is_allowed level kind ≡ true → inside kind ≡ Some inner → HasFault inner content fault → HasFault level bytes fault
+  within : (level inner : Level) (bytes : List ℕ) (nodes : Trees) (kind : RecordType) (id : ℕ)
+      (head content rest : List ℕ) (fault : TlvFault) → IsFront level bytes nodes (head ++ (content ++ rest))
+      → IsHead head kind id (length content) → is_allowed level kind ≡ true → inside kind ≡ Some inner
+      → HasFault inner content fault → HasFault level bytes fault
 
 -- two bytes of a number, the high one first
 abbrev pub two_bytes : ℕ → List ℕ
@@ -95,12 +104,14 @@ id_field id = if nat_lt id 256 then id ∷ [] else two_bytes id
 
 -- the shortest length field: none below 8, else one byte, two or three
 abbrev pub size_field : ℕ → List ℕ
-size_field n = if nat_lt n 8 then [] else (if nat_lt n 256 then n ∷ [] else (if nat_lt n 65536 then two_bytes n else n / 65536 ∷ two_bytes (n % 65536)))
+size_field n = if nat_lt n 8 then [] else (if nat_lt n 256 then n ∷ []
+    else (if nat_lt n 65536 then two_bytes n else n / 65536 ∷ two_bytes (n % 65536)))
 
 -- the shortest head, with bits 2 to 0 zero where there is a length field
 abbrev pub shortest_head : RecordType → ℕ → ℕ → List ℕ
 shortest_head kind id size =
-    (64 * type_bits kind + 32 * (length (id_field id) - 1) + 8 * length (size_field size) + (if nat_lt size 8 then size else 0)) ∷ (id_field id ++ size_field size)
+    (64 * type_bits kind + 32 * (length (id_field id) - 1) + 8 * length
+    (size_field size) + (if nat_lt size 8 then size else 0)) ∷ (id_field id ++ size_field size)
 
 abbrev pub shortest_record : RecordType → ℕ → List ℕ → List ℕ
 shortest_record kind id content = shortest_head kind id (length content) ++ content

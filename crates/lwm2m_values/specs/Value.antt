@@ -1,5 +1,7 @@
--- Values: their kinds, which are good, their plain text, their bytes, and their code, by which a finite map can hold them.
-use Rattle.std.specs.Prelude.{◌≡◌, ℕ, ◌<◌, ◌≤◌, ℤ, pos, negsuc, nat_lt, List, [], ◌∷◌, ◌++◌, length, Bool, true, false, if◌then◌else◌, ◌⊎◌, refl}
+-- Values: their kinds, which are good, their plain text, their bytes, and their code, by which a finite map can hold
+-- them.
+use Rattle.std.specs.Prelude.{◌≡◌, ℕ, ◌<◌, ◌≤◌, ℤ, pos, negsuc, nat_lt, List, [], ◌∷◌, ◌++◌, length, Bool, true, false}
+use Rattle.std.specs.Prelude.{if◌then◌else◌, ◌⊎◌, refl}
 use Rattle.std.specs.Prelude.{neg_ℤ, FitsSigned}
 use Rattle.std.specs.Int.{Width, w8, w16, w32, w64, to_be_bytes, cast_unsigned}
 use Rattle.std.specs.Str.{IsUtf8}
@@ -83,7 +85,8 @@ IsIntegerOf w z bytes = FitsSigned w z × (bytes ≡ to_be_bytes w (cast_unsigne
 
 -- an Integer has 8, 16, 32 or 64 bits
 abbrev pub IsInteger : ℤ → List ℕ → Type 0
-IsInteger z bytes = IsIntegerOf w8 z bytes ⊎ (IsIntegerOf w16 z bytes ⊎ (IsIntegerOf w32 z bytes ⊎ IsIntegerOf w64 z bytes))
+IsInteger z bytes =
+    IsIntegerOf w8 z bytes ⊎ (IsIntegerOf w16 z bytes ⊎ (IsIntegerOf w32 z bytes ⊎ IsIntegerOf w64 z bytes))
 
 -- these are bytes of the value, as TLV has them (OMA LwM2M 1.1 Core, data types)
 abbrev pub IsBytesOf : Value → List ℕ → Type 0
@@ -104,7 +107,8 @@ abbrev pub shortest_integer : ℤ → List ℕ
 shortest_integer z =
     if is_within 128 z then to_be_bytes w8 (cast_unsigned w8 z)
     else (if is_within 32768 z then to_be_bytes w16 (cast_unsigned w16 z)
-    else (if is_within 2147483648 z then to_be_bytes w32 (cast_unsigned w32 z) else to_be_bytes w64 (cast_unsigned w64 z)))
+    else (if is_within 2147483648 z then to_be_bytes w32 (cast_unsigned w32 z)
+    else to_be_bytes w64 (cast_unsigned w64 z)))
 
 -- the shortest bytes of the value
 abbrev pub bytes_of : Value → List ℕ
@@ -145,4 +149,6 @@ join-split (Link o i) = refl
 -- a value is stored as what its variant holds
 abbrev pub value_code : Coded Value
 value_code =
-    code_by Split (coded⊎ (coded_list coded_ℕ) (coded⊎ coded_ℤ (coded⊎ coded_bool (coded⊎ (coded_list coded_ℕ) (coded⊎ coded_ℤ (coded× coded_ℕ coded_ℕ)))))) split join join-split
+    code_by Split (coded⊎ (coded_list coded_ℕ)
+    (coded⊎ coded_ℤ (coded⊎ coded_bool (coded⊎ (coded_list coded_ℕ) (coded⊎ coded_ℤ (coded× coded_ℕ coded_ℕ))))))
+    split join join-split

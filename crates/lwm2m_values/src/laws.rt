@@ -13,19 +13,23 @@ ghost use Rattle.lwm2m_values.specs.Reading.{value_of_text, value_of_bytes, node
 /// a text of it, so it is read again. What `value_of_text` computes of a kind and a text is that value.
 pub fn one_text_value()
     ensures written { (v : Value) → IsGood v → IsText v (text_of v) }
-    ensures one { (v w : Value) (text : List ℕ) → IsGood v → IsGood w → kind_of v ≡ kind_of w → IsText v text → IsText w text → v ≡ w }
-    ensures reads { (kind : ValueKind) (v : Value) (text : List ℕ) → (value_of_text kind text ≡ Some v) ↔ (IsGood v × (kind_of v ≡ kind) × IsText v text) }
+    ensures one { (v w : Value) (text : List ℕ) → IsGood v → IsGood w → kind_of v ≡ kind_of w → IsText v text
+        → IsText w text → v ≡ w }
+    ensures reads { (kind : ValueKind) (v : Value) (text : List ℕ) → (value_of_text kind text ≡ Some v)
+        ↔ (IsGood v × (kind_of v ≡ kind) × IsText v text) }
     ensures reads_written { (v : Value) → IsGood v → value_of_text (kind_of v) (text_of v) ≡ Some v }
 {}
 
 /// The laws of values' bytes. Bytes are those of one good value of each kind; the bytes that are written of a good
-/// value are bytes of it, so they are read again; and no bytes of a value are shorter. What `value_of_bytes` computes of
-/// a kind and bytes is that value.
+/// value are bytes of it, so they are read again; and no bytes of a value are shorter. What `value_of_bytes` computes
+/// of a kind and bytes is that value.
 pub fn one_value_of_bytes()
     ensures written { (v : Value) → IsGood v → IsBytesOf v (bytes_of v) }
-    ensures one { (v w : Value) (bytes : List ℕ) → IsGood v → IsGood w → kind_of v ≡ kind_of w → IsBytesOf v bytes → IsBytesOf w bytes → v ≡ w }
+    ensures one { (v w : Value) (bytes : List ℕ) → IsGood v → IsGood w → kind_of v ≡ kind_of w → IsBytesOf v bytes
+        → IsBytesOf w bytes → v ≡ w }
     ensures shortest { (v : Value) (bytes : List ℕ) → IsBytesOf v bytes → length (bytes_of v) ≤ length bytes }
-    ensures reads { (kind : ValueKind) (v : Value) (bytes : List ℕ) → (value_of_bytes kind bytes ≡ Some v) ↔ (IsGood v × (kind_of v ≡ kind) × IsBytesOf v bytes) }
+    ensures reads { (kind : ValueKind) (v : Value) (bytes : List ℕ) → (value_of_bytes kind bytes ≡ Some v)
+        ↔ (IsGood v × (kind_of v ≡ kind) × IsBytesOf v bytes) }
     ensures reads_written { (v : Value) → IsGood v → value_of_bytes (kind_of v) (bytes_of v) ≡ Some v }
 {}
 
@@ -35,7 +39,8 @@ pub fn one_tlv()
     ensures nodes { (bytes : List ℕ) (f g : Trees) → IsTlv f bytes → IsTlv g bytes → f ≡ g }
     ensures fault { (bytes : List ℕ) (d e : TlvFault) → HasFault Top bytes d → HasFault Top bytes e → d ≡ e }
     ensures written { (f : Trees) → IsWritable f → IsTlv f (shortest_tlv f) }
-    ensures shortest { (f : Trees) (bytes : List ℕ) → AllBelowBase 256 bytes → IsTlv f bytes → length (shortest_tlv f) ≤ length bytes }
+    ensures shortest { (f : Trees) (bytes : List ℕ) → AllBelowBase 256 bytes → IsTlv f bytes
+        → length (shortest_tlv f) ≤ length bytes }
     ensures not_both { (bytes : List ℕ) (f : Trees) (e : TlvFault) → IsTlv f bytes → HasFault Top bytes e → ⊥ }
     ensures reads { (bytes : List ℕ) (f : Trees) → (nodes_of_bytes bytes ≡ Some f) ↔ IsTlv f bytes }
     ensures reads_written { (f : Trees) → IsWritable f → nodes_of_bytes (shortest_tlv f) ≡ Some f }

@@ -1,4 +1,5 @@
-ghost use Rattle.std.specs.Prelude.{◌≡◌, ◌≢◌, ℕ, ◌≤◌, List, Err, length, Some, None, IfSome, IfOk, IfErr, IsErr, MatchResult, Bool, false};
+ghost use Rattle.std.specs.Prelude.{◌≡◌, ◌≢◌, ℕ, ◌≤◌, List, Err, length, Some, None, IfSome, IfOk, IfErr, IsErr};
+ghost use Rattle.std.specs.Prelude.{MatchResult, Bool, false};
 ghost use Rattle.std.specs.Str.{IsUtf8};
 ghost use Rattle.base64.specs.GeneralPurpose.{encode_of, IsBytes};
 ghost use Rattle.base64.specs.Engines.{standard};
@@ -67,7 +68,8 @@ fn good_of(alloc: Global, kind: ValueKind, text: &[u8]) -> Result<Value, ValueFa
     ensures found { IfOk result (λ v. IsGood v × (kind_of v ≡ kind) × IsText v text.now) }
     ensures only { (v : Value) → IsGood v → kind_of v ≡ kind → IsText v text.now
         → MatchResult result (λ x. x ≡ v) (λ f. f ≡ Memory) }
-    ensures refused { IfErr result (λ f. f ≢ Memory → (v : Value) → IsGood v → kind_of v ≡ kind → ¬ (IsText v text.now)) }
+    ensures refused { IfErr result (λ f.
+        f ≢ Memory → (v : Value) → IsGood v → kind_of v ≡ kind → ¬ (IsText v text.now)) }
     ensures fixed { holds_bytes kind ≡ false → IfErr result (λ f. f ≡ BadValue) }
     ensures memory { kind ≡ kinds.Text → IfErr result (λ f. f ≡ Memory → IsUtf8 text.now × (length text.now ≤ 255)) }
 {
@@ -94,8 +96,10 @@ pub fn read_text(alloc: Global, kind: ValueKind, text: &[u8]) -> Result<Value, V
     // There is no other such value, and where there is one it is read, unless memory runs out.
     ensures only { (v : Value) → IsGood v → kind_of v ≡ kind → IsText v text.now
         → MatchResult result (λ x. x ≡ v) (λ f. f ≡ Memory) }
-    ensures refused { IfErr result (λ f. f ≢ Memory → (v : Value) → IsGood v → kind_of v ≡ kind → ¬ (IsText v text.now)) }
-    ensures reading { MatchResult result (λ v. value_of_text kind text.now ≡ Some v) (λ f. f ≢ Memory → value_of_text kind text.now ≡ None) }
+    ensures refused { IfErr result (λ f.
+        f ≢ Memory → (v : Value) → IsGood v → kind_of v ≡ kind → ¬ (IsText v text.now)) }
+    ensures reading { MatchResult result (λ v. value_of_text kind text.now ≡ Some v)
+        (λ f. f ≢ Memory → value_of_text kind text.now ≡ None) }
     // Memory runs out for a Text or an Opaque alone, and for no Text that is too long or not UTF-8.
     ensures fixed { holds_bytes kind ≡ false → IfErr result (λ f. f ≡ BadValue) }
     ensures bad { kind ≢ kinds.Opaque → value_of_text kind text.now ≡ None → result ≡ Err BadValue }

@@ -1,4 +1,5 @@
-ghost use Rattle.std.specs.Prelude.{◌≡◌, ◌≤◌, ◌<◌, ◌++◌, length, List, ℕ, IfSome, IfNone, ◌/◌, ◌%◌, ◌==◌, if◌then◌else◌};
+ghost use Rattle.std.specs.Prelude.{◌≡◌, ◌≤◌, ◌<◌, ◌++◌, length, List, ℕ, IfSome, IfNone, ◌/◌, ◌%◌, ◌==◌};
+ghost use Rattle.std.specs.Prelude.{if◌then◌else◌};
 ghost use Rattle.std.specs.Int.Digits.{number_from_digits};
 ghost use Rattle.lwm2m_values.specs.declared.level.RecordType.{RecordType};
 ghost use Rattle.lwm2m_values.specs.Tlv.{IsHead, IsCut};
@@ -51,8 +52,10 @@ struct Head<'a> {
 }
 
 fn head_at(bytes: &[u8]) -> Option<Head<'_>>
-    ensures found { IfSome result (λ h. (head : List ℕ) × IsHead head h.kind h.id h.size × (bytes.now ≡ head ++ h.rest.now)) }
-    ensures cut { IfNone result ((head rest : List ℕ) (kind : RecordType) (id size : ℕ) → IsHead head kind id size → bytes.now ≡ head ++ rest → ⊥) }
+    ensures found { IfSome result (λ h. (head : List ℕ) × IsHead head h.kind h.id h.size
+        × (bytes.now ≡ head ++ h.rest.now)) }
+    ensures cut { IfNone result ((head rest : List ℕ) (kind : RecordType) (id size : ℕ) → IsHead head kind id size
+        → bytes.now ≡ head ++ rest → ⊥) }
 {
     let (first, rest) = bytes.split_first()?;
     let (id, rest) = rest.split_at_checked(usize::from(1 + first / 32 % 2))?;

@@ -42,7 +42,8 @@ fn nodes_of(alloc: Global, level: Level, bytes: &[u8]) -> Result<Vec<Node>, TlvF
 #[cycle(reading)]
 fn node_of(alloc: Global, kind: RecordType, id: u16, content: &[u8]) -> Result<Node, TlvFault>
     ensures found { IfOk result (λ n. Holds (tree_of n) kind id content.now) }
-    ensures fault { IfErr result (λ f. f ≢ Memory → (inner : Level) × (inside kind ≡ Some inner) × HasFault inner content.now f) }
+    ensures fault { IfErr result (λ f. f ≢ Memory → (inner : Level) × (inside kind ≡ Some inner)
+        × HasFault inner content.now f) }
 {
     match kind {
         RecordType::Instance => {
@@ -66,7 +67,8 @@ pub fn read_tlv(alloc: Global, bytes: &[u8]) -> Result<Vec<Node>, TlvFault>
         → MatchResult result (λ v. trees_of v.items ≡ nodes) (λ f. f ≡ Memory) }
     ensures fault { IfErr result (λ f. f ≢ Memory → HasFault Top bytes.now f) }
     ensures refused { (f : TlvFault) → HasFault Top bytes.now f → IsErrAnd result (λ g. g ≢ Memory → g ≡ f) }
-    ensures reading { MatchResult result (λ v. nodes_of_bytes bytes.now ≡ Some (trees_of v.items)) (λ f. f ≢ Memory → nodes_of_bytes bytes.now ≡ None) }
+    ensures reading { MatchResult result (λ v. nodes_of_bytes bytes.now ≡ Some (trees_of v.items))
+        (λ f. f ≢ Memory → nodes_of_bytes bytes.now ≡ None) }
 {
     nodes_of(alloc, Level::Top, bytes)
 }

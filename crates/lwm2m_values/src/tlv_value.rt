@@ -1,4 +1,5 @@
-ghost use Rattle.std.specs.Prelude.{◌≡◌, ◌≢◌, ℕ, ◌≤◌, ◌<◌, List, [], ◌∷◌, ◌++◌, length, Some, None, IfSome, IfOk, IfErr, MatchResult, Bool, false, Err, if◌then◌else◌};
+ghost use Rattle.std.specs.Prelude.{◌≡◌, ◌≢◌, ℕ, ◌≤◌, ◌<◌, List, [], ◌∷◌, ◌++◌, length, Some, None, IfSome, IfOk};
+ghost use Rattle.std.specs.Prelude.{IfErr, MatchResult, Bool, false, Err, if◌then◌else◌};
 ghost use Rattle.std.specs.Int.{w16, to_be_bytes};
 ghost use Rattle.lwm2m_values.specs.declared.fault.ValueFault.TheVariants.{BadValue, Memory};
 ghost use Rattle.std.specs.Str.{IsUtf8};
@@ -30,7 +31,8 @@ fn flag_of(bytes: &[u8]) -> Option<bool>
 /// The two numbers that four bytes are.
 fn halves_of(bytes: &[u8]) -> Option<(u16, u16)>
     ensures found { IfSome result (λ p. bytes.now ≡ to_be_bytes w16 p.0 ++ to_be_bytes w16 p.1) }
-    ensures only { (o i : ℕ) → o < 65536 → i < 65536 → bytes.now ≡ to_be_bytes w16 o ++ to_be_bytes w16 i → result ≡ Some (o, i) }
+    ensures only { (o i : ℕ) → o < 65536 → i < 65536 → bytes.now ≡ to_be_bytes w16 o ++ to_be_bytes w16 i
+        → result ≡ Some (o, i) }
 {
     match bytes {
         [a, b, c, d] => Some((u16::from_be_bytes([*a, *b]), u16::from_be_bytes([*c, *d]))),
@@ -43,7 +45,8 @@ fn good_of(alloc: Global, kind: ValueKind, bytes: &[u8]) -> Result<Value, ValueF
     ensures found { IfOk result (λ v. IsGood v × (kind_of v ≡ kind) × IsBytesOf v bytes.now) }
     ensures only { (v : Value) → IsGood v → kind_of v ≡ kind → IsBytesOf v bytes.now
         → MatchResult result (λ x. x ≡ v) (λ f. f ≡ Memory) }
-    ensures refused { IfErr result (λ f. f ≢ Memory → (v : Value) → IsGood v → kind_of v ≡ kind → ¬ (IsBytesOf v bytes.now)) }
+    ensures refused { IfErr result (λ f. f ≢ Memory → (v : Value) → IsGood v → kind_of v ≡ kind
+        → ¬ (IsBytesOf v bytes.now)) }
     ensures fixed { holds_bytes kind ≡ false → IfErr result (λ f. f ≡ BadValue) }
     ensures text { kind ≡ kinds.Text → IfErr result (λ f. f ≡ Memory → IsUtf8 bytes.now × (length bytes.now ≤ 255)) }
     ensures opaque { kind ≡ kinds.Opaque → IfErr result (λ f. f ≡ Memory → length bytes.now ≤ 1024) }
@@ -76,8 +79,10 @@ pub fn value_of(alloc: Global, kind: ValueKind, bytes: &[u8]) -> Result<Value, V
     // There is no other such value, and where there is one it is read, unless memory runs out.
     ensures only { (v : Value) → IsGood v → kind_of v ≡ kind → IsBytesOf v bytes.now
         → MatchResult result (λ x. x ≡ v) (λ f. f ≡ Memory) }
-    ensures refused { IfErr result (λ f. f ≢ Memory → (v : Value) → IsGood v → kind_of v ≡ kind → ¬ (IsBytesOf v bytes.now)) }
-    ensures reading { MatchResult result (λ v. value_of_bytes kind bytes.now ≡ Some v) (λ f. f ≢ Memory → value_of_bytes kind bytes.now ≡ None) }
+    ensures refused { IfErr result (λ f. f ≢ Memory → (v : Value) → IsGood v → kind_of v ≡ kind
+        → ¬ (IsBytesOf v bytes.now)) }
+    ensures reading { MatchResult result (λ v. value_of_bytes kind bytes.now ≡ Some v)
+        (λ f. f ≢ Memory → value_of_bytes kind bytes.now ≡ None) }
     // Memory runs out for a Text or an Opaque alone, whose bytes are those of a good value.
     ensures fixed { holds_bytes kind ≡ false → IfErr result (λ f. f ≡ BadValue) }
     ensures bad { value_of_bytes kind bytes.now ≡ None → result ≡ Err BadValue }

@@ -1,8 +1,11 @@
-ghost use Rattle.std.specs.Prelude.{◌≡◌, ◌+◌, ◌-◌, ◌*◌, ◌^◌, ◌<◌, ◌++◌, ◌↔◌, length, IfOk, OnOk, IsTrue, min, nat_lt, if◌then◌else◌};
+ghost use Rattle.std.specs.Prelude.{◌≡◌, ◌+◌, ◌-◌, ◌*◌, ◌^◌, ◌<◌, ◌++◌, ◌↔◌, length, IfOk, OnOk, IsTrue, min, nat_lt};
+ghost use Rattle.std.specs.Prelude.{if◌then◌else◌};
 ghost use Rattle.lwm2m_values.specs.declared.level.RecordType.TheVariants.{Instance};
 ghost use Rattle.lwm2m_values.specs.declared.level.Level.TheVariants.{Top};
 ghost use Rattle.lwm2m_values.specs.Tree.{tree_of, trees_of};
-ghost use Rattle.lwm2m_values.specs.Tlv.{type_bits, id_field, size_field, shortest_head, shortest_record, shortest_node, shortest_tlv, IsContent, IsNested, AreNested, IsShort, AreShort, IsWritable, IsTlv};
+ghost use Rattle.lwm2m_values.specs.Tlv.{type_bits, id_field, size_field, shortest_head, shortest_record};
+ghost use Rattle.lwm2m_values.specs.Tlv.{shortest_node, shortest_tlv, IsContent, IsNested, AreNested, IsShort};
+ghost use Rattle.lwm2m_values.specs.Tlv.{AreShort, IsWritable, IsTlv};
 
 use crate::level::{Level, RecordType, may_stand};
 use crate::node::Node;
@@ -27,7 +30,8 @@ fn bits_of(kind: RecordType) -> u8
 
 /// The first byte of the shortest head.
 fn first_byte(kind: RecordType, id: u16, size: usize) -> u8
-    ensures { result ≡ 64 * type_bits kind + 32 * (length (id_field id) - 1) + 8 * length (size_field size) + (if nat_lt size 8 then size else 0) }
+    ensures { result ≡ 64 * type_bits kind + 32 * (length (id_field id) - 1) + 8 * length
+        (size_field size) + (if nat_lt size 8 then size else 0) }
 {
     let id_bits = if id < 256 { 0 } else { 32 };
     let size_bits = if size < 8 {

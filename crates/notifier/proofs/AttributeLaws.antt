@@ -1,5 +1,6 @@
 -- Changes of attributes, one after another.
-use Rattle.std.proofs.Common.{◌≡◌, ℕ, ℤ, true, false, cond, List, [], ◌∷◌, Option, None, Some, refl, sym, ap, ◌∙◌, ◌≤◌, length, drop, rules}
+use Rattle.std.proofs.Common.{◌≡◌, ℕ, ℤ, true, false, cond, List, [], ◌∷◌, Option, None, Some, refl, sym, ap, ◌∙◌, ◌≤◌}
+use Rattle.std.proofs.Common.{length, drop, rules}
 use Rattle.std.proofs.lemmas.List.{drop_all}
 use Rattle.std.specs.Ordering.{eq_by_cmp}
 use Rattle.std.specs.Cmp.{eq_by_cmp_equiv, Equal-is}
@@ -45,19 +46,26 @@ own_name St = refl
 key_test : (s : ℕ) (p : Path) (a b : Name) → eq_by_cmp key_cmp (key_of s p a) (key_of s p b) ≡ eq-value.it b a
 key_test s p a b =
     elim (eq-value.it b a) as (λ t. eq-value.it b a ≡ t → eq_by_cmp key_cmp (key_of s p a) (key_of s p b) ≡ t) [
-      | true ↦ λ h. ap (λ n. eq_by_cmp key_cmp (key_of s p a) (key_of s p n)) (same_name b a h) ∙ (eq_by_cmp_equiv key_total).refl (key_of s p a)
+      | true ↦ λ h. ap (λ n. eq_by_cmp key_cmp (key_of s p a) (key_of s p n)) (same_name b a h)
+          ∙ (eq_by_cmp_equiv key_total).refl (key_of s p a)
       | false ↦ λ h. false_from_ne_true _ (λ k.
           let keys = key_exact (key_of s p a) (key_of s p b) ((Equal-is _).0 k) in
           let names = sym (name_of_key s p a) ∙ ap (λ q. q.name) keys ∙ name_of_key s p b in
           false≢true (sym h ∙ ap (λ n. eq-value.it n a) (sym names) ∙ own_name a))
     ] refl
 
-changed_number : (m : Numbers) (s : ℕ) (p : Path) (c : Name) (z : Option ℤ) (n : Name) → assigned (with_number m (key_of s p c) z) s p n ≡ cond (eq-value.it c n) z (assigned m s p n)
-changed_number m s p c None n = map.get-remove key_total m (key_of s p c) (key_of s p n) ∙ ap (λ b. cond b None (assigned m s p n)) (key_test s p n c)
-changed_number m s p c (Some z) n = map.get-insert key_total m (key_of s p c) z (key_of s p n) ∙ ap (λ b. cond b (Some z) (assigned m s p n)) (key_test s p n c)
+changed_number : (m : Numbers) (s : ℕ) (p : Path) (c : Name) (z : Option ℤ) (n : Name)
+    → assigned (with_number m (key_of s p c) z) s p n ≡ cond (eq-value.it c n) z (assigned m s p n)
+changed_number m s p c None n =
+    map.get-remove key_total m (key_of s p c) (key_of s p n)
+    ∙ ap (λ b. cond b None (assigned m s p n)) (key_test s p n c)
+changed_number m s p c (Some z) n =
+    map.get-insert key_total m (key_of s p c) z (key_of s p n)
+    ∙ ap (λ b. cond b (Some z) (assigned m s p n)) (key_test s p n c)
 
 -- the number after some changes is that of the last of its name
-pub after_written : (m : Numbers) (s : ℕ) (p : Path) (cs : List Change) (n : Name) → assigned (written m s p cs) s p n ≡ last_of (assigned m s p n) cs n
+pub after_written : (m : Numbers) (s : ℕ) (p : Path) (cs : List Change) (n : Name)
+    → assigned (written m s p cs) s p n ≡ last_of (assigned m s p n) cs n
 after_written m s p [] n = refl
 after_written m s p (c ∷ cs) n =
     after_written (with_number m (key_of s p c.name) c.number) s p cs n

@@ -10,7 +10,8 @@ use Rattle.notifier.specs.contracts.observations.KeyClone.TheImpl.{is_clone-valu
 use Rattle.notifier.specs.contracts.observation.ReportClone.TheImpl.{is_clone-value as report_clone}
 use Rattle.notifier.specs.contracts.observation.ObservationClone.TheImpl.{is_clone-value as observation_clone}
 
-pub same_list : {X : Type 0} (C : X → X → Type 0) → ((x y : X) → C x y → y ≡ x) → (xs ys : List X) → AllZip C xs ys → ys ≡ xs
+pub same_list : {X : Type 0} (C : X → X → Type 0) → ((x y : X) → C x y → y ≡ x) → (xs ys : List X) → AllZip C xs ys
+    → ys ≡ xs
 same_list C same [] [] h = refl
 same_list C same [] (y ∷ ys) h = absurd h
 same_list C same (x ∷ xs) [] h = absurd h
@@ -35,7 +36,18 @@ same_observation o w h =
     let number : w.number ≡ o.number = search rules in
     let non : w.non ≡ o.non = search rules in
     let mid : w.mid ≡ o.mid = search rules in
-    λ i. record { server = h.0 i; token = token i; path = path i; accept = accept i; report = report i; second = second i; number = number i; non = non i; mid = mid i }
+    λ i. record {
+      server = h.0 i;
+      token = token i;
+      path = path i;
+      accept = accept i;
+      report = report i;
+      second =
+          second i;
+      number = number i;
+      non = non i;
+      mid = mid i;
+    }
 
 abbrev IsEntryClone : Key × Observation → Key × Observation → Type 0
 IsEntryClone p q = key_clone.it p.0 q.0 × observation_clone.it p.1 q.1
@@ -46,7 +58,8 @@ same_values [] (f ∷ fs) h = absurd h
 same_values (e ∷ es) [] h = absurd h
 same_values (e ∷ es) (f ∷ fs) h = λ i. same_observation e.1 f.1 h.0.1 i ∷ same_values es fs h.1 i
 
-pub keyed_clones : (es fs : List (Key × Observation)) → AllZip IsEntryClone es fs → AllByRecursion IsKeyed es → AllByRecursion IsKeyed fs
+pub keyed_clones : (es fs : List (Key × Observation)) → AllZip IsEntryClone es fs → AllByRecursion IsKeyed es
+    → AllByRecursion IsKeyed fs
 keyed_clones [] [] h k = tt
 keyed_clones [] (f ∷ fs) h k = absurd h
 keyed_clones (e ∷ es) [] h k = absurd h

@@ -42,8 +42,18 @@ name_exact St St h = refl
 
 pub key_exact : CmpEqualImpliesEq key_cmp
 key_exact a b h =
-    ap (λ (t : ℕ × (ℕ × (Option ℕ × (Option ℕ × (Option ℕ × Name))))). record { server = t.0; object = t.1.0; instance = t.1.1.0; resource = t.1.1.1.0; part = t.1.1.1.1.0; name = t.1.1.1.1.1 })
+    ap (λ (t : ℕ × (ℕ × (Option ℕ × (Option ℕ × (Option ℕ × Name))))). record {
+      server = t.0;
+      object = t.1.0;
+      instance = t.1.1.0;
+      resource = t.1.1.1.0;
+      part = t.1.1.1.1.0;
+      name =
+          t.1.1.1.1.1;
+    })
     (exact_pairs nat_cmp _ exact_unsigned (exact_pairs nat_cmp _ exact_unsigned
-    (exact_pairs (option_cmp nat_cmp) _ (exact_options nat_cmp exact_unsigned) (exact_pairs (option_cmp nat_cmp) _ (exact_options nat_cmp exact_unsigned)
+    (exact_pairs (option_cmp nat_cmp) _ (exact_options nat_cmp exact_unsigned)
+    (exact_pairs (option_cmp nat_cmp) _ (exact_options nat_cmp exact_unsigned)
     (exact_pairs (option_cmp nat_cmp) name_cmp (exact_options nat_cmp exact_unsigned) name_exact))))
-    (a.server, (a.object, (a.instance, (a.resource, (a.part, a.name))))) (b.server, (b.object, (b.instance, (b.resource, (b.part, b.name))))) h)
+    (a.server, (a.object, (a.instance, (a.resource, (a.part, a.name)))))
+    (b.server, (b.object, (b.instance, (b.resource, (b.part, b.name))))) h)

@@ -1,5 +1,7 @@
 -- The observations of an insertion-ordered map whose keys are their names.
-use Rattle.std.proofs.Common.{◌≡◌, ℕ, ◌+◌, ◌<◌, ◌≤◌, length, arith, zero, suc, ◌==◌, Bool, true, false, cond, ◌&&◌, ◌||◌, List, [], ◌∷◌, ◌++◌, Option, None, Some, filter, remove, slice_get, slice_set, IfSome, refl, sym, ap, subst, ◌∙◌, if◌then◌else◌, eqb-true}
+use Rattle.std.proofs.Common.{◌≡◌, ℕ, ◌+◌, ◌<◌, ◌≤◌, length, arith, zero, suc, ◌==◌, Bool, true, false, cond, ◌&&◌}
+use Rattle.std.proofs.Common.{◌||◌, List, [], ◌∷◌, ◌++◌, Option, None, Some, filter, remove, slice_get, slice_set}
+use Rattle.std.proofs.Common.{IfSome, refl, sym, ap, subst, ◌∙◌, if◌then◌else◌, eqb-true}
 use Rattle.std.proofs.lemmas.Bool.{and_parts}
 use Rattle.std.proofs.lemmas.Nat.{mod_below}
 use Rattle.std.proofs.lemmas.Slice.Eq.{bytes_eq-Decides}
@@ -10,20 +12,24 @@ use Rattle.std.specs.Str.{bytes_eq}
 use Rattle.indexmap.specs.IndexMap.{set_value_at}
 use Rattle.notifier.specs.declared.observation.Observation.{Observation}
 use Rattle.notifier.specs.declared.observations.Key.{Key}
-use Rattle.notifier.specs.Observed.{HasNumber, IsKeyed, HaveDistinctNames, is_named, next_number, number_for, registered}
+use Rattle.notifier.specs.Observed.{HasNumber, IsKeyed, HaveDistinctNames, is_named, next_number, number_for}
+use Rattle.notifier.specs.Observed.{registered}
 use Rattle.notifier.proofs.Places.{IsFirst, find_first, find_none, passes_first}
 
 -- ---- the values of a map
 
-pub values-set_value_at : {K X : Type 0} (es : List (K × X)) (i : ℕ) (w : X) → values_of (set_value_at es i w) ≡ slice_set (values_of es) i w
+pub values-set_value_at : {K X : Type 0} (es : List (K × X)) (i : ℕ) (w : X)
+    → values_of (set_value_at es i w) ≡ slice_set (values_of es) i w
 values-set_value_at [] i w = refl
 values-set_value_at (e ∷ es) zero w = refl
 values-set_value_at (e ∷ es) (suc i) w = ap (λ t. e.1 ∷ t) (values-set_value_at es i w)
 
-pub values-filter : {K X : Type 0} (p : X → Bool) (es : List (K × X)) → values_of (filter (λ e. p e.1) es) ≡ filter p (values_of es)
+pub values-filter : {K X : Type 0} (p : X → Bool) (es : List (K × X))
+    → values_of (filter (λ e. p e.1) es) ≡ filter p (values_of es)
 values-filter p [] = refl
 values-filter p (e ∷ es) =
-    elim (p e.1) as (λ b. values_of (cond b (e ∷ filter (λ x. p x.1) es) (filter (λ x. p x.1) es)) ≡ cond b (e.1 ∷ filter p (values_of es)) (filter p (values_of es))) [
+    elim (p e.1) as (λ b. values_of (cond b (e ∷ filter (λ x. p x.1) es) (filter (λ x. p x.1) es))
+    ≡ cond b (e.1 ∷ filter p (values_of es)) (filter p (values_of es))) [
       | true ↦ ap (λ t. e.1 ∷ t) (values-filter p es)
       | false ↦ values-filter p es
     ]
@@ -40,13 +46,15 @@ values-remove (e ∷ es) (suc i) = ap (λ t. e.1 ∷ t) (values-remove es i)
 
 -- ---- what holds of each entry
 
-pub each-remove : {X : Type 0} (P : X → Type 0) (xs : List X) (i : ℕ) → AllByRecursion P xs → AllByRecursion P (remove xs i)
+pub each-remove : {X : Type 0} (P : X → Type 0) (xs : List X) (i : ℕ) → AllByRecursion P xs
+    → AllByRecursion P (remove xs i)
 each-remove P [] zero h = tt
 each-remove P [] (suc i) h = tt
 each-remove P (x ∷ xs) zero h = h.1
 each-remove P (x ∷ xs) (suc i) h = (h.0, each-remove P xs i h.1)
 
-pub each-filter : {X : Type 0} (P : X → Type 0) (q : X → Bool) (xs : List X) → AllByRecursion P xs → AllByRecursion P (filter q xs)
+pub each-filter : {X : Type 0} (P : X → Type 0) (q : X → Bool) (xs : List X) → AllByRecursion P xs
+    → AllByRecursion P (filter q xs)
 each-filter P q [] h = tt
 each-filter P q (x ∷ xs) h =
     elim (q x) as (λ b. AllByRecursion P (cond b (x ∷ filter q xs) (filter q xs))) [
@@ -54,16 +62,20 @@ each-filter P q (x ∷ xs) h =
       | false ↦ each-filter P q xs h.1
     ]
 
-pub each-append : {X : Type 0} (P : X → Type 0) (xs : List X) (x : X) → AllByRecursion P xs → P x → AllByRecursion P (xs ++ x ∷ [])
+pub each-append : {X : Type 0} (P : X → Type 0) (xs : List X) (x : X) → AllByRecursion P xs → P x
+    → AllByRecursion P (xs ++ x ∷ [])
 each-append P [] x h p = (p, tt)
 each-append P (y ∷ ys) x h p = (h.0, each-append P ys x h.1 p)
 
 -- a number that comes next has 24 bits
 pub next_fits : (n m : ℕ) → m ≡ next_number n → m < 16777216
-next_fits n m next = let positive : 0 < 16777216 = omega arith in subst (λ (k : ℕ). k < 16777216) (sym next) (mod_below (n + 1) 16777216 positive)
+next_fits n m next = let positive : 0 < 16777216 =
+    omega arith in subst (λ (k : ℕ). k < 16777216) (sym next) (mod_below (n + 1) 16777216 positive)
 
 -- an observation that comes in the place of another of its name
-pub keyed_set : (es : List (Key × Observation)) (i : ℕ) (o w : Observation) → AllByRecursion IsKeyed es → slice_get (values_of es) i ≡ Some o → o.server ≡ w.server → o.token ≡ w.token → HasNumber w → AllByRecursion IsKeyed (set_value_at es i w)
+pub keyed_set : (es : List (Key × Observation)) (i : ℕ) (o w : Observation) → AllByRecursion IsKeyed es
+    → slice_get (values_of es) i ≡ Some o → o.server ≡ w.server → o.token ≡ w.token → HasNumber w
+    → AllByRecursion IsKeyed (set_value_at es i w)
 keyed_set [] i o w h at server token number = tt
 keyed_set (e ∷ es) zero o w h at server token number =
     let same : e.1 ≡ o = cc in (
@@ -78,13 +90,17 @@ keyed_set (e ∷ es) zero o w h at server token number =
 keyed_set (e ∷ es) (suc i) o w h at server token number = (h.0, keyed_set es i o w h.1 at server token number)
 
 -- what the keys say of each observation holds of the one at a place
-holds_at : (P : Observation → Type 0) → ((e : Key × Observation) → IsKeyed e → P e.1) → (es : List (Key × Observation)) (i : ℕ) (o : Observation) → AllByRecursion IsKeyed es → slice_get (values_of es) i ≡ Some o → P o
+holds_at : (P : Observation → Type 0) → ((e : Key × Observation) → IsKeyed e → P e.1)
+    → (es : List (Key × Observation)) (i : ℕ) (o : Observation) → AllByRecursion IsKeyed es
+    → slice_get (values_of es) i ≡ Some o → P o
 holds_at P says [] i o h at = cc
 holds_at P says (e ∷ es) zero o h at = let same : e.1 ≡ o = cc in subst P same (says e h.0)
 holds_at P says (e ∷ es) (suc i) o h at = holds_at P says es i o h.1 at
 
 -- the same of a place that may be none
-pub if_at : (P : Observation → Type 0) → ((e : Key × Observation) → IsKeyed e → P e.1) → (es : List (Key × Observation)) (i : ℕ) (r : Option Observation) → AllByRecursion IsKeyed es → r ≡ slice_get (values_of es) i → IfSome r P
+pub if_at : (P : Observation → Type 0) → ((e : Key × Observation) → IsKeyed e → P e.1)
+    → (es : List (Key × Observation)) (i : ℕ) (r : Option Observation) → AllByRecursion IsKeyed es
+    → r ≡ slice_get (values_of es) i → IfSome r P
 if_at P says es i None h at = tt
 if_at P says es i (Some o) h at = holds_at P says es i o h (sym at)
 
@@ -102,22 +118,30 @@ either true b h = cc
 either false b h = (refl, h)
 
 -- a name that no observation has is no key
-pub no_key : (eq : Key → Key → Bool) → tests_names eq → (k : Key) (es : List (Key × Observation)) → AllByRecursion IsKeyed es → list_any (is_named k.server k.token.items) (values_of es) ≡ false → lookup (eq k) es ≡ None
+pub no_key : (eq : Key → Key → Bool) → tests_names eq → (k : Key) (es : List (Key × Observation))
+    → AllByRecursion IsKeyed es → list_any (is_named k.server k.token.items) (values_of es) ≡ false
+    → lookup (eq k) es ≡ None
 no_key eq law k [] h none = refl
 no_key eq law k (e ∷ es) h none =
     let parts = either (is_named k.server k.token.items e.1) _ none in
-    let at : eq k e.0 ≡ false = law k e.0 ∙ (λ j. k.server == h.0.server j && bytes_eq k.token.items (h.0.token j)) ∙ parts.0 in
+    let at : eq k e.0 ≡ false =
+    law k e.0 ∙ (λ j. k.server == h.0.server j && bytes_eq k.token.items (h.0.token j)) ∙ parts.0 in
     ap (λ b. cond b (Some e.1) (lookup (eq k) es)) at ∙ no_key eq law k es h.1 parts.1
 
 -- ---- a registration
 
-pub number_for-first : (os : List Observation) (server : ℕ) (token : List ℕ) (i : ℕ) (o : Observation) → IsFirst (is_named server token) os i → slice_get os i ≡ Some o → number_for os server token ≡ next_number o.number
-number_for-first os server token i o first at = ap (λ f. option_map_or (λ x. next_number x.number) f 0) (find_first _ os i first ∙ at)
+pub number_for-first : (os : List Observation) (server : ℕ) (token : List ℕ) (i : ℕ) (o : Observation)
+    → IsFirst (is_named server token) os i → slice_get os i ≡ Some o → number_for os server token ≡ next_number o.number
+number_for-first os server token i o first at =
+    ap (λ f. option_map_or (λ x. next_number x.number) f 0) (find_first _ os i first ∙ at)
 
-pub number_for-none : (os : List Observation) (server : ℕ) (token : List ℕ) → list_any (is_named server token) os ≡ false → number_for os server token ≡ 0
+pub number_for-none : (os : List Observation) (server : ℕ) (token : List ℕ)
+    → list_any (is_named server token) os ≡ false → number_for os server token ≡ 0
 number_for-none os server token none = ap (λ f. option_map_or (λ x. next_number x.number) f 0) (find_none _ os none)
 
-pub registered-first : (os : List Observation) (new o : Observation) (i : ℕ) → IsFirst (is_named new.server new.token) os i → slice_get os i ≡ Some o → registered os new ≡ slice_set os i (record new { number = next_number o.number })
+pub registered-first : (os : List Observation) (new o : Observation) (i : ℕ)
+    → IsFirst (is_named new.server new.token) os i → slice_get os i ≡ Some o
+    → registered os new ≡ slice_set os i (record new { number = next_number o.number })
 registered-first [] new o i first at = absurd first
 registered-first (x ∷ os) new o zero first at =
     let same : x ≡ o = cc in
@@ -127,7 +151,8 @@ registered-first (x ∷ os) new o (suc i) first at =
     ap (λ b. if b then record new { number = next_number x.number } ∷ os else x ∷ registered os new) first.0
     ∙ ap (λ t. x ∷ t) (registered-first os new o i first.1 at)
 
-pub registered-none : (os : List Observation) (new : Observation) → list_any (is_named new.server new.token) os ≡ false → registered os new ≡ os ++ record new { number = 0 } ∷ []
+pub registered-none : (os : List Observation) (new : Observation) → list_any (is_named new.server new.token) os ≡ false
+    → registered os new ≡ os ++ record new { number = 0 } ∷ []
 registered-none [] new none = refl
 registered-none (x ∷ os) new none =
     let parts = either _ _ none in
@@ -135,10 +160,14 @@ registered-none (x ∷ os) new none =
     ∙ ap (λ t. x ∷ t) (registered-none os new parts.1)
 
 -- an observation of this name has this server and this token
-pub name_is : (server : ℕ) (token : List ℕ) (o : Observation) → is_named server token o ≡ true → (o.server ≡ server) × (o.token ≡ token)
-name_is server token o h = let parts = and_parts _ _ h in (sym (eqb-true server o.server parts.0), sym ((bytes_eq-Decides token o.token).0 parts.1))
+pub name_is : (server : ℕ) (token : List ℕ) (o : Observation) → is_named server token o ≡ true → (o.server ≡ server)
+    × (o.token ≡ token)
+name_is server token o h = let parts =
+    and_parts _ _ h in (sym (eqb-true server o.server parts.0), sym ((bytes_eq-Decides token o.token).0 parts.1))
 
-pub keyed_renewed : (es : List (Key × Observation)) (i : ℕ) (o w : Observation) → AllByRecursion IsKeyed es → IsFirst (is_named w.server w.token) (values_of es) i → slice_get (values_of es) i ≡ Some o → HasNumber w → AllByRecursion IsKeyed (set_value_at es i w)
+pub keyed_renewed : (es : List (Key × Observation)) (i : ℕ) (o w : Observation) → AllByRecursion IsKeyed es
+    → IsFirst (is_named w.server w.token) (values_of es) i → slice_get (values_of es) i ≡ Some o → HasNumber w
+    → AllByRecursion IsKeyed (set_value_at es i w)
 keyed_renewed es i o w h first at number =
     let name = name_is w.server w.token o (passes_first _ (values_of es) i o first at) in
     keyed_set es i o w h at name.0 name.1 number
@@ -153,14 +182,21 @@ kept_at_most q (x ∷ xs) =
       | false ↦ omega (arith, kept_at_most q xs)
     ]
 
-none_named : (eq : Key → Key → Bool) → tests_names eq → (k : Key) (es : List (Key × Observation)) → AllByRecursion IsKeyed es → AllByRecursion (λ j. eq k j ≡ false) (keys_of es) → list_any (is_named k.server k.token.items) (values_of es) ≡ false
+none_named : (eq : Key → Key → Bool) → tests_names eq → (k : Key) (es : List (Key × Observation))
+    → AllByRecursion IsKeyed es → AllByRecursion (λ j. eq k j ≡ false) (keys_of es)
+    → list_any (is_named k.server k.token.items) (values_of es) ≡ false
 none_named eq law k [] h apart = refl
 none_named eq law k (e ∷ es) h apart =
-    let at : is_named k.server k.token.items e.1 ≡ false = sym (λ j. k.server == h.0.server j && bytes_eq k.token.items (h.0.token j)) ∙ sym (law k e.0) ∙ apart.0 in
+    let at : is_named k.server k.token.items e.1 ≡ false =
+    sym (λ j. k.server == h.0.server j && bytes_eq k.token.items (h.0.token j)) ∙ sym (law k e.0) ∙ apart.0 in
     ap (λ b. b || list_any (is_named k.server k.token.items) (values_of es)) at ∙ none_named eq law k es h.1 apart.1
 
-pub names_differ : (eq : Key → Key → Bool) → tests_names eq → (es : List (Key × Observation)) → AllByRecursion IsKeyed es → IsDistinct eq (keys_of es) → HaveDistinctNames (values_of es)
+pub names_differ : (eq : Key → Key → Bool) → tests_names eq → (es : List (Key × Observation))
+    → AllByRecursion IsKeyed es → IsDistinct eq (keys_of es) → HaveDistinctNames (values_of es)
 unfolding IsDistinct
 names_differ eq law [] h apart = tt
-names_differ eq law (e ∷ es) h apart =
-    ((λ j. list_any (is_named (sym h.0.server j) (sym h.0.token j)) (values_of es)) ∙ none_named eq law e.0 es h.1 apart.0, names_differ eq law es h.1 apart.1)
+names_differ eq law (e ∷ es) h apart = (
+  (λ j. list_any (is_named (sym h.0.server j) (sym h.0.token j)) (values_of es))
+      ∙ none_named eq law e.0 es h.1 apart.0,
+  names_differ eq law es h.1 apart.1,
+)

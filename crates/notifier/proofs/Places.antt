@@ -1,5 +1,6 @@
 -- The first place in a list at which a test passes.
-use Rattle.std.proofs.Common.{◌≡◌, ℕ, zero, suc, ◌+◌, Bool, true, false, cond, ◌||◌, List, [], ◌∷◌, None, Some, position, slice_get, refl, sym, ap, subst, ◌∙◌, arith}
+use Rattle.std.proofs.Common.{◌≡◌, ℕ, zero, suc, ◌+◌, Bool, true, false, cond, ◌||◌, List, [], ◌∷◌, None, Some}
+use Rattle.std.proofs.Common.{position, slice_get, refl, sym, ap, subst, ◌∙◌, arith}
 use Rattle.std.specs.List.{position_from, list_any, find}
 use Rattle.std.specs.Option.{is_some}
 use Rattle.std.proofs.lemmas.Iterator.Adapters.{position_from-zero}
@@ -10,10 +11,12 @@ IsFirst p [] i = ⊥
 IsFirst p (x ∷ xs) zero = p x ≡ true
 IsFirst p (x ∷ xs) (suc i) = (p x ≡ false) × IsFirst p xs i
 
-first_from : {X : Type 0} (p : X → Bool) (xs : List X) (n m : ℕ) → position_from p n xs ≡ Some m → (i : ℕ) × (m ≡ n + i) × IsFirst p xs i
+first_from : {X : Type 0} (p : X → Bool) (xs : List X) (n m : ℕ) → position_from p n xs ≡ Some m → (i : ℕ) × (m ≡ n + i)
+    × IsFirst p xs i
 first_from p [] n m h = cc
 first_from p (x ∷ xs) n m h =
-    elim (p x) as (λ b. p x ≡ b → cond b (Some n) (position_from p (n + 1) xs) ≡ Some m → (i : ℕ) × (m ≡ n + i) × IsFirst p (x ∷ xs) i) [
+    elim (p x) as (λ b. p x ≡ b → cond b (Some n) (position_from p (n + 1) xs) ≡ Some m → (i : ℕ) × (m ≡ n + i)
+    × IsFirst p (x ∷ xs) i) [
       | true ↦ λ e k. let same : n ≡ m = cc in (zero, omega arith, e)
       | false ↦ λ e k. let rest = first_from p xs (n + 1) m k in (suc rest.0, omega (arith, rest.1), (e, rest.2))
     ] refl h
@@ -42,7 +45,8 @@ find_none p (x ∷ xs) h =
       | false ↦ λ k. find_none p xs k
     ] h
 
-pub passes_first : {X : Type 0} (p : X → Bool) (xs : List X) (i : ℕ) (x : X) → IsFirst p xs i → slice_get xs i ≡ Some x → p x ≡ true
+pub passes_first : {X : Type 0} (p : X → Bool) (xs : List X) (i : ℕ) (x : X) → IsFirst p xs i → slice_get xs i ≡ Some x
+    → p x ≡ true
 passes_first p [] i x h at = absurd h
 passes_first p (y ∷ ys) zero x h at = let same : y ≡ x = cc in ap p (sym same) ∙ h
 passes_first p (y ∷ ys) (suc i) x h at = passes_first p ys i x h.1 at

@@ -1,73 +1,107 @@
 -- Queries, read one after another.
-use Rattle.std.proofs.Common.{◌≡◌, ◌≢◌, ℕ, Bool, true, false, if◌then◌else◌, Option, None, Some, List, [], ◌∷◌, ◌++◌, Result, Ok, Err, map, drop, get_or, length, ◌+◌, ◌<◌, ℤ, sym, ap, ◌∙◌, add-one, drop-cons, Bor, ◌⊎◌, inl, inr, IsOk, arith, refl, subst}
+use Rattle.std.proofs.Common.{◌≡◌, ◌≢◌, ℕ, Bool, true, false, if◌then◌else◌, Option, None, Some, List, [], ◌∷◌, ◌++◌}
+use Rattle.std.proofs.Common.{Result, Ok, Err, map, drop, get_or, length, ◌+◌, ◌<◌, ℤ, sym, ap, ◌∙◌, add-one, drop-cons}
+use Rattle.std.proofs.Common.{Bor, ◌⊎◌, inl, inr, IsOk, arith, refl, subst}
 use Rattle.std.specs.List.{list_any}
 use Rattle.notifier.specs.declared.attribute.Change.{Change}
 use Rattle.notifier.specs.declared.attribute.Level.{Level}
 use Rattle.notifier.specs.declared.fault.QueryFault.{QueryFault}
 use Rattle.notifier.specs.declared.attribute.Name.{Name}
 use Rattle.notifier.specs.declared.fault.QueryFault.TheVariants as fault
-use Rattle.notifier.specs.Query.{BeginsWithChange, reading_of, change_of, change_to, changes_of, is_of, name_of, name_part, number_part, stands_at, target_of}
+use Rattle.notifier.specs.Query.{BeginsWithChange, reading_of, change_of, change_to, changes_of, is_of, name_of}
+use Rattle.notifier.specs.Query.{name_part, number_part, stands_at, target_of}
 
 -- where the first query spells a change, the others follow it
-pub after_first : (before c : List Change) (level : Level) (q : List ℕ) (qs : List (List ℕ)) → changes_of before level (q ∷ []) ≡ Ok c → changes_of before level (q ∷ qs) ≡ changes_of c level qs
+pub after_first : (before c : List Change) (level : Level) (q : List ℕ) (qs : List (List ℕ))
+    → changes_of before level (q ∷ []) ≡ Ok c → changes_of before level (q ∷ qs) ≡ changes_of c level qs
 after_first before c level q qs h =
-    elim (reading_of before level q) as (λ r. (elim r as (λ _. Result (List Change) QueryFault) [ Ok x ↦ Ok (before ++ x ∷ []) | Err e ↦ Err e ]) ≡ Ok c → (elim r as (λ _. Result (List Change) QueryFault) [ Ok x ↦ changes_of (before ++ x ∷ []) level qs | Err e ↦ Err e ]) ≡ changes_of c level qs) [
+    elim (reading_of before level q) as (λ r.
+    (elim r as (λ _. Result (List Change) QueryFault) [ Ok x ↦ Ok (before ++ x ∷ []) | Err e ↦ Err e ]) ≡ Ok c
+    → (elim r as (λ _. Result (List Change) QueryFault)
+    [ Ok x ↦ changes_of (before ++ x ∷ []) level qs | Err e ↦ Err e ]) ≡ changes_of c level qs) [
       | Ok x ↦ λ k. let same : before ++ x ∷ [] ≡ c = cc in ap (λ b. changes_of b level qs) same
       | Err e ↦ λ k. cc
     ] h
 
 -- where it has a fault, that is the fault
-pub fault_first : (before : List Change) (level : Level) (q : List ℕ) (qs : List (List ℕ)) (e : QueryFault) → changes_of before level (q ∷ []) ≡ Err e → changes_of before level (q ∷ qs) ≡ Err e
+pub fault_first : (before : List Change) (level : Level) (q : List ℕ) (qs : List (List ℕ)) (e : QueryFault)
+    → changes_of before level (q ∷ []) ≡ Err e → changes_of before level (q ∷ qs) ≡ Err e
 fault_first before level q qs e h =
-    elim (reading_of before level q) as (λ r. (elim r as (λ _. Result (List Change) QueryFault) [ Ok x ↦ Ok (before ++ x ∷ []) | Err f ↦ Err f ]) ≡ Err e → (elim r as (λ _. Result (List Change) QueryFault) [ Ok x ↦ changes_of (before ++ x ∷ []) level qs | Err f ↦ Err f ]) ≡ Err e) [
+    elim (reading_of before level q) as (λ r.
+    (elim r as (λ _. Result (List Change) QueryFault) [ Ok x ↦ Ok (before ++ x ∷ []) | Err f ↦ Err f ]) ≡ Err e
+    → (elim r as (λ _. Result (List Change) QueryFault)
+    [ Ok x ↦ changes_of (before ++ x ∷ []) level qs | Err f ↦ Err f ]) ≡ Err e) [
       | Ok x ↦ λ k. cc
       | Err f ↦ λ k. k
     ] h
 
 -- the queries from a place on, and the one at that place
-from_place : (qs : List (Bor (List ℕ))) (i : ℕ) (d : Bor (List ℕ)) → i < length qs → map (λ q. q.now) (drop i qs) ≡ (get_or qs i d).now ∷ map (λ q. q.now) (drop (i + 1) qs)
-from_place qs i d h = ap (map (λ q. q.now)) (drop-cons qs i d h) ∙ ap (λ n. (get_or qs i d).now ∷ map (λ q. q.now) (drop n qs)) (sym (add-one i))
+from_place : (qs : List (Bor (List ℕ))) (i : ℕ) (d : Bor (List ℕ)) → i < length qs
+    → map (λ q. q.now) (drop i qs) ≡ (get_or qs i d).now ∷ map (λ q. q.now) (drop (i + 1) qs)
+from_place qs i d h =
+    ap (map (λ q. q.now)) (drop-cons qs i d h)
+    ∙ ap (λ n. (get_or qs i d).now ∷ map (λ q. q.now) (drop n qs)) (sym (add-one i))
 
 -- one query more is read
-pub one_read : (before c : List Change) (level : Level) (qs : List (Bor (List ℕ))) (i : ℕ) (d : Bor (List ℕ)) → i < length qs → changes_of before level ((get_or qs i d).now ∷ []) ≡ Ok c → changes_of c level (map (λ q. q.now) (drop (i + 1) qs)) ≡ changes_of before level (map (λ q. q.now) (drop i qs))
+pub one_read : (before c : List Change) (level : Level) (qs : List (Bor (List ℕ))) (i : ℕ) (d : Bor (List ℕ))
+    → i < length qs → changes_of before level ((get_or qs i d).now ∷ []) ≡ Ok c
+    → changes_of c level (map (λ q. q.now) (drop (i + 1) qs))
+    ≡ changes_of before level (map (λ q. q.now) (drop i qs))
 one_read before c level qs i d inside h =
-    sym (after_first before c level (get_or qs i d).now (map (λ q. q.now) (drop (i + 1) qs)) h) ∙ ap (changes_of before level) (sym (from_place qs i d inside))
+    sym (after_first before c level (get_or qs i d).now (map (λ q. q.now) (drop (i + 1) qs)) h)
+    ∙ ap (changes_of before level) (sym (from_place qs i d inside))
 
-pub one_refused : (before : List Change) (level : Level) (qs : List (Bor (List ℕ))) (i : ℕ) (d : Bor (List ℕ)) (e : QueryFault) → i < length qs → changes_of before level ((get_or qs i d).now ∷ []) ≡ Err e → changes_of before level (map (λ q. q.now) (drop i qs)) ≡ Err e
-one_refused before level qs i d e inside h = ap (changes_of before level) (from_place qs i d inside) ∙ fault_first before level (get_or qs i d).now (map (λ q. q.now) (drop (i + 1) qs)) e h
+pub one_refused : (before : List Change) (level : Level) (qs : List (Bor (List ℕ))) (i : ℕ) (d : Bor (List ℕ))
+    (e : QueryFault) → i < length qs → changes_of before level ((get_or qs i d).now ∷ []) ≡ Err e
+    → changes_of before level (map (λ q. q.now) (drop i qs)) ≡ Err e
+one_refused before level qs i d e inside h =
+    ap (changes_of before level) (from_place qs i d inside)
+    ∙ fault_first before level (get_or qs i d).now (map (λ q. q.now) (drop (i + 1) qs)) e h
 
 -- a query that is read spells a change
-pub one_spelled : (before c : List Change) (level : Level) (q : List ℕ) → changes_of before level (q ∷ []) ≡ Ok c → IsOk (reading_of before level q)
+pub one_spelled : (before c : List Change) (level : Level) (q : List ℕ) → changes_of before level (q ∷ []) ≡ Ok c
+    → IsOk (reading_of before level q)
 one_spelled before c level q h =
-    elim (reading_of before level q) as (λ r. (elim r as (λ _. Result (List Change) QueryFault) [ Ok x ↦ Ok (before ++ x ∷ []) | Err e ↦ Err e ]) ≡ Ok c → IsOk r) [
+    elim (reading_of before level q) as (λ r.
+    (elim r as (λ _. Result (List Change) QueryFault) [ Ok x ↦ Ok (before ++ x ∷ []) | Err e ↦ Err e ]) ≡ Ok c
+    → IsOk r) [
       | Ok x ↦ λ k. refl
       | Err e ↦ λ k. cc
     ] h
 
 -- so where one does, the first does
-pub first_spelled : (level : Level) (qs : List (Bor (List ℕ))) (i : ℕ) (d : Bor (List ℕ)) (before : List Change) → i < length qs → ((i ≡ 0) × (before ≡ [])) ⊎ BeginsWithChange level (map (λ q. q.now) qs) → IsOk (reading_of before level (get_or qs i d).now) → BeginsWithChange level (map (λ q. q.now) qs)
+pub first_spelled : (level : Level) (qs : List (Bor (List ℕ))) (i : ℕ) (d : Bor (List ℕ)) (before : List Change)
+    → i < length qs → ((i ≡ 0) × (before ≡ [])) ⊎ BeginsWithChange level (map (λ q. q.now) qs)
+    → IsOk (reading_of before level (get_or qs i d).now) → BeginsWithChange level (map (λ q. q.now) qs)
 first_spelled level qs i d before inside (inr begun) spelled = begun
 first_spelled level [] i d before inside (inl none) spelled = omega arith
 first_spelled level (q ∷ qs) i d before inside (inl none) spelled =
     let first : IsOk (reading_of [] level (get_or (q ∷ qs) 0 d).now) =
-    subst (λ n. IsOk (reading_of [] level (get_or (q ∷ qs) n d).now)) none.0 (subst (λ b. IsOk (reading_of b level (get_or (q ∷ qs) i d).now)) none.1 spelled)
+    subst (λ n. IsOk (reading_of [] level (get_or (q ∷ qs) n d).now)) none.0
+    (subst (λ b. IsOk (reading_of b level (get_or (q ∷ qs) i d).now)) none.1 spelled)
     in
     first
 
 -- ---- memory
 
-neither : (b : Bool) (x y : Result Change QueryFault) → x ≢ Err fault.Memory → y ≢ Err fault.Memory → (if b then x else y) ≢ Err fault.Memory
+neither : (b : Bool) (x y : Result Change QueryFault) → x ≢ Err fault.Memory → y ≢ Err fault.Memory
+    → (if b then x else y) ≢ Err fault.Memory
 neither true x y first second = first
 neither false x y first second = second
 
 plain_target : (level : Level) (n : Name) (target : Option (Option ℤ)) → change_to level n target ≢ Err fault.Memory
 plain_target level n None = λ h. cc
-plain_target level n (Some z) = neither (stands_at n level) (Ok (record { name = n; number = z })) (Err fault.Level) (λ h. cc) (λ h. cc)
+plain_target level n (Some z) =
+    neither (stands_at n level) (Ok (record { name = n; number = z })) (Err fault.Level) (λ h. cc) (λ h. cc)
 
-plain_change : (before : List Change) (level : Level) (n : Option Name) (text : Option (List ℕ)) → change_of before level n text ≢ Err fault.Memory
+plain_change : (before : List Change) (level : Level) (n : Option Name) (text : Option (List ℕ))
+    → change_of before level n text ≢ Err fault.Memory
 plain_change before level None text = λ h. cc
-plain_change before level (Some n) text = neither (list_any (is_of n) before) (Err fault.Repeated) (change_to level n (target_of n text)) (λ h. cc) (plain_target level n (target_of n text))
+plain_change before level (Some n) text =
+    neither (list_any (is_of n) before) (Err fault.Repeated) (change_to level n (target_of n text)) (λ h. cc)
+    (plain_target level n (target_of n text))
 
 -- want of memory is no fault of a query
-pub reading_is_plain : (before : List Change) (level : Level) (q : List ℕ) → reading_of before level q ≢ Err fault.Memory
+pub reading_is_plain : (before : List Change) (level : Level) (q : List ℕ)
+    → reading_of before level q ≢ Err fault.Memory
 reading_is_plain before level q = plain_change before level (name_of (name_part q)) (number_part q)

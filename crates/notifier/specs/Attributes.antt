@@ -1,5 +1,6 @@
 -- The attributes that servers write, and how a call changes them (OMA LwM2M 1.1 Core, attributes).
-use Rattle.std.specs.Prelude.{◌≡◌, ℕ, zero, suc, ℤ, pos, ◌+ℤ◌, ◌*ℤ◌, int_lt, ◌==◌, Bool, true, false, not, ◌&&◌, List, [], ◌∷◌, map as map_list, filter, Option, None, Some, refl}
+use Rattle.std.specs.Prelude.{◌≡◌, ℕ, zero, suc, ℤ, pos, ◌+ℤ◌, ◌*ℤ◌, int_lt, ◌==◌, Bool, true, false, not, ◌&&◌, List}
+use Rattle.std.specs.Prelude.{[], ◌∷◌, map as map_list, filter, Option, None, Some, refl}
 use Rattle.std.specs.declared.cmp.Ordering.{Ordering}
 use Rattle.std.specs.Ordering.{nat_cmp, on, ordering_then}
 use Rattle.std.specs.Option.{option_cmp, option_or}
@@ -51,8 +52,10 @@ key_cmp a b =
 abbrev pub key_of : ℕ → Path → Name → AttributeKey
 key_of s (Object o) n = record { server = s; object = o; instance = None; resource = None; part = None; name = n }
 key_of s (Instance o i) n = record { server = s; object = o; instance = Some i; resource = None; part = None; name = n }
-key_of s (Resource o i r) n = record { server = s; object = o; instance = Some i; resource = Some r; part = None; name = n }
-key_of s (Part o i r p) n = record { server = s; object = o; instance = Some i; resource = Some r; part = Some p; name = n }
+key_of s (Resource o i r) n =
+    record { server = s; object = o; instance = Some i; resource = Some r; part = None; name = n }
+key_of s (Part o i r p) n =
+    record { server = s; object = o; instance = Some i; resource = Some r; part = Some p; name = n }
 
 abbrev pub path_from : ℕ → Option ℕ → Option ℕ → Option ℕ → Path
 path_from o None r p = path.Object o
@@ -69,9 +72,18 @@ name_code = code_by ℕ coded_ℕ rank name_at name_at-rank
 abbrev pub key_code : Coded AttributeKey
 key_code =
     code_by (ℕ × (ℕ × (Option ℕ × (Option ℕ × (Option ℕ × Name)))))
-    (coded× coded_ℕ (coded× coded_ℕ (coded× (coded_option coded_ℕ) (coded× (coded_option coded_ℕ) (coded× (coded_option coded_ℕ) name_code)))))
+    (coded× coded_ℕ (coded× coded_ℕ (coded× (coded_option coded_ℕ)
+    (coded× (coded_option coded_ℕ) (coded× (coded_option coded_ℕ) name_code)))))
     (λ k. (k.server, (k.object, (k.instance, (k.resource, (k.part, k.name))))))
-    (λ t. record { server = t.0; object = t.1.0; instance = t.1.1.0; resource = t.1.1.1.0; part = t.1.1.1.1.0; name = t.1.1.1.1.1 })
+    (λ t. record {
+      server = t.0;
+      object = t.1.0;
+      instance = t.1.1.0;
+      resource = t.1.1.1.0;
+      part = t.1.1.1.1.0;
+      name =
+          t.1.1.1.1.1;
+    })
     (λ _. refl)
 
 -- the numbers of the attributes that are set
@@ -117,7 +129,8 @@ agree None lt st = true
 
 -- the numbers of a server on a path agree
 abbrev pub is_consistent : Numbers → ℕ → Path → Bool
-is_consistent m server place = agree (assigned m server place name.Gt) (assigned m server place name.Lt) (assigned m server place name.St)
+is_consistent m server place =
+    agree (assigned m server place name.Gt) (assigned m server place name.Lt) (assigned m server place name.St)
 
 -- whether a number of a path is this one
 abbrev pub is_number : ℕ → Option ℕ → Bool
@@ -129,7 +142,8 @@ abbrev pub lies_under : Path → AttributeKey → Bool
 lies_under (Object o) k = k.object == o
 lies_under (Instance o i) k = k.object == o && is_number i k.instance
 lies_under (Resource o i r) k = k.object == o && (is_number i k.instance && is_number r k.resource)
-lies_under (Part o i r p) k = k.object == o && (is_number i k.instance && (is_number r k.resource && is_number p k.part))
+lies_under (Part o i r p) k =
+    k.object == o && (is_number i k.instance && (is_number r k.resource && is_number p k.part))
 
 -- without the attributes of all servers at or below a path
 abbrev pub without_under : Numbers → Path → Numbers

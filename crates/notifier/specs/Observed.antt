@@ -1,5 +1,6 @@
 -- The observations of a device, in the order of registration, and how a call changes them (RFC 7641).
-use Rattle.std.specs.Prelude.{◌≡◌, ℕ, ◌+◌, ◌%◌, ◌<◌, ◌≤◌, ◌==◌, Bool, true, not, ◌&&◌, if◌then◌else◌, List, [], ◌∷◌, length, find, filter, slice_get, slice_set, bytes_eq, IsFalse}
+use Rattle.std.specs.Prelude.{◌≡◌, ℕ, ◌+◌, ◌%◌, ◌<◌, ◌≤◌, ◌==◌, Bool, true, not, ◌&&◌, if◌then◌else◌, List, [], ◌∷◌}
+use Rattle.std.specs.Prelude.{length, find, filter, slice_get, slice_set, bytes_eq, IsFalse}
 use Rattle.std.specs.List.{list_any}
 use Rattle.std.specs.Option.{option_map_or}
 use Rattle.notifier.specs.declared.observation.Observation.{Observation}
@@ -47,11 +48,13 @@ without_reset all server mid = filter (λ o. not (was_sent server mid o)) all
 
 -- an observation after a notification, which is a NON
 abbrev pub notified : ℕ → ℕ → Report → Observation → Observation
-notified now mid report o = record o { report = report; second = now; number = next_number o.number; non = true; mid = mid }
+notified now mid report o =
+    record o { report = report; second = now; number = next_number o.number; non = true; mid = mid }
 
 -- with the observation at a place after its notification
 abbrev pub with_sent : List Observation → ℕ → ℕ → ℕ → Report → List Observation
-with_sent all place now mid report = option_map_or (λ o. slice_set all place (notified now mid report o)) (slice_get all place) all
+with_sent all place now mid report =
+    option_map_or (λ o. slice_set all place (notified now mid report o)) (slice_get all place) all
 
 -- a token has at most 8 bytes (RFC 7252 section 3)
 abbrev pub HasToken : Observation → Type 0

@@ -1,6 +1,8 @@
--- Changes of attributes as the Uri-Query options of a Write-Attributes request spell them: `name=number`, or `name` alone, which unsets it
--- (OMA LwM2M 1.1 Core, attributes; the numbers' ranges are this profile's).
-use Rattle.std.specs.Prelude.{ℕ, ◌+◌, ◌-◌, ◌*◌, ◌^◌, ◌==◌, ℤ, pos, neg_ℤ, int_lt, nat_lt, nat_le, Bool, true, false, cond, ◌&&◌, if◌then◌else◌, List, [], ◌∷◌, ◌++◌, length, take, drop, position, slice_index, Option, None, Some, option_map, option_and_then, Result, Ok, Err, IsOk, codes, bytes_eq}
+-- Changes of attributes as the Uri-Query options of a Write-Attributes request spell them: `name=number`, or `name`
+-- alone, which unsets it (OMA LwM2M 1.1 Core, attributes; the numbers' ranges are this profile's).
+use Rattle.std.specs.Prelude.{ℕ, ◌+◌, ◌-◌, ◌*◌, ◌^◌, ◌==◌, ℤ, pos, neg_ℤ, int_lt, nat_lt, nat_le, Bool, true, false}
+use Rattle.std.specs.Prelude.{cond, ◌&&◌, if◌then◌else◌, List, [], ◌∷◌, ◌++◌, length, take, drop, position, slice_index}
+use Rattle.std.specs.Prelude.{Option, None, Some, option_map, option_and_then, Result, Ok, Err, IsOk, codes, bytes_eq}
 use Rattle.std.specs.List.{list_all, list_any}
 use Rattle.std.specs.Option.{option_map_or}
 use Rattle.std.specs.Map.{lookup}
@@ -18,7 +20,10 @@ use Rattle.notifier.specs.Attributes.{rank}
 -- the name that a text spells
 abbrev pub spellings : List (List ℕ × Name)
 spellings =
-    (codes "pmin", name.Pmin) ∷ (codes "pmax", name.Pmax) ∷ (codes "gt", name.Gt) ∷ (codes "lt", name.Lt) ∷ (codes "st", name.St) ∷ []
+    (codes "pmin", name.Pmin) ∷ (codes "pmax", name.Pmax) ∷ (codes "gt", name.Gt) ∷ (codes "lt", name.Lt) ∷ (
+      codes "st",
+      name.St,
+    ) ∷ []
 
 abbrev pub name_of : List ℕ → Option Name
 name_of text = lookup (bytes_eq text) spellings
@@ -55,7 +60,9 @@ fraction_of text = option_map (λ n. n * 10 ^ (3 - length text)) (digits_of 3 te
 -- the thousandths that 1 to 15 digits are, with a fraction behind a point or none
 abbrev pub unsigned_from : List ℕ → Option ℕ → Option ℕ
 unsigned_from text None = option_map (λ n. n * 1000) (digits_of 15 text)
-unsigned_from text (Some point) = option_and_then (λ n. option_map (λ f. n * 1000 + f) (fraction_of (drop (point + 1) text))) (digits_of 15 (take point text))
+unsigned_from text (Some point) =
+    option_and_then (λ n. option_map (λ f. n * 1000 + f) (fraction_of (drop (point + 1) text)))
+    (digits_of 15 (take point text))
 
 abbrev pub unsigned_of : List ℕ → Option ℕ
 unsigned_of text = unsigned_from text (position (λ c. c == 46) text)
@@ -63,7 +70,8 @@ unsigned_of text = unsigned_from text (position (λ c. c == 46) text)
 -- the same behind a minus sign or none
 abbrev pub thousandths_of : List ℕ → Option ℤ
 thousandths_of text =
-    cond (slice_index text 0 == 45) (option_map (λ n. neg_ℤ (pos n)) (unsigned_of (drop 1 text))) (option_map pos (unsigned_of text))
+    cond (slice_index text 0 == 45) (option_map (λ n. neg_ℤ (pos n)) (unsigned_of (drop 1 text)))
+    (option_map pos (unsigned_of text))
 
 -- a number above 0
 abbrev pub above_zero : ℤ → Option ℤ
@@ -109,7 +117,8 @@ change_to level n (Some z) = if stands_at n level then Ok (record { name = n; nu
 -- a name that is not known comes first, then one that is there already
 abbrev pub change_of : List Change → Level → Option Name → Option (List ℕ) → Result Change QueryFault
 change_of before level None text = Err fault.UnknownName
-change_of before level (Some n) text = if list_any (is_of n) before then Err fault.Repeated else change_to level n (target_of n text)
+change_of before level (Some n) text =
+    if list_any (is_of n) before then Err fault.Repeated else change_to level n (target_of n text)
 
 -- the change that a query spells behind these changes, or its fault
 abbrev pub reading_of : List Change → Level → List ℕ → Result Change QueryFault
@@ -118,7 +127,8 @@ reading_of before level query = change_of before level (name_of (name_part query
 -- the changes that queries spell behind these, from the left, or the first fault
 abbrev pub changes_of : List Change → Level → List (List ℕ) → Result (List Change) QueryFault
 changes_of before level [] = Ok before
-changes_of before level (q ∷ qs) = elim (reading_of before level q) [ Ok c ↦ changes_of (before ++ c ∷ []) level qs | Err e ↦ Err e ]
+changes_of before level (q ∷ qs) =
+    elim (reading_of before level q) [ Ok c ↦ changes_of (before ++ c ∷ []) level qs | Err e ↦ Err e ]
 
 -- there is a first query, and it spells a change
 abbrev pub BeginsWithChange : Level → List (List ℕ) → Type 0

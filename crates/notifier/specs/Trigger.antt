@@ -1,5 +1,7 @@
--- When an observation sends: by the change since its last report, and by its age (OMA LwM2M 1.1 Core, attributes; RFC 7641).
-use Rattle.std.specs.Prelude.{ℕ, ℤ, pos, ◌*ℤ◌, ◌-ℤ◌, ◌*◌, int_lt, int_le, nat_abs, nat_lt, nat_le, Bool, false, not, ◌&&◌, ◌||◌, Option, None, Some, is_some, List, bytes_eq, cond}
+-- When an observation sends: by the change since its last report, and by its age (OMA LwM2M 1.1 Core, attributes; RFC
+-- 7641).
+use Rattle.std.specs.Prelude.{ℕ, ℤ, pos, ◌*ℤ◌, ◌-ℤ◌, ◌*◌, int_lt, int_le, nat_abs, nat_lt, nat_le, Bool, false, not}
+use Rattle.std.specs.Prelude.{◌&&◌, ◌||◌, Option, None, Some, is_some, List, bytes_eq, cond}
 
 -- a number in thousandths, the unit of gt, lt and st
 abbrev pub thousandths : ℤ → ℤ

@@ -1,7 +1,9 @@
-ghost use Rattle.std.specs.Prelude.{◌≡◌, ◌≢◌, ◌↔◌, [], pos, ◌+ℤ◌, ◌*ℤ◌, int_lt, ◌==◌, not, filter, map as map_list, Err, IfOk, OnOk, OnErr, IsErrOf, IsFalse};
+ghost use Rattle.std.specs.Prelude.{◌≡◌, ◌≢◌, ◌↔◌, [], pos, ◌+ℤ◌, ◌*ℤ◌, int_lt, ◌==◌, not, filter, map as map_list};
+ghost use Rattle.std.specs.Prelude.{Err, IfOk, OnOk, OnErr, IsErrOf, IsFalse};
 ghost use Rattle.std.specs.FinMap as map;
 ghost use Rattle.object_defs.specs.declared.path.Path.TheVariants as paths;
-ghost use Rattle.notifier.specs.Attributes.{key_cmp, key_of, path_of, assigned, effective, with_number, written, agree, is_consistent, is_number, lies_under, without_under, listed};
+ghost use Rattle.notifier.specs.Attributes.{key_cmp, key_of, path_of, assigned, effective, with_number, written, agree};
+ghost use Rattle.notifier.specs.Attributes.{is_consistent, is_number, lies_under, without_under, listed};
 
 use crate::attribute::{AttributeKey, Change, Name};
 use crate::fault::WriteFault;
@@ -51,7 +53,8 @@ fn set(
     key: AttributeKey,
     number: i64,
 ) -> Result<(), AllocError>
-    ensures { OnOk result (map.from_entries {R = key_cmp} numbers.new.entries ≡ map.insert (map.from_entries numbers.old.entries) key number) }
+    ensures { OnOk result (map.from_entries {R = key_cmp} numbers.new.entries
+        ≡ map.insert (map.from_entries numbers.old.entries) key number) }
 {
     numbers.insert(key, number)?;
     Ok(())
@@ -63,7 +66,8 @@ fn put(
     key: AttributeKey,
     number: Option<i64>,
 ) -> Result<(), AllocError>
-    ensures { OnOk result (map.from_entries {R = key_cmp} numbers.new.entries ≡ with_number (map.from_entries numbers.old.entries) key number) }
+    ensures { OnOk result (map.from_entries {R = key_cmp} numbers.new.entries
+        ≡ with_number (map.from_entries numbers.old.entries) key number) }
 {
     match number {
         Some(number) => {
@@ -84,7 +88,8 @@ fn changed(
     path: Path,
     changes: &[Change],
 ) -> Result<BTreeMap<AttributeKey, i64>, AllocError>
-    ensures { IfOk result (λ m. map.from_entries {R = key_cmp} m.entries ≡ written (map.from_entries numbers.now.entries) server path changes.now) }
+    ensures { IfOk result (λ m. map.from_entries {R = key_cmp} m.entries
+        ≡ written (map.from_entries numbers.now.entries) server path changes.now) }
 {
     let mut next = clone_of(numbers)?;
     for change in changes {
@@ -105,7 +110,8 @@ fn number_after(
     changes: &[Change],
     name: Name,
 ) -> Option<i64>
-    ensures { result ≡ assigned (written (map.from_entries numbers.now.entries) server path changes.now) server path name }
+    ensures { result ≡ assigned (written (map.from_entries numbers.now.entries) server path changes.now) server path
+        name }
 {
     let mut number = number_at(numbers, AttributeKey::new(server, path, name));
     for change in changes {
@@ -301,7 +307,8 @@ impl Attributes {
     /// attributes stand are not looked at.
     pub fn write(&mut self, server: u16, path: Path, changes: &[Change]) -> Result<(), WriteFault>
         ensures ok { OnOk result (self.new ≡ written self.old server path changes.now) }
-        ensures inconsistent { IsErrOf result WriteFault.Inconsistent ↔ IsFalse (is_consistent (written self.old server path changes.now) server path) }
+        ensures inconsistent { IsErrOf result WriteFault.Inconsistent
+            ↔ IsFalse (is_consistent (written self.old server path changes.now) server path) }
 
         // Only a change takes memory.
         ensures grows { IsErrOf result WriteFault.Memory → changes.now ≢ [] }

@@ -1,5 +1,6 @@
 ghost use Rattle.std.specs.Prelude.{◌≡◌, ◌==◌, length, position, ◌<◌, ◌≤◌, ◌^◌, pos, neg_ℤ, option_map, IfSome};
-ghost use Rattle.notifier.specs.Query.{digits_of, seconds_of, fraction_of, unsigned_of, thousandths_of, above_zero, number_of};
+ghost use Rattle.notifier.specs.Query.{digits_of, seconds_of, fraction_of, unsigned_of, thousandths_of, above_zero};
+ghost use Rattle.notifier.specs.Query.{number_of};
 
 use crate::attribute::Name;
 

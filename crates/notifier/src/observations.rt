@@ -1,9 +1,12 @@
-ghost use Rattle.std.specs.Prelude.{◌≡◌, ◌≢◌, ◌+◌, ◌<◌, ◌≤◌, ◌↔◌, ◌++◌, ◌∷◌, [], false, length, not, filter, position, remove, slice_get, count_by, Err, None, Some, IfOk, IfSome, OnOk, OnErr, IsErrOf, IsTrue, IsFalse};
+ghost use Rattle.std.specs.Prelude.{◌≡◌, ◌≢◌, ◌+◌, ◌<◌, ◌≤◌, ◌↔◌, ◌++◌, ◌∷◌, [], false, length, not, filter, position};
+ghost use Rattle.std.specs.Prelude.{remove, slice_get, count_by, Err, None, Some, IfOk, IfSome, OnOk, OnErr, IsErrOf};
+ghost use Rattle.std.specs.Prelude.{IsTrue, IsFalse};
 ghost use Rattle.std.specs.Option.{option_copied, option_map};
 ghost use Rattle.std.specs.List.{AllByRecursion};
 ghost use Rattle.notifier.specs.declared.observation.Observation.{Observation};
 ghost use Rattle.indexmap.specs.IndexMap.{values, index_map_len, set_value_at};
-ghost use Rattle.notifier.specs.Observed.{is_named, has_name, next_number, number_for, registered, cancelled, was_sent, without_reset, with_sent, HasToken, HasNumber, IsKeyed, HaveDistinctNames};
+ghost use Rattle.notifier.specs.Observed.{is_named, has_name, next_number, number_for, registered, cancelled, was_sent};
+ghost use Rattle.notifier.specs.Observed.{without_reset, with_sent, HasToken, HasNumber, IsKeyed, HaveDistinctNames};
 
 use crate::fault::ObserveFault;
 use crate::observation::{Observation, Report, next_number};
@@ -239,11 +242,24 @@ impl Observations {
         non: bool,
     ) -> Result<u32, ObserveFault>
         requires { length token ≤ 8 }
-        ensures ok { OnOk result (self.new ≡ registered self.old (record { server = server; token = token; path = path; accept = accept; report = report; second = now; number = 0; non = non; mid = mid })) }
+        ensures ok { OnOk result (self.new ≡ registered self.old
+            (record {
+              server = server;
+              token = token;
+              path = path;
+              accept = accept;
+              report = report;
+              second =
+                  now;
+              number = 0;
+              non = non;
+              mid = mid;
+            })) }
         ensures number { IfOk result (λ n. n ≡ number_for self.old server token) }
 
         // The name is new, and there are 32. Only a new name takes memory.
-        ensures full { IsErrOf result ObserveFault.Full ↔ (IsFalse (has_name self.old server token) × (32 ≤ length self.old)) }
+        ensures full { IsErrOf result ObserveFault.Full
+            ↔ (IsFalse (has_name self.old server token) × (32 ≤ length self.old)) }
         ensures grows { IsErrOf result ObserveFault.Memory → IsFalse (has_name self.old server token) }
         ensures unchanged { OnErr result (self.new ≡ self.old) }
     {

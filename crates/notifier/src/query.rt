@@ -1,7 +1,8 @@
 ghost use Rattle.std.specs.Prelude.{◌≡◌, ◌≢◌, ◌∷◌, [], map, OnOk, OnErr, IfErr, IfOk, IsErrOf, IsOk, Ok, Err, Some};
 ghost use Rattle.std.specs.Option.{option_copied};
 ghost use Rattle.std.specs.List.{list_any};
-ghost use Rattle.notifier.specs.Query.{name_of, name_part, number_part, number_of, target_of, stands_at, is_of, change_to, change_of, reading_of, changes_of, is_number_level, BeginsWithChange};
+ghost use Rattle.notifier.specs.Query.{name_of, name_part, number_part, number_of, target_of, stands_at, is_of};
+ghost use Rattle.notifier.specs.Query.{change_to, change_of, reading_of, changes_of, is_number_level, BeginsWithChange};
 
 use crate::attribute::{Change, Level, Name};
 use crate::fault::QueryFault;
@@ -168,7 +169,8 @@ impl Changes {
 /// they stand at a single resource of a number alone.
 pub fn parse_query(alloc: Global, queries: &[&[u8]], level: Level) -> Result<Changes, QueryFault>
     ensures ok { IfOk result (λ c. changes_of [] level (map (λ q. q.now) queries.now) ≡ Ok c) }
-    ensures fault { IfErr result (λ e. e ≢ QueryFault.Memory → changes_of [] level (map (λ q. q.now) queries.now) ≡ Err e) }
+    ensures fault { IfErr result (λ e. e ≢ QueryFault.Memory
+        → changes_of [] level (map (λ q. q.now) queries.now) ≡ Err e) }
 
     // Only changes take memory: neither no query nor a first one with a fault does.
     ensures grows { IsErrOf result QueryFault.Memory → BeginsWithChange level (map (λ q. q.now) queries.now) }

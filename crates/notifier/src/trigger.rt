@@ -1,5 +1,6 @@
 ghost use Rattle.std.specs.Prelude.{◌≡◌};
-ghost use Rattle.notifier.specs.Trigger.{is_above, is_below, crosses_gt, crosses_lt, steps_st, has_condition, number_triggers, is_triggered, is_over, is_due};
+ghost use Rattle.notifier.specs.Trigger.{is_above, is_below, crosses_gt, crosses_lt, steps_st, has_condition};
+ghost use Rattle.notifier.specs.Trigger.{number_triggers, is_triggered, is_over, is_due};
 
 use crate::observation::Report;
 

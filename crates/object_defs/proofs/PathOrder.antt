@@ -25,7 +25,8 @@ exact_options R exact (Some x) (Some y) h = ap Some (exact x y h)
 pub path_exact : CmpEqualImpliesEq path_cmp
 path_exact a b h =
     ap (λ (t : ℕ × (ℕ × (ℕ × Option ℕ))). record { object = t.0; instance = t.1.0; resource = t.1.1.0; part = t.1.1.1 })
-    (exact_pairs nat_cmp _ exact_unsigned (exact_pairs nat_cmp _ exact_unsigned (exact_pairs nat_cmp (option_cmp nat_cmp) exact_unsigned (exact_options nat_cmp exact_unsigned)))
+    (exact_pairs nat_cmp _ exact_unsigned (exact_pairs nat_cmp _ exact_unsigned
+    (exact_pairs nat_cmp (option_cmp nat_cmp) exact_unsigned (exact_options nat_cmp exact_unsigned)))
     (a.object, (a.instance, (a.resource, a.part))) (b.object, (b.instance, (b.resource, b.part))) h)
 
 pub instance_exact : CmpEqualImpliesEq instance_cmp

@@ -16,7 +16,8 @@ ascends (n ∷ ns) = is_below n ns && ascends ns
 
 -- the objects stand by ascending number, and the resources of each
 abbrev pub is_in_order : List ObjectDef → Bool
-is_in_order catalogue = ascends (map (λ o. o.id) catalogue) && list_all (λ o. ascends (map (λ r. r.id) o.resources)) catalogue
+is_in_order catalogue =
+    ascends (map (λ o. o.id) catalogue) && list_all (λ o. ascends (map (λ r. r.id) o.resources)) catalogue
 
 -- the same in std's words
 pub record IsInOrder (catalogue : List ObjectDef) : Type 0 where

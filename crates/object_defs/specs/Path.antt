@@ -49,4 +49,5 @@ instance_cmp a b = ordering_then (nat_cmp a.object b.object) (nat_cmp a.instance
 
 abbrev pub instance_code : Coded InstancePath
 instance_code =
-    code_by (ℕ × ℕ) (coded× coded_ℕ coded_ℕ) (λ p. (p.object, p.instance)) (λ t. record { object = t.0; instance = t.1 }) (λ _. refl)
+    code_by (ℕ × ℕ) (coded× coded_ℕ coded_ℕ) (λ p. (p.object, p.instance))
+    (λ t. record { object = t.0; instance = t.1 }) (λ _. refl)

@@ -1,5 +1,6 @@
 -- Vendor objects: how a catalogue grows by them and by their resources, and what it refuses.
-use Rattle.std.specs.Prelude.{ℕ, ◌==◌, nat_lt, nat_le, Bool, true, false, not, ◌&&◌, List, [], ◌∷◌, length, Option, None, Some, is_some, if◌then◌else◌}
+use Rattle.std.specs.Prelude.{ℕ, ◌==◌, nat_lt, nat_le, Bool, true, false, not, ◌&&◌, List, [], ◌∷◌, length, Option}
+use Rattle.std.specs.Prelude.{None, Some, is_some, if◌then◌else◌}
 use Rattle.lwm2m_values.specs.declared.kind.ValueKind.{ValueKind}
 use Rattle.lwm2m_values.specs.declared.kind.ValueKind.TheVariants.{Text, Whole, Flag, Opaque, Moment, Link}
 use Rattle.object_defs.specs.declared.definition.ResourceDef.{ResourceDef}

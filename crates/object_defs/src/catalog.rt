@@ -1,10 +1,12 @@
-ghost use Rattle.std.specs.Prelude.{◌≡◌, ◌≢◌, ◌==◌, ◌<◌, ℕ, nat_lt, length, slice_get, None, Some, Err, position, IfNone, IfSome, IfOk, IfErr, OnOk, OnErr};
+ghost use Rattle.std.specs.Prelude.{◌≡◌, ◌≢◌, ◌==◌, ◌<◌, ℕ, nat_lt, length, slice_get, None, Some, Err, position};
+ghost use Rattle.std.specs.Prelude.{IfNone, IfSome, IfOk, IfErr, OnOk, OnErr};
 ghost use Rattle.std.specs.List.{position_or_len};
 ghost use Rattle.std.specs.Option.{option_copied};
 ghost use Rattle.object_defs.specs.Catalogue.{object_of, definition_of};
 ghost use Rattle.object_defs.specs.Base.{base};
 ghost use Rattle.object_defs.specs.Order.{IsInOrder};
-ghost use Rattle.object_defs.specs.Vendor.{is_vendor, new_object, with_object, with_resource, vendor_fault, vendor_object, resource_fault};
+ghost use Rattle.object_defs.specs.Vendor.{is_vendor, new_object, with_object, with_resource, vendor_fault};
+ghost use Rattle.object_defs.specs.Vendor.{vendor_object, resource_fault};
 
 use crate::base;
 use crate::definition::{ObjectDef, ResourceDef};
@@ -160,13 +162,15 @@ impl Catalog {
     /// then `Duplicate`, then `TooMany` (64 resources of the object).
     pub fn add_resource(&mut self, object: u16, definition: ResourceDef) -> Result<(), CatalogFault>
         ensures added { OnOk result (self.new ≡ with_resource self.old object definition) }
-        ensures refused { IfErr result (λ f. f ≢ CatalogFault.Memory → resource_fault self.old object definition ≡ Some f) }
+        ensures refused { IfErr result (λ f. f ≢ CatalogFault.Memory
+            → resource_fault self.old object definition ≡ Some f) }
         ensures refuses { (f : CatalogFault) → resource_fault self.old object definition ≡ Some f → result ≡ Err f }
         ensures unchanged { OnErr result (self.new ≡ self.old) }
 
         // What is found then.
         ensures found { OnOk result (definition_of self.new object definition.id ≡ Some definition) }
-        ensures others { OnOk result ((q r : ℕ) → ¬ ((q ≡ object) × (r ≡ definition.id)) → definition_of self.new q r ≡ definition_of self.old q r) }
+        ensures others { OnOk result ((q r : ℕ) → ¬ ((q ≡ object) × (r ≡ definition.id))
+            → definition_of self.new q r ≡ definition_of self.old q r) }
     {
         let Some(place) = self.vendor_place(object) else {
             return Err(CatalogFault::IdRange);

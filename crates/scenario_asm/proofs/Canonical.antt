@@ -22,8 +22,10 @@ lead_append d e f [] ys l m = subst (λ x. Lead x ys f) (sym l) m
 lead_append d e f (x ∷ xs) ys l m = (l.0, l.1, lead_append l.0 e f xs ys l.2 m)
 
 -- lines that are read say their statements
-by_line : (line : List ℕ) (ls : List (List ℕ)) (ss : List Statement) (r : Result (Option Statement) Cause) (q : Result (List Statement) Cause) → statement_of (words line) ≡ r → said_in ls ≡ q
-    → (r >>= (λ o. q >>= (λ rest. Ok (behind o rest)))) ≡ Ok ss → ((rest : List Statement) → said_in ls ≡ Ok rest → AreSaid ls rest) → AreSaid (line ∷ ls) ss
+by_line : (line : List ℕ) (ls : List (List ℕ)) (ss : List Statement) (r : Result (Option Statement) Cause)
+    (q : Result (List Statement) Cause) → statement_of (words line) ≡ r → said_in ls ≡ q
+    → (r >>= (λ o. q >>= (λ rest. Ok (behind o rest)))) ≡ Ok ss
+    → ((rest : List Statement) → said_in ls ≡ Ok rest → AreSaid ls rest) → AreSaid (line ∷ ls) ss
 by_line line ls ss (Err cause) q is had h more = absurd cc
 by_line line ls ss (Ok o) (Err cause) is had h more = absurd cc
 by_line line ls ss (Ok None) (Ok rest) is had h more =
@@ -35,9 +37,11 @@ by_line line ls ss (Ok (Some s)) (Ok rest) is had h more =
 
 pub said_are : (ls : List (List ℕ)) (ss : List Statement) → said_in ls ≡ Ok ss → AreSaid ls ss
 said_are [] ss h = let same : [] ≡ ss = cc in subst (AreSaid []) same done
-said_are (line ∷ ls) ss h = by_line line ls ss (statement_of (words line)) (said_in ls) refl refl h (λ rest g. said_are ls rest g)
+said_are (line ∷ ls) ss h =
+    by_line line ls ss (statement_of (words line)) (said_in ls) refl refl h (λ rest g. said_are ls rest g)
 
-pub canonical : (s : Scenario) (d : Draft) → IsScenario s → Lead nothing (statements s) d → d.begun ≡ true → closed d ≡ s → assembled (printed s) ≡ Ok s
+pub canonical : (s : Scenario) (d : Draft) → IsScenario s → Lead nothing (statements s) d → d.begun ≡ true
+    → closed d ≡ s → assembled (printed s) ≡ Ok s
 canonical s d is lead begun same =
     denotes_so (printed s) s (record {
       statements = statements s;

@@ -1,5 +1,6 @@
 -- What accepted additions put into a class has numbers of 16 bits, and good values.
-use Rattle.std.proofs.Common.{◌≡◌, ℕ, ◌≤◌, ◌<◌, Bool, true, false, ◌&&◌, leb, List, [], ◌∷◌, length, None, refl, sym, subst, ◌∙◌, arith}
+use Rattle.std.proofs.Common.{◌≡◌, ℕ, ◌≤◌, ◌<◌, Bool, true, false, ◌&&◌, leb, List, [], ◌∷◌, length, None, refl, sym}
+use Rattle.std.proofs.Common.{subst, ◌∙◌, arith}
 use Rattle.std.specs.Prelude.{not, ◌==◌, nat_le, is_some}
 use Rattle.std.specs.List.{AllByRecursion, list_any}
 use Rattle.std.specs.FinMap as finite
@@ -32,16 +33,19 @@ IsPlace p = (p.object < 65536) × (p.instance ≤ 65534)
 pub record HasWords (c : Template) : Type 0 where
   pub accounts : AllByRecursion (IsWithin 1 65534) c.accounts
   pub objects : HasOwn c.catalogue
-  pub instances : AllByRecursion (λ (e : InstancePath × Unit {0}). IsPlace e.0 × Unit {0}) (finite.entries c.store.instances)
+  pub instances : AllByRecursion (λ (e : InstancePath × Unit {0}). IsPlace e.0 × Unit {0})
+      (finite.entries c.store.instances)
   pub values : AllByRecursion (λ (e : FullPath × Value). IsShort e.0 × IsGood e.1) (finite.entries c.store.values)
 
 -- where a first line does not apply
-first : (b : Bool) (fault : TemplateFault) (ls : List (Bool × TemplateFault)) → first_line ((not b, fault) ∷ ls) ≡ None → b ≡ true
+first : (b : Bool) (fault : TemplateFault) (ls : List (Bool × TemplateFault)) → first_line ((not b, fault) ∷ ls) ≡ None
+    → b ≡ true
 first true fault ls h = refl
 first false fault ls h = absurd cc
 
 abbrev account_lines : Template → ℕ → List (Bool × TemplateFault)
-account_lines c s = (list_any (λ account. account == s) c.accounts, Duplicate) ∷ (nat_le most_accounts (length c.accounts), Full) ∷ []
+account_lines c s =
+    (list_any (λ account. account == s) c.accounts, Duplicate) ∷ (nat_le most_accounts (length c.accounts), Full) ∷ []
 
 abbrev instance_lines : Template → InstancePath → List (Bool × TemplateFault)
 instance_lines c p =
@@ -51,7 +55,9 @@ instance_lines c p =
     ∷ []
 
 account_range : (c : Template) (s : ℕ) → account_fault c s ≡ None → IsWithin 1 65534 s
-account_range c s h = let both = and_parts (leb 1 s) (leb s 65534) (first (leb 1 s && leb s 65534) Range (account_lines c s) h) in (leb-true 1 s both.0, leb-true s 65534 both.1)
+account_range c s h = let both =
+    and_parts (leb 1 s) (leb s 65534) (first (leb 1 s && leb s 65534) Range (account_lines c s) h)
+    in (leb-true 1 s both.0, leb-true s 65534 both.1)
 
 instance_range : (c : Template) (p : InstancePath) → instance_fault c p ≡ None → p.instance ≤ 65534
 instance_range c p h =
@@ -62,8 +68,11 @@ no_length : {X : Type 0} (xs : List X) → length xs ≡ 0 → xs ≡ []
 no_length [] h = refl
 no_length (x ∷ xs) h = absurd (omega (arith, h))
 
-each_empty : {K X : Type 0} (R : K → K → Ordering) (P : K × X → Type 0) → AllByRecursion P (finite.entries (finite.empty {X = X} {R = R}))
-each_empty R P = subst (AllByRecursion P) (sym (no_length (finite.entries finite.empty) (sym (finite.len-entries finite.empty) ∙ finite.len-empty _ _))) tt
+each_empty : {K X : Type 0} (R : K → K → Ordering) (P : K × X → Type 0)
+    → AllByRecursion P (finite.entries (finite.empty {X = X} {R = R}))
+each_empty R P =
+    subst (AllByRecursion P) (sym (no_length (finite.entries finite.empty)
+    (sym (finite.len-entries finite.empty) ∙ finite.len-empty _ _))) tt
 
 pub has_words : (c : Template) → IsBuilt c → HasWords c
 has_words _ nothing =
@@ -76,7 +85,8 @@ has_words _ nothing =
 has_words _ (account {class} server built free) =
     let before = has_words class built in
     record {
-      accounts = each_inserted (IsWithin 1 65534) (λ a. a) server class.accounts (account_range class server free) before.accounts;
+      accounts = each_inserted (IsWithin 1 65534) (λ a. a) server class.accounts
+          (account_range class server free) before.accounts;
       objects = before.objects;
       instances = before.instances;
       values = before.values;
@@ -102,8 +112,10 @@ has_words _ (instance {class} place small built free) =
     record {
       accounts = before.accounts;
       objects = before.objects;
-      instances = subst (AllByRecursion (λ (e : InstancePath × Unit {0}). IsPlace e.0 × Unit {0})) (sym (finite.entries-insert instance_total class.store.instances place tt))
-          (each_put instance_cmp IsPlace (λ (u : Unit {0}). Unit {0}) place tt (finite.entries class.store.instances) (small, instance_range class place free) tt before.instances);
+      instances = subst (AllByRecursion (λ (e : InstancePath × Unit {0}). IsPlace e.0 × Unit {0}))
+          (sym (finite.entries-insert instance_total class.store.instances place tt))
+          (each_put instance_cmp IsPlace (λ (u : Unit {0}). Unit {0}) place tt (finite.entries class.store.instances)
+          (small, instance_range class place free) tt before.instances);
       values = before.values;
     }
 has_words _ (value {class} p v short good built free) =
@@ -112,6 +124,7 @@ has_words _ (value {class} p v short good built free) =
       accounts = before.accounts;
       objects = before.objects;
       instances = before.instances;
-      values = subst (AllByRecursion (λ (e : FullPath × Value). IsShort e.0 × IsGood e.1)) (sym (finite.entries-insert path_total class.store.values p v))
+      values = subst (AllByRecursion (λ (e : FullPath × Value). IsShort e.0 × IsGood e.1))
+          (sym (finite.entries-insert path_total class.store.values p v))
           (each_put path_cmp IsShort IsGood p v (finite.entries class.store.values) short good before.values);
     }

@@ -24,14 +24,16 @@ use Rattle.scenario_asm.proofs.OwnObjects.{HasOwn, IsOwn}
 use Rattle.scenario_asm.proofs.ClassParts.{IsPlace, has_words}
 
 object_said : (o : ObjectDef) → IsOwn o → AllByRecursion IsSayable (of_object o)
-object_said o h = (h.0, each_map (λ (d : ResourceDef). d.id < 65536) IsSayable (λ d. says.Def d) (λ d k. k) o.resources h.1)
+object_said o h =
+    (h.0, each_map (λ (d : ResourceDef). d.id < 65536) IsSayable (λ d. says.Def d) (λ d k. k) o.resources h.1)
 
 own_said : (c : Template) → HasOwn c.catalogue → AllByRecursion IsSayable (flat_map of_object (objects_in c))
 own_said c has =
     subst (λ k. AllByRecursion IsSayable (flat_map of_object (drop (length base) k))) (sym has.are)
     (each_flat IsOwn IsSayable of_object object_said has.own has.each)
 
-path_said : (o i r : ℕ) (part : Option ℕ) → o < 65536 → i < 65536 → r < 65536 → IfSome part (λ n. n < 65536) → IsPath (path_with o i r part)
+path_said : (o i r : ℕ) (part : Option ℕ) → o < 65536 → i < 65536 → r < 65536 → IfSome part (λ n. n < 65536)
+    → IsPath (path_with o i r part)
 path_said o i r None h k l m = (h, k, l)
 path_said o i r (Some n) h k l m = (h, k, l, m)
 
@@ -41,12 +43,14 @@ value_said e h = (path_said e.0.object e.0.instance e.0.resource e.0.part h.0.0 
 pub class_said : (c : Template) → IsBuilt c → AllByRecursion IsSayable (of_class c)
 class_said c built =
     let has = has_words c built in
-    let places = each_map (λ (e : InstancePath × Unit {0}). IsPlace e.0 × Unit {0}) IsPlace (λ (e : InstancePath × Unit {0}). e.0) (λ e k. k.0) (finite.entries c.store.instances) has.instances in (
+    let places = each_map (λ (e : InstancePath × Unit {0}). IsPlace e.0 × Unit {0}) IsPlace
+    (λ (e : InstancePath × Unit {0}). e.0) (λ e k. k.0) (finite.entries c.store.instances) has.instances in (
       tt,
       each_append IsSayable (map (λ s. says.Account s) c.accounts) _
           (each_map (IsWithin 1 65534) IsSayable (λ s. says.Account s) (λ s k. k) c.accounts has.accounts)
           (each_append IsSayable (flat_map of_object (objects_in c)) _ (own_said c has.objects)
           (each_append IsSayable (map (λ p. says.Instance p) (instances_in c)) _
           (each_map IsPlace IsSayable (λ p. says.Instance p) (λ p k. k) (instances_in c) places)
-          (each_map (λ (e : FullPath × Value). IsShort e.0 × IsGood e.1) IsSayable of_value value_said (values_in c) has.values))),
+          (each_map (λ (e : FullPath × Value). IsShort e.0 × IsGood e.1) IsSayable of_value value_said
+          (values_in c) has.values))),
     )

@@ -1,5 +1,6 @@
 -- A text that assembles to a scenario denotes it, and the other way round.
-use Rattle.std.proofs.Common.{◌≡◌, ℕ, ◌+◌, Bool, true, false, cond, List, [], ◌∷◌, Option, None, Some, Result, Ok, Err, refl, sym, ap, ◌∙◌}
+use Rattle.std.proofs.Common.{◌≡◌, ℕ, ◌+◌, Bool, true, false, cond, List, [], ◌∷◌, Option, None, Some, Result, Ok, Err}
+use Rattle.std.proofs.Common.{refl, sym, ap, ◌∙◌}
 use Rattle.scenario_image.specs.Scenario.{Scenario}
 use Rattle.scenario_words.specs.declared.cause.Cause.{Cause}
 use Rattle.scenario_words.specs.declared.cause.Cause.TheVariants.{Missing}
@@ -28,16 +29,20 @@ wordless [] h = refl
 wordless (w ∷ ws) h = absurd (not_some (statement_by w ws) h)
 
 -- a statement that had its effect
-by_effect : (line : List ℕ) (ls : List (List ℕ)) (n : ℕ) (d e : Draft) (s : Statement) (r : Result Draft Cause) → statement_of (words line) ≡ Ok (Some s) → effect s d ≡ r
-    → then_lines (lines_after ls (n + 1)) (at_line (n + 1) r) ≡ Ok e → ((f : Draft) → lines_after ls (n + 1) f ≡ Ok e → Found ls f e) → Found (line ∷ ls) d e
+by_effect : (line : List ℕ) (ls : List (List ℕ)) (n : ℕ) (d e : Draft) (s : Statement) (r : Result Draft Cause)
+    → statement_of (words line) ≡ Ok (Some s) → effect s d ≡ r
+    → then_lines (lines_after ls (n + 1)) (at_line (n + 1) r) ≡ Ok e
+    → ((f : Draft) → lines_after ls (n + 1) f ≡ Ok e → Found ls f e) → Found (line ∷ ls) d e
 by_effect line ls n d e s (Err cause) is had h more = absurd cc
 by_effect line ls n d e s (Ok f) is had h more =
     let rest = more f h in
     (s ∷ rest.0, stated line s is rest.1, (f, had, rest.2))
 
 -- a line that was taken
-by_line : (line : List ℕ) (ls : List (List ℕ)) (n : ℕ) (d e : Draft) (r : Result (Option Statement) Cause) → statement_of (words line) ≡ r
-    → then_lines (lines_after ls (n + 1)) (at_line (n + 1) (r >>= (λ o. effect_of o d))) ≡ Ok e → ((f : Draft) → lines_after ls (n + 1) f ≡ Ok e → Found ls f e) → Found (line ∷ ls) d e
+by_line : (line : List ℕ) (ls : List (List ℕ)) (n : ℕ) (d e : Draft) (r : Result (Option Statement) Cause)
+    → statement_of (words line) ≡ r
+    → then_lines (lines_after ls (n + 1)) (at_line (n + 1) (r >>= (λ o. effect_of o d))) ≡ Ok e
+    → ((f : Draft) → lines_after ls (n + 1) f ≡ Ok e → Found ls f e) → Found (line ∷ ls) d e
 by_line line ls n d e (Err cause) is h more = absurd cc
 by_line line ls n d e (Ok None) is h more =
     let rest = more d h in
@@ -48,10 +53,12 @@ found : (ls : List (List ℕ)) (n : ℕ) (d e : Draft) → lines_after ls n d �
 found [] n d e h = let same : d ≡ e = cc in ([], done, same)
 found (line ∷ ls) n d e h = by_line line ls n d e (statement_of (words line)) refl h (λ f g. found ls (n + 1) f e g)
 
-pub lead_on : (ls : List (List ℕ)) (ss : List Statement) (n : ℕ) (d e : Draft) → AreSaid ls ss → Lead d ss e → lines_after ls n d ≡ Ok e
+pub lead_on : (ls : List (List ℕ)) (ss : List Statement) (n : ℕ) (d e : Draft) → AreSaid ls ss → Lead d ss e
+    → lines_after ls n d ≡ Ok e
 lead_on _ _ n d e done lead = ap (λ x. Ok x) lead
 lead_on _ _ n d e (blank {ls} {ss} line none rest) lead =
-    ap (λ ws. then_lines (lines_after ls (n + 1)) (at_line (n + 1) (statement_of ws >>= (λ o. effect_of o d)))) none ∙ lead_on ls ss (n + 1) d e rest lead
+    ap (λ ws. then_lines (lines_after ls (n + 1)) (at_line (n + 1) (statement_of ws >>= (λ o. effect_of o d)))) none
+    ∙ lead_on ls ss (n + 1) d e rest lead
 lead_on _ _ n d e (stated {ls} {ss} line s is rest) lead =
     ap (λ r. then_lines (lines_after ls (n + 1)) (at_line (n + 1) (r >>= (λ o. effect_of o d)))) is
     ∙ ap (λ r. then_lines (lines_after ls (n + 1)) (at_line (n + 1) r)) lead.1
@@ -61,15 +68,19 @@ no_scenario : (fault : AsmFault) (s : Scenario) → Err fault ≡ Ok s → ⊥
 no_scenario fault s h = cc
 
 -- a text denotes what its draft states
-whole_is : (text : List ℕ) (s : Scenario) (d : Draft) (b : Bool) → d.begun ≡ b → Found (lines text) nothing d → whole d ≡ Ok s → Denotes text s
+whole_is : (text : List ℕ) (s : Scenario) (d : Draft) (b : Bool) → d.begun ≡ b → Found (lines text) nothing d
+    → whole d ≡ Ok s → Denotes text s
 whole_is text s d true begun f h =
-    let is : Ok (closed d) ≡ Ok s = sym (ap (λ b. cond b (Ok (closed d)) (Err (record { line = 1; cause = Missing }))) begun) ∙ h in
+    let is : Ok (closed d) ≡ Ok s =
+    sym (ap (λ b. cond b (Ok (closed d)) (Err (record { line = 1; cause = Missing }))) begun) ∙ h in
     let same : closed d ≡ s = cc in
     record { statements = f.0; said = f.1; draft = d; lead = f.2; begun = begun; scenario = same }
 whole_is text s d false begun f h =
-    absurd (no_scenario _ s (sym (ap (λ b. cond b (Ok (closed d)) (Err (record { line = 1; cause = Missing }))) begun) ∙ h))
+    absurd (no_scenario _ s (sym (ap (λ b. cond b (Ok (closed d)) (Err (record { line = 1; cause = Missing }))) begun)
+    ∙ h))
 
-by_all : (text : List ℕ) (s : Scenario) (r : Result Draft AsmFault) → lines_after (lines text) 0 nothing ≡ r → whole_of r ≡ Ok s → Denotes text s
+by_all : (text : List ℕ) (s : Scenario) (r : Result Draft AsmFault) → lines_after (lines text) 0 nothing ≡ r
+    → whole_of r ≡ Ok s → Denotes text s
 by_all text s (Err fault) is h = absurd cc
 by_all text s (Ok d) is h = whole_is text s d d.begun refl (found (lines text) 0 nothing d is) h
 

@@ -1,5 +1,6 @@
 -- Lines that are taken one after another.
-use Rattle.std.proofs.Common.{◌≡◌, ℕ, suc, ◌+◌, List, [], ◌∷◌, ◌++◌, length, Option, None, Some, MatchOption, Result, Ok, Err, option_map, refl, sym, ap, ◌∙◌, append_assoc, length-append, arith}
+use Rattle.std.proofs.Common.{◌≡◌, ℕ, suc, ◌+◌, List, [], ◌∷◌, ◌++◌, length, Option, None, Some, MatchOption, Result}
+use Rattle.std.proofs.Common.{Ok, Err, option_map, refl, sym, ap, ◌∙◌, append_assoc, length-append, arith}
 use Rattle.std.specs.List.{slice_get}
 use Rattle.scenario_image.specs.Scenario.{Row}
 use Rattle.scenario_words.specs.declared.cause.Cause.{Cause}
@@ -14,22 +15,30 @@ bytes_left None = 0
 bytes_left (Some bytes) = suc (length bytes)
 
 -- a line is taken
-pub goes_on : (text first : List ℕ) (more : List (List ℕ)) (n : ℕ) (d e : Draft) (all : Result Draft AsmFault) → lines text ≡ first ∷ more → line_after first d ≡ Ok e → lines_after (lines text) n d ≡ all → lines_after more (n + 1) e ≡ all
+pub goes_on : (text first : List ℕ) (more : List (List ℕ)) (n : ℕ) (d e : Draft) (all : Result Draft AsmFault)
+    → lines text ≡ first ∷ more → line_after first d ≡ Ok e → lines_after (lines text) n d ≡ all
+    → lines_after more (n + 1) e ≡ all
 goes_on text first more n d e all cut taken so_far =
-    sym (ap (λ ls. lines_after ls n d) cut ∙ ap (λ r. then_lines (lines_after more (n + 1)) (at_line (n + 1) r)) taken) ∙ so_far
+    sym (ap (λ ls. lines_after ls n d) cut ∙ ap (λ r. then_lines (lines_after more (n + 1)) (at_line (n + 1) r)) taken)
+    ∙ so_far
 
 -- a line is refused
-pub stops : (text first : List ℕ) (more : List (List ℕ)) (n : ℕ) (d : Draft) (cause : Cause) (from : List ℕ) → lines text ≡ first ∷ more → line_after first d ≡ Err cause → lines_after (lines text) n d ≡ lines_after (lines from) 0 nothing
+pub stops : (text first : List ℕ) (more : List (List ℕ)) (n : ℕ) (d : Draft) (cause : Cause) (from : List ℕ)
+    → lines text ≡ first ∷ more → line_after first d ≡ Err cause
+    → lines_after (lines text) n d ≡ lines_after (lines from) 0 nothing
     → assembled from ≡ Err (record { line = n + 1; cause = cause })
 stops text first more n d cause from cut refused so_far =
-    ap whole_of (sym so_far ∙ ap (λ ls. lines_after ls n d) cut ∙ ap (λ r. then_lines (lines_after more (n + 1)) (at_line (n + 1) r)) refused)
+    ap whole_of (sym so_far ∙ ap (λ ls. lines_after ls n d) cut
+    ∙ ap (λ r. then_lines (lines_after more (n + 1)) (at_line (n + 1) r)) refused)
 
 -- no line is left
-pub ends : (n : ℕ) (d : Draft) (from : List ℕ) → lines_after [] n d ≡ lines_after (lines from) 0 nothing → assembled from ≡ whole d
+pub ends : (n : ℕ) (d : Draft) (from : List ℕ) → lines_after [] n d ≡ lines_after (lines from) 0 nothing
+    → assembled from ≡ whole d
 ends n d from so_far = ap whole_of (sym so_far)
 
 -- the class of the row at a place
-pub class_at : (rows : List Row) (i class : ℕ) (row : Row) → slice_get rows i ≡ Some row → row.class ≡ class → Some class ≡ option_map (λ (r : Row). r.class) (slice_get rows i)
+pub class_at : (rows : List Row) (i class : ℕ) (row : Row) → slice_get rows i ≡ Some row → row.class ≡ class
+    → Some class ≡ option_map (λ (r : Row). r.class) (slice_get rows i)
 class_at rows i class row at is = sym (ap (option_map (λ (r : Row). r.class)) at ∙ ap (λ n. Some n) is)
 
 -- the lines so far were taken, and these are left
@@ -39,21 +48,25 @@ pub record HasTaken (text : List ℕ) (left : List (List ℕ)) (n : ℕ) (d : Dr
   pub count : length done ≡ n
   pub taken : lines_after done 0 nothing ≡ Ok d
 
-first_taken : (r : Result Draft Cause) (n : ℕ) (more : Draft → Result Draft AsmFault) (e : Draft) → then_lines more (at_line n r) ≡ Ok e → (d : Draft) × (r ≡ Ok d) × (more d ≡ Ok e)
+first_taken : (r : Result Draft Cause) (n : ℕ) (more : Draft → Result Draft AsmFault) (e : Draft)
+    → then_lines more (at_line n r) ≡ Ok e → (d : Draft) × (r ≡ Ok d) × (more d ≡ Ok e)
 first_taken (Ok d) n more e h = (d, refl, h)
 first_taken (Err cause) n more e h = absurd cc
 
-taken_more : (done : List (List ℕ)) (line : List ℕ) (n : ℕ) (d e f : Draft) → lines_after done n d ≡ Ok e → line_after line e ≡ Ok f → lines_after (done ++ line ∷ []) n d ≡ Ok f
+taken_more : (done : List (List ℕ)) (line : List ℕ) (n : ℕ) (d e f : Draft) → lines_after done n d ≡ Ok e
+    → line_after line e ≡ Ok f → lines_after (done ++ line ∷ []) n d ≡ Ok f
 taken_more [] line n d e f so_far taken =
     let same : d ≡ e = cc in
     ap (λ x. then_lines (lines_after [] (n + 1)) (at_line (n + 1) (line_after line x))) same
     ∙ ap (λ r. then_lines (lines_after [] (n + 1)) (at_line (n + 1) r)) taken
 taken_more (l ∷ done) line n d e f so_far taken =
     let s = first_taken (line_after l d) (n + 1) (lines_after done (n + 1)) e so_far in
-    ap (λ r. then_lines (lines_after (done ++ line ∷ []) (n + 1)) (at_line (n + 1) r)) s.1 ∙ taken_more done line (n + 1) s.0 e f s.2 taken
+    ap (λ r. then_lines (lines_after (done ++ line ∷ []) (n + 1)) (at_line (n + 1) r)) s.1
+    ∙ taken_more done line (n + 1) s.0 e f s.2 taken
 
 -- one line more was taken
-pub taken_line : (text first : List ℕ) (left more : List (List ℕ)) (n : ℕ) (d e : Draft) → HasTaken text left n d → left ≡ first ∷ more → line_after first d ≡ Ok e → HasTaken text more (n + 1) e
+pub taken_line : (text first : List ℕ) (left more : List (List ℕ)) (n : ℕ) (d e : Draft) → HasTaken text left n d
+    → left ≡ first ∷ more → line_after first d ≡ Ok e → HasTaken text more (n + 1) e
 taken_line text first left more n d e so_far cut taken = record {
   done = so_far.done ++ first ∷ [];
   cut = so_far.cut ∙ ap (λ ls. so_far.done ++ ls) cut ∙ sym (append_assoc so_far.done (first ∷ []) more);
@@ -62,7 +75,8 @@ taken_line text first left more n d e so_far cut taken = record {
 }
 
 -- the line behind those that were taken
-pub reached_here : (text first : List ℕ) (left more : List (List ℕ)) (n : ℕ) (d : Draft) → HasTaken text left n d → left ≡ first ∷ more → IsReached text (n + 1)
+pub reached_here : (text first : List ℕ) (left more : List (List ℕ)) (n : ℕ) (d : Draft) → HasTaken text left n d
+    → left ≡ first ∷ more → IsReached text (n + 1)
 reached_here text first left more n d so_far cut = record {
   before = so_far.done;
   here = first;

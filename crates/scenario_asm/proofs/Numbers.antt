@@ -28,7 +28,8 @@ char_below c h =
     let small = scalar_small c h in
     chosen (AllBelowBase 256) (ltb c 128) _ _ (λ e. (omega (arith, ltb-true c 128 e), tt)) (λ e.
     chosen (AllBelowBase 256) (ltb c 2048) _ _ (λ f. (omega (arith, ltb-true c 2048 f), (omega arith, tt))) (λ f.
-    chosen (AllBelowBase 256) (ltb c 65536) _ _ (λ g. (omega (arith, ltb-true c 65536 g), (omega arith, (omega arith, tt)))) (λ g.
+    chosen (AllBelowBase 256) (ltb c 65536) _ _
+    (λ g. (omega (arith, ltb-true c 65536 g), (omega arith, (omega arith, tt)))) (λ g.
     (omega (arith, small), (omega arith, (omega arith, (omega arith, tt)))))))
 
 chars_below : (cs : List ℕ) → scalars cs ≡ true → AllBelowBase 256 (encode_utf8_all cs)

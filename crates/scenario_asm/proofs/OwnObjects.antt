@@ -1,12 +1,14 @@
 -- The objects of a class's own stand behind the base objects, and have numbers that words can say.
-use Rattle.std.proofs.Common.{◌≡◌, ℕ, ◌≤◌, ◌<◌, Bool, true, false, cond, eqb, ltb, leb, List, [], ◌∷◌, ◌++◌, Option, None, refl, ap, ◌∙◌, arith}
+use Rattle.std.proofs.Common.{◌≡◌, ℕ, ◌≤◌, ◌<◌, Bool, true, false, cond, eqb, ltb, leb, List, [], ◌∷◌, ◌++◌, Option}
+use Rattle.std.proofs.Common.{None, refl, ap, ◌∙◌, arith}
 use Rattle.std.specs.Prelude.{option_map}
 use Rattle.std.specs.List.{AllByRecursion}
 use Rattle.std.proofs.lemmas.Bool.{and_parts, leb-true}
 use Rattle.std.proofs.lemmas.Bool.Decides.{nat_tests}
 use Rattle.object_defs.specs.Base.{base}
 use Rattle.object_defs.specs.Catalogue.{object_of}
-use Rattle.object_defs.specs.Vendor.{inserted, is_vendor, new_object, resource_fault_in, with_definition, with_object, with_resource}
+use Rattle.object_defs.specs.Vendor.{inserted, is_vendor, new_object, resource_fault_in, with_definition, with_object}
+use Rattle.object_defs.specs.Vendor.{with_resource}
 use Rattle.object_defs.specs.declared.definition.ObjectDef.{ObjectDef}
 use Rattle.object_defs.specs.declared.definition.ResourceDef.{ResourceDef}
 use Rattle.device_template.specs.Template.{Template, definition_fault, fault_of}
@@ -24,7 +26,8 @@ pub record HasOwn (catalogue : List ObjectDef) : Type 0 where
   pub each : AllByRecursion IsOwn own
 
 pub vendor_range : (n : ℕ) → is_vendor n ≡ true → IsWithin 10241 32768 n
-vendor_range n h = let both = and_parts (leb 10241 n) (leb n 32768) h in (leb-true 10241 n both.0, leb-true n 32768 both.1)
+vendor_range n h = let both =
+    and_parts (leb 10241 n) (leb n 32768) h in (leb-true 10241 n both.0, leb-true n 32768 both.1)
 
 -- ---- the base objects have lower numbers
 
@@ -37,21 +40,28 @@ not_same n k h l = grind (arith, nat_tests)
 base_low : AllByRecursion (λ (o : ObjectDef). o.id < 10241) base
 base_low = (omega arith, (omega arith, (omega arith, (omega arith, (omega arith, tt)))))
 
-inserted_behind : (o : ObjectDef) (front back : List ObjectDef) → 10241 ≤ o.id → AllByRecursion (λ (f : ObjectDef). f.id < 10241) front → inserted (λ (f : ObjectDef). f.id) o (front ++ back) ≡ front ++ inserted (λ (f : ObjectDef). f.id) o back
+inserted_behind : (o : ObjectDef) (front back : List ObjectDef) → 10241 ≤ o.id
+    → AllByRecursion (λ (f : ObjectDef). f.id < 10241) front
+    → inserted (λ (f : ObjectDef). f.id) o (front ++ back) ≡ front ++ inserted (λ (f : ObjectDef). f.id) o back
 inserted_behind o [] back h low = refl
 inserted_behind o (f ∷ front) back h low =
-    ap (λ b. cond b (o ∷ f ∷ front ++ back) (f ∷ inserted (λ (g : ObjectDef). g.id) o (front ++ back))) (not_below o.id f.id h low.0)
+    ap (λ b. cond b (o ∷ f ∷ front ++ back) (f ∷ inserted (λ (g : ObjectDef). g.id) o (front ++ back)))
+    (not_below o.id f.id h low.0)
     ∙ ap (λ t. f ∷ t) (inserted_behind o front back h low.1)
 
-resource_behind : (id : ℕ) (d : ResourceDef) (front back : List ObjectDef) → 10241 ≤ id → AllByRecursion (λ (f : ObjectDef). f.id < 10241) front → with_resource (front ++ back) id d ≡ front ++ with_resource back id d
+resource_behind : (id : ℕ) (d : ResourceDef) (front back : List ObjectDef) → 10241 ≤ id
+    → AllByRecursion (λ (f : ObjectDef). f.id < 10241) front
+    → with_resource (front ++ back) id d ≡ front ++ with_resource back id d
 resource_behind id d [] back h low = refl
 resource_behind id d (f ∷ front) back h low =
-    ap (λ b. cond b (with_definition f d ∷ front ++ back) (f ∷ with_resource (front ++ back) id d)) (not_same id f.id h low.0)
+    ap (λ b. cond b (with_definition f d ∷ front ++ back) (f ∷ with_resource (front ++ back) id d))
+    (not_same id f.id h low.0)
     ∙ ap (λ t. f ∷ t) (resource_behind id d front back h low.1)
 
 -- ---- what is added
 
-each_defined : (id : ℕ) (d : ResourceDef) (own : List ObjectDef) → d.id < 65536 → AllByRecursion IsOwn own → AllByRecursion IsOwn (with_resource own id d)
+each_defined : (id : ℕ) (d : ResourceDef) (own : List ObjectDef) → d.id < 65536 → AllByRecursion IsOwn own
+    → AllByRecursion IsOwn (with_resource own id d)
 each_defined id d [] small each = tt
 each_defined id d (o ∷ own) small each =
     chosen (AllByRecursion IsOwn) (eqb o.id id) (with_definition o d ∷ own) (o ∷ with_resource own id d)
@@ -67,15 +77,18 @@ object_more c id vendor has =
       each = each_inserted IsOwn (λ o. o.id) (new_object id) has.own (range, tt) has.each;
     }
 
-pub resource_more : (c : List ObjectDef) (id : ℕ) (d : ResourceDef) → is_vendor id ≡ true → d.id < 65536 → HasOwn c → HasOwn (with_resource c id d)
+pub resource_more : (c : List ObjectDef) (id : ℕ) (d : ResourceDef) → is_vendor id ≡ true → d.id < 65536 → HasOwn c
+    → HasOwn (with_resource c id d)
 resource_more c id d vendor small has =
     record {
       own = with_resource has.own id d;
-      are = ap (λ k. with_resource k id d) has.are ∙ resource_behind id d base has.own (vendor_range id vendor).0 base_low;
+      are = ap (λ k. with_resource k id d) has.are
+          ∙ resource_behind id d base has.own (vendor_range id vendor).0 base_low;
       each = each_defined id d has.own small has.each;
     }
 
-vendor_of : (b : Bool) (d : ResourceDef) (o : Option ObjectDef) → option_map fault_of (resource_fault_in d (cond b o None)) ≡ None → b ≡ true
+vendor_of : (b : Bool) (d : ResourceDef) (o : Option ObjectDef)
+    → option_map fault_of (resource_fault_in d (cond b o None)) ≡ None → b ≡ true
 vendor_of true d o h = refl
 vendor_of false d o h = absurd cc
 

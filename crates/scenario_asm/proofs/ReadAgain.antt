@@ -13,10 +13,13 @@ use Rattle.scenario_asm.specs.Canonical.{printed_lines}
 use Rattle.scenario_asm.specs.Reading.{behind, said_in, said_by}
 use Rattle.scenario_asm.proofs.Each.{each_map}
 
-pub lines_of : (ss : List Statement) → AllByRecursion IsSayable ss → lines (printed_lines ss) ≡ map line_of ss ++ [] ∷ []
-lines_of ss h = ap lines (sym (flat_map-map ended_line line_of ss)) ∙ lines_again (map line_of ss) (each_map IsSayable IsLine line_of line_alone ss h)
+pub lines_of : (ss : List Statement) → AllByRecursion IsSayable ss
+    → lines (printed_lines ss) ≡ map line_of ss ++ [] ∷ []
+lines_of ss h = ap lines (sym (flat_map-map ended_line line_of ss))
+    ∙ lines_again (map line_of ss) (each_map IsSayable IsLine line_of line_alone ss h)
 
-said_more : (s : Statement) (rest : List (List ℕ)) (ss : List Statement) → IsSayable s → said_in rest ≡ Ok ss → said_in (line_of s ∷ rest) ≡ Ok (s ∷ ss)
+said_more : (s : Statement) (rest : List (List ℕ)) (ss : List Statement) → IsSayable s → said_in rest ≡ Ok ss
+    → said_in (line_of s ∷ rest) ≡ Ok (s ∷ ss)
 said_more s rest ss h e =
     ap (λ ws. statement_of ws >>= (λ o. said_in rest >>= (λ r. Ok (behind o r)))) (words_of_line s h)
     ∙ ap (λ o. o >>= (λ p. said_in rest >>= (λ r. Ok (behind p r)))) (statement_again s h)
@@ -30,5 +33,6 @@ said_lines (s ∷ ss) h = said_more s (map line_of ss ++ [] ∷ []) ss h.0 (said
 pub said_again : (ss : List Statement) → AllByRecursion IsSayable ss → said_by (printed_lines ss) ≡ Ok ss
 said_again ss h = ap said_in (lines_of ss h) ∙ said_lines ss h
 
-pub same_statements : (ss rs : List Statement) → AllByRecursion IsSayable ss → AllByRecursion IsSayable rs → printed_lines ss ≡ printed_lines rs → ss ≡ rs
+pub same_statements : (ss rs : List Statement) → AllByRecursion IsSayable ss → AllByRecursion IsSayable rs
+    → printed_lines ss ≡ printed_lines rs → ss ≡ rs
 same_statements ss rs h k e = let f : Ok ss ≡ Ok rs = sym (said_again ss h) ∙ ap said_by e ∙ said_again rs k in cc

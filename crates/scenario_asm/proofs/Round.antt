@@ -12,9 +12,16 @@ use Rattle.scenario_asm.proofs.RowRuns.{from_none, rows_lead, shut}
 pub canonical_again : (s : Scenario) → IsScenario s → assembled (printed s) ≡ Ok s
 canonical_again s is =
     let begun = shut (record { classes = []; rows = [] }) in
-    let first = classes_lead [] s.classes begun refl refl is.built (from_none (length s.classes) 256 is.valid.classes) in
-    let second = rows_lead s.classes [] s.rows first.0 first.2 first.3 is.valid.each (from_none (length s.rows) 4096 is.valid.rows) in
-    canonical s second.0 is (begun, refl, lead_append begun first.0 second.0 (flat_map of_class s.classes) (flat_map of_row s.rows) first.1 second.1) second.2 second.3
+    let first = classes_lead [] s.classes begun refl refl is.built
+    (from_none (length s.classes) 256 is.valid.classes) in
+    let second = rows_lead s.classes [] s.rows first.0 first.2 first.3 is.valid.each
+    (from_none (length s.rows) 4096 is.valid.rows) in
+    canonical s second.0 is (
+      begun,
+      refl,
+      lead_append begun first.0 second.0 (flat_map of_class s.classes) (flat_map of_row s.rows) first.1 second.1,
+    )
+    second.2 second.3
 
 -- and so does that of each that there is
 pub text_again : (s : Scenario) (text : List ℕ) → IsScenario s → text ≡ printed s → assembled text ≡ Ok s

@@ -1,6 +1,7 @@
--- What a line adds to the open class, in the words of its builder, and why it is refused: what was not stated before comes
--- first, then what does not fit, then what is there already, then limits.
-use Rattle.std.specs.Prelude.{ℕ, nat_le, Bool, true, not, ◌&&◌, [], ◌∷◌, Option, None, Some, is_some, option_map, Result}
+-- What a line adds to the open class, in the words of its builder, and why it is refused: what was not stated before
+-- comes first, then what does not fit, then what is there already, then limits.
+use Rattle.std.specs.Prelude.{ℕ, nat_le, Bool, true, not, ◌&&◌, [], ◌∷◌, Option, None, Some, is_some, option_map}
+use Rattle.std.specs.Prelude.{Result}
 use Rattle.lwm2m_values.specs.declared.value.Value.{Value}
 use Rattle.object_defs.specs.Catalogue.{object_of}
 use Rattle.object_defs.specs.Lines.{first_line}
@@ -12,7 +13,8 @@ use Rattle.object_defs.specs.declared.path.InstancePath.{InstancePath}
 use Rattle.object_defs.specs.declared.path.Path.{Path}
 use Rattle.object_defs.specs.declared.path.Path.TheVariants.{Object, Instance, Resource, Part}
 use Rattle.instance_store.specs.Stored.{has_instance, value_at, value_count, with_instance}
-use Rattle.device_template.specs.Template.{Template, account_fault, definition_fault, instance_fault, object_fault, with_account, with_catalogue, with_store}
+use Rattle.device_template.specs.Template.{Template, account_fault, definition_fault, instance_fault, object_fault}
+use Rattle.device_template.specs.Template.{with_account, with_catalogue, with_store}
 use Rattle.device_template.specs.Values.{fits_object, has_all_parts, is_within_limits, with_value_at}
 use Rattle.scenario_words.specs.declared.cause.Cause.{Cause}
 use Rattle.scenario_words.specs.declared.cause.Cause.TheVariants.{Range, Duplicate, Limit}
@@ -22,10 +24,13 @@ abbrev pub account_added : ℕ → Template → Result Template Cause
 account_added server c = unless (option_map template_cause (account_fault c server)) (with_account c server)
 
 abbrev pub object_added : ℕ → Template → Result Template Cause
-object_added id c = unless (option_map template_cause (object_fault c id)) (with_catalogue c (with_object c.catalogue id))
+object_added id c =
+    unless (option_map template_cause (object_fault c id)) (with_catalogue c (with_object c.catalogue id))
 
 abbrev pub definition_added : ℕ → ResourceDef → Template → Result Template Cause
-definition_added object d c = unless (option_map template_cause (definition_fault c object d)) (with_catalogue c (with_resource c.catalogue object d))
+definition_added object d c =
+    unless (option_map template_cause (definition_fault c object d))
+    (with_catalogue c (with_resource c.catalogue object d))
 
 -- the object was stated, or is one of the base
 abbrev pub has_object : Template → ℕ → Bool
@@ -34,7 +39,8 @@ has_object c object = is_some (object_of c.catalogue object)
 -- an instance needs its object
 abbrev pub instance_added : InstancePath → Template → Result Template Cause
 instance_added place c =
-    needs (has_object c place.object) (unless (option_map template_cause (instance_fault c place)) (with_store c (with_instance c.store place)))
+    needs (has_object c place.object) (unless (option_map template_cause (instance_fault c place))
+    (with_store c (with_instance c.store place)))
 
 abbrev pub has_place : Template → InstancePath → Bool
 has_place c place = has_object c place.object && has_instance c.store place
@@ -46,7 +52,8 @@ is_stated c (Instance o i) = has_place c (record { object = o; instance = i })
 is_stated c (Resource o i r) = has_place c (record { object = o; instance = i })
 is_stated c (Part o i r p) = has_place c (record { object = o; instance = i })
 
--- a value has a path of three or four numbers, to a resource of its kind; it is new, it is not too long, and there is room
+-- a value has a path of three or four numbers, to a resource of its kind; it is new, it is not too long, and there is
+-- room
 abbrev pub value_cause : Template → Option FullPath → Value → Option Cause
 value_cause c None value = Some Range
 value_cause c (Some p) value =
@@ -61,4 +68,6 @@ value_cause c (Some p) value =
 
 -- a value needs its instance
 abbrev pub value_added : Path → Value → Template → Result Template Cause
-value_added p value c = needs (is_stated c p) (unless (value_cause c (full_path p) value) (with_store c (with_value_at c.store (full_path p) value)))
+value_added p value c =
+    needs (is_stated c p) (unless (value_cause c (full_path p) value)
+    (with_store c (with_value_at c.store (full_path p) value)))

@@ -10,8 +10,10 @@ use Rattle.scenario_asm.specs.Effect.{effect}
 -- what lines say: a line without words nothing, each other one its statement
 pub data AreSaid : List (List ℕ) → List Statement → Type 0 where
   done : AreSaid [] []
-  blank : {ls : List (List ℕ)} {ss : List Statement} (line : List ℕ) → words line ≡ [] → AreSaid ls ss → AreSaid (line ∷ ls) ss
-  stated : {ls : List (List ℕ)} {ss : List Statement} (line : List ℕ) (s : Statement) → statement_of (words line) ≡ Ok (Some s) → AreSaid ls ss → AreSaid (line ∷ ls) (s ∷ ss)
+  blank : {ls : List (List ℕ)} {ss : List Statement} (line : List ℕ) → words line ≡ [] → AreSaid ls ss
+      → AreSaid (line ∷ ls) ss
+  stated : {ls : List (List ℕ)} {ss : List Statement} (line : List ℕ) (s : Statement)
+      → statement_of (words line) ≡ Ok (Some s) → AreSaid ls ss → AreSaid (line ∷ ls) (s ∷ ss)
 
 -- the effects of statements, one after another, lead from one draft to another
 abbrev pub Lead : Draft → List Statement → Draft → Type 0

@@ -1,10 +1,12 @@
--- What each statement adds to a draft, in the words of the builders of classes and scenarios, and why it is refused: what
--- was not stated before comes first, then what does not fit, then what is there already, then limits.
-use Rattle.std.specs.Prelude.{ℕ, ◌==◌, nat_lt, Bool, true, false, length, Option, None, Some, option_map, Result, Ok, Err, if◌then◌else◌}
+-- What each statement adds to a draft, in the words of the builders of classes and scenarios, and why it is refused:
+-- what was not stated before comes first, then what does not fit, then what is there already, then limits.
+use Rattle.std.specs.Prelude.{ℕ, ◌==◌, nat_lt, Bool, true, false, length, Option, None, Some, option_map, Result, Ok}
+use Rattle.std.specs.Prelude.{Err, if◌then◌else◌}
 use Rattle.std.specs.List.{list_any}
 use Rattle.device_template.specs.Template.{Template, empty_class}
 use Rattle.device_machine.specs.declared.event.Event.TheVariants as event
-use Rattle.scenario_image.specs.Scenario.{Scenario, accounts_of, class_fault, last_row, row_fault, step_fault, with_row, with_step}
+use Rattle.scenario_image.specs.Scenario.{Scenario, accounts_of, class_fault, last_row, row_fault, step_fault, with_row}
+use Rattle.scenario_image.specs.Scenario.{with_step}
 use Rattle.scenario_image.specs.declared.step.Step.{Step}
 use Rattle.scenario_image.specs.declared.step.Step.TheVariants as step
 use Rattle.scenario_words.specs.declared.cause.Cause.{Cause}
@@ -27,7 +29,8 @@ abbrev pub reopened_with : ℕ → Draft → Template → Draft
 reopened_with object d c = record { begun = d.begun; scenario = d.scenario; open_class = Some c; object = Some object }
 
 -- what is added to the open class, which has to be there
-abbrev pub in_class : Draft → (Template → Result Template Cause) → (Template → Draft) → Option Template → Result Draft Cause
+abbrev pub in_class : Draft → (Template → Result Template Cause) → (Template → Draft) → Option Template
+    → Result Draft Cause
 in_class d add make None = Err Missing
 in_class d add make (Some c) = add c >>= (λ e. Ok (make e))
 
@@ -78,16 +81,22 @@ fitting m x = if fits_mnemonic m then x else Err Range
 
 -- what a statement adds; each but the first needs `scenario 1` before it
 abbrev pub effect : Statement → Draft → Result Draft Cause
-effect says.Scenario d = if d.begun then Err Duplicate else Ok (record { begun = true; scenario = d.scenario; open_class = d.open_class; object = d.object })
+effect says.Scenario d =
+    if d.begun then Err Duplicate else Ok (record
+    { begun = true; scenario = d.scenario; open_class = d.open_class; object = d.object })
 effect says.Class d = needs d.begun (class_begun d)
 effect (says.Account server) d = needs d.begun (in_class d (account_added server) (reopened d) d.open_class)
 effect (says.Object id) d = needs d.begun (in_class d (object_added id) (reopened_with id d) d.open_class)
-effect (says.Def r) d = needs d.begun (in_class d (in_object d.object (λ object. definition_added object r)) (reopened d) d.open_class)
+effect (says.Def r) d =
+    needs d.begun (in_class d (in_object d.object (λ object. definition_added object r)) (reopened d) d.open_class)
 effect (says.Instance place) d = needs d.begun (in_class d (instance_added place) (reopened d) d.open_class)
 effect (says.Value p value) d = needs d.begun (in_class d (value_added p value) (reopened d) d.open_class)
 effect (says.Device class) d = needs d.begun (device_begun class d)
-effect (says.Recv server bytes) d = needs d.begun (needs (has_server d server) (step_added (step.Event (event.Recv server bytes)) d))
-effect (says.Request server m) d = needs d.begun (needs (has_server d server) (fitting m (step_added (step.Event (event.Recv server (datagram_of m))) d)))
+effect (says.Recv server bytes) d =
+    needs d.begun (needs (has_server d server) (step_added (step.Event (event.Recv server bytes)) d))
+effect (says.Request server m) d =
+    needs d.begun (needs (has_server d server)
+    (fitting m (step_added (step.Event (event.Recv server (datagram_of m))) d)))
 effect (says.Tick seconds) d = needs d.begun (device_step (step.Event (event.Tick seconds)) d)
 effect (says.Put p value) d = needs d.begun (device_step (step.Event (event.Put p value)) d)
 effect (says.Firmware code) d = needs d.begun (device_step (step.Event (event.Firmware code)) d)

@@ -12,11 +12,12 @@ use std::alloc::Global;
 ///
 /// The fault is that of the first line that is refused, with the first cause in this order. In a line words are read
 /// from the left (`Missing`, `Token`, `UnknownWord`, `Range`), and no word may be left (`Token`). Then `Missing` (it
-/// needs what was not stated before, `scenario 1` in the first place), `Range` (it does not fit), `Duplicate` (it was stated before),
-/// `Limit` (a count or a length). A text that states nothing is `Missing` in line 1.
+/// needs what was not stated before, `scenario 1` in the first place), `Range` (it does not fit), `Duplicate` (it was
+/// stated before), `Limit` (a count or a length). A text that states nothing is `Missing` in line 1.
 #[tactic(auto, using(crate::proofs::Lines::line_by_line))]
 pub fn assemble(alloc: Global, text: &str) -> Result<Scenario, AsmFault>
-    ensures assembled { MatchResult result (λ s. assembled text.now ≡ Ok s) (λ f. f.cause ≢ Memory → assembled text.now ≡ Err f) }
+    ensures assembled { MatchResult result (λ s. assembled text.now ≡ Ok s)
+        (λ f. f.cause ≢ Memory → assembled text.now ≡ Err f) }
     ensures memory { IfErr result (λ f. f.cause ≡ Memory → IsReached text.now f.line) }
 {
     let mut draft = Draft::nothing(alloc);

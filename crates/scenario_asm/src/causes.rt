@@ -1,7 +1,8 @@
 //! What the builders refuse, as causes of a line's refusal.
 
 ghost use Rattle.std.specs.Prelude.{◌≡◌};
-ghost use Rattle.scenario_asm.specs.Causes.{long_result, scenario_cause, scenario_result, template_cause, template_result};
+ghost use Rattle.scenario_asm.specs.Causes.{long_result, scenario_cause, scenario_result, template_cause};
+ghost use Rattle.scenario_asm.specs.Causes.{template_result};
 
 use device_template::TemplateFault;
 use scenario_image::ScenarioFault;

@@ -3,7 +3,8 @@
 ghost use Rattle.std.specs.Prelude.{◌≡◌, Err};
 ghost use Rattle.scenario_words.specs.declared.cause.Cause.{Cause};
 ghost use Rattle.scenario_asm.specs.Causes.{Makes};
-ghost use Rattle.scenario_asm.specs.ClassLines.{account_added, definition_added, has_object, has_place, instance_added, is_stated, object_added, value_added};
+ghost use Rattle.scenario_asm.specs.ClassLines.{account_added, definition_added, has_object, has_place, instance_added};
+ghost use Rattle.scenario_asm.specs.ClassLines.{is_stated, object_added, value_added};
 ghost use Rattle.lwm2m_values.specs.Value.{kind_of};
 ghost use Rattle.device_template.specs.Template.{plain};
 

@@ -1,6 +1,7 @@
 //! What the lines of a text have stated so far.
 
-ghost use Rattle.std.specs.Prelude.{◌≡◌, ◌≢◌, ◌==◌, nat_le, true, false, length, None, Ok, Err, MatchResult, IfErr, OnOk};
+ghost use Rattle.std.specs.Prelude.{◌≡◌, ◌≢◌, ◌==◌, nat_le, true, false, length, None, Ok, Err, MatchResult, IfErr};
+ghost use Rattle.std.specs.Prelude.{OnOk};
 ghost use Rattle.scenario_words.specs.declared.cause.Cause.{Cause};
 ghost use Rattle.scenario_words.specs.declared.cause.Cause.TheVariants.{Memory, Missing};
 ghost use Rattle.device_machine.specs.declared.event.Event.TheVariants as event;
@@ -10,9 +11,12 @@ ghost use Rattle.scenario_image.specs.declared.step.Step.TheVariants as step;
 ghost use Rattle.scenario_statements.specs.declared.statement.Statement.TheVariants as says;
 ghost use Rattle.scenario_mnemonics.specs.Messages.{datagram_of};
 ghost use Rattle.scenario_asm.specs.Causes.{Makes, needs};
-ghost use Rattle.scenario_asm.specs.ClassLines.{account_added, definition_added, instance_added, object_added, value_added};
+ghost use Rattle.scenario_asm.specs.ClassLines.{account_added, definition_added, instance_added, object_added};
+ghost use Rattle.scenario_asm.specs.ClassLines.{value_added};
 ghost use Rattle.scenario_asm.specs.Draft.{closed, nothing};
-ghost use Rattle.scenario_asm.specs.Effect.{class_begun, device_begun, device_step, effect, fitting, has_device, has_server, in_class, in_object, is_refused_first, last_class, reopened, reopened_with, step_added};
+ghost use Rattle.scenario_asm.specs.Effect.{class_begun, device_begun, device_step, effect, fitting, has_device};
+ghost use Rattle.scenario_asm.specs.Effect.{has_server, in_class, in_object, is_refused_first, last_class, reopened};
+ghost use Rattle.scenario_asm.specs.Effect.{reopened_with, step_added};
 ghost use Rattle.scenario_asm.specs.Text.{line_after, whole};
 ghost use Rattle.scenario_asm.specs.declared.fault.AsmFault.{AsmFault};
 
@@ -48,9 +52,19 @@ impl Model for Draft {
 
     ghost coded = { Prim.hlevel (codes, stored_code) };
 
-    ghost view = { λ d. record { begun = d.begun; scenario = d.scenario; open_class = d.open_class; object = d.object } };
+    ghost view = { λ d. record {
+      begun = d.begun;
+      scenario = d.scenario;
+      open_class = d.open_class;
+      object = d.object;
+    } };
 
-    ghost invariant = { λ d. HasRoom (record { begun = d.begun; scenario = d.scenario; open_class = d.open_class; object = d.object }) };
+    ghost invariant = { λ d. HasRoom (record {
+      begun = d.begun;
+      scenario = d.scenario;
+      open_class = d.open_class;
+      object = d.object;
+    }) };
 }
 
 /// Whether the server is one of the accounts.
@@ -86,7 +100,8 @@ impl Draft {
 
     /// Adds the open class to the scenario, if there is one.
     fn close(&mut self) -> Result<(), Cause>
-        ensures closed { OnOk result (self.new ≡ record { begun = self.old.begun; scenario = closed self.old; open_class = None; object = None }) }
+        ensures closed { OnOk result (self.new ≡ record
+            { begun = self.old.begun; scenario = closed self.old; open_class = None; object = None }) }
         ensures memory { IfErr result (λ e. e ≢ Memory → ⊥) }
     {
         self.object = None;
@@ -150,7 +165,8 @@ impl Draft {
 
     fn definition(&mut self, definition: ResourceDef) -> Result<(), Cause>
         ensures made { Makes result self.new
-            (in_class self.old (in_object self.old.object (λ object. definition_added object definition)) (reopened self.old) self.old.open_class) }
+            (in_class self.old (in_object self.old.object (λ object. definition_added object definition))
+            (reopened self.old) self.old.open_class) }
         ensures refused { (c : Cause)
             → in_class self.old (in_object self.old.object (λ object. definition_added object definition))
             (reopened self.old) self.old.open_class ≡ Err c
@@ -177,7 +193,8 @@ impl Draft {
     }
 
     fn value(&mut self, alloc: Global, path: Path, value: Value) -> Result<(), Cause>
-        ensures { Makes result self.new (in_class self.old (value_added path value) (reopened self.old) self.old.open_class) }
+        ensures { Makes result self.new (in_class self.old (value_added path value)
+            (reopened self.old) self.old.open_class) }
     {
         match &mut self.open_class {
             None => Err(Cause::Missing),
@@ -258,7 +275,8 @@ impl Draft {
 
     fn request(&mut self, alloc: Global, server: u16, mnemonic: &Mnemonic) -> Result<(), Cause>
         ensures made { Makes result self.new
-            (needs (has_server self.old server) (fitting mnemonic.now (step_added (step.Event (event.Recv server (datagram_of mnemonic.now))) self.old))) }
+            (needs (has_server self.old server) (fitting mnemonic.now
+            (step_added (step.Event (event.Recv server (datagram_of mnemonic.now))) self.old))) }
         ensures refused { (c : Cause)
             → needs (has_server self.old server) (fitting mnemonic.now (Ok self.old)) ≡ Err c → result ≡ Err c }
     {

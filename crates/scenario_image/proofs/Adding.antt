@@ -1,5 +1,6 @@
 -- A scenario of one row, whose steps are added one after another.
-use Rattle.std.proofs.Common.{◌≡◌, ℕ, zero, suc, ◌<◌, ◌≤◌, ◌⊎◌, inl, inr, List, [], ◌∷◌, ◌++◌, length, take, Option, None, Some, slice_get, refl, sym, ap, subst, ◌∙◌, arith}
+use Rattle.std.proofs.Common.{◌≡◌, ℕ, zero, suc, ◌<◌, ◌≤◌, ◌⊎◌, inl, inr, List, [], ◌∷◌, ◌++◌, length, take, Option}
+use Rattle.std.proofs.Common.{None, Some, slice_get, refl, sym, ap, subst, ◌∙◌, arith}
 use Rattle.std.proofs.lemmas.List.{take_at}
 use Rattle.std.proofs.lemmas.Option.{slice_get_within}
 use Rattle.device_template.specs.Template.{Template}
@@ -9,7 +10,8 @@ use Rattle.scenario_image.specs.Scenario.{one_row, step_fault, AreTaken, IsFirst
 use Rattle.scenario_image.proofs.Played.{pushed}
 
 -- the steps of a front stand in the whole
-in_whole : {X : Type 0} (front rest : List X) (k : ℕ) → k < length front → slice_get (front ++ rest) k ≡ slice_get front k
+in_whole : {X : Type 0} (front rest : List X) (k : ℕ) → k < length front
+    → slice_get (front ++ rest) k ≡ slice_get front k
 in_whole [] rest k lt = absurd (omega (arith, lt))
 in_whole (x ∷ front) rest zero lt = refl
 in_whole (x ∷ front) rest (suc k) lt = in_whole front rest k (omega (arith, lt))
@@ -31,10 +33,12 @@ none_if None never = refl
 none_if (Some f) never = absurd (never f refl)
 
 -- one step more is taken
-pub one_more : (class : Template) (xs : List Step) (x : Step) → AreTaken class xs (length xs) → step_fault (one_row class xs) x ≡ None → AreTaken class (xs ++ x ∷ []) (length (xs ++ x ∷ []))
+pub one_more : (class : Template) (xs : List Step) (x : Step) → AreTaken class xs (length xs)
+    → step_fault (one_row class xs) x ≡ None → AreTaken class (xs ++ x ∷ []) (length (xs ++ x ∷ []))
 one_more class xs x taken ok k step lt at = told (pushed xs x k step at)
   where
-    told : (slice_get xs k ≡ Some step) ⊎ ((k ≡ length xs) × (x ≡ step)) → step_fault (one_row class (take k (xs ++ x ∷ []))) step ≡ None
+    told : (slice_get xs k ≡ Some step) ⊎ ((k ≡ length xs) × (x ≡ step))
+        → step_fault (one_row class (take k (xs ++ x ∷ []))) step ≡ None
     told (inl h) =
         let below : k < length xs = slice_get_within xs k step h in
         let same : take k (xs ++ x ∷ []) ≡ take k xs = front_of xs (x ∷ []) k (omega (arith, below)) in
@@ -44,7 +48,9 @@ one_more class xs x taken ok k step lt at = told (pushed xs x k step at)
         ap (λ ys. step_fault (one_row class ys) step) same ∙ ap (λ s. step_fault (one_row class xs) s) (sym h.1) ∙ ok
 
 -- the first that is refused
-pub refused_here : (class : Template) (steps xs rest : List Step) (x : Step) (f : ScenarioFault) → xs ++ x ∷ rest ≡ steps → AreTaken class xs (length xs) → step_fault (one_row class xs) x ≡ Some f → IsFirstRefusal class steps f
+pub refused_here : (class : Template) (steps xs rest : List Step) (x : Step) (f : ScenarioFault)
+    → xs ++ x ∷ rest ≡ steps → AreTaken class xs (length xs) → step_fault (one_row class xs) x ≡ Some f
+    → IsFirstRefusal class steps f
 refused_here class steps xs rest x f all taken refused = subst (λ ys. IsFirstRefusal class ys f) all (record {
   place = length xs;
   step = x;
@@ -56,13 +62,16 @@ refused_here class steps xs rest x f all taken refused = subst (λ ys. IsFirstRe
 })
 
 -- where all are taken, none is refused
-pub none_refused : (class : Template) (steps : List Step) (f : ScenarioFault) → AreTaken class steps (length steps) → IsFirstRefusal class steps f → ⊥
+pub none_refused : (class : Template) (steps : List Step) (f : ScenarioFault) → AreTaken class steps (length steps)
+    → IsFirstRefusal class steps f → ⊥
 none_refused class steps f taken r =
-    let e : None ≡ Some f = sym (taken r.place r.step (slice_get_within steps r.place r.step r.stands) r.stands) ∙ r.refused in
+    let e : None ≡ Some f =
+    sym (taken r.place r.step (slice_get_within steps r.place r.step r.stands) r.stands) ∙ r.refused in
     cc
 
 -- of two refusals that are first, neither stands before the other
-not_before : (class : Template) (steps : List Step) (f g : ScenarioFault) (r : IsFirstRefusal class steps f) (q : IsFirstRefusal class steps g) → r.place < q.place → ⊥
+not_before : (class : Template) (steps : List Step) (f g : ScenarioFault) (r : IsFirstRefusal class steps f)
+    (q : IsFirstRefusal class steps g) → r.place < q.place → ⊥
 not_before class steps f g r q lt =
     let e : None ≡ Some f = sym (q.taken r.place r.step lt r.stands) ∙ r.refused in
     cc
@@ -70,12 +79,15 @@ not_before class steps f g r q lt =
 some_is : {X : Type 0} (x y : X) (o : Option X) → o ≡ Some x → o ≡ Some y → x ≡ y
 some_is x y o h k = let e : Some x ≡ Some y = sym h ∙ k in cc
 
-pub one_refusal : (class : Template) (steps : List Step) (f g : ScenarioFault) → IsFirstRefusal class steps f → IsFirstRefusal class steps g → f ≡ g
+pub one_refusal : (class : Template) (steps : List Step) (f g : ScenarioFault) → IsFirstRefusal class steps f
+    → IsFirstRefusal class steps g → f ≡ g
 one_refusal class steps f g r q =
     let no : r.place < q.place → ⊥ = not_before class steps f g r q in
     let nor : q.place < r.place → ⊥ = not_before class steps g f q r in
     let same : r.place ≡ q.place = omega (arith, no, nor) in
-    let step : r.step ≡ q.step = some_is r.step q.step (slice_get steps q.place) (ap (slice_get steps) (sym same) ∙ r.stands) q.stands in
+    let step : r.step ≡ q.step =
+    some_is r.step q.step (slice_get steps q.place) (ap (slice_get steps) (sym same) ∙ r.stands) q.stands in
     let there : step_fault (one_row class (take q.place steps)) q.step ≡ Some f =
-    ap (λ s. step_fault (one_row class (take q.place steps)) s) (sym step) ∙ ap (λ k. step_fault (one_row class (take k steps)) r.step) (sym same) ∙ r.refused in
+    ap (λ s. step_fault (one_row class (take q.place steps)) s) (sym step)
+    ∙ ap (λ k. step_fault (one_row class (take k steps)) r.step) (sym same) ∙ r.refused in
     some_is f g (step_fault (one_row class (take q.place steps)) q.step) there q.refused

@@ -1,5 +1,6 @@
 -- The layouts of steps and rows are exact.
-use Rattle.std.proofs.Common.{◌≡◌, ℕ, zero, suc, ◌<◌, Bool, true, false, List, Option, None, Some, refl, ap, sym, ◌∙◌, arith}
+use Rattle.std.proofs.Common.{◌≡◌, ℕ, zero, suc, ◌<◌, Bool, true, false, List, Option, None, Some, refl, ap, sym, ◌∙◌}
+use Rattle.std.proofs.Common.{arith}
 use Rattle.std.specs.Prelude.{nat_le, nat_lt, length, ◌==◌, ◌&&◌, ◌||◌}
 use Rattle.std.proofs.lemmas.Bool.Decides.{nat_tests}
 use Rattle.std.specs.Int.{w8, w16, w32}
@@ -19,7 +20,9 @@ use Rattle.scenario_image.specs.declared.kind.StepKind.TheVariants as kinds
 use Rattle.scenario_image.specs.declared.step.Step.{Step}
 use Rattle.scenario_image.specs.declared.step.Step.TheVariants.{Event, Post, Need}
 use Rattle.scenario_image.specs.Scenario.{accounts_of, most_rows, most_steps}
-use Rattle.scenario_image.specs.Layout.{kind_of, number_of, kind_numbered, kind, server_in, datagram_in, seconds_in, path_in, value_in, code_in, group_in, count_in, path_with, path_to, datagram, recv, tick, put, firmware, post, need, of_kind, step, steps, row_of, row, rows}
+use Rattle.scenario_image.specs.Layout.{kind_of, number_of, kind_numbered, kind, server_in, datagram_in, seconds_in}
+use Rattle.scenario_image.specs.Layout.{path_in, value_in, code_in, group_in, count_in, path_with, path_to, datagram}
+use Rattle.scenario_image.specs.Layout.{recv, tick, put, firmware, post, need, of_kind, step, steps, row_of, row, rows}
 
 abbrev is_number : ℕ → Bool
 is_number n = n == 1 || (n == 2 || (n == 3 || (n == 4 || (n == 5 || n == 6))))
@@ -48,11 +51,13 @@ numbered (suc (suc (suc zero))) h = refl
 numbered (suc (suc (suc (suc zero)))) h = refl
 numbered (suc (suc (suc (suc (suc zero))))) h = refl
 numbered (suc (suc (suc (suc (suc (suc zero)))))) h = refl
-numbered (suc (suc (suc (suc (suc (suc (suc n))))))) h = absurd (let e : true ≡ false = sym h ∙ past (suc (suc (suc (suc (suc (suc (suc n))))))) (omega arith) in cc)
+numbered (suc (suc (suc (suc (suc (suc (suc n))))))) h =
+    absurd (let e : true ≡ false = sym h ∙ past (suc (suc (suc (suc (suc (suc (suc n))))))) (omega arith) in cc)
 
 kind_exact : IsExact kind
 unfolding kind
-kind_exact = last_exact number_of kind_numbered (judged BadField is_number (number w8)) (fits_exact is_number (number w8) byte_exact) (λ n good. numbered n good.1)
+kind_exact = last_exact number_of kind_numbered (judged BadField is_number (number w8))
+    (fits_exact is_number (number w8) byte_exact) (λ n good. numbered n good.1)
 
 long_exact : IsExact (number w32)
 long_exact = number_exact w32 wide32
@@ -64,19 +69,23 @@ datagram_exact = sized_exact (at_most 1500 (number w16)) (at_most_exact 1500 (nu
 recv_exact : (accounts : List ℕ) → IsExact (recv accounts)
 unfolding recv
 recv_exact accounts =
-    split_exact server_in (judged BadField (λ server. list_any (λ account. account == server) accounts) (number w16)) (λ server. last datagram_in (λ bytes. Event (Recv server bytes)) datagram)
+    split_exact server_in (judged BadField (λ server. list_any (λ account. account == server) accounts) (number w16))
+    (λ server. last datagram_in (λ bytes. Event (Recv server bytes)) datagram)
     (fits_exact (λ server. list_any (λ account. account == server) accounts) (number w16) short_exact)
-    (λ server good. last_exact datagram_in (λ bytes. Event (Recv server bytes)) datagram datagram_exact (λ bytes ok. refl))
+    (λ server good. last_exact datagram_in (λ bytes. Event (Recv server bytes)) datagram datagram_exact
+    (λ bytes ok. refl))
     (λ server good s h. ap server_in h.1)
 
 tick_exact : IsExact tick
 unfolding tick
 tick_exact =
-    last_exact seconds_in (λ seconds. Event (Tick seconds)) (judged BadField (λ n. nat_le 1 n && nat_le n 86400) (number w32))
+    last_exact seconds_in (λ seconds. Event (Tick seconds))
+    (judged BadField (λ n. nat_le 1 n && nat_le n 86400) (number w32))
     (fits_exact (λ n. nat_le 1 n && nat_le n 86400) (number w32) long_exact) (λ n ok. refl)
 
 -- the path that is put at is the path that was read
-same_path : (o i r : ℕ) (n : Option ℕ) (v : _) → path_in (Event (Put (path_with o i r n) v)) ≡ record { object = o; instance = i; resource = r; part = n }
+same_path : (o i r : ℕ) (n : Option ℕ) (v : _)
+    → path_in (Event (Put (path_with o i r n) v)) ≡ record { object = o; instance = i; resource = r; part = n }
 same_path o i r None v = refl
 same_path o i r (Some n) v = refl
 
@@ -100,8 +109,10 @@ post_exact = last_exact group_in (λ group. Post group) (number w8) byte_exact (
 need_exact : IsExact need
 unfolding need
 need_exact =
-    split_exact group_in (number w8) (λ group. last count_in (λ count. Need group count) (judged BadField (λ n. nat_le 1 n && nat_le n 1000000) (number w32))) byte_exact
-    (λ group good. last_exact count_in (λ count. Need group count) (judged BadField (λ n. nat_le 1 n && nat_le n 1000000) (number w32))
+    split_exact group_in (number w8) (λ group. last count_in (λ count. Need group count)
+    (judged BadField (λ n. nat_le 1 n && nat_le n 1000000) (number w32))) byte_exact
+    (λ group good. last_exact count_in (λ count. Need group count)
+    (judged BadField (λ n. nat_le 1 n && nat_le n 1000000) (number w32))
     (fits_exact (λ n. nat_le 1 n && nat_le n 1000000) (number w32) long_exact) (λ n ok. refl))
     (λ group good s h. ap group_in h.1)
 
@@ -124,20 +135,28 @@ kind_agrees accounts kinds.Need s h = ap kind_of h.1.1
 
 pub step_exact : (accounts : List ℕ) → IsExact (step accounts)
 unfolding step
-step_exact accounts = split_exact kind_of kind (of_kind accounts) kind_exact (λ k good. of_kind_exact accounts k) (λ k good s h. kind_agrees accounts k s h)
+step_exact accounts =
+    split_exact kind_of kind (of_kind accounts) kind_exact (λ k good. of_kind_exact accounts k)
+    (λ k good s h. kind_agrees accounts k s h)
 
 pub steps_exact : (accounts : List ℕ) → IsExact (steps accounts)
 unfolding steps
-steps_exact accounts = counted_exact (at_most most_steps (number w16)) (λ before. step accounts) (at_most_exact most_steps (number w16) short_exact) (λ before. step_exact accounts)
+steps_exact accounts =
+    counted_exact (at_most most_steps (number w16)) (λ before. step accounts)
+    (at_most_exact most_steps (number w16) short_exact) (λ before. step_exact accounts)
 
 pub row_exact : (classes : List Template) → IsExact (row classes)
 unfolding row
 row_exact classes =
-    split_exact (λ r. r.class) (judged BadField (λ class. nat_lt class (length classes)) (number w16)) (λ class. last (λ r. r.steps) (row_of class) (steps (accounts_of classes class)))
+    split_exact (λ r. r.class) (judged BadField (λ class. nat_lt class (length classes)) (number w16))
+    (λ class. last (λ r. r.steps) (row_of class) (steps (accounts_of classes class)))
     (fits_exact (λ class. nat_lt class (length classes)) (number w16) short_exact)
-    (λ class good. last_exact (λ r. r.steps) (row_of class) (steps (accounts_of classes class)) (steps_exact (accounts_of classes class)) (λ xs ok. refl))
+    (λ class good. last_exact (λ r. r.steps) (row_of class) (steps (accounts_of classes class))
+    (steps_exact (accounts_of classes class)) (λ xs ok. refl))
     (λ class good r h. ap (λ x. x.class) h.1)
 
 pub rows_exact : (classes : List Template) → IsExact (rows classes)
 unfolding rows
-rows_exact classes = counted_exact (at_most most_rows (number w16)) (λ before. row classes) (at_most_exact most_rows (number w16) short_exact) (λ before. row_exact classes)
+rows_exact classes =
+    counted_exact (at_most most_rows (number w16)) (λ before. row classes)
+    (at_most_exact most_rows (number w16) short_exact) (λ before. row_exact classes)

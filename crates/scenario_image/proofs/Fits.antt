@@ -1,5 +1,6 @@
 -- Good steps and rows are those that have bytes.
-use Rattle.std.proofs.Common.{◌≡◌, ℕ, zero, suc, ◌<◌, ◌≤◌, Bool, true, false, List, [], ◌∷◌, ◌++◌, length, Option, None, Some, refl, sym, ap, subst, arith}
+use Rattle.std.proofs.Common.{◌≡◌, ℕ, zero, suc, ◌<◌, ◌≤◌, Bool, true, false, List, [], ◌∷◌, ◌++◌, length, Option, None}
+use Rattle.std.proofs.Common.{Some, refl, sym, ap, subst, arith}
 use Rattle.std.specs.Prelude.{nat_le, ◌&&◌, IfSome, is_some}
 use Rattle.std.specs.Int.{w8, w16, w32}
 use Rattle.std.specs.List.{AllByRecursion}
@@ -27,18 +28,22 @@ use Rattle.scenario_image.specs.declared.kind.StepKind.{StepKind}
 use Rattle.scenario_image.specs.declared.kind.StepKind.TheVariants as kinds
 use Rattle.scenario_image.specs.declared.step.Step.{Step}
 use Rattle.scenario_image.specs.declared.step.Step.TheVariants.{Event, Post, Need}
-use Rattle.scenario_image.specs.Scenario.{Row, HasShortNumbers, IsGoodStep, IsGoodRow, accounts_in, accounts_of, most_rows, most_steps}
-use Rattle.scenario_image.specs.Layout.{kind, kind_of, datagram, recv, tick, put, firmware, post, need, of_kind, step, steps, row, rows}
+use Rattle.scenario_image.specs.Scenario.{Row, HasShortNumbers, IsGoodStep, IsGoodRow, accounts_in, accounts_of}
+use Rattle.scenario_image.specs.Scenario.{most_rows, most_steps}
+use Rattle.scenario_image.specs.Layout.{kind, kind_of, datagram, recv, tick, put, firmware, post, need, of_kind, step}
+use Rattle.scenario_image.specs.Layout.{steps, row, rows}
 use Rattle.scenario_image.proofs.Valid.{got}
 
 -- ---- lists of items that are laid out alike
 
-pub each_all : {A : Type 0} (part : Part A) (P : A → Type 0) → ((a : A) → P a → part.Good a) → (before xs : List A) → AllByRecursion P xs → (each (λ front. part) (length xs) before).Good xs
+pub each_all : {A : Type 0} (part : Part A) (P : A → Type 0) → ((a : A) → P a → part.Good a) → (before xs : List A)
+    → AllByRecursion P xs → (each (λ front. part) (length xs) before).Good xs
 unfolding each
 each_all part P f before [] all = refl
 each_all part P f before (x ∷ xs) all = (f x all.0, each_all part P f (before ++ x ∷ []) xs all.1)
 
-pub all_each : {A : Type 0} (part : Part A) (P : A → Type 0) → ((a : A) → part.Good a → IsBytes (part.spell a) → P a) → (n : ℕ) (before xs : List A)
+pub all_each : {A : Type 0} (part : Part A) (P : A → Type 0) → ((a : A) → part.Good a → IsBytes (part.spell a) → P a)
+    → (n : ℕ) (before xs : List A)
     → (each (λ front. part) n before).Good xs → IsBytes ((each (λ front. part) n before).spell xs) → AllByRecursion P xs
 unfolding each
 all_each part P f zero before [] good bytes = tt
@@ -46,7 +51,8 @@ all_each part P f zero before (x ∷ xs) good bytes = absurd cc
 all_each part P f (suc n) before [] good bytes = absurd good
 all_each part P f (suc n) before (x ∷ xs) good bytes = (
   f x good.0 (front_bytes (part.spell x) ((each (λ front. part) n (before ++ x ∷ [])).spell xs) bytes),
-  all_each part P f n (before ++ x ∷ []) xs good.1 (behind_front (part.spell x) ((each (λ front. part) n (before ++ x ∷ [])).spell xs) bytes),
+  all_each part P f n (before ++ x ∷ []) xs good.1
+      (behind_front (part.spell x) ((each (λ front. part) n (before ++ x ∷ [])).spell xs) bytes),
 )
 
 -- ---- fields
@@ -73,7 +79,10 @@ long_good n low limit small e =
 
 datagram_good : (b : List ℕ) → length b ≤ 1500 → datagram.Good b
 unfolding datagram
-datagram_good b short = ((number_good w16 (length b) (omega (arith, short)), lt-ltb (length b) 1501 (omega (arith, short))), raw_good (length b) b refl)
+datagram_good b short = (
+  (number_good w16 (length b) (omega (arith, short)), lt-ltb (length b) 1501 (omega (arith, short))),
+  raw_good (length b) b refl,
+)
 
 good_datagram : (b : List ℕ) → datagram.Good b → length b ≤ 1500
 unfolding datagram
@@ -107,7 +116,10 @@ short_value (values.Link o i) good = refl
 
 good_text : (t : List ℕ) → text.Good t → IsUtf8 t × (length t ≤ 255)
 unfolding text
-good_text t h = (IsUtf8-from_is_utf8 t h.1, (let below : length t < 256 = number_below w8 (length t) h.0.0 in omega arith))
+good_text t h = (
+  IsUtf8-from_is_utf8 t h.1,
+  (let below : length t < 256 = number_below w8 (length t) h.0.0 in omega arith),
+)
 
 good_opaque : (b : List ℕ) → opaque.Good b → length b ≤ 1024
 unfolding opaque
@@ -125,45 +137,67 @@ spelled_short (values.Link o i) h = refl
 
 -- ---- steps
 
-put_good : (p : Path) (v : Value) → is_some (full_path p) ≡ true → IfSome (full_path p) HasShortNumbers → IsGood v → put.Good (Event (Put p v))
+put_good : (p : Path) (v : Value) → is_some (full_path p) ≡ true → IfSome (full_path p) HasShortNumbers → IsGood v
+    → put.Good (Event (Put p v))
 unfolding put
 put_good (Object o) v full short good = absurd cc
 put_good (Instance o i) v full short good = absurd cc
-put_good (Resource o i r) v full short good =
-    (path_good (record { object = o; instance = i; resource = r; part = None }) short.object short.instance short.resource short.part, (value_good None v good refl, refl))
-put_good (ResourcePart o i r n) v full short good =
-    (path_good (record { object = o; instance = i; resource = r; part = Some n }) short.object short.instance short.resource short.part, (value_good None v good refl, refl))
+put_good (Resource o i r) v full short good = (
+  path_good (record { object = o; instance = i; resource = r; part = None }) short.object short.instance
+      short.resource short.part,
+  (value_good None v good refl, refl),
+)
+put_good (ResourcePart o i r n) v full short good = (
+  path_good (record { object = o; instance = i; resource = r; part = Some n }) short.object short.instance
+      short.resource short.part,
+  (value_good None v good refl, refl),
+)
 
 held_good : (accounts : List ℕ) (s : Step) → IsGoodStep accounts s → (of_kind accounts (kind_of s)).Good s
 unfolding recv tick firmware post need
-held_good accounts (Event (Recv server bytes)) g = ((number_good w16 server g.fields.0, g.known), (datagram_good bytes (leb-true (length bytes) 1500 g.within), refl))
+held_good accounts (Event (Recv server bytes)) g =
+    ((number_good w16 server g.fields.0, g.known), (datagram_good bytes (leb-true (length bytes) 1500 g.within), refl))
 held_good accounts (Event (Tick seconds)) g = ((long_good seconds 1 86400 (omega arith) g.range, g.range), refl)
 held_good accounts (Event (Put p v)) g = put_good p v g.range g.fields.0 g.fields.1
-held_good accounts (Event (Firmware code)) g = ((number_good w8 code (omega (arith, leb-true code 9 g.range)), g.range), refl)
+held_good accounts (Event (Firmware code)) g =
+    ((number_good w8 code (omega (arith, leb-true code 9 g.range)), g.range), refl)
 held_good accounts (Post group) g = (number_good w8 group g.fields, refl)
-held_good accounts (Need group count) g = (number_good w8 group g.fields, ((long_good count 1 1000000 (omega arith) g.range, g.range), refl))
+held_good accounts (Need group count) g =
+    (number_good w8 group g.fields, ((long_good count 1 1000000 (omega arith) g.range, g.range), refl))
 
 pub step_good : (accounts : List ℕ) (s : Step) → IsGoodStep accounts s → (step accounts).Good s
 unfolding step
 step_good accounts s g = (kind_good (kind_of s), held_good accounts s g)
 
-good_put : (accounts : List ℕ) (p : Path) (v : Value) → put.Good (Event (Put p v)) → IsBytes (put.spell (Event (Put p v))) → IsGoodStep accounts (Event (Put p v))
+good_put : (accounts : List ℕ) (p : Path) (v : Value) → put.Good (Event (Put p v))
+    → IsBytes (put.spell (Event (Put p v))) → IsGoodStep accounts (Event (Put p v))
 unfolding put
-good_put accounts (Object o) v h bytes = absurd (let e : Event (Put (Object o) v) ≡ Event (Put (Resource 0 0 0) v) = h.1.1 in cc)
-good_put accounts (Instance o i) v h bytes = absurd (let e : Event (Put (Instance o i) v) ≡ Event (Put (Resource 0 0 0) v) = h.1.1 in cc)
+good_put accounts (Object o) v h bytes =
+    absurd (let e : Event (Put (Object o) v) ≡ Event (Put (Resource 0 0 0) v) = h.1.1 in cc)
+good_put accounts (Instance o i) v h bytes =
+    absurd (let e : Event (Put (Instance o i) v) ≡ Event (Put (Resource 0 0 0) v) = h.1.1 in cc)
 good_put accounts (Resource o i r) v h bytes =
     let full : FullPath = record { object = o; instance = i; resource = r; part = None } in
-    let good : IsGood v = (good_value None v h.1.0 (front_bytes ((value None).spell v) [] (behind_front (path.spell full) ((value None).spell v ++ []) bytes))).0 in
+    let good : IsGood v =
+    (good_value None v h.1.0 (front_bytes ((value None).spell v) []
+    (behind_front (path.spell full) ((value None).spell v ++ []) bytes))).0 in
     record { fields = (short_path full h.0, good); range = refl; known = refl; within = short_value v good }
 good_put accounts (ResourcePart o i r n) v h bytes =
     let full : FullPath = record { object = o; instance = i; resource = r; part = Some n } in
-    let good : IsGood v = (good_value None v h.1.0 (front_bytes ((value None).spell v) [] (behind_front (path.spell full) ((value None).spell v ++ []) bytes))).0 in
+    let good : IsGood v =
+    (good_value None v h.1.0 (front_bytes ((value None).spell v) []
+    (behind_front (path.spell full) ((value None).spell v ++ []) bytes))).0 in
     record { fields = (short_path full h.0, good); range = refl; known = refl; within = short_value v good }
 
-good_held : (accounts : List ℕ) (s : Step) → (of_kind accounts (kind_of s)).Good s → IsBytes ((of_kind accounts (kind_of s)).spell s) → IsGoodStep accounts s
+good_held : (accounts : List ℕ) (s : Step) → (of_kind accounts (kind_of s)).Good s
+    → IsBytes ((of_kind accounts (kind_of s)).spell s) → IsGoodStep accounts s
 unfolding recv tick firmware post need
 good_held accounts (Event (Recv server bytes)) h fits = record {
-  fields = (number_below w16 server h.0.0, datagram_bytes bytes (front_bytes (datagram.spell bytes) [] (behind_front ((number w16).spell server) (datagram.spell bytes ++ []) fits)));
+  fields = (
+    number_below w16 server h.0.0,
+    datagram_bytes bytes (front_bytes (datagram.spell bytes) []
+        (behind_front ((number w16).spell server) (datagram.spell bytes ++ []) fits)),
+  );
   range = refl;
   known = h.0.1;
   within = le-leb (length bytes) 1500 (good_datagram bytes h.1.0);
@@ -171,23 +205,32 @@ good_held accounts (Event (Recv server bytes)) h fits = record {
 good_held accounts (Event (Tick seconds)) h fits = record { fields = tt; range = h.0.1; known = refl; within = refl }
 good_held accounts (Event (Put p v)) h fits = good_put accounts p v h fits
 good_held accounts (Event (Firmware code)) h fits = record { fields = tt; range = h.0.1; known = refl; within = refl }
-good_held accounts (Post group) h fits = record { fields = number_below w8 group h.0; range = refl; known = refl; within = refl }
-good_held accounts (Need group count) h fits = record { fields = number_below w8 group h.0; range = h.1.0.1; known = refl; within = refl }
+good_held accounts (Post group) h fits =
+    record { fields = number_below w8 group h.0; range = refl; known = refl; within = refl }
+good_held accounts (Need group count) h fits =
+    record { fields = number_below w8 group h.0; range = h.1.0.1; known = refl; within = refl }
 
-pub good_step : (accounts : List ℕ) (s : Step) → (step accounts).Good s → IsBytes ((step accounts).spell s) → IsGoodStep accounts s
+pub good_step : (accounts : List ℕ) (s : Step) → (step accounts).Good s → IsBytes ((step accounts).spell s)
+    → IsGoodStep accounts s
 unfolding step
-good_step accounts s h fits = good_held accounts s h.1 (behind_front (kind.spell (kind_of s)) ((of_kind accounts (kind_of s)).spell s) fits)
+good_step accounts s h fits =
+    good_held accounts s h.1 (behind_front (kind.spell (kind_of s)) ((of_kind accounts (kind_of s)).spell s) fits)
 
-steps_good : (accounts : List ℕ) (xs : List Step) → length xs ≤ most_steps → AllByRecursion (IsGoodStep accounts) xs → (steps accounts).Good xs
+steps_good : (accounts : List ℕ) (xs : List Step) → length xs ≤ most_steps → AllByRecursion (IsGoodStep accounts) xs
+    → (steps accounts).Good xs
 unfolding steps
-steps_good accounts xs few all =
-    ((number_good w16 (length xs) (omega (arith, few)), lt-ltb (length xs) 4097 (omega (arith, few))), each_all (step accounts) (IsGoodStep accounts) (step_good accounts) [] xs all)
+steps_good accounts xs few all = (
+  (number_good w16 (length xs) (omega (arith, few)), lt-ltb (length xs) 4097 (omega (arith, few))),
+  each_all (step accounts) (IsGoodStep accounts) (step_good accounts) [] xs all,
+)
 
-good_steps : (accounts : List ℕ) (xs : List Step) → (steps accounts).Good xs → IsBytes ((steps accounts).spell xs) → (length xs ≤ most_steps) × AllByRecursion (IsGoodStep accounts) xs
+good_steps : (accounts : List ℕ) (xs : List Step) → (steps accounts).Good xs → IsBytes ((steps accounts).spell xs)
+    → (length xs ≤ most_steps) × AllByRecursion (IsGoodStep accounts) xs
 unfolding steps
 good_steps accounts xs h fits = (
   (let below : length xs < 4097 = ltb-true (length xs) 4097 h.0.1 in omega arith),
-  all_each (step accounts) (IsGoodStep accounts) (good_step accounts) (length xs) [] xs h.1 (behind_front ((number w16).spell (length xs)) ((each (λ front. step accounts) (length xs) []).spell xs) fits),
+  all_each (step accounts) (IsGoodStep accounts) (good_step accounts) (length xs) [] xs h.1
+      (behind_front ((number w16).spell (length xs)) ((each (λ front. step accounts) (length xs) []).spell xs) fits),
 )
 
 -- ---- rows
@@ -201,12 +244,16 @@ row_good classes few r g =
       (subst (λ a. (steps a).Good r.steps) (sym same) (steps_good g.class.accounts r.steps g.count g.each), refl),
     )
 
-good_row : (classes : List Template) (r : Row) → (row classes).Good r → IsBytes ((row classes).spell r) → IsGoodRow classes r
+good_row : (classes : List Template) (r : Row) → (row classes).Good r → IsBytes ((row classes).spell r)
+    → IsGoodRow classes r
 unfolding row
 good_row classes r h fits =
     let found = got classes r.class (ltb-true r.class (length classes) h.0.1) in
     let same : accounts_of classes r.class ≡ found.0.accounts = ap accounts_in found.1 in
-    let bytes : IsBytes ((steps (accounts_of classes r.class)).spell r.steps) = front_bytes ((steps (accounts_of classes r.class)).spell r.steps) [] (behind_front ((number w16).spell r.class) ((steps (accounts_of classes r.class)).spell r.steps ++ []) fits) in
+    let bytes : IsBytes ((steps (accounts_of classes r.class)).spell r.steps) =
+    front_bytes ((steps (accounts_of classes r.class)).spell r.steps) []
+    (behind_front ((number w16).spell r.class) ((steps (accounts_of classes r.class)).spell r.steps ++ []) fits)
+    in
     let all = good_steps (accounts_of classes r.class) r.steps h.1.0 bytes in
     record {
       class = found.0;
@@ -215,14 +262,19 @@ good_row classes r h fits =
       each = subst (λ a. AllByRecursion (IsGoodStep a) r.steps) same all.1;
     }
 
-pub rows_good : (classes : List Template) (rs : List Row) → length classes ≤ 256 → length rs ≤ most_rows → AllByRecursion (IsGoodRow classes) rs → (rows classes).Good rs
+pub rows_good : (classes : List Template) (rs : List Row) → length classes ≤ 256 → length rs ≤ most_rows
+    → AllByRecursion (IsGoodRow classes) rs → (rows classes).Good rs
 unfolding rows
-rows_good classes rs few_classes few all =
-    ((number_good w16 (length rs) (omega (arith, few)), lt-ltb (length rs) 4097 (omega (arith, few))), each_all (row classes) (IsGoodRow classes) (row_good classes few_classes) [] rs all)
+rows_good classes rs few_classes few all = (
+  (number_good w16 (length rs) (omega (arith, few)), lt-ltb (length rs) 4097 (omega (arith, few))),
+  each_all (row classes) (IsGoodRow classes) (row_good classes few_classes) [] rs all,
+)
 
-pub good_rows : (classes : List Template) (rs : List Row) → (rows classes).Good rs → IsBytes ((rows classes).spell rs) → (length rs ≤ most_rows) × AllByRecursion (IsGoodRow classes) rs
+pub good_rows : (classes : List Template) (rs : List Row) → (rows classes).Good rs → IsBytes ((rows classes).spell rs)
+    → (length rs ≤ most_rows) × AllByRecursion (IsGoodRow classes) rs
 unfolding rows
 good_rows classes rs h fits = (
   (let below : length rs < 4097 = ltb-true (length rs) 4097 h.0.1 in omega arith),
-  all_each (row classes) (IsGoodRow classes) (good_row classes) (length rs) [] rs h.1 (behind_front ((number w16).spell (length rs)) ((each (λ front. row classes) (length rs) []).spell rs) fits),
+  all_each (row classes) (IsGoodRow classes) (good_row classes) (length rs) [] rs h.1
+      (behind_front ((number w16).spell (length rs)) ((each (λ front. row classes) (length rs) []).spell rs) fits),
 )

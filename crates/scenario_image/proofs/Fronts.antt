@@ -1,5 +1,6 @@
 -- The front of an image: what breaks off there breaks off the image.
-use Rattle.std.proofs.Common.{◌≡◌, ◌≢◌, ℕ, List, [], length, Result, Ok, Err, refl, sym, ap, ◌∙◌, eqb, inl, inr, if◌then◌else◌}
+use Rattle.std.proofs.Common.{◌≡◌, ◌≢◌, ℕ, List, [], length, Result, Ok, Err, refl, sym, ap, ◌∙◌, eqb, inl, inr}
+use Rattle.std.proofs.Common.{if◌then◌else◌}
 use Rattle.std.specs.Int.{w8, w16, w32}
 use Rattle.byte_layout.specs.declared.fault.Break.{Break}
 use Rattle.byte_layout.specs.declared.fault.Break.TheVariants.{Magic, Version, Trailing}
@@ -18,7 +19,9 @@ use Rattle.scenario_image.specs.Scenario.{Scenario}
 use Rattle.scenario_image.specs.Image.{classes, lists, behind_classes, headed, image, front}
 
 -- a break of the mark, of the version or of the part is one of each part that has its breaks
-headed_off : {A B : Type 0} (p : Part A) (q : Part B) (bytes : List ℕ) (b : Break) → ((rest : List ℕ) → p.read rest ≡ Err b → q.read rest ≡ Err b) → (headed p).read bytes ≡ Err b → (headed q).read bytes ≡ Err b
+headed_off : {A B : Type 0} (p : Part A) (q : Part B) (bytes : List ℕ) (b : Break)
+    → ((rest : List ℕ) → p.read rest ≡ Err b → q.read rest ≡ Err b) → (headed p).read bytes ≡ Err b
+    → (headed q).read bytes ≡ Err b
 headed_off p q bytes b within e =
     let first = mark Magic 0x4C575343 (number w32) in
     let second = mark Version 1 (number w8) in
@@ -34,7 +37,8 @@ headed_off p q bytes b within e =
 
 lists_off : (rest : List ℕ) (b : Break) → (at_most 256 (number w16)).read rest ≡ Err b → lists.read rest ≡ Err b
 unfolding lists classes
-lists_off rest b e = ap (λ r. r >>= (λ x. (each (λ before. class) x.0 []).read x.1) >>= (λ x. (behind_classes x.0).read x.1)) e
+lists_off rest b e =
+    ap (λ r. r >>= (λ x. (each (λ before. class) x.0 []).read x.1) >>= (λ x. (behind_classes x.0).read x.1)) e
 
 image_off : (bytes : List ℕ) (b : Break) → front.read bytes ≡ Err b → image.read bytes ≡ Err b
 unfolding image front
@@ -43,8 +47,10 @@ image_off bytes b e = headed_off (at_most 256 (number w16)) lists bytes b (λ re
 front_exact : IsExact front
 unfolding front
 front_exact =
-    marked_exact Magic refl 0x4C575343 (number w32) (marked Version 1 (number w8) (at_most 256 (number w16))) (number_exact w32 wide32)
-    (marked_exact Version refl 1 (number w8) (at_most 256 (number w16)) byte_exact (at_most_exact 256 (number w16) short_exact))
+    marked_exact Magic refl 0x4C575343 (number w32) (marked Version 1 (number w8) (at_most 256 (number w16)))
+    (number_exact w32 wide32)
+    (marked_exact Version refl 1 (number w8) (at_most 256 (number w16)) byte_exact
+    (at_most_exact 256 (number w16) short_exact))
 
 -- what ends the reading of the front ends that of the image
 pub front_fails : (bytes : List ℕ) (e : ReadError) → Fails e (front.read bytes) → Fails e (read_all image bytes)
@@ -54,10 +60,12 @@ front_fails bytes (errors.Fault b) h =
     ap (λ r. r >>= ended) (image_off bytes b h)
 
 -- it is the break of the front, unless memory ran out
-pub front_broke : (bytes : List ℕ) (total : ℕ) (e : ReadError) (b : Break) → e ≢ errors.Memory → Fails e (front.read bytes) → front.Breaks bytes b → fault_of total e ≡ placed total b
+pub front_broke : (bytes : List ℕ) (total : ℕ) (e : ReadError) (b : Break) → e ≢ errors.Memory
+    → Fails e (front.read bytes) → front.Breaks bytes b → fault_of total e ≡ placed total b
 front_broke bytes total errors.Memory b other h k = absurd (other refl)
 front_broke bytes total (errors.Fault c) b other h k = let e = front_exact.refused bytes b k in ap (placed total) cc
 
 -- a front that is read does not break off
-pub front_whole : (bytes rest : List ℕ) (count : ℕ) (b : Break) → front.read bytes ≡ Ok (count, rest) → front.Breaks bytes b → ⊥
+pub front_whole : (bytes rest : List ℕ) (count : ℕ) (b : Break) → front.read bytes ≡ Ok (count, rest)
+    → front.Breaks bytes b → ⊥
 front_whole bytes rest count b e k = went_well (count, rest) b (sym e ∙ front_exact.refused bytes b k)

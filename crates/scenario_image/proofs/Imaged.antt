@@ -23,14 +23,16 @@ use Rattle.scenario_image.proofs.Fits.{good_rows}
 
 classes_exact : IsExact classes
 unfolding classes
-classes_exact = counted_exact (at_most 256 (number w16)) (λ before. class) (at_most_exact 256 (number w16) short_exact) (λ before. class_exact)
+classes_exact = counted_exact (at_most 256 (number w16)) (λ before. class) (at_most_exact 256 (number w16) short_exact)
+    (λ before. class_exact)
 
 behind_classes_exact : (known : List Template) → IsExact (behind_classes known)
 behind_classes_exact known = last_exact (λ s. s.rows) (script_of known) (rows known) (rows_exact known) (λ rs ok. refl)
 
 lists_exact : IsExact lists
 unfolding lists
-lists_exact = split_exact (λ s. s.classes) classes behind_classes classes_exact (λ known good. behind_classes_exact known) (λ known good s h. ap (λ x. x.classes) h.1)
+lists_exact = split_exact (λ s. s.classes) classes behind_classes classes_exact
+    (λ known good. behind_classes_exact known) (λ known good s h. ap (λ x. x.classes) h.1)
 
 pub image_exact : IsExact image
 unfolding image
@@ -40,7 +42,8 @@ image_exact =
 
 -- ---- what has bytes is valid
 
-pub rows_valid : (s : Scenario) → length s.classes ≤ 256 → (rows s.classes).Good s.rows → IsBytes ((rows s.classes).spell s.rows) → IsValid s
+pub rows_valid : (s : Scenario) → length s.classes ≤ 256 → (rows s.classes).Good s.rows
+    → IsBytes ((rows s.classes).spell s.rows) → IsValid s
 rows_valid s few good fits =
     let all = good_rows s.classes s.rows good fits in
     record { classes = few; rows = all.0; each = all.1 }
@@ -50,22 +53,28 @@ unfolding classes
 few_classes known h = let below : length known < 257 = ltb-true (length known) 257 h.0.1 in omega arith
 
 -- classes and rows that were read, one behind the other
-pub read_valid : (known lent : List Template) (rs : List Row) (bytes rest behind : List ℕ) → IsBytes bytes → lent ≡ known → classes.read bytes ≡ Ok (known, rest) → (rows lent).read rest ≡ Ok (rs, behind) → IsValid (script_of known rs)
+pub read_valid : (known lent : List Template) (rs : List Row) (bytes rest behind : List ℕ) → IsBytes bytes
+    → lent ≡ known → classes.read bytes ≡ Ok (known, rest) → (rows lent).read rest ≡ Ok (rs, behind)
+    → IsValid (script_of known rs)
 read_valid known lent rs bytes rest behind fits same first second =
     let f = classes_exact.taken bytes fits known rest first in
     let left = behind_front (classes.spell known) rest (subst (λ (b : List ℕ). IsBytes b) f.1 fits) in
-    let t = (rows_exact known).taken rest left rs behind (subst (λ (k : List Template). (rows k).read rest ≡ Ok (rs, behind)) same second) in
-    rows_valid (script_of known rs) (few_classes known f.0) t.0 (front_bytes ((rows known).spell rs) behind (subst (λ (b : List ℕ). IsBytes b) t.1 left))
+    let t = (rows_exact known).taken rest left rs behind
+    (subst (λ (k : List Template). (rows k).read rest ≡ Ok (rs, behind)) same second) in
+    rows_valid (script_of known rs) (few_classes known f.0) t.0
+    (front_bytes ((rows known).spell rs) behind (subst (λ (b : List ℕ). IsBytes b) t.1 left))
 
 lists_valid : (s : Scenario) → lists.Good s → IsBytes (lists.spell s) → IsValid s
 unfolding lists
 lists_valid s h fits =
     rows_valid s (few_classes s.classes h.0) h.1.0
-    (front_bytes ((rows s.classes).spell s.rows) [] (behind_front (classes.spell s.classes) ((rows s.classes).spell s.rows ++ []) fits))
+    (front_bytes ((rows s.classes).spell s.rows) []
+    (behind_front (classes.spell s.classes) ((rows s.classes).spell s.rows ++ []) fits))
 
 pub image_valid : (bytes : List ℕ) (s : Scenario) → IsBytes bytes → IsImage bytes s → IsValid s
 unfolding image
 image_valid bytes s fits h =
     lists_valid s h.0.1.1
     (behind_front ((number w8).spell 1) (lists.spell s)
-    (behind_front ((number w32).spell 0x4C575343) ((number w8).spell 1 ++ lists.spell s) (subst (λ (b : List ℕ). IsBytes b) h.1 fits)))
+    (behind_front ((number w32).spell 0x4C575343) ((number w8).spell 1 ++ lists.spell s)
+    (subst (λ (b : List ℕ). IsBytes b) h.1 fits)))

@@ -1,5 +1,6 @@
 -- What is written of a scenario has an image.
-use Rattle.std.proofs.Common.{◌≡◌, ℕ, ◌+◌, ◌<◌, ◌≤◌, List, [], ◌∷◌, ◌++◌, length, get_or, take, refl, sym, ap, subst, ◌∙◌, arith}
+use Rattle.std.proofs.Common.{◌≡◌, ℕ, ◌+◌, ◌<◌, ◌≤◌, List, [], ◌∷◌, ◌++◌, length, get_or, take, refl, sym, ap, subst}
+use Rattle.std.proofs.Common.{◌∙◌, arith}
 use Rattle.std.specs.Int.{w8, w16, w32}
 use Rattle.std.specs.List.{AllByRecursion}
 use Rattle.std.proofs.lemmas.Bool.{lt-ltb}
@@ -15,17 +16,25 @@ use Rattle.scenario_image.proofs.Valid.{all_push}
 use Rattle.scenario_image.proofs.Fits.{each_all, rows_good}
 
 -- one more of the classes has bytes
-pub one_more : (list : List Template) (i : ℕ) (x : Template) → i < length list → x ≡ get_or list i x → class.Good x → AllByRecursion class.Good (take i list) → AllByRecursion class.Good (take (i + 1) list)
+pub one_more : (list : List Template) (i : ℕ) (x : Template) → i < length list → x ≡ get_or list i x → class.Good x
+    → AllByRecursion class.Good (take i list) → AllByRecursion class.Good (take (i + 1) list)
 one_more list i x lt item good all =
-    subst (λ (ys : List Template). AllByRecursion class.Good ys) (sym (take_more list i x lt ∙ ap (λ y. take i list ++ y ∷ []) (sym item))) (all_push class.Good (take i list) x all good)
+    subst (λ (ys : List Template). AllByRecursion class.Good ys)
+    (sym (take_more list i x lt ∙ ap (λ y. take i list ++ y ∷ []) (sym item)))
+    (all_push class.Good (take i list) x all good)
 
 -- all of them have
-pub all_good : (list : List Template) (i : ℕ) → length list ≤ i → AllByRecursion class.Good (take i list) → (each (λ before. class) (length list) []).Good list
-all_good list i le all = each_all class class.Good (λ a h. h) [] list (subst (λ (ys : List Template). AllByRecursion class.Good ys) (take_all i list le) all)
+pub all_good : (list : List Template) (i : ℕ) → length list ≤ i → AllByRecursion class.Good (take i list)
+    → (each (λ before. class) (length list) []).Good list
+all_good list i le all =
+    each_all class class.Good (λ a h. h) [] list
+    (subst (λ (ys : List Template). AllByRecursion class.Good ys) (take_all i list le) all)
 
-pub few_good : (list : List Template) → length list ≤ 256 → (each (λ before. class) (length list) []).Good list → classes.Good list
+pub few_good : (list : List Template) → length list ≤ 256 → (each (λ before. class) (length list) []).Good list
+    → classes.Good list
 unfolding classes
-few_good list few good = ((number_good w16 (length list) (omega (arith, few)), lt-ltb (length list) 257 (omega (arith, few))), good)
+few_good list few good =
+    ((number_good w16 (length list) (omega (arith, few)), lt-ltb (length list) 257 (omega (arith, few))), good)
 
 -- the rows of a valid scenario have bytes behind its classes
 pub valid_rows : (s : Scenario) → IsValid s → (rows s.classes).Good s.rows

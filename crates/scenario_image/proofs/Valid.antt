@@ -1,5 +1,7 @@
 -- A scenario stays valid with a class, a row or a step more.
-use Rattle.std.proofs.Common.{◌≡◌, ℕ, zero, suc, ◌-◌, ◌<◌, ◌≤◌, nat_le, Bool, true, false, not, List, [], ◌∷◌, ◌++◌, length, Option, None, Some, slice_get, slice_set, if◌then◌else◌, refl, sym, ap, subst, ◌∙◌, arith, length-append}
+use Rattle.std.proofs.Common.{◌≡◌, ℕ, zero, suc, ◌-◌, ◌<◌, ◌≤◌, nat_le, Bool, true, false, not, List, [], ◌∷◌, ◌++◌}
+use Rattle.std.proofs.Common.{length, Option, None, Some, slice_get, slice_set, if◌then◌else◌, refl, sym, ap, subst}
+use Rattle.std.proofs.Common.{◌∙◌, arith, length-append}
 use Rattle.std.proofs.lemmas.Bool.{leb-false}
 use Rattle.std.specs.List.{AllByRecursion}
 use Rattle.std.proofs.lemmas.List.{length-set}
@@ -7,27 +9,34 @@ use Rattle.device_template.specs.Template.{Template}
 use Rattle.scenario_image.specs.declared.step.Step.{Step}
 use Rattle.scenario_image.specs.declared.fault.ScenarioFault.{ScenarioFault}
 use Rattle.scenario_image.specs.declared.fault.ScenarioFault.TheVariants as faults
-use Rattle.scenario_image.specs.Scenario.{Row, Scenario, HasFields, IsGoodStep, IsGoodRow, IsValid, is_in_range, is_within_limits, is_known, class_fault, row_fault, last_row, longer, with_last, accounts_in, accounts_of, fault_in, step_fault, most_rows, most_steps}
+use Rattle.scenario_image.specs.Scenario.{Row, Scenario, HasFields, IsGoodStep, IsGoodRow, IsValid, is_in_range}
+use Rattle.scenario_image.specs.Scenario.{is_within_limits, is_known, class_fault, row_fault, last_row, longer}
+use Rattle.scenario_image.specs.Scenario.{with_last, accounts_in, accounts_of, fault_in, step_fault, most_rows}
+use Rattle.scenario_image.specs.Scenario.{most_steps}
 
 abbrev pub made : List Template → List Row → Scenario
 made classes rows = record { classes = classes; rows = rows }
 
 -- ---- lists
 
-pub all_push : {X : Type 0} (P : X → Type 0) (xs : List X) (y : X) → AllByRecursion P xs → P y → AllByRecursion P (xs ++ y ∷ [])
+pub all_push : {X : Type 0} (P : X → Type 0) (xs : List X) (y : X) → AllByRecursion P xs → P y
+    → AllByRecursion P (xs ++ y ∷ [])
 all_push P [] y all one = (one, tt)
 all_push P (x ∷ xs) y all one = (all.0, all_push P xs y all.1 one)
 
-all_map : {X : Type 0} (P Q : X → Type 0) → ((x : X) → P x → Q x) → (xs : List X) → AllByRecursion P xs → AllByRecursion Q xs
+all_map : {X : Type 0} (P Q : X → Type 0) → ((x : X) → P x → Q x) → (xs : List X) → AllByRecursion P xs
+    → AllByRecursion Q xs
 all_map P Q f [] all = tt
 all_map P Q f (x ∷ xs) all = (f x all.0, all_map P Q f xs all.1)
 
-all_at : {X : Type 0} (P : X → Type 0) (xs : List X) (i : ℕ) (x : X) → AllByRecursion P xs → slice_get xs i ≡ Some x → P x
+all_at : {X : Type 0} (P : X → Type 0) (xs : List X) (i : ℕ) (x : X) → AllByRecursion P xs → slice_get xs i ≡ Some x
+    → P x
 all_at P [] i x all h = let e : None ≡ Some x = h in absurd cc
 all_at P (y ∷ ys) zero x all h = subst P (let e : Some y ≡ Some x = h in cc) all.0
 all_at P (y ∷ ys) (suc i) x all h = all_at P ys i x all.1 h
 
-all_set : {X : Type 0} (P : X → Type 0) (xs : List X) (i : ℕ) (x : X) → AllByRecursion P xs → P x → AllByRecursion P (slice_set xs i x)
+all_set : {X : Type 0} (P : X → Type 0) (xs : List X) (i : ℕ) (x : X) → AllByRecursion P xs → P x
+    → AllByRecursion P (slice_set xs i x)
 all_set P [] i x all one = tt
 all_set P (y ∷ ys) zero x all one = (one, all.1)
 all_set P (y ∷ ys) (suc i) x all one = (all.0, all_set P ys i x all.1 one)
@@ -45,7 +54,8 @@ got (x ∷ xs) (suc i) h = got xs i (omega (arith, h))
 -- ---- refusals
 
 -- where no line applies, the first doesn't
-free : (b : Bool) (f : ScenarioFault) (rest : Option ScenarioFault) → (if b then Some f else rest) ≡ None → (b ≡ false) × (rest ≡ None)
+free : (b : Bool) (f : ScenarioFault) (rest : Option ScenarioFault) → (if b then Some f else rest) ≡ None → (b ≡ false)
+    × (rest ≡ None)
 free true f rest h = let e : Some f ≡ None = h in absurd cc
 free false f rest h = (refl, h)
 
@@ -55,14 +65,23 @@ denied false h = let e : true ≡ false = h in absurd cc
 
 -- ---- a class more
 
-wider : (classes : List Template) (class : Template) (row : Row) → IsGoodRow classes row → IsGoodRow (classes ++ class ∷ []) row
+wider : (classes : List Template) (class : Template) (row : Row) → IsGoodRow classes row
+    → IsGoodRow (classes ++ class ∷ []) row
 wider classes class row good =
-    record { class = good.class; stated = get_push classes row.class good.class class good.stated; count = good.count; each = good.each }
+    record {
+      class = good.class;
+      stated = get_push classes row.class good.class class good.stated;
+      count =
+          good.count;
+      each = good.each;
+    }
 
-pub by_class : (classes new : List Template) (rows : List Row) (s : Scenario) (class : Template) → IsValid (made classes rows) → made classes rows ≡ s
+pub by_class : (classes new : List Template) (rows : List Row) (s : Scenario) (class : Template)
+    → IsValid (made classes rows) → made classes rows ≡ s
     → class_fault s ≡ None → new ≡ classes ++ class ∷ [] → IsValid (made new rows)
 by_class classes new rows s class valid same ok more =
-    let room = leb-false 256 (length classes) (free (nat_le 256 (length classes)) faults.Limit None (ap class_fault same ∙ ok)).0 in
+    let room = leb-false 256 (length classes)
+    (free (nat_le 256 (length classes)) faults.Limit None (ap class_fault same ∙ ok)).0 in
     subst (λ x. IsValid (made x rows)) (sym more) (record {
       classes = omega (arith, room, length-append classes (class ∷ []));
       rows = valid.rows;
@@ -71,10 +90,12 @@ by_class classes new rows s class valid same ok more =
 
 -- ---- a row more
 
-pub by_row : (classes : List Template) (rows new : List Row) (s : Scenario) (class : ℕ) → IsValid (made classes rows) → made classes rows ≡ s
+pub by_row : (classes : List Template) (rows new : List Row) (s : Scenario) (class : ℕ) → IsValid (made classes rows)
+    → made classes rows ≡ s
     → row_fault s class ≡ None → new ≡ rows ++ record { class = class; steps = [] } ∷ [] → IsValid (made classes new)
 by_row classes rows new s class valid same ok more =
-    let first = free (nat_le (length classes) class) faults.Missing (if nat_le most_rows (length rows) then Some faults.Limit else None) (ap (λ x. row_fault x class) same ∙ ok) in
+    let first = free (nat_le (length classes) class) faults.Missing
+    (if nat_le most_rows (length rows) then Some faults.Limit else None) (ap (λ x. row_fault x class) same ∙ ok) in
     let room = leb-false most_rows (length rows) (free (nat_le most_rows (length rows)) faults.Limit None first.1).0 in
     let found = got classes class (leb-false (length classes) class first.0) in
     subst (λ x. IsValid (made classes x)) (sym more) (record {
@@ -86,13 +107,15 @@ by_row classes rows new s class valid same ok more =
 
 -- ---- a step more
 
-longer_row : (classes : List Template) (row : Row) (step : Step) → IsGoodRow classes row → HasFields step → is_in_range step ≡ true → fault_in classes (Some row) step ≡ None
+longer_row : (classes : List Template) (row : Row) (step : Step) → IsGoodRow classes row → HasFields step
+    → is_in_range step ≡ true → fault_in classes (Some row) step ≡ None
     → IsGoodRow classes (longer row step)
 longer_row classes row step good fields range ok =
     let known = is_known (accounts_of classes row.class) step in
     let count = nat_le most_steps (length row.steps) in
     let within = is_within_limits step in
-    let first = free (not known) faults.Missing (if count then Some faults.Limit else (if not within then Some faults.Limit else None)) ok in
+    let first = free (not known) faults.Missing
+    (if count then Some faults.Limit else (if not within then Some faults.Limit else None)) ok in
     let second = free count faults.Limit (if not within then Some faults.Limit else None) first.1 in
     let third = free (not within) faults.Limit None second.1 in
     record {
@@ -108,19 +131,25 @@ longer_row classes row step good fields range ok =
           });
     }
 
-stepped : (classes : List Template) (rows : List Row) (last : Option Row) (step : Step) → IsValid (made classes rows) → last_row rows ≡ last
-    → HasFields step → is_in_range step ≡ true → fault_in classes last step ≡ None → IsValid (made classes (with_last rows last step))
+stepped : (classes : List Template) (rows : List Row) (last : Option Row) (step : Step) → IsValid (made classes rows)
+    → last_row rows ≡ last
+    → HasFields step → is_in_range step ≡ true → fault_in classes last step ≡ None
+    → IsValid (made classes (with_last rows last step))
 stepped classes rows None step valid at fields range ok = valid
 stepped classes rows (Some row) step valid at fields range ok =
     record {
       classes = valid.classes;
       rows = subst (λ n. n ≤ most_rows) (sym (length-set rows (length rows - 1) (longer row step))) valid.rows;
       each = all_set (IsGoodRow classes) rows (length rows - 1) (longer row step) valid.each
-          (longer_row classes row step (all_at (IsGoodRow classes) rows (length rows - 1) row valid.each at) fields range ok);
+          (longer_row classes row step (all_at (IsGoodRow classes) rows (length rows - 1) row valid.each at) fields
+          range ok);
     }
 
-pub by_step : (classes : List Template) (rows new : List Row) (s : Scenario) (step : Step) → IsValid (made classes rows) → made classes rows ≡ s
+pub by_step : (classes : List Template) (rows new : List Row) (s : Scenario) (step : Step) → IsValid (made classes rows)
+    → made classes rows ≡ s
     → step_fault s step ≡ None → HasFields step → new ≡ with_last rows (last_row rows) step → IsValid (made classes new)
 by_step classes rows new s step valid same ok fields more =
-    let first = free (not (is_in_range step)) faults.Range (fault_in classes (last_row rows) step) (ap (λ x. step_fault x step) same ∙ ok) in
-    subst (λ x. IsValid (made classes x)) (sym more) (stepped classes rows (last_row rows) step valid refl fields (denied (is_in_range step) first.0) first.1)
+    let first = free (not (is_in_range step)) faults.Range (fault_in classes (last_row rows) step)
+    (ap (λ x. step_fault x step) same ∙ ok) in
+    subst (λ x. IsValid (made classes x)) (sym more)
+    (stepped classes rows (last_row rows) step valid refl fields (denied (is_in_range step) first.0) first.1)

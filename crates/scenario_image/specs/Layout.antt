@@ -1,5 +1,6 @@
 -- Steps and rows as bytes, in this profile's image of a scenario.
-use Rattle.std.specs.Prelude.{ℕ, ◌==◌, nat_le, nat_lt, Bool, true, false, ◌&&◌, ◌||◌, List, [], length, Option, None, Some, unwrap_or, if◌then◌else◌}
+use Rattle.std.specs.Prelude.{ℕ, ◌==◌, nat_le, nat_lt, Bool, true, false, ◌&&◌, ◌||◌, List, [], length, Option, None}
+use Rattle.std.specs.Prelude.{Some, unwrap_or, if◌then◌else◌}
 use Rattle.std.specs.Int.{w8, w16, w32}
 use Rattle.std.specs.List.{list_any}
 use Rattle.byte_layout.specs.declared.fault.Break.TheVariants.{BadField}
@@ -39,10 +40,14 @@ number_of kinds.Post = 5
 number_of kinds.Need = 6
 
 abbrev pub kind_numbered : ℕ → StepKind
-kind_numbered n = if n == 1 then kinds.Recv else (if n == 2 then kinds.Tick else (if n == 3 then kinds.Put else (if n == 4 then kinds.Firmware else (if n == 5 then kinds.Post else kinds.Need))))
+kind_numbered n =
+    if n == 1 then kinds.Recv else (if n == 2 then kinds.Tick
+    else (if n == 3 then kinds.Put else (if n == 4 then kinds.Firmware
+    else (if n == 5 then kinds.Post else kinds.Need))))
 
 unfoldable pub kind : Part StepKind
-kind = last number_of kind_numbered (judged BadField (λ n. n == 1 || (n == 2 || (n == 3 || (n == 4 || (n == 5 || n == 6))))) (number w8))
+kind = last number_of kind_numbered (judged BadField
+    (λ n. n == 1 || (n == 2 || (n == 3 || (n == 4 || (n == 5 || n == 6))))) (number w8))
 
 -- whether a step of this kind holds bytes or a value, for which memory is taken
 abbrev pub takes_memory : StepKind → Bool
@@ -104,11 +109,13 @@ datagram = sized (at_most 1500 (number w16))
 
 -- a server of these accounts, and a datagram
 unfoldable pub recv : List ℕ → Part Step
-recv accounts = split server_in (judged BadField (λ server. list_any (λ account. account == server) accounts) (number w16)) (λ server. last datagram_in (λ bytes. Event (Recv server bytes)) datagram)
+recv accounts = split server_in (judged BadField (λ server. list_any (λ account. account == server) accounts)
+    (number w16)) (λ server. last datagram_in (λ bytes. Event (Recv server bytes)) datagram)
 
 -- 1 to 86,400 seconds
 unfoldable pub tick : Part Step
-tick = last seconds_in (λ seconds. Event (Tick seconds)) (judged BadField (λ n. nat_le 1 n && nat_le n 86400) (number w32))
+tick = last seconds_in (λ seconds. Event (Tick seconds))
+    (judged BadField (λ n. nat_le 1 n && nat_le n 86400) (number w32))
 
 -- a path and a value of any kind
 unfoldable pub put : Part Step
@@ -124,7 +131,8 @@ post = last group_in (λ group. Post group) (number w8)
 
 -- a group, and 1 to 1,000,000 posts
 unfoldable pub need : Part Step
-need = split group_in (number w8) (λ group. last count_in (λ count. Need group count) (judged BadField (λ n. nat_le 1 n && nat_le n 1000000) (number w32)))
+need = split group_in (number w8) (λ group. last count_in (λ count. Need group count)
+    (judged BadField (λ n. nat_le 1 n && nat_le n 1000000) (number w32)))
 
 abbrev pub of_kind : List ℕ → StepKind → Part Step
 of_kind accounts kinds.Recv = recv accounts
@@ -149,7 +157,8 @@ row_of class steps = record { class = class; steps = steps }
 
 -- the place of a class that is there, and steps that suit it
 unfoldable pub row : List Template → Part Row
-row classes = split (λ r. r.class) (judged BadField (λ class. nat_lt class (length classes)) (number w16)) (λ class. last (λ r. r.steps) (row_of class) (steps (accounts_of classes class)))
+row classes = split (λ r. r.class) (judged BadField (λ class. nat_lt class (length classes)) (number w16))
+    (λ class. last (λ r. r.steps) (row_of class) (steps (accounts_of classes class)))
 
 -- at most `most_rows` rows
 unfoldable pub rows : List Template → Part (List Row)

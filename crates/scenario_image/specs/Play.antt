@@ -1,5 +1,6 @@
 -- The states of a row's device, and what each of its steps puts out.
-use Rattle.std.specs.Prelude.{◌≡◌, ◌≤◌, ◌⊎◌, ℕ, Bool, IsTrue, true, false, List, [], ◌∷◌, length, take, Option, None, Some, slice_get}
+use Rattle.std.specs.Prelude.{◌≡◌, ◌≤◌, ◌⊎◌, ℕ, Bool, IsTrue, true, false, List, [], ◌∷◌, length, take, Option, None}
+use Rattle.std.specs.Prelude.{Some, slice_get}
 use Rattle.device_template.specs.Template.{Template}
 use Rattle.device_machine.specs.declared.output.Output.{Output}
 use Rattle.device_machine.specs.Template.{start_of}
@@ -76,4 +77,5 @@ outputs_in (Some outputs) = outputs
 
 -- a device that was in this flat state is spent now, or was left after some of the steps
 abbrev pub IsLeft : Device → Machine → List Step → Type 0
-IsLeft device f steps = IsTrue device.spent ⊎ ((k : ℕ) × (k ≤ length steps) × Shows device (state_after f (take k steps)))
+IsLeft device f steps =
+    IsTrue device.spent ⊎ ((k : ℕ) × (k ≤ length steps) × Shows device (state_after f (take k steps)))

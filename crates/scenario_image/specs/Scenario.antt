@@ -1,5 +1,6 @@
 -- What a scenario says, when it is valid, and what is refused at its end.
-use Rattle.std.specs.Prelude.{◌≡◌, ℕ, ◌-◌, ◌<◌, ◌≤◌, ◌==◌, nat_le, Bool, true, not, ◌&&◌, List, [], ◌∷◌, ◌++◌, length, take, Option, None, Some, is_some, slice_get, slice_set, if◌then◌else◌}
+use Rattle.std.specs.Prelude.{◌≡◌, ℕ, ◌-◌, ◌<◌, ◌≤◌, ◌==◌, nat_le, Bool, true, not, ◌&&◌, List, [], ◌∷◌, ◌++◌, length}
+use Rattle.std.specs.Prelude.{take, Option, None, Some, is_some, slice_get, slice_set, if◌then◌else◌}
 use Rattle.std.specs.Prelude.{IfSome}
 use Rattle.std.specs.List.{list_any, AllByRecursion}
 use Rattle.byte_layout.specs.Exact.{IsBytes}
@@ -27,7 +28,8 @@ pub record Scenario : Type 0 where
 
 -- ---- a step by itself
 
--- 1 to 86,400 seconds pass; 1 to 1,000,000 posts are needed; a code of the firmware is 0 to 9; a value is put at a path of three or four numbers
+-- 1 to 86,400 seconds pass; 1 to 1,000,000 posts are needed; a code of the firmware is 0 to 9; a value is put at a path
+-- of three or four numbers
 abbrev pub is_in_range : Step → Bool
 is_in_range (Event (Recv server bytes)) = true
 is_in_range (Event (Put path value)) = is_some (full_path path)
@@ -61,7 +63,8 @@ pub record HasShortNumbers (p : FullPath) : Type 0 where
   pub resource : p.resource < 65536
   pub part : IfSome p.part (λ n. n < 65536)
 
--- what a step holds is of its fields' types: a server is a number of two bytes, a group of one, a datagram is bytes, a value is a good one
+-- what a step holds is of its fields' types: a server is a number of two bytes, a group of one, a datagram is bytes, a
+-- value is a good one
 abbrev pub HasFields : Step → Type 0
 HasFields (Event (Recv server bytes)) = (server < 65536) × IsBytes bytes
 HasFields (Event (Put path value)) = IfSome (full_path path) HasShortNumbers × IsGood value
@@ -167,7 +170,9 @@ one_row class steps = record { classes = class ∷ []; rows = record { class = 0
 
 -- so many of the steps are taken, each behind those before it
 abbrev pub AreTaken : Template → List Step → ℕ → Type 0
-AreTaken class steps n = (k : ℕ) (step : Step) → k < n → slice_get steps k ≡ Some step → step_fault (one_row class (take k steps)) step ≡ None
+AreTaken class steps n =
+    (k : ℕ) (step : Step) → k < n → slice_get steps k ≡ Some step
+    → step_fault (one_row class (take k steps)) step ≡ None
 
 -- the first step that is refused behind those before it is refused so
 pub record IsFirstRefusal (class : Template) (steps : List Step) (fault : ScenarioFault) : Type 0 where

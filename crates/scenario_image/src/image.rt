@@ -111,9 +111,9 @@ impl Format for Image {
 
 /// The scenario whose image these bytes are, all of them; else their first fault from the left.
 ///
-/// A count or a length above its limit is `Limit`, one that is too large for the bytes `Cut`, and any other field that does not fit
-/// `BadField`. A place counts bytes from 0 and is the first byte of the field. No room is made for more than is read. `Memory` says
-/// that no memory was left.
+/// A count or a length above its limit is `Limit`, one that is too large for the bytes `Cut`, and any other field that
+/// does not fit `BadField`. A place counts bytes from 0 and is the first byte of the field. No room is made for more
+/// than is read. `Memory` says that no memory was left.
 pub fn load(alloc: Global, bytes: &[u8]) -> Result<Scenario, LayoutFault>
     ensures found { IfOk result (λ s. IsImage bytes.now s) }
     ensures only { (s : Scenario) → IsImage bytes.now s → MatchResult result (λ x. x ≡ s) (λ f. f ≡ Memory) }
@@ -131,7 +131,8 @@ pub fn load(alloc: Global, bytes: &[u8]) -> Result<Scenario, LayoutFault>
 /// Writes classes, one after another. Each of them has bytes.
 fn put_each_class(out: &mut Vec<u8>, list: &[Template]) -> Result<(), AllocError>
     ensures good { OnOk result ((each (λ before. class) (length list.now) []).Good list.now) }
-    ensures bytes { OnOk result (out.new.items ≡ out.old.items ++ (each (λ before. class) (length list.now) []).spell list.now) }
+    ensures bytes { OnOk result (out.new.items ≡ out.old.items
+        ++ (each (λ before. class) (length list.now) []).spell list.now) }
 {
     for template in list {
         put_class(out, template)?;

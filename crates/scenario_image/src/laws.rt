@@ -29,20 +29,24 @@ pub fn exact_layouts()
 /// The good steps and the rows of valid scenarios are those that have bytes.
 pub fn valid_have_bytes()
     ensures step { (accounts : List ℕ) (s : Step) → IsGoodStep accounts s → (step accounts).Good s }
-    ensures good_step { (accounts : List ℕ) (s : Step) → (step accounts).Good s → IsBytes ((step accounts).spell s) → IsGoodStep accounts s }
+    ensures good_step { (accounts : List ℕ) (s : Step) → (step accounts).Good s → IsBytes ((step accounts).spell s)
+        → IsGoodStep accounts s }
     ensures rows { (s : Scenario) → IsValid s → (rows s.classes).Good s.rows }
-    ensures valid { (s : Scenario) → length s.classes ≤ 256 → (rows s.classes).Good s.rows → IsBytes ((rows s.classes).spell s.rows) → IsValid s }
+    ensures valid { (s : Scenario) → length s.classes ≤ 256 → (rows s.classes).Good s.rows
+        → IsBytes ((rows s.classes).spell s.rows) → IsValid s }
 {}
 
-/// Bytes are the image of one scenario or have one fault, and never both; a scenario has one image, which is read as it again; and
-/// what has an image is valid.
+/// Bytes are the image of one scenario or have one fault, and never both; a scenario has one image, which is read as it
+/// again; and what has an image is valid.
 pub fn one_image()
     ensures exact { IsExact image }
     ensures scenario { (bytes : List ℕ) (a b : Scenario) → IsImage bytes a → IsImage bytes b → a ≡ b }
     ensures bytes { (s : Scenario) (a b : List ℕ) → IsImage a s → IsImage b s → a ≡ b }
     ensures fault { (bytes : List ℕ) (f g : LayoutFault) → HasImageFault bytes f → HasImageFault bytes g → f ≡ g }
-    ensures never_both { (bytes : List ℕ) (s : Scenario) (f : LayoutFault) → IsImage bytes s → HasImageFault bytes f → ⊥ }
-    ensures either { (bytes : List ℕ) → IsBytes bytes → ((s : Scenario) × IsImage bytes s) ⊎ ((f : LayoutFault) × HasImageFault bytes f) }
+    ensures never_both { (bytes : List ℕ) (s : Scenario) (f : LayoutFault) → IsImage bytes s → HasImageFault bytes f
+        → ⊥ }
+    ensures either { (bytes : List ℕ) → IsBytes bytes → ((s : Scenario) × IsImage bytes s)
+        ⊎ ((f : LayoutFault) × HasImageFault bytes f) }
     ensures again { (s : Scenario) → image.Good s → read_all image (image.spell s) ≡ Ok s }
     ensures valid { (bytes : List ℕ) (s : Scenario) → IsBytes bytes → IsImage bytes s → IsValid s }
 {}

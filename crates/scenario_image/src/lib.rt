@@ -1,4 +1,5 @@
-//! Scenarios: classes of devices, and for each device a row of steps; what the devices do; and the image of a scenario, its bytes.
+//! Scenarios: classes of devices, and for each device a row of steps; what the devices do; and the image of a scenario,
+//! its bytes.
 #![tactic(auto)]
 
 mod fault;

@@ -1,9 +1,11 @@
-ghost use Rattle.std.specs.Prelude.{◌≡◌, ℕ, ◌↔◌, ◌++◌, ◌∷◌, [], List, Option, Some, Err, false, is_some, length, map, slice_get, Ok, None, IfOk, OnOk, OnErr, IsTrue};
+ghost use Rattle.std.specs.Prelude.{◌≡◌, ℕ, ◌↔◌, ◌++◌, ◌∷◌, [], List, Option, Some, Err, false, is_some, length, map};
+ghost use Rattle.std.specs.Prelude.{slice_get, Ok, None, IfOk, OnOk, OnErr, IsTrue};
 ghost use Rattle.std.specs.List.{list_any};
 ghost use Rattle.std.specs.Result.{IsErr};
 ghost use Rattle.device_machine.specs.declared.output.Output.{Output};
 ghost use Rattle.device_machine.specs.State.{Machine, Shows};
-ghost use Rattle.scenario_image.specs.Play.{start, state_at, step_outputs, step_after, state_after, PutsOut, is_step_refused, is_event, outputs_in, IsStopped, IsLeft};
+ghost use Rattle.scenario_image.specs.Play.{start, state_at, step_outputs, step_after, state_after, PutsOut};
+ghost use Rattle.scenario_image.specs.Play.{is_step_refused, is_event, outputs_in, IsStopped, IsLeft};
 
 use crate::step::Step;
 use device_machine::{Device, Outputs, StepFault, Template};
@@ -42,8 +44,8 @@ fn keep(all: &mut Vec<Option<Outputs>>, outputs: Option<Outputs>) -> Result<(), 
 
 /// Lets a device take steps, one after another, and gives what each puts out.
 ///
-/// `Spent` says that the device refuses one of them behind those before it: a spent one refuses each event. After an `Err` the
-/// device has taken some of them, or is spent.
+/// `Spent` says that the device refuses one of them behind those before it: a spent one refuses each event. After an
+/// `Err` the device has taken some of them, or is spent.
 pub fn take_steps(
     alloc: Global,
     device: &mut Device,

@@ -5,7 +5,8 @@ ghost use Rattle.byte_layout.specs.declared.fault.Break.{Break};
 ghost use Rattle.byte_layout.specs.declared.fault.ReadError.TheVariants.{Fault, Memory};
 ghost use Rattle.byte_layout.specs.Outcome.{Gives};
 ghost use Rattle.scenario_image.specs.declared.kind.StepKind.{StepKind};
-ghost use Rattle.scenario_image.specs.Layout.{kind, takes_memory, datagram, recv, tick, put, firmware, post, need, of_kind, step, steps, path_to};
+ghost use Rattle.scenario_image.specs.Layout.{kind, takes_memory, datagram, recv, tick, put, firmware, post, need};
+ghost use Rattle.scenario_image.specs.Layout.{of_kind, step, steps, path_to};
 
 use crate::kind::{StepKind, kind_at};
 use crate::scenario::MOST_STEPS;

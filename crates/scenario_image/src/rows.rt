@@ -31,7 +31,8 @@ fn accounts_of(classes: &[Template], class: u16) -> &[u16]
 
 /// The place of a class that is there.
 fn class_number_at<'a>(classes: &[Template], bytes: &'a [u8]) -> Result<(u16, &'a [u8]), ReadError>
-    ensures read { Gives (λ x. (x.0, x.1.now)) result ((judged BadField (λ class. nat_lt class (length classes.now)) (number w16)).read bytes.now) }
+    ensures read { Gives (λ x. (x.0, x.1.now)) result
+        ((judged BadField (λ class. nat_lt class (length classes.now)) (number w16)).read bytes.now) }
     ensures no_memory { IfErr result (λ e. e ≢ Memory) }
 {
     let (class, rest) = u16_at(bytes)?;

@@ -1,7 +1,8 @@
 ghost use Rattle.std.specs.Prelude.{◌≡◌, ◌≢◌, [], length, slice_get, None, Some, Err, IfErr, OnOk, OnErr};
 ghost use Rattle.std.specs.List.{sum_by};
 ghost use Rattle.std.specs.Option.{option_copied, option_map};
-ghost use Rattle.scenario_image.specs.Scenario.{Row, HasFields, with_class, class_fault, with_row, row_fault, with_step, step_fault, with_last, last_row, IsValid};
+ghost use Rattle.scenario_image.specs.Scenario.{Row, HasFields, with_class, class_fault, with_row, row_fault};
+ghost use Rattle.scenario_image.specs.Scenario.{with_step, step_fault, with_last, last_row, IsValid};
 
 use crate::fault::ScenarioFault;
 use crate::row::Row;
@@ -156,9 +157,9 @@ impl Scenario {
     /// Adds a step at the end of the last row.
     ///
     /// `Range` (a tick outside 1 to 86,400 seconds, a need outside 1 to 1,000,000, a code of the firmware over 9, a put
-    /// at a path of one or two numbers), then `Missing` (no row, or a datagram from a server that is no account of the row's class), then
-    /// `Limit` (4,096 steps of the row, a datagram of over 1,500 bytes, a Text of over 255, an Opaque of over 1,024).
-    /// A step that was refused is dropped.
+    /// at a path of one or two numbers), then `Missing` (no row, or a datagram from a server that is no account of the
+    /// row's class), then `Limit` (4,096 steps of the row, a datagram of over 1,500 bytes, a Text of over 255, an
+    /// Opaque of over 1,024). A step that was refused is dropped.
     pub fn add_step(&mut self, step: Step) -> Result<(), ScenarioFault>
         ensures added { OnOk result (self.new ≡ with_step self.old step) }
         ensures refused { IfErr result (λ f. f ≢ ScenarioFault.Memory → step_fault self.old step ≡ Some f) }

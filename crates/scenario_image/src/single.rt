@@ -20,7 +20,8 @@ impl Scenario {
     ) -> Result<Scenario, ScenarioFault>
         ensures made { IfOk result (λ s. s ≡ one_row class steps.items) }
         ensures refused { IfErr result (λ f. f ≢ Memory → IsFirstRefusal class steps.items f) }
-        ensures refuses { (f : ScenarioFault) → IsFirstRefusal class steps.items f → IsErrAnd result (λ g. g ≢ Memory → g ≡ f) }
+        ensures refuses { (f : ScenarioFault) → IsFirstRefusal class steps.items f
+            → IsErrAnd result (λ g. g ≢ Memory → g ≡ f) }
     {
         let mut scenario = Scenario::empty(alloc);
         scenario.add_class(class)?;

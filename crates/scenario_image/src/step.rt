@@ -3,7 +3,8 @@ ghost use Rattle.std.specs.List.{list_any};
 ghost use Rattle.device_template.specs.Values.{is_within_limits as is_short};
 ghost use Rattle.lwm2m_values.specs.Value.{IsGood};
 ghost use Rattle.object_defs.specs.Path.{full_path};
-ghost use Rattle.scenario_image.specs.Scenario.{is_in_range, is_within_limits, accounts_of, is_known, HasFields, HasShortNumbers};
+ghost use Rattle.scenario_image.specs.Scenario.{is_in_range, is_within_limits, accounts_of, is_known, HasFields};
+ghost use Rattle.scenario_image.specs.Scenario.{HasShortNumbers};
 
 use device_machine::{Event, Template};
 use lwm2m_values::Value;
@@ -70,8 +71,8 @@ fn read_numbers(path: Path)
     }
 }
 
-/// Whether a datagram has at most 1,500 bytes, and a value that is put is within its limits. All else that a step holds is of
-/// its fields' types.
+/// Whether a datagram has at most 1,500 bytes, and a value that is put is within its limits. All else that a step holds
+/// is of its fields' types.
 pub(crate) fn is_within_limits(step: &Step) -> bool
     ensures within { result ≡ is_within_limits step.now }
     ensures fields { IsTrue result → HasFields step.now }

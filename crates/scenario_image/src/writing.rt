@@ -53,7 +53,8 @@ impl<'a> Steps<'a> {
     #[tactic(auto, unfolding(crate::specs::Layout::recv, crate::specs::Layout::tick, crate::specs::Layout::put, crate::specs::Layout::firmware, crate::specs::Layout::post, crate::specs::Layout::need))]
     fn put_held(&self, out: &mut Vec<u8>, held: &Step) -> Result<(), AllocError>
         requires { (of_kind self.now.accounts.now (kind_of held.now)).Good held.now }
-        ensures { OnOk result (out.new.items ≡ out.old.items ++ (of_kind self.now.accounts.now (kind_of held.now)).spell held.now) }
+        ensures { OnOk result (out.new.items ≡ out.old.items
+            ++ (of_kind self.now.accounts.now (kind_of held.now)).spell held.now) }
     {
         match held {
             Step::Event(Event::Recv { server, bytes }) => {

@@ -1,5 +1,7 @@
 -- An object whose resources are added one after another.
-use Rattle.std.proofs.Common.{◌≡◌, ◌≢◌, ℕ, zero, suc, ◌+◌, ◌<◌, Bool, true, false, cond, ltb, eqb, List, [], ◌∷◌, ◌++◌, length, take, get_or, Option, None, Some, option_map, refl, sym, ap, ◌∙◌, append_assoc, length-take-le, arith}
+use Rattle.std.proofs.Common.{◌≡◌, ◌≢◌, ℕ, zero, suc, ◌+◌, ◌<◌, Bool, true, false, cond, ltb, eqb, List, [], ◌∷◌, ◌++◌}
+use Rattle.std.proofs.Common.{length, take, get_or, Option, None, Some, option_map, refl, sym, ap, ◌∙◌, append_assoc}
+use Rattle.std.proofs.Common.{length-take-le, arith}
 use Rattle.std.specs.Prelude.{nat_lt, nat_le, is_some, not, find}
 use Rattle.std.specs.List.{list_all}
 use Rattle.std.proofs.lemmas.Bool.Decides.{nat_tests}
@@ -28,7 +30,8 @@ use Rattle.scenario_layout.specs.Growing.{refusal, with_definitions}
 use Rattle.scenario_layout.specs.Class.{defined}
 use Rattle.scenario_layout.proofs.Ordered.{both_true, inserted_end}
 
-sound_at : (n : ℕ) (o : Ops) (m r : Bool) (k : ValueKind) → flags_fit o (flags_of m r) ≡ true → kind_fits o k ≡ true → is_sound (record { id = n; ops = o; multiple = m; mandatory = r; kind = k }) ≡ true
+sound_at : (n : ℕ) (o : Ops) (m r : Bool) (k : ValueKind) → flags_fit o (flags_of m r) ≡ true → kind_fits o k ≡ true
+    → is_sound (record { id = n; ops = o; multiple = m; mandatory = r; kind = k }) ≡ true
 sound_at n R m r k f g = refl
 sound_at n W m r k f g = refl
 sound_at n RW m r k f g = refl
@@ -45,7 +48,8 @@ sound : (before : List ResourceDef) (d : ResourceDef) → (resource before).Good
 unfolding resource
 sound before d good = sound_at d.id d.ops d.multiple d.mandatory d.kind good.1.1.0.1 good.1.1.1.0.1
 
-pub is_above : (before : List ResourceDef) (d : ResourceDef) → (resource before).Good d → list_all (λ q. nat_lt q.id d.id) before ≡ true
+pub is_above : (before : List ResourceDef) (d : ResourceDef) → (resource before).Good d
+    → list_all (λ q. nat_lt q.id d.id) before ≡ true
 unfolding resource
 is_above before d good = good.0.1
 
@@ -53,14 +57,16 @@ pub other : (n m : ℕ) → ltb n m ≡ true → eqb n m ≡ false
 other n m h = grind (arith, nat_tests)
 
 -- what all stand below is not among them
-pub none_found : {X : Type 0} (number : X → ℕ) (n : ℕ) (xs : List X) → list_all (λ x. nat_lt (number x) n) xs ≡ true → find (λ x. eqb (number x) n) xs ≡ None
+pub none_found : {X : Type 0} (number : X → ℕ) (n : ℕ) (xs : List X) → list_all (λ x. nat_lt (number x) n) xs ≡ true
+    → find (λ x. eqb (number x) n) xs ≡ None
 none_found number n [] h = refl
 none_found number n (x ∷ xs) h =
     let p = both_true (ltb (number x) n) (list_all (λ y. nat_lt (number y) n) xs) h in
     ap (λ b. cond b (Some x) (find (λ y. eqb (number y) n) xs)) (other (number x) n p.0) ∙ none_found number n xs p.1
 
 -- a definition that may stand behind so few is not refused
-fits_lines : (a b c : Bool) → a ≡ true → b ≡ false → c ≡ false → first_line ((not a, catalog.IdRange) ∷ (b, catalog.Duplicate) ∷ (c, catalog.TooMany) ∷ []) ≡ None
+fits_lines : (a b c : Bool) → a ≡ true → b ≡ false → c ≡ false
+    → first_line ((not a, catalog.IdRange) ∷ (b, catalog.Duplicate) ∷ (c, catalog.TooMany) ∷ []) ≡ None
 fits_lines true false false h i j = refl
 fits_lines false b c h i j = absurd cc
 fits_lines true true c h i j = absurd cc
@@ -69,11 +75,15 @@ fits_lines true false true h i j = absurd cc
 few : (n : ℕ) → n < 64 → nat_le 64 n ≡ false
 few n h = grind (arith, nat_tests)
 
-pub not_refused_at : (c : Template) (id : ℕ) (before : List ResourceDef) (d : ResourceDef) → is_vendor id ≡ true → object_of c.catalogue id ≡ Some (defined id before) → (resource before).Good d → length before < 64 → definition_fault c id d ≡ None
+pub not_refused_at : (c : Template) (id : ℕ) (before : List ResourceDef) (d : ResourceDef) → is_vendor id ≡ true
+    → object_of c.catalogue id ≡ Some (defined id before) → (resource before).Good d → length before < 64
+    → definition_fault c id d ≡ None
 not_refused_at c id before d vendor found good short =
     ap (λ b. option_map fault_of (resource_fault_in d (cond b (object_of c.catalogue id) None))) vendor
     ∙ ap (λ o. option_map fault_of (resource_fault_in d o)) found
-    ∙ ap (option_map fault_of) (fits_lines (is_sound d) (is_some (resource_in before d.id)) (nat_le 64 (length before)) (sound before d good) (ap is_some (none_found (λ r. r.id) d.id before (is_above before d good))) (few (length before) short))
+    ∙ ap (option_map fault_of) (fits_lines (is_sound d) (is_some (resource_in before d.id)) (nat_le 64 (length before))
+    (sound before d good) (ap is_some (none_found (λ r. r.id) d.id before (is_above before d good)))
+    (few (length before) short))
 
 -- only want of memory is left
 pub only_memory : (f : TemplateFault) (left : ℕ) → (f ≢ faults.Memory → ⊥) → refusal f left ≡ errors.Memory
@@ -83,33 +93,40 @@ only_memory faults.Missing left h = absurd (h (λ (e : faults.Missing ≡ faults
 only_memory faults.Duplicate left h = absurd (h (λ (e : faults.Duplicate ≡ faults.Memory). cc))
 only_memory faults.Full left h = absurd (h (λ (e : faults.Full ≡ faults.Memory). cc))
 
-pub with_definitions-push : (c : List ObjectDef) (id : ℕ) (ds : List ResourceDef) (d : ResourceDef) → with_definitions c id (ds ++ d ∷ []) ≡ with_resource (with_definitions c id ds) id d
+pub with_definitions-push : (c : List ObjectDef) (id : ℕ) (ds : List ResourceDef) (d : ResourceDef)
+    → with_definitions c id (ds ++ d ∷ []) ≡ with_resource (with_definitions c id ds) id d
 with_definitions-push c id [] d = refl
 with_definitions-push c id (e ∷ ds) d = with_definitions-push (with_resource c id e) id ds d
 
 -- the object behind one more definition
-pub found_on : (c : List ObjectDef) (id : ℕ) (before : List ResourceDef) (d : ResourceDef) → object_of c id ≡ Some (defined id before) → (resource before).Good d → object_of (with_resource c id d) id ≡ Some (defined id (before ++ d ∷ []))
+pub found_on : (c : List ObjectDef) (id : ℕ) (before : List ResourceDef) (d : ResourceDef)
+    → object_of c id ≡ Some (defined id before) → (resource before).Good d
+    → object_of (with_resource c id d) id ≡ Some (defined id (before ++ d ∷ []))
 found_on c id before d found good =
     object_of-with_resource_same c id d
     ∙ ap (option_map (λ o. with_definition o d)) found
     ∙ ap (λ ds. Some (defined id ds)) (inserted_end (λ r. r.id) d before (is_above before d good))
 
 -- an object at the end gets the definitions
-resource_end : (front : List ObjectDef) (id : ℕ) (before : List ResourceDef) (d : ResourceDef) → list_all (λ o. nat_lt o.id id) front ≡ true → list_all (λ q. nat_lt q.id d.id) before ≡ true
+resource_end : (front : List ObjectDef) (id : ℕ) (before : List ResourceDef) (d : ResourceDef)
+    → list_all (λ o. nat_lt o.id id) front ≡ true → list_all (λ q. nat_lt q.id d.id) before ≡ true
     → with_resource (front ++ defined id before ∷ []) id d ≡ front ++ defined id (before ++ d ∷ []) ∷ []
 resource_end [] id before d low above =
     ap (λ b. cond b (with_definition (defined id before) d ∷ []) (defined id before ∷ [])) (same_number id)
     ∙ ap (λ ds. defined id ds ∷ []) (inserted_end (λ r. r.id) d before above)
 resource_end (o ∷ front) id before d low above =
     let p = both_true (ltb o.id id) (list_all (λ q. nat_lt q.id id) front) low in
-    ap (λ b. cond b (with_definition o d ∷ front ++ defined id before ∷ []) (o ∷ with_resource (front ++ defined id before ∷ []) id d)) (other o.id id p.0)
+    ap (λ b. cond b (with_definition o d ∷ front ++ defined id before ∷ [])
+    (o ∷ with_resource (front ++ defined id before ∷ []) id d)) (other o.id id p.0)
     ∙ ap (λ t. o ∷ t) (resource_end front id before d p.1 above)
 
-pub defined_end : (n : ℕ) (front : List ObjectDef) (id : ℕ) (before ds : List ResourceDef) → list_all (λ o. nat_lt o.id id) front ≡ true → (each resource n before).Good ds
+pub defined_end : (n : ℕ) (front : List ObjectDef) (id : ℕ) (before ds : List ResourceDef)
+    → list_all (λ o. nat_lt o.id id) front ≡ true → (each resource n before).Good ds
     → with_definitions (front ++ defined id before ∷ []) id ds ≡ front ++ defined id (before ++ ds) ∷ []
 unfolding each
 defined_end zero front id before ds low good =
-    ap (with_definitions (front ++ defined id before ∷ []) id) good ∙ ap (λ xs. front ++ defined id xs ∷ []) (sym (append-nil before) ∙ ap (λ xs. before ++ xs) (sym good))
+    ap (with_definitions (front ++ defined id before ∷ []) id) good
+    ∙ ap (λ xs. front ++ defined id xs ∷ []) (sym (append-nil before) ∙ ap (λ xs. before ++ xs) (sym good))
 defined_end (suc n) front id before [] low good = absurd good
 defined_end (suc n) front id before (d ∷ ds) low good =
     ap (λ c. with_definitions c id ds) (resource_end front id before d low (is_above before d good.0))
@@ -117,7 +134,8 @@ defined_end (suc n) front id before (d ∷ ds) low good =
     ∙ ap (λ xs. front ++ defined id xs ∷ []) (append_assoc before (d ∷ []) ds)
 
 -- the object at the end is found
-pub found_end : (front : List ObjectDef) (id : ℕ) → list_all (λ o. nat_lt o.id id) front ≡ true → object_of (front ++ new_object id ∷ []) id ≡ Some (new_object id)
+pub found_end : (front : List ObjectDef) (id : ℕ) → list_all (λ o. nat_lt o.id id) front ≡ true
+    → object_of (front ++ new_object id ∷ []) id ≡ Some (new_object id)
 found_end [] id low = ap (λ b. cond b (Some (new_object id)) None) (same_number id)
 found_end (o ∷ front) id low =
     let p = both_true (ltb o.id id) (list_all (λ q. nat_lt q.id id) front) low in
@@ -125,28 +143,40 @@ found_end (o ∷ front) id low =
 
 -- ---- one step of the loop
 
-item_good : (ds : List ResourceDef) (i : ℕ) (d : ResourceDef) → resources.Good ds → i < length ds → d ≡ get_or ds i d → (resource (take i ds)).Good d
+item_good : (ds : List ResourceDef) (i : ℕ) (d : ResourceDef) → resources.Good ds → i < length ds → d ≡ get_or ds i d
+    → (resource (take i ds)).Good d
 unfolding resources
-item_good ds i d good lt item = each_at resource (length ds) [] ds good.1 i d (slice_get-get_or ds i d lt ∙ ap (λ y. Some y) (sym item))
+item_good ds i d good lt item =
+    each_at resource (length ds) [] ds good.1 i d (slice_get-get_or ds i d lt ∙ ap (λ y. Some y) (sym item))
 
 few_definitions : (ds : List ResourceDef) (i : ℕ) → resources.Good ds → i < length ds → length (take i ds) < 64
 unfolding resources
-few_definitions ds i good lt = omega (arith, ltb-true (length ds) 65 good.0.1, length-take-le i ds (omega (arith, lt)), lt)
+few_definitions ds i good lt =
+    omega (arith, ltb-true (length ds) 65 good.0.1, length-take-le i ds (omega (arith, lt)), lt)
 
-pub free_at : (c : Template) (id : ℕ) (ds : List ResourceDef) (i : ℕ) (d : ResourceDef) → is_vendor id ≡ true → resources.Good ds → i < length ds → d ≡ get_or ds i d → object_of c.catalogue id ≡ Some (defined id (take i ds)) → definition_fault c id d ≡ None
-free_at c id ds i d vendor good lt item found = not_refused_at c id (take i ds) d vendor found (item_good ds i d good lt item) (few_definitions ds i good lt)
+pub free_at : (c : Template) (id : ℕ) (ds : List ResourceDef) (i : ℕ) (d : ResourceDef) → is_vendor id ≡ true
+    → resources.Good ds → i < length ds → d ≡ get_or ds i d → object_of c.catalogue id ≡ Some (defined id (take i ds))
+    → definition_fault c id d ≡ None
+free_at c id ds i d vendor good lt item found =
+    not_refused_at c id (take i ds) d vendor found (item_good ds i d good lt item) (few_definitions ds i good lt)
 
-next : (ds : List ResourceDef) (i : ℕ) (d : ResourceDef) → i < length ds → d ≡ get_or ds i d → take (i + 1) ds ≡ take i ds ++ d ∷ []
+next : (ds : List ResourceDef) (i : ℕ) (d : ResourceDef) → i < length ds → d ≡ get_or ds i d
+    → take (i + 1) ds ≡ take i ds ++ d ∷ []
 next ds i d lt item = take_more ds i d lt ∙ ap (λ y. take i ds ++ y ∷ []) (sym item)
 
-pub made_on : (c t u : Template) (id : ℕ) (ds : List ResourceDef) (i : ℕ) (d : ResourceDef) → i < length ds → d ≡ get_or ds i d → t ≡ with_catalogue c (with_definitions c.catalogue id (take i ds)) → u ≡ with_catalogue t (with_resource t.catalogue id d)
+pub made_on : (c t u : Template) (id : ℕ) (ds : List ResourceDef) (i : ℕ) (d : ResourceDef) → i < length ds
+    → d ≡ get_or ds i d → t ≡ with_catalogue c (with_definitions c.catalogue id (take i ds))
+    → u ≡ with_catalogue t (with_resource t.catalogue id d)
     → u ≡ with_catalogue c (with_definitions c.catalogue id (take (i + 1) ds))
 made_on c t u id ds i d lt item so_far made =
     made
     ∙ ap (λ (k : Template). with_catalogue k (with_resource k.catalogue id d)) so_far
-    ∙ ap (with_catalogue c) (sym (with_definitions-push c.catalogue id (take i ds) d) ∙ ap (with_definitions c.catalogue id) (sym (next ds i d lt item)))
+    ∙ ap (with_catalogue c) (sym (with_definitions-push c.catalogue id (take i ds) d)
+    ∙ ap (with_definitions c.catalogue id) (sym (next ds i d lt item)))
 
-pub found_more : (t u : Template) (id : ℕ) (ds : List ResourceDef) (i : ℕ) (d : ResourceDef) → resources.Good ds → i < length ds → d ≡ get_or ds i d → object_of t.catalogue id ≡ Some (defined id (take i ds)) → u ≡ with_catalogue t (with_resource t.catalogue id d)
+pub found_more : (t u : Template) (id : ℕ) (ds : List ResourceDef) (i : ℕ) (d : ResourceDef) → resources.Good ds
+    → i < length ds → d ≡ get_or ds i d → object_of t.catalogue id ≡ Some (defined id (take i ds))
+    → u ≡ with_catalogue t (with_resource t.catalogue id d)
     → object_of u.catalogue id ≡ Some (defined id (take (i + 1) ds))
 found_more t u id ds i d good lt item found made =
     ap (λ (k : Template). object_of k.catalogue id) made

@@ -1,5 +1,6 @@
 -- The layout of definitions is exact, and which definitions have bytes.
-use Rattle.std.proofs.Common.{◌≡◌, ℕ, zero, suc, ◌<◌, ◌⊎◌, Bool, true, false, List, refl, ap, ◌∙◌, inl, inr, arith, lit<}
+use Rattle.std.proofs.Common.{◌≡◌, ℕ, zero, suc, ◌<◌, ◌⊎◌, Bool, true, false, List, refl, ap, ◌∙◌, inl, inr, arith}
+use Rattle.std.proofs.Common.{lit<}
 use Rattle.std.specs.Prelude.{nat_lt, ◌==◌, ◌&&◌, ◌||◌}
 use Rattle.std.specs.List.{list_all}
 use Rattle.std.specs.Int.{w8, w16}
@@ -14,7 +15,8 @@ use Rattle.object_defs.specs.declared.definition.Ops.{Ops}
 use Rattle.object_defs.specs.declared.definition.Ops.TheVariants.{R, W, RW, E}
 use Rattle.object_defs.specs.declared.definition.ResourceDef.{ResourceDef}
 use Rattle.scenario_layout.specs.Value.{kind}
-use Rattle.scenario_layout.specs.Definition.{ops, ops_number, ops_numbered, flags_of, flags_fit, kind_fits, definition, behind_id, resource, resources}
+use Rattle.scenario_layout.specs.Definition.{ops, ops_number, ops_numbered, flags_of, flags_fit, kind_fits, definition}
+use Rattle.scenario_layout.specs.Definition.{behind_id, resource, resources}
 use Rattle.scenario_layout.proofs.ExactValue.{byte_exact, short_exact, kind_exact}
 use Rattle.scenario_layout.proofs.GoodValue.{kind_good}
 
@@ -40,7 +42,8 @@ ops_known n e = let t = both_true (nat_lt 0 n) (nat_lt n 5) e in ops_again n (lt
 ops_exact : IsExact ops
 unfolding ops
 ops_exact =
-    last_exact ops_number ops_numbered (judged BadField (λ n. nat_lt 0 n && nat_lt n 5) (number w8)) (fits_exact (λ n. nat_lt 0 n && nat_lt n 5) (number w8) byte_exact)
+    last_exact ops_number ops_numbered (judged BadField (λ n. nat_lt 0 n && nat_lt n 5) (number w8))
+    (fits_exact (λ n. nat_lt 0 n && nat_lt n 5) (number w8) byte_exact)
     (λ n good. ops_known n good.1)
 
 flags_below : (o : Ops) (n : ℕ) → flags_fit o n ≡ true → n < 4
@@ -62,17 +65,23 @@ flags_again (suc (suc (suc (suc n)))) below = absurd (omega arith)
 
 -- behind the operations, and behind the flags
 abbrev flags_and_kind : ℕ → Ops → Part ResourceDef
-flags_and_kind n o = split (λ r. flags_of r.multiple r.mandatory) (judged BadField (flags_fit o) (number w8)) (λ flags. last (λ r. r.kind) (definition n o flags) (judged BadField (kind_fits o) kind))
+flags_and_kind n o =
+    split (λ r. flags_of r.multiple r.mandatory) (judged BadField (flags_fit o) (number w8))
+    (λ flags. last (λ r. r.kind) (definition n o flags) (judged BadField (kind_fits o) kind))
 
 flags_and_kind_exact : (n : ℕ) (o : Ops) → IsExact (flags_and_kind n o)
 flags_and_kind_exact n o =
-    split_exact (λ r. flags_of r.multiple r.mandatory) (judged BadField (flags_fit o) (number w8)) (λ flags. last (λ r. r.kind) (definition n o flags) (judged BadField (kind_fits o) kind))
+    split_exact (λ r. flags_of r.multiple r.mandatory) (judged BadField (flags_fit o) (number w8))
+    (λ flags. last (λ r. r.kind) (definition n o flags) (judged BadField (kind_fits o) kind))
     (fits_exact (flags_fit o) (number w8) byte_exact)
-    (λ flags good. last_exact (λ r. r.kind) (definition n o flags) (judged BadField (kind_fits o) kind) (fits_exact (kind_fits o) kind kind_exact) (λ k ok. refl))
+    (λ flags good. last_exact (λ r. r.kind) (definition n o flags) (judged BadField (kind_fits o) kind)
+    (fits_exact (kind_fits o) kind kind_exact) (λ k ok. refl))
     (λ flags good r h. ap (λ d. flags_of d.multiple d.mandatory) h.1 ∙ flags_again flags (flags_below o flags good.1))
 
 behind_id_exact : (n : ℕ) → IsExact (behind_id n)
-behind_id_exact n = split_exact (λ r. r.ops) ops (flags_and_kind n) ops_exact (λ o good. flags_and_kind_exact n o) (λ o good r h. ap (λ d. d.ops) h.1.1)
+behind_id_exact n =
+    split_exact (λ r. r.ops) ops (flags_and_kind n) ops_exact (λ o good. flags_and_kind_exact n o)
+    (λ o good r h. ap (λ d. d.ops) h.1.1)
 
 pub resource_exact : (before : List ResourceDef) → IsExact (resource before)
 unfolding resource
@@ -84,7 +93,8 @@ resource_exact before =
 
 pub resources_exact : IsExact resources
 unfolding resources
-resources_exact = counted_exact (at_most 64 (number w8)) resource (at_most_exact 64 (number w8) byte_exact) resource_exact
+resources_exact =
+    counted_exact (at_most 64 (number w8)) resource (at_most_exact 64 (number w8) byte_exact) resource_exact
 
 -- ---- which have bytes
 
@@ -115,10 +125,15 @@ same_mandatory false false = refl
 
 same_definition : (r : ResourceDef) → r ≡ definition r.id r.ops (flags_of r.multiple r.mandatory) r.kind
 same_definition r =
-    let make : Bool → Bool → ResourceDef = λ m d. record { id = r.id; ops = r.ops; multiple = m; mandatory = d; kind = r.kind } in
-    ap (λ m. make m r.mandatory) (same_multiple r.multiple r.mandatory) ∙ ap (make (flags_of r.multiple r.mandatory == 1 || flags_of r.multiple r.mandatory == 3)) (same_mandatory r.multiple r.mandatory)
+    let make : Bool → Bool → ResourceDef =
+    λ m d. record { id = r.id; ops = r.ops; multiple = m; mandatory = d; kind = r.kind } in
+    ap (λ m. make m r.mandatory) (same_multiple r.multiple r.mandatory)
+    ∙ ap (make (flags_of r.multiple r.mandatory == 1 || flags_of r.multiple r.mandatory == 3))
+    (same_mandatory r.multiple r.mandatory)
 
-pub resource_good : (before : List ResourceDef) (r : ResourceDef) → r.id < 65536 → list_all (λ q. nat_lt q.id r.id) before ≡ true → flags_fit r.ops (flags_of r.multiple r.mandatory) ≡ true → kind_fits r.ops r.kind ≡ true → (resource before).Good r
+pub resource_good : (before : List ResourceDef) (r : ResourceDef) → r.id < 65536
+    → list_all (λ q. nat_lt q.id r.id) before ≡ true → flags_fit r.ops (flags_of r.multiple r.mandatory) ≡ true
+    → kind_fits r.ops r.kind ≡ true → (resource before).Good r
 unfolding resource
 resource_good before r id above flags k = (
   (number_good w16 r.id id, above),

@@ -19,36 +19,50 @@ use Rattle.scenario_layout.specs.Value.{place, path, value}
 use Rattle.scenario_layout.specs.Definition.{resources}
 use Rattle.scenario_layout.proofs.ExactValue.{byte_exact, short_exact, place_exact, path_exact, value_exact}
 use Rattle.scenario_layout.proofs.Definitions.{resources_exact}
-use Rattle.device_template.specs.Template.{Template, most_accounts, account_fault, object_fault, instance_fault, kind_taken}
-use Rattle.scenario_layout.specs.Class.{objects_in, instances_in, values_in, with_accounts, with_objects, with_instances, with_values, is_taken, account, accounts, defined, object_id, object, objects, instance, instances, value_path, entry, values, behind_instances, behind_objects, behind_accounts, class}
+use Rattle.device_template.specs.Template.{Template, most_accounts, account_fault, object_fault, instance_fault}
+use Rattle.device_template.specs.Template.{kind_taken}
+use Rattle.scenario_layout.specs.Class.{objects_in, instances_in, values_in, with_accounts, with_objects}
+use Rattle.scenario_layout.specs.Class.{with_instances, with_values, is_taken, account, accounts, defined, object_id}
+use Rattle.scenario_layout.specs.Class.{object, objects, instance, instances, value_path, entry, values}
+use Rattle.scenario_layout.specs.Class.{behind_instances, behind_objects, behind_accounts, class}
 use Rattle.scenario_layout.proofs.Ordered.{both_true, is_true, ascends, map_same, map_units}
 
 account_exact : (before : List ℕ) → IsExact (account before)
 unfolding account
-account_exact before = fits_exact (λ n. list_all (λ m. nat_lt m n) before && is_taken (account_fault (with_accounts before) n)) (number w16) short_exact
+account_exact before =
+    fits_exact (λ n. list_all (λ m. nat_lt m n) before && is_taken (account_fault (with_accounts before) n))
+    (number w16) short_exact
 
 accounts_exact : IsExact accounts
 unfolding accounts
-accounts_exact = counted_exact (at_most most_accounts (number w8)) account (at_most_exact most_accounts (number w8) byte_exact) account_exact
+accounts_exact =
+    counted_exact (at_most most_accounts (number w8)) account
+    (at_most_exact most_accounts (number w8) byte_exact) account_exact
 
 pub object_id_exact : (c : Template) (before : List ObjectDef) → IsExact (object_id c before)
 unfolding object_id
-object_id_exact c before = fits_exact (λ id. list_all (λ o. nat_lt o.id id) (base ++ before) && is_taken (object_fault (with_objects c before) id)) (number w16) short_exact
+object_id_exact c before =
+    fits_exact (λ id. list_all (λ o. nat_lt o.id id) (base ++ before)
+    && is_taken (object_fault (with_objects c before) id)) (number w16) short_exact
 
 object_exact : (c : Template) (before : List ObjectDef) → IsExact (object c before)
 unfolding object
 object_exact c before =
-    split_exact (λ o. o.id) (object_id c before) (λ id. last (λ o. o.resources) (defined id) resources) (object_id_exact c before)
+    split_exact (λ o. o.id) (object_id c before) (λ id. last (λ o. o.resources) (defined id) resources)
+    (object_id_exact c before)
     (λ id good. last_exact (λ o. o.resources) (defined id) resources resources_exact (λ ds ok. refl))
     (λ id good o h. ap (λ d. d.id) h.1)
 
 objects_exact : (c : Template) → IsExact (objects c)
 unfolding objects
-objects_exact c = counted_exact (at_most 11 (number w8)) (object c) (at_most_exact 11 (number w8) byte_exact) (object_exact c)
+objects_exact c =
+    counted_exact (at_most 11 (number w8)) (object c) (at_most_exact 11 (number w8) byte_exact) (object_exact c)
 
 instance_exact : (c : Template) (before : List InstancePath) → IsExact (instance c before)
 unfolding instance
-instance_exact c before = fits_exact (λ p. list_all (λ q. is_lt (instance_cmp q p)) before && is_taken (instance_fault (with_instances c before) p)) place place_exact
+instance_exact c before =
+    fits_exact (λ p. list_all (λ q. is_lt (instance_cmp q p)) before
+    && is_taken (instance_fault (with_instances c before) p)) place place_exact
 
 instances_exact : (c : Template) → IsExact (instances c)
 unfolding instances
@@ -56,13 +70,17 @@ instances_exact c = counted_exact (number w16) (instance c) short_exact (instanc
 
 pub value_path_exact : (c : Template) (before : List (FullPath × Value)) → IsExact (value_path c before)
 unfolding value_path
-value_path_exact c before = fits_exact (λ p. list_all (λ e. is_lt (path_cmp e.0 p)) before && is_some (kind_taken (with_values c before) p)) path path_exact
+value_path_exact c before =
+    fits_exact (λ p. list_all (λ e. is_lt (path_cmp e.0 p)) before && is_some (kind_taken (with_values c before) p))
+    path path_exact
 
 entry_exact : (c : Template) (before : List (FullPath × Value)) → IsExact (entry c before)
 unfolding entry
 entry_exact c before =
-    split_exact (λ e. e.0) (value_path c before) (λ p. last (λ e. e.1) (λ v. (p, v)) (value (kind_taken (with_values c before) p))) (value_path_exact c before)
-    (λ p good. last_exact (λ e. e.1) (λ v. (p, v)) (value (kind_taken (with_values c before) p)) (value_exact (kind_taken (with_values c before) p)) (λ v ok. refl))
+    split_exact (λ e. e.0) (value_path c before)
+    (λ p. last (λ e. e.1) (λ v. (p, v)) (value (kind_taken (with_values c before) p))) (value_path_exact c before)
+    (λ p good. last_exact (λ e. e.1) (λ v. (p, v)) (value (kind_taken (with_values c before) p))
+    (value_exact (kind_taken (with_values c before) p)) (λ v ok. refl))
     (λ p good e h. ap (λ x. x.0) h.1)
 
 values_exact : (c : Template) → IsExact (values c)
@@ -71,24 +89,32 @@ values_exact c = counted_exact (number w16) (entry c) short_exact (entry_exact c
 
 -- ---- what ascends is what the class then has
 
-instance_behind : (c : Template) (before : List InstancePath) (p : InstancePath) → (instance c before).Good p → list_all (λ q. is_lt (instance_cmp q p)) before ≡ true
+instance_behind : (c : Template) (before : List InstancePath) (p : InstancePath) → (instance c before).Good p
+    → list_all (λ q. is_lt (instance_cmp q p)) before ≡ true
 unfolding instance
 instance_behind c before p good = (both_true (list_all (λ q. is_lt (instance_cmp q p)) before) _ good.1).0
 
-pub instances_kept : (c : Template) (places : List InstancePath) → (instances c).Good places → instances_in (with_instances c places) ≡ places
+pub instances_kept : (c : Template) (places : List InstancePath) → (instances c).Good places
+    → instances_in (with_instances c places) ≡ places
 unfolding instances
 instances_kept c places good =
-    ap (map (λ e. e.0)) (finite.entries-from_sorted instance_cmp (map (λ p. (p, tt)) places) (is_true _ (ascends instance_cmp (λ p. (p, tt)) (instance c) (instance_behind c) (length places) [] places good.1)))
+    ap (map (λ e. e.0)) (finite.entries-from_sorted instance_cmp (map (λ p. (p, tt)) places)
+    (is_true _ (ascends instance_cmp (λ p. (p, tt)) (instance c) (instance_behind c)
+    (length places) [] places good.1)))
     ∙ map_units places
 
-path_behind : (c : Template) (before : List (FullPath × Value)) (e : FullPath × Value) → (entry c before).Good e → list_all (λ b. is_lt (path_cmp b.0 e.0)) before ≡ true
+path_behind : (c : Template) (before : List (FullPath × Value)) (e : FullPath × Value) → (entry c before).Good e
+    → list_all (λ b. is_lt (path_cmp b.0 e.0)) before ≡ true
 unfolding entry value_path
 path_behind c before e good = (both_true (list_all (λ b. is_lt (path_cmp b.0 e.0)) before) _ good.0.1).0
 
-pub values_kept : (c : Template) (items : List (FullPath × Value)) → (values c).Good items → values_in (with_values c items) ≡ items
+pub values_kept : (c : Template) (items : List (FullPath × Value)) → (values c).Good items
+    → values_in (with_values c items) ≡ items
 unfolding values
 values_kept c items good =
-    finite.entries-from_sorted path_cmp items (is_true _ (ap (finite.is_sorted path_cmp) (sym (map_same items)) ∙ ascends path_cmp (λ e. e) (entry c) (path_behind c) (length items) [] items good.1))
+    finite.entries-from_sorted path_cmp items
+    (is_true _ (ap (finite.is_sorted path_cmp) (sym (map_same items))
+    ∙ ascends path_cmp (λ e. e) (entry c) (path_behind c) (length items) [] items good.1))
 
 -- ---- the class
 

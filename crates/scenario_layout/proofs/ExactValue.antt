@@ -16,7 +16,9 @@ use Rattle.lwm2m_values.specs.declared.value.Value.{Value}
 use Rattle.lwm2m_values.specs.declared.value.Value.TheVariants as values
 use Rattle.lwm2m_values.specs.Value.{kind_of}
 use Rattle.object_defs.specs.declared.path.FullPath.{FullPath}
-use Rattle.scenario_layout.specs.Value.{place, place_of, flag_of, behind_flag, part_number, path, path_of, number_of, kind_numbered, kind, bytes_in, number_in, flag_in, object_in, instance_in, text, opaque, of_kind, fits, value}
+use Rattle.scenario_layout.specs.Value.{place, place_of, flag_of, behind_flag, part_number, path, path_of, number_of}
+use Rattle.scenario_layout.specs.Value.{kind_numbered, kind, bytes_in, number_in, flag_in, object_in, instance_in, text}
+use Rattle.scenario_layout.specs.Value.{opaque, of_kind, fits, value}
 
 pub short_exact : IsExact (number w16)
 short_exact = number_exact w16 wide16
@@ -43,7 +45,8 @@ flag_agrees (suc (suc n)) lt o h = absurd (let small : suc (suc n) < 2 = ltb-tru
 part_number_exact : IsExact part_number
 unfolding part_number
 part_number_exact =
-    split_exact flag_of (judged BadField (λ n. nat_lt n 2) (number w8)) behind_flag (fits_exact (λ n. nat_lt n 2) (number w8) byte_exact)
+    split_exact flag_of (judged BadField (λ n. nat_lt n 2) (number w8)) behind_flag
+    (fits_exact (λ n. nat_lt n 2) (number w8) byte_exact)
     (λ n good. behind_flag_exact n)
     (λ n good o h. flag_agrees n good.1 o h)
 
@@ -78,12 +81,15 @@ numbered (suc (suc zero)) lt = refl
 numbered (suc (suc (suc zero))) lt = refl
 numbered (suc (suc (suc (suc zero)))) lt = refl
 numbered (suc (suc (suc (suc (suc zero))))) lt = refl
-numbered (suc (suc (suc (suc (suc (suc n)))))) lt = absurd (let small : suc (suc (suc (suc (suc (suc n))))) < 6 = ltb-true (suc (suc (suc (suc (suc (suc n)))))) 6 lt in omega arith)
+numbered (suc (suc (suc (suc (suc (suc n)))))) lt =
+    absurd (let small : suc (suc (suc (suc (suc (suc n))))) < 6 =
+    ltb-true (suc (suc (suc (suc (suc (suc n)))))) 6 lt in omega arith)
 
 pub kind_exact : IsExact kind
 unfolding kind
 kind_exact =
-    last_exact number_of kind_numbered (judged BadField (λ n. nat_lt n 6) (number w8)) (fits_exact (λ n. nat_lt n 6) (number w8) byte_exact)
+    last_exact number_of kind_numbered (judged BadField (λ n. nat_lt n 6) (number w8))
+    (fits_exact (λ n. nat_lt n 6) (number w8) byte_exact)
     (λ n good. numbered n good.1)
 
 text_exact : IsExact text
@@ -102,7 +108,9 @@ flag_again (suc (suc n)) lt = absurd (let small : suc (suc n) < 2 = ltb-true (su
 of_kind_exact : (k : ValueKind) → IsExact (of_kind k)
 of_kind_exact kinds.Text = last_exact bytes_in (λ t. values.Text t) text text_exact (λ t ok. refl)
 of_kind_exact kinds.Whole = last_exact number_in (λ z. values.Whole z) (signed w64) signed64_exact (λ z ok. refl)
-of_kind_exact kinds.Flag = last_exact flag_in (λ n. values.Flag (n == 1)) (judged BadField (λ n. nat_lt n 2) (number w8)) (fits_exact (λ n. nat_lt n 2) (number w8) byte_exact) (λ n good. flag_again n good.1)
+of_kind_exact kinds.Flag =
+    last_exact flag_in (λ n. values.Flag (n == 1)) (judged BadField (λ n. nat_lt n 2) (number w8))
+    (fits_exact (λ n. nat_lt n 2) (number w8) byte_exact) (λ n good. flag_again n good.1)
 of_kind_exact kinds.Opaque = last_exact bytes_in (λ b. values.Opaque b) opaque opaque_exact (λ b ok. refl)
 of_kind_exact kinds.Moment = last_exact number_in (λ z. values.Moment z) (signed w64) signed64_exact (λ z ok. refl)
 of_kind_exact kinds.Link =

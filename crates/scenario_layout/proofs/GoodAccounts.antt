@@ -1,5 +1,6 @@
 -- The accounts of a class have bytes.
-use Rattle.std.proofs.Common.{◌≡◌, ℕ, ◌<◌, ◌≤◌, false, not, ◌&&◌, eqb, List, [], ◌∷◌, ◌++◌, length, refl, sym, subst, arith}
+use Rattle.std.proofs.Common.{◌≡◌, ℕ, ◌<◌, ◌≤◌, false, not, ◌&&◌, eqb, List, [], ◌∷◌, ◌++◌, length, refl, sym, subst}
+use Rattle.std.proofs.Common.{arith}
 use Rattle.std.specs.Prelude.{nat_le}
 use Rattle.std.specs.List.{AllByRecursion, list_any}
 use Rattle.std.specs.Int.{w8, w16}
@@ -12,7 +13,8 @@ use Rattle.device_template.specs.Built.IsBuilt.{nothing, account, object, resour
 use Rattle.device_template.proofs.Ascending.{Rises, rises}
 use Rattle.scenario_layout.specs.Class.{accounts}
 use Rattle.scenario_layout.specs.Class as layout
-use Rattle.scenario_layout.proofs.Between.{all_of, all_more, length_more, inserted_more, shorter, each_good, rising_front, all_below, none_there, three_lines, no_three, is_below, below}
+use Rattle.scenario_layout.proofs.Between.{all_of, all_more, length_more, inserted_more, shorter, each_good}
+use Rattle.scenario_layout.proofs.Between.{rising_front, all_below, none_there, three_lines, no_three, is_below, below}
 use Rattle.scenario_layout.proofs.Filling.{taken_none}
 use Rattle.scenario_layout.proofs.Ordered.{and_true, map_same}
 
@@ -27,7 +29,8 @@ has_accounts : (class : Template) → IsBuilt class → HasAccounts class.accoun
 has_accounts _ nothing = record { each = tt; few = omega arith }
 has_accounts _ (account {class} server built free) =
     let before = has_accounts class built in
-    let lines = three_lines (not (nat_le 1 server && nat_le server 65534)) (list_any (λ n. eqb n server) class.accounts) (nat_le 4 (length class.accounts)) _ _ _ free in
+    let lines = three_lines (not (nat_le 1 server && nat_le server 65534)) (list_any (λ n. eqb n server) class.accounts)
+    (nat_le 4 (length class.accounts)) _ _ _ free in
     let more = inserted_more (λ a. a) server class.accounts in
     record {
       each = all_more IsServer server class.accounts _ more lines.0 before.each;
@@ -41,14 +44,16 @@ has_accounts _ (value {class} p v short good built free) = has_accounts class bu
 small : (n : ℕ) → IsServer n → n < 65536
 small n h = grind (arith, nat_tests)
 
-account_good : (front : List ℕ) (n : ℕ) (back : List ℕ) → HasAccounts (front ++ n ∷ back) → Rises (front ++ n ∷ back) → (layout.account front).Good n
+account_good : (front : List ℕ) (n : ℕ) (back : List ℕ) → HasAccounts (front ++ n ∷ back) → Rises (front ++ n ∷ back)
+    → (layout.account front).Good n
 unfolding layout.account
 account_good front n back h rising =
     let low = rising_front front n back rising in
     let server = all_of IsServer front n back h.each in (
       number_good w16 n (small n server),
       and_true _ _ (all_below (λ m. m) n front (subst (AllByRecursion (λ m. m < n)) (sym (map_same front)) low))
-          (taken_none _ (no_three _ _ _ _ _ _ server (none_there n front low) (is_below (length front) 4 (omega (arith, shorter (front ++ n ∷ back) front n back refl, h.few))))),
+          (taken_none _ (no_three _ _ _ _ _ _ server (none_there n front low)
+          (is_below (length front) 4 (omega (arith, shorter (front ++ n ∷ back) front n back refl, h.few))))),
     )
 
 pub accounts_good : (class : Template) → IsBuilt class → accounts.Good class.accounts
@@ -57,5 +62,6 @@ accounts_good class built =
     let xs = class.accounts in
     let h = has_accounts class built in (
       (number_good w8 (length xs) (omega (arith, h.few)), lt-ltb (length xs) 5 (omega (arith, h.few))),
-      each_good layout.account xs [] xs refl (λ front n back e. account_good front n back (subst HasAccounts e h) (subst Rises e (rises class built))),
+      each_good layout.account xs [] xs refl (λ front n back e. account_good front n back (subst HasAccounts e h)
+          (subst Rises e (rises class built))),
     )

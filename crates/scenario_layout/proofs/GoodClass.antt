@@ -2,7 +2,9 @@
 use Rattle.std.proofs.Common.{◌≡◌, sym, ap, ◌∙◌}
 use Rattle.device_template.specs.Template.{Template, with_catalogue}
 use Rattle.device_template.specs.Built.{IsBuilt}
-use Rattle.scenario_layout.specs.Class.{objects_in, instances_in, values_in, with_accounts, with_objects, with_instances, with_values, class, behind_accounts, behind_objects, behind_instances}
+use Rattle.scenario_layout.specs.Class.{objects_in, instances_in, values_in, with_accounts, with_objects}
+use Rattle.scenario_layout.specs.Class.{with_instances, with_values, class, behind_accounts, behind_objects}
+use Rattle.scenario_layout.specs.Class.{behind_instances}
 use Rattle.scenario_layout.proofs.Filling.{instances_itself, values_itself}
 use Rattle.scenario_layout.proofs.GoodAccounts.{accounts_good}
 use Rattle.scenario_layout.proofs.GoodObjects.{has_objects, objects_good, catalogue_is, few_objects}
@@ -17,7 +19,8 @@ all_of_it : (c : Template) → IsBuilt c → c ≡ with_values (with_instances (
 all_of_it c built =
     values_itself c
     ∙ ap (λ (k : Template). with_values k (values_in c)) (instances_itself c)
-    ∙ ap (λ t. with_values (with_instances (with_catalogue c t) (instances_in c)) (values_in c)) (sym (catalogue_is c (has_objects c built)))
+    ∙ ap (λ t. with_values (with_instances (with_catalogue c t) (instances_in c)) (values_in c))
+    (sym (catalogue_is c (has_objects c built)))
 
 pub class_good : (c : Template) → IsBuilt c → class.Good c
 unfolding class behind_accounts behind_objects behind_instances
@@ -29,7 +32,11 @@ class_good c built =
         objects_good c (with_accounts c.accounts) own,
         (
           instances_good c (behind c) built (few_objects c own) same,
-          (values_good c (with_instances (behind c) (instances_in c)) built same (sym (ap (λ (k : Template). k.store.instances) (instances_itself c))), all_of_it c built),
+          (
+            values_good c (with_instances (behind c) (instances_in c)) built same
+                (sym (ap (λ (k : Template). k.store.instances) (instances_itself c))),
+            all_of_it c built,
+          ),
         ),
       ),
     )

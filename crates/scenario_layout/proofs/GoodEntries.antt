@@ -1,5 +1,7 @@
 -- The values of a class have bytes.
-use Rattle.std.proofs.Common.{All, ◌≡◌, ℕ, ◌+◌, ◌<◌, ◌≤◌, Bool, true, false, cond, not, ◌&&◌, eqb, List, [], ◌∷◌, ◌++◌, length, filter, filter_map, Option, None, Some, option_and_then, refl, sym, ap, subst, ◌∙◌, arith, eqb-true}
+use Rattle.std.proofs.Common.{All, ◌≡◌, ℕ, ◌+◌, ◌<◌, ◌≤◌, Bool, true, false, cond, not, ◌&&◌, eqb, List, [], ◌∷◌, ◌++◌}
+use Rattle.std.proofs.Common.{length, filter, filter_map, Option, None, Some, option_and_then, refl, sym, ap, subst}
+use Rattle.std.proofs.Common.{◌∙◌, arith, eqb-true}
 use Rattle.std.specs.Prelude.{nat_le, is_some}
 use Rattle.std.specs.List.{AllByRecursion, list_all}
 use Rattle.std.specs.Int.{w16}
@@ -31,17 +33,20 @@ use Rattle.scenario_layout.specs.Value.{value}
 use Rattle.scenario_layout.specs.Value as fields
 use Rattle.scenario_layout.proofs.GoodValue.{path_good, value_good}
 use Rattle.device_template.specs.Template.{Template, kind_taken, kind_taken_by, plain, value_fault_at}
-use Rattle.device_template.specs.Values.{fits, fits_object, fits_resource, has_all_parts, has_kind, has_place, instance_at, is_set_at_start, is_within_limits, resource_at}
+use Rattle.device_template.specs.Values.{fits, fits_object, fits_resource, has_all_parts, has_kind, has_place}
+use Rattle.device_template.specs.Values.{instance_at, is_set_at_start, is_within_limits, resource_at}
 use Rattle.device_template.specs.Built.{IsBuilt, IsShort}
 use Rattle.device_template.specs.Built.IsBuilt.{nothing, account, object, resource, instance, value as added}
 use Rattle.scenario_layout.specs.Class.{values_in, with_values, values}
 use Rattle.scenario_layout.specs.Class as layout
-use Rattle.scenario_layout.proofs.Between.{all_of, all_more, all_weaker, length_more, taken_more, taken_before, shorter, each_good, is_below, below, not_false, not_true}
+use Rattle.scenario_layout.proofs.Between.{all_of, all_more, all_weaker, length_more, taken_more, taken_before, shorter}
+use Rattle.scenario_layout.proofs.Between.{each_good, is_below, below, not_false, not_true}
 use Rattle.scenario_layout.proofs.Filling.{no_entries}
 use Rattle.scenario_layout.proofs.GoodObjects.{no_fault}
 use Rattle.scenario_layout.proofs.GoodInstances.{object_kept, not_there}
 use Rattle.scenario_layout.proofs.Ordered.{both_true, and_true, is_true, map_same}
-use Rattle.scenario_layout.proofs.Rising.{Ascends, is_in_order, front_ascends, front_below, none_behind, insert_more, map_ascends}
+use Rattle.scenario_layout.proofs.Rising.{Ascends, is_in_order, front_ascends, front_below, none_behind, insert_more}
+use Rattle.scenario_layout.proofs.Rising.{map_ascends}
 
 abbrev Entry : Type 0
 Entry = FullPath × Value
@@ -72,16 +77,19 @@ joins : (r : ResourcePath) (xs ys : List Entry) → parts r (xs ++ ys) ≡ parts
 unfolding parts
 joins r xs ys =
     ap (filter_map (λ (e : Entry). e.0.part)) (filter-append (λ e. lies_in (resource_path r) e.0) xs ys)
-    ∙ filter_map-append (λ e. e.0.part) (filter (λ e. lies_in (resource_path r) e.0) xs) (filter (λ e. lies_in (resource_path r) e.0) ys)
+    ∙ filter_map-append (λ e. e.0.part) (filter (λ e. lies_in (resource_path r) e.0) xs)
+    (filter (λ e. lies_in (resource_path r) e.0) ys)
 
 -- ---- what a value that is not refused has
 
-fitting_in : (p : FullPath) (v : Value) (r : Option ResourceDef) → fits_resource p v r ≡ true → (d : ResourceDef) × (r ≡ Some d) × (fits_resource p v (Some d) ≡ true)
+fitting_in : (p : FullPath) (v : Value) (r : Option ResourceDef) → fits_resource p v r ≡ true → (d : ResourceDef)
+    × (r ≡ Some d) × (fits_resource p v (Some d) ≡ true)
 fitting_in p v None h = absurd cc
 fitting_in p v (Some d) h = (d, refl, h)
 
 defined_in : (p : FullPath) (v : Value) (o : Option ObjectDef) → fits_object p v o ≡ true → is_some o ≡ true
-    → (d : ResourceDef) × (option_and_then (λ q. resource_in q.resources p.resource) o ≡ Some d) × (fits_resource p v (Some d) ≡ true) × (is_set_at_start p ≡ false)
+    → (d : ResourceDef) × (option_and_then (λ q. resource_in q.resources p.resource) o ≡ Some d)
+    × (fits_resource p v (Some d) ≡ true) × (is_set_at_start p ≡ false)
 defined_in p v None h some = absurd cc
 defined_in p v (Some o) h some =
     let both = both_true (fits_resource p v (resource_in o.resources p.resource)) (not (is_set_at_start p)) h in
@@ -92,7 +100,9 @@ defined_in p v (Some o) h some =
     turned false h = refl
     turned true h = absurd cc
 
-five_lines : {X : Type 0} (a b c d e : Bool) (x y z w u : X) → first_line ((a, x) ∷ (b, y) ∷ (c, z) ∷ (d, w) ∷ (e, u) ∷ []) ≡ None → (a ≡ false) × (b ≡ false) × (c ≡ false) × (d ≡ false) × (e ≡ false)
+five_lines : {X : Type 0} (a b c d e : Bool) (x y z w u : X)
+    → first_line ((a, x) ∷ (b, y) ∷ (c, z) ∷ (d, w) ∷ (e, u) ∷ []) ≡ None → (a ≡ false) × (b ≡ false) × (c ≡ false)
+    × (d ≡ false) × (e ≡ false)
 five_lines true b c d e x y z w u h = absurd cc
 five_lines false true c d e x y z w u h = absurd cc
 five_lines false false true d e x y z w u h = absurd cc
@@ -100,7 +110,8 @@ five_lines false false false true e x y z w u h = absurd cc
 five_lines false false false false true x y z w u h = absurd cc
 five_lines false false false false false x y z w u h = (refl, refl, refl, refl, refl)
 
-no_five : {X : Type 0} (a b c d e : Bool) (x y z w u : X) → a ≡ false → b ≡ false → c ≡ false → d ≡ false → e ≡ false → first_line ((a, x) ∷ (b, y) ∷ (c, z) ∷ (d, w) ∷ (e, u) ∷ []) ≡ None
+no_five : {X : Type 0} (a b c d e : Bool) (x y z w u : X) → a ≡ false → b ≡ false → c ≡ false → d ≡ false → e ≡ false
+    → first_line ((a, x) ∷ (b, y) ∷ (c, z) ∷ (d, w) ∷ (e, u) ∷ []) ≡ None
 no_five true b c d e x y z w u h i j k l = absurd cc
 no_five false true c d e x y z w u h i j k l = absurd cc
 no_five false false true d e x y z w u h i j k l = absurd cc
@@ -115,14 +126,17 @@ seen : Option ℕ → ℕ
 seen None = 0
 seen (Some n) = 1
 
-one_part : (p : FullPath) (v : Value) (part : Option ℕ) → p.part ≡ part → length (filter_map (λ (e : Entry). e.0.part) ((p, v) ∷ [])) ≡ seen part
+one_part : (p : FullPath) (v : Value) (part : Option ℕ) → p.part ≡ part
+    → length (filter_map (λ (e : Entry). e.0.part) ((p, v) ∷ [])) ≡ seen part
 unfolding seen
 one_part p v None h = rw h refl
 one_part p v (Some n) h = rw h refl
 
-parts_at : (r : ResourcePath) (p : FullPath) (v : Value) (b : Bool) → lies_in (resource_path r) p ≡ b → length (parts r ((p, v) ∷ [])) ≡ cond b (seen p.part) 0
+parts_at : (r : ResourcePath) (p : FullPath) (v : Value) (b : Bool) → lies_in (resource_path r) p ≡ b
+    → length (parts r ((p, v) ∷ [])) ≡ cond b (seen p.part) 0
 unfolding parts
-parts_at r p v true h = ap (λ b. length (filter_map (λ (e : Entry). e.0.part) (cond b ((p, v) ∷ []) []))) h ∙ one_part p v p.part refl
+parts_at r p v true h =
+    ap (λ b. length (filter_map (λ (e : Entry). e.0.part) (cond b ((p, v) ∷ []) []))) h ∙ one_part p v p.part refl
 parts_at r p v false h = ap (λ b. length (filter_map (λ (e : Entry). e.0.part) (cond b ((p, v) ∷ []) []))) h
 
 same_resource : (r : ResourcePath) (p : FullPath) → lies_in (resource_path r) p ≡ true → resource_at p ≡ r
@@ -139,69 +153,128 @@ unfolding seen
 room_for None n h few = omega (arith, few)
 room_for (Some m) n h few = omega (arith, below n 32 h)
 
-still_few : (r : ResourcePath) (p : FullPath) (es new : List Entry) (b : Bool) → lies_in (resource_path r) p ≡ b → length (parts r new) ≡ length (parts r es) + cond b (seen p.part) 0
-    → (is_some p.part && nat_le 32 (length (parts (resource_at p) es))) ≡ false → length (parts r es) ≤ 32 → length (parts r new) ≤ 32
+still_few : (r : ResourcePath) (p : FullPath) (es new : List Entry) (b : Bool) → lies_in (resource_path r) p ≡ b
+    → length (parts r new) ≡ length (parts r es) + cond b (seen p.part) 0
+    → (is_some p.part && nat_le 32 (length (parts (resource_at p) es))) ≡ false → length (parts r es) ≤ 32
+    → length (parts r new) ≤ 32
 still_few r p es new true e more room few =
-    let there : (is_some p.part && nat_le 32 (length (parts r es))) ≡ false = subst (λ q. (is_some p.part && nat_le 32 (length (parts q es))) ≡ false) (same_resource r p e) room in
+    let there : (is_some p.part && nat_le 32 (length (parts r es))) ≡ false =
+    subst (λ q. (is_some p.part && nat_le 32 (length (parts q es))) ≡ false) (same_resource r p e) room in
     omega (arith, more, room_for p.part (length (parts r es)) there few)
 still_few r p es new false e more room few = omega (arith, more, few)
 
-value_more : (c : Template) (p : FullPath) (v : Value) → IsShort p → IsGood v → HasValues c.catalogue c.store.instances (finite.entries c.store.values) → value_fault_at c p v ≡ None
+value_more : (c : Template) (p : FullPath) (v : Value) → IsShort p → IsGood v
+    → HasValues c.catalogue c.store.instances (finite.entries c.store.values) → value_fault_at c p v ≡ None
     → HasValues c.catalogue c.store.instances (finite.entries (finite.insert c.store.values p v))
 unfolding parts
 value_more c p v short good before free =
     let es = finite.entries c.store.values in
-    let lines = five_lines (not (fits c.catalogue p v)) (not (has_place c.catalogue c.store p)) (is_some (value_at c.store p)) (nat_le 65535 (value_count c.store)) (has_all_parts c.store p) _ _ _ _ _ free in
-    let fit = both_true (is_within_limits v) (fits_object p v (object_of c.catalogue p.object)) (not_false (fits c.catalogue p v) lines.0) in
-    let there = both_true (is_some (object_of c.catalogue p.object)) (finite.contains_key c.store.instances (instance_at p)) (not_false (has_place c.catalogue c.store p) lines.1) in
+    let lines = five_lines (not (fits c.catalogue p v)) (not (has_place c.catalogue c.store p))
+    (is_some (value_at c.store p)) (nat_le 65535 (value_count c.store)) (has_all_parts c.store p) _ _ _ _ _ free in
+    let fit = both_true (is_within_limits v) (fits_object p v (object_of c.catalogue p.object))
+    (not_false (fits c.catalogue p v) lines.0) in
+    let there = both_true (is_some (object_of c.catalogue p.object))
+    (finite.contains_key c.store.instances (instance_at p)) (not_false (has_place c.catalogue c.store p) lines.1) in
     let found = defined_in p v (object_of c.catalogue p.object) fit.1 there.0 in
     let more = insert_more path_total c.store.values p v (not_there (finite.get c.store.values p) lines.2) in
-    let room : length es < 65535 = below (length es) 65535 (ap (nat_le 65535) (sym (finite.len-entries c.store.values)) ∙ lines.3) in
+    let room : length es < 65535 =
+    below (length es) 65535 (ap (nat_le 65535) (sym (finite.len-entries c.store.values)) ∙ lines.3) in
     record {
-      each = all_more (IsHeld c.catalogue c.store.instances) (p, v) es _ more (record { short = short; good = good; def = found.0; defined = found.1; fitting = found.2; unset = found.3; placed = there.1 }) before.each;
+      each = all_more (IsHeld c.catalogue c.store.instances) (p, v) es _ more
+          (record {
+            short = short;
+            good = good;
+            def = found.0;
+            defined = found.1;
+            fitting = found.2;
+            unset =
+                found.3;
+            placed = there.1;
+          }) before.each;
       few_parts = λ r. still_few r p es _ (lies_in (resource_path r) p) refl
-          (taken_more (parts r) (joins r) (p, v) es _ more ∙ ap (λ n. length (parts r es) + n) (parts_at r p v (lies_in (resource_path r) p) refl)) lines.4 (before.few_parts r);
+          (taken_more (parts r) (joins r) (p, v) es _ more
+          ∙ ap (λ n. length (parts r es) + n) (parts_at r p v (lies_in (resource_path r) p) refl)) lines.4
+          (before.few_parts r);
       few = omega (arith, length_more (p, v) es (finite.entries (finite.insert c.store.values p v)) more, room);
     }
 
 -- ---- what is held stays so
 
-some_object : (o : Option ObjectDef) (r : ℕ) (d : ResourceDef) → option_and_then (λ q. resource_in q.resources r) o ≡ Some d → is_some o ≡ true
+some_object : (o : Option ObjectDef) (r : ℕ) (d : ResourceDef)
+    → option_and_then (λ q. resource_in q.resources r) o ≡ Some d → is_some o ≡ true
 some_object None r d h = absurd cc
 some_object (Some o) r d h = refl
 
-moved : (c b : List ObjectDef) (m n : Places) (e : Entry) (h : IsHeld c m e) → definition_of b e.0.object e.0.resource ≡ definition_of c e.0.object e.0.resource → finite.contains_key n (instance_at e.0) ≡ true → IsHeld b n e
-moved c b m n e h same placed = record { short = h.short; good = h.good; def = h.def; defined = same ∙ h.defined; fitting = h.fitting; unset = h.unset; placed = placed }
+moved : (c b : List ObjectDef) (m n : Places) (e : Entry) (h : IsHeld c m e)
+    → definition_of b e.0.object e.0.resource ≡ definition_of c e.0.object e.0.resource
+    → finite.contains_key n (instance_at e.0) ≡ true → IsHeld b n e
+moved c b m n e h same placed =
+    record {
+      short = h.short;
+      good = h.good;
+      def = h.def;
+      defined = same ∙ h.defined;
+      fitting = h.fitting;
+      unset =
+          h.unset;
+      placed = placed;
+    }
 
-held_by_object : (c : List ObjectDef) (m : Places) (id : ℕ) → vendor_fault c id ≡ None → (e : Entry) → IsHeld c m e → IsHeld (with_object c id) m e
+held_by_object : (c : List ObjectDef) (m : Places) (id : ℕ) → vendor_fault c id ≡ None → (e : Entry) → IsHeld c m e
+    → IsHeld (with_object c id) m e
 held_by_object c m id free e h =
-    moved c (with_object c id) m m e h (ap (option_and_then (λ q. resource_in q.resources e.0.resource)) (object_kept c id e.0.object free (some_object (object_of c e.0.object) e.0.resource h.def h.defined))) h.placed
+    moved c (with_object c id) m m e h (ap (option_and_then (λ q. resource_in q.resources e.0.resource))
+    (object_kept c id e.0.object free (some_object (object_of c e.0.object) e.0.resource h.def h.defined))) h.placed
 
-held_by_resource : (c : List ObjectDef) (m : Places) (id : ℕ) (d : ResourceDef) → resource_fault c id d ≡ None → (e : Entry) → IsHeld c m e → IsHeld (with_resource c id d) m e
+held_by_resource : (c : List ObjectDef) (m : Places) (id : ℕ) (d : ResourceDef) → resource_fault c id d ≡ None
+    → (e : Entry) → IsHeld c m e → IsHeld (with_resource c id d) m e
 held_by_resource c m id d free e h =
     moved c (with_resource c id d) m m e h (definition_of-with_resource_other c id d e.0.object e.0.resource (λ at.
-    let clash : None ≡ Some h.def = sym (resource_absent c id d free) ∙ ap (λ q. definition_of c q d.id) (sym at.0) ∙ ap (definition_of c e.0.object) (sym at.1) ∙ h.defined in cc)) h.placed
+    let clash : None ≡ Some h.def =
+    sym (resource_absent c id d free) ∙ ap (λ q. definition_of c q d.id) (sym at.0)
+    ∙ ap (definition_of c e.0.object) (sym at.1) ∙ h.defined in cc)) h.placed
 
-held_by_instance : (c : List ObjectDef) (m : Places) (place : InstancePath) (e : Entry) → IsHeld c m e → IsHeld c (finite.insert m place tt) e
-held_by_instance c m place e h = moved c c m (finite.insert m place tt) e h refl (ap is_some (finite.get-insert instance_total m place tt (instance_at e.0)) ∙ either (eq_by_cmp instance_cmp (instance_at e.0) place) (finite.get m (instance_at e.0)) h.placed)
+held_by_instance : (c : List ObjectDef) (m : Places) (place : InstancePath) (e : Entry) → IsHeld c m e
+    → IsHeld c (finite.insert m place tt) e
+held_by_instance c m place e h =
+    moved c c m (finite.insert m place tt) e h refl
+    (ap is_some (finite.get-insert instance_total m place tt (instance_at e.0))
+    ∙ either (eq_by_cmp instance_cmp (instance_at e.0) place) (finite.get m (instance_at e.0)) h.placed)
   where
     either : (b : Bool) (o : Option (Unit {0})) → is_some o ≡ true → is_some (cond b (Some tt) o) ≡ true
     either true o some = refl
     either false o some = some
 
-has_values : (class : Template) → IsBuilt class → HasValues class.catalogue class.store.instances (finite.entries class.store.values)
+has_values : (class : Template) → IsBuilt class
+    → HasValues class.catalogue class.store.instances (finite.entries class.store.values)
 unfolding parts
-has_values _ nothing = subst (HasValues _ _) (sym (no_entries path_cmp)) (record { each = tt; few_parts = λ r. omega arith; few = omega arith })
+has_values _ nothing =
+    subst (HasValues _ _) (sym (no_entries path_cmp))
+    (record { each = tt; few_parts = λ r. omega arith; few = omega arith })
 has_values _ (account {class} server built free) = has_values class built
 has_values _ (object {class} id built free) =
     let before = has_values class built in
-    record { each = all_weaker _ _ (held_by_object class.catalogue class.store.instances id (no_fault _ free)) _ before.each; few_parts = before.few_parts; few = before.few }
+    record {
+      each = all_weaker _ _ (held_by_object class.catalogue class.store.instances id (no_fault _ free)) _
+          before.each;
+      few_parts = before.few_parts;
+      few = before.few;
+    }
 has_values _ (resource {class} id d short built free) =
     let before = has_values class built in
-    record { each = all_weaker _ _ (held_by_resource class.catalogue class.store.instances id d (no_fault _ free)) _ before.each; few_parts = before.few_parts; few = before.few }
+    record {
+      each = all_weaker _ _ (held_by_resource class.catalogue class.store.instances id d (no_fault _ free)) _
+          before.each;
+      few_parts = before.few_parts;
+      few = before.few;
+    }
 has_values _ (instance {class} place short built free) =
     let before = has_values class built in
-    record { each = all_weaker _ _ (held_by_instance class.catalogue class.store.instances place) _ before.each; few_parts = before.few_parts; few = before.few }
+    record {
+      each = all_weaker _ _ (held_by_instance class.catalogue class.store.instances place) _ before.each;
+      few_parts = before.few_parts;
+      few = before.few;
+    }
 has_values _ (added {class} p v short good built free) = value_more class p v short good (has_values class built) free
 
 -- ---- their bytes
@@ -261,19 +334,31 @@ same_kind (held.Link o i) kinds.Moment h = absurd cc
 same_kind (held.Link o i) kinds.Link h = refl
 
 -- a plain value fits where another of its kind does
-plain_fits_resource : (p : FullPath) (v : Value) (d : ResourceDef) → fits_resource p v (Some d) ≡ true → (has_kind v d.kind ≡ true) × (fits_resource p (plain d.kind) (Some d) ≡ true)
+plain_fits_resource : (p : FullPath) (v : Value) (d : ResourceDef) → fits_resource p v (Some d) ≡ true
+    → (has_kind v d.kind ≡ true) × (fits_resource p (plain d.kind) (Some d) ≡ true)
 plain_fits_resource p v d h =
     let outer = both_true (can_read d.ops) _ h in
-    let inner = both_true (has_kind v d.kind) _ outer.1 in
-    (inner.0, and_true (can_read d.ops) _ outer.0 (and_true (has_kind (plain d.kind) d.kind) _ (plain_kind d.kind) inner.1))
+    let inner = both_true (has_kind v d.kind) _ outer.1 in (
+      inner.0,
+      and_true (can_read d.ops) _ outer.0
+          (and_true (has_kind (plain d.kind) d.kind) _ (plain_kind d.kind) inner.1),
+    )
 
-plain_fits : (p : FullPath) (d : ResourceDef) (o : Option ObjectDef) → option_and_then (λ q. resource_in q.resources p.resource) o ≡ Some d → fits_resource p (plain d.kind) (Some d) ≡ true → is_set_at_start p ≡ false → fits_object p (plain d.kind) o ≡ true
+plain_fits : (p : FullPath) (d : ResourceDef) (o : Option ObjectDef)
+    → option_and_then (λ q. resource_in q.resources p.resource) o ≡ Some d
+    → fits_resource p (plain d.kind) (Some d) ≡ true → is_set_at_start p ≡ false
+    → fits_object p (plain d.kind) o ≡ true
 plain_fits p d None found fit unset = refl
-plain_fits p d (Some o) found fit unset = and_true (fits_resource p (plain d.kind) (resource_in o.resources p.resource)) _ (ap (fits_resource p (plain d.kind)) found ∙ fit) (ap not unset)
+plain_fits p d (Some o) found fit unset =
+    and_true (fits_resource p (plain d.kind) (resource_in o.resources p.resource)) _
+    (ap (fits_resource p (plain d.kind)) found ∙ fit) (ap not unset)
 
-front_entries : (front back : List Entry) → Ascends path_cmp (λ e. e.0) (front ++ back) → finite.entries (finite.from_sorted {R = path_cmp} front) ≡ front
+front_entries : (front back : List Entry) → Ascends path_cmp (λ e. e.0) (front ++ back)
+    → finite.entries (finite.from_sorted {R = path_cmp} front) ≡ front
 front_entries front back h =
-    finite.entries-from_sorted path_cmp front (is_true _ (ap (finite.is_sorted path_cmp) (sym (map_same front)) ∙ is_in_order path_cmp (λ e. e) front (front_ascends path_cmp (λ e. e.0) front back h)))
+    finite.entries-from_sorted path_cmp front
+    (is_true _ (ap (finite.is_sorted path_cmp) (sym (map_same front))
+    ∙ is_in_order path_cmp (λ e. e) front (front_ascends path_cmp (λ e. e.0) front back h)))
 
 full_line : (part : Option ℕ) (n : ℕ) → n + seen part ≤ 32 → (is_some part && nat_le 32 n) ≡ false
 unfolding seen
@@ -281,12 +366,16 @@ full_line None n h = refl
 full_line (Some m) n h = is_below n 32 (omega (arith, h))
 
 own_resource : (p : FullPath) → lies_in (resource_path (resource_at p)) p ≡ true
-own_resource p = and_true (eqb p.object p.object && eqb p.instance p.instance) _ (and_true (eqb p.object p.object) _ (same p.object) (same p.instance)) (same p.resource)
+own_resource p =
+    and_true (eqb p.object p.object && eqb p.instance p.instance) _
+    (and_true (eqb p.object p.object) _ (same p.object) (same p.instance)) (same p.resource)
   where
     same : (n : ℕ) → eqb n n ≡ true
     same n = grind (arith, nat_tests)
 
-module _ (k : Template) (front : List Entry) (e : Entry) (back : List Entry) (h : Ascends path_cmp (λ e. e.0) (front ++ e ∷ back)) (all : HasValues k.catalogue k.store.instances (front ++ e ∷ back)) where
+module _ (k : Template) (front : List Entry) (e : Entry) (back : List Entry)
+    (h : Ascends path_cmp (λ e. e.0) (front ++ e ∷ back))
+    (all : HasValues k.catalogue k.store.instances (front ++ e ∷ back)) where
   is : IsHeld k.catalogue k.store.instances e
   is = all_of (IsHeld k.catalogue k.store.instances) front e back all.each
 
@@ -295,10 +384,13 @@ module _ (k : Template) (front : List Entry) (e : Entry) (back : List Entry) (h 
 
   no_value : is_some (value_at (with_values k front).store e.0) ≡ false
   unfolding low
-  no_value = ap is_some (finite.get-entries (finite.from_sorted {R = path_cmp} front) e.0 ∙ ap (find path_cmp e.0) (front_entries front (e ∷ back) h) ∙ none_behind path_total e.0 front low)
+  no_value = ap is_some (finite.get-entries (finite.from_sorted {R = path_cmp} front) e.0
+      ∙ ap (find path_cmp e.0) (front_entries front (e ∷ back) h) ∙ none_behind path_total e.0 front low)
 
   room : nat_le 65535 (value_count (with_values k front).store) ≡ false
-  room = ap (nat_le 65535) (finite.len-entries (finite.from_sorted {R = path_cmp} front) ∙ ap length (front_entries front (e ∷ back) h)) ∙ is_below (length front) 65535 (omega (arith, shorter (front ++ e ∷ back) front e back refl, all.few))
+  room = ap (nat_le 65535) (finite.len-entries (finite.from_sorted {R = path_cmp} front)
+      ∙ ap length (front_entries front (e ∷ back) h))
+      ∙ is_below (length front) 65535 (omega (arith, shorter (front ++ e ∷ back) front e back refl, all.few))
 
   more_parts : has_all_parts (with_values k front).store e.0 ≡ false
   unfolding parts
@@ -306,14 +398,22 @@ module _ (k : Template) (front : List Entry) (e : Entry) (back : List Entry) (h 
       let r = resource_at e.0 in
       let own = parts_at r e.0 e.1 true (own_resource e.0) in
       let before = taken_before (parts r) (joins r) (front ++ e ∷ back) front e back refl in
-      ap (λ t. is_some e.0.part && nat_le 32 (length (parts r t))) (front_entries front (e ∷ back) h) ∙ full_line e.0.part (length (parts r front)) (omega (arith, own, before, all.few_parts r))
+      ap (λ t. is_some e.0.part && nat_le 32 (length (parts r t))) (front_entries front (e ∷ back) h)
+      ∙ full_line e.0.part (length (parts r front)) (omega (arith, own, before, all.few_parts r))
 
-  free : (d : ResourceDef) → definition_of k.catalogue e.0.object e.0.resource ≡ Some d → fits_resource e.0 e.1 (Some d) ≡ true → is_set_at_start e.0 ≡ false → finite.contains_key k.store.instances (instance_at e.0) ≡ true
+  free : (d : ResourceDef) → definition_of k.catalogue e.0.object e.0.resource ≡ Some d
+      → fits_resource e.0 e.1 (Some d) ≡ true → is_set_at_start e.0 ≡ false
+      → finite.contains_key k.store.instances (instance_at e.0) ≡ true
       → value_fault_at (with_values k front) e.0 (plain d.kind) ≡ None
   free d defined fitting unset placed =
       no_five _ _ _ _ _ _ _ _ _ _
-      (not_true (fits k.catalogue e.0 (plain d.kind)) (and_true (is_within_limits (plain d.kind)) _ (plain_short d.kind) (plain_fits e.0 d (object_of k.catalogue e.0.object) defined (plain_fits_resource e.0 e.1 d fitting).1 unset)))
-      (not_true (has_place k.catalogue k.store e.0) (and_true (is_some (object_of k.catalogue e.0.object)) _ (some_object (object_of k.catalogue e.0.object) e.0.resource d defined) placed))
+      (not_true (fits k.catalogue e.0 (plain d.kind))
+      (and_true (is_within_limits (plain d.kind)) _ (plain_short d.kind)
+      (plain_fits e.0 d (object_of k.catalogue e.0.object) defined
+      (plain_fits_resource e.0 e.1 d fitting).1 unset)))
+      (not_true (has_place k.catalogue k.store e.0)
+      (and_true (is_some (object_of k.catalogue e.0.object)) _
+      (some_object (object_of k.catalogue e.0.object) e.0.resource d defined) placed))
       no_value room more_parts
 
   taken : kind_taken (with_values k front) e.0 ≡ Some is.def.kind
@@ -327,26 +427,33 @@ module _ (k : Template) (front : List Entry) (e : Entry) (back : List Entry) (h 
   entry_good = (
     (path_good e.0 is.short.0 is.short.1 is.short.2 is.short.3, and_true _ _ low (ap is_some taken)),
     (
-      subst (λ (wanted : Option ValueKind). (value wanted).Good e.1) (sym taken) (value_good (Some is.def.kind) e.1 is.good (same_kind e.1 is.def.kind (plain_fits_resource e.0 e.1 is.def is.fitting).0)),
+      subst (λ (wanted : Option ValueKind). (value wanted).Good e.1) (sym taken)
+          (value_good (Some is.def.kind) e.1 is.good
+          (same_kind e.1 is.def.kind (plain_fits_resource e.0 e.1 is.def is.fitting).0)),
       refl,
     ),
   )
 
-pub values_good : (c k : Template) → IsBuilt c → k.catalogue ≡ c.catalogue → k.store.instances ≡ c.store.instances → (values k).Good (values_in c)
+pub values_good : (c k : Template) → IsBuilt c → k.catalogue ≡ c.catalogue → k.store.instances ≡ c.store.instances
+    → (values k).Good (values_in c)
 unfolding values
 values_good c k built same_catalogue same_places =
     let es = values_in c in
     let h : HasValues k.catalogue k.store.instances es =
-    subst (λ (t : List ObjectDef). HasValues t k.store.instances es) (sym same_catalogue) (subst (λ (m : Places). HasValues c.catalogue m es) (sym same_places) (has_values c built)) in (
+    subst (λ (t : List ObjectDef). HasValues t k.store.instances es) (sym same_catalogue)
+    (subst (λ (m : Places). HasValues c.catalogue m es) (sym same_places) (has_values c built)) in (
       number_good w16 (length es) (omega (arith, h.few)),
       each_good (layout.entry k) es [] es refl (λ front e back is.
-          entry_good k front e back (subst (Ascends path_cmp (λ (b : Entry). b.0)) is (map_ascends path_total c.store.values)) (subst (HasValues k.catalogue k.store.instances) is h)),
+          entry_good k front e back (subst (Ascends path_cmp (λ (b : Entry). b.0)) is
+          (map_ascends path_total c.store.values)) (subst (HasValues k.catalogue k.store.instances) is h)),
     )
 
 -- ---- what their writer asks for
 
 pub each_held : (c : Template) → IsBuilt c → All (λ e. IsGood e.1) (values_in c)
-each_held c built = All-from_recursion _ _ (all_weaker (IsHeld c.catalogue c.store.instances) (λ e. IsGood e.1) (λ e h. h.good) (values_in c) (has_values c built).each)
+each_held c built =
+    All-from_recursion _ _ (all_weaker (IsHeld c.catalogue c.store.instances) (λ e. IsGood e.1) (λ e h. h.good)
+    (values_in c) (has_values c built).each)
 
 pub few_values : (c : Template) → IsBuilt c → length (values_in c) < 65536
 few_values c built = omega (arith, (has_values c built).few)

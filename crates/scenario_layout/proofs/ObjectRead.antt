@@ -18,38 +18,53 @@ use Rattle.scenario_layout.proofs.ExactClass.{object_id_exact}
 use Rattle.scenario_layout.proofs.Defined.{found_end, defined_end}
 
 -- the catalogue behind a new object
-catalogue_on : (c u : Template) (id : ℕ) → c ≡ with_objects c (objects_in c) → u ≡ with_objects c (objects_in c ++ new_object id ∷ []) → u.catalogue ≡ c.catalogue ++ new_object id ∷ []
+catalogue_on : (c u : Template) (id : ℕ) → c ≡ with_objects c (objects_in c)
+    → u ≡ with_objects c (objects_in c ++ new_object id ∷ []) → u.catalogue ≡ c.catalogue ++ new_object id ∷ []
 catalogue_on c u id itself made =
     ap (λ (k : Template). k.catalogue) made
     ∙ sym (append_assoc base (objects_in c) (new_object id ∷ []))
     ∙ ap (λ (k : Template). k.catalogue ++ new_object id ∷ []) (sym itself)
 
-pub new_found : (c u : Template) (id : ℕ) → c ≡ with_objects c (objects_in c) → list_all (λ o. nat_lt o.id id) c.catalogue ≡ true → u ≡ with_objects c (objects_in c ++ new_object id ∷ []) → object_of u.catalogue id ≡ Some (new_object id)
-new_found c u id itself above made = ap (λ t. object_of t id) (catalogue_on c u id itself made) ∙ found_end c.catalogue id above
+pub new_found : (c u : Template) (id : ℕ) → c ≡ with_objects c (objects_in c)
+    → list_all (λ o. nat_lt o.id id) c.catalogue ≡ true → u ≡ with_objects c (objects_in c ++ new_object id ∷ [])
+    → object_of u.catalogue id ≡ Some (new_object id)
+new_found c u id itself above made =
+    ap (λ t. object_of t id) (catalogue_on c u id itself made) ∙ found_end c.catalogue id above
 
-pub definitions_good : (c : Template) (bytes : List ℕ) (id : ℕ) (rest : List ℕ) (ds : List ResourceDef) (after : List ℕ) → IsBytes bytes → (object_id c (objects_in c)).read bytes ≡ Ok (id, rest) → resources.read rest ≡ Ok (ds, after) → resources.Good ds
+pub definitions_good : (c : Template) (bytes : List ℕ) (id : ℕ) (rest : List ℕ) (ds : List ResourceDef) (after : List ℕ)
+    → IsBytes bytes → (object_id c (objects_in c)).read bytes ≡ Ok (id, rest) → resources.read rest ≡ Ok (ds, after)
+    → resources.Good ds
 definitions_good c bytes id rest ds after fits read held =
-    (resources_exact.taken rest (bytes_behind bytes _ rest fits ((object_id_exact c (objects_in c)).taken bytes fits id rest read).1) ds after held).0
+    (resources_exact.taken rest (bytes_behind bytes _ rest fits
+    ((object_id_exact c (objects_in c)).taken bytes fits id rest read).1) ds after held).0
 
 list_good : (ds : List ResourceDef) → resources.Good ds → (each resource (length ds) []).Good ds
 unfolding resources
 list_good ds good = good.1
 
 -- the class behind the object and its definitions
-pub object_behind : (c u v : Template) (id : ℕ) (ds : List ResourceDef) → c ≡ with_objects c (objects_in c) → list_all (λ o. nat_lt o.id id) c.catalogue ≡ true → resources.Good ds → u ≡ with_objects c (objects_in c ++ new_object id ∷ [])
-    → v ≡ with_catalogue u (with_definitions u.catalogue id ds) → v ≡ with_objects c (objects_in c ++ defined id ds ∷ [])
+pub object_behind : (c u v : Template) (id : ℕ) (ds : List ResourceDef) → c ≡ with_objects c (objects_in c)
+    → list_all (λ o. nat_lt o.id id) c.catalogue ≡ true → resources.Good ds
+    → u ≡ with_objects c (objects_in c ++ new_object id ∷ [])
+    → v ≡ with_catalogue u (with_definitions u.catalogue id ds)
+    → v ≡ with_objects c (objects_in c ++ defined id ds ∷ [])
 object_behind c u v id ds itself above good made defs =
     defs
     ∙ ap (λ t. with_catalogue u (with_definitions t id ds)) (catalogue_on c u id itself made)
-    ∙ ap (with_catalogue u) (defined_end (length ds) c.catalogue id [] ds above (list_good ds good) ∙ ap (λ (k : Template). k.catalogue ++ defined id ds ∷ []) itself ∙ append_assoc base (objects_in c) (defined id ds ∷ []))
+    ∙ ap (with_catalogue u) (defined_end (length ds) c.catalogue id [] ds above (list_good ds good)
+    ∙ ap (λ (k : Template). k.catalogue ++ defined id ds ∷ []) itself
+    ∙ append_assoc base (objects_in c) (defined id ds ∷ []))
     ∙ ap (λ (k : Template). with_catalogue k (base ++ (objects_in c ++ defined id ds ∷ []))) made
 
-pub object_read : (c v : Template) (bytes : List ℕ) (id : ℕ) (rest : List ℕ) (ds : List ResourceDef) (after : List ℕ) → (object_id c (objects_in c)).read bytes ≡ Ok (id, rest) → resources.read rest ≡ Ok (ds, after) → v ≡ with_objects c (objects_in c ++ defined id ds ∷ [])
+pub object_read : (c v : Template) (bytes : List ℕ) (id : ℕ) (rest : List ℕ) (ds : List ResourceDef) (after : List ℕ)
+    → (object_id c (objects_in c)).read bytes ≡ Ok (id, rest) → resources.read rest ≡ Ok (ds, after)
+    → v ≡ with_objects c (objects_in c ++ defined id ds ∷ [])
     → grown (objects_in c) ((object c (objects_in c)).read bytes) ≡ Ok (objects_in v, after)
 unfolding object
 object_read c v bytes id rest ds after read held made =
     let more : objects_in v ≡ objects_in c ++ defined id ds ∷ [] = ap objects_in made in
     rw (read, held, more) refl
 
-pub object_kept : (c v : Template) (id : ℕ) (ds : List ResourceDef) → v ≡ with_objects c (objects_in c ++ defined id ds ∷ []) → v ≡ with_objects c (objects_in v)
+pub object_kept : (c v : Template) (id : ℕ) (ds : List ResourceDef)
+    → v ≡ with_objects c (objects_in c ++ defined id ds ∷ []) → v ≡ with_objects c (objects_in v)
 object_kept c v id ds made = made ∙ ap (with_objects c) (sym (ap objects_in made))

@@ -16,7 +16,8 @@ use Rattle.object_defs.specs.declared.path.InstancePath.{InstancePath}
 use Rattle.scenario_layout.specs.Value.{place, path, value}
 use Rattle.scenario_layout.specs.Definition.{resources}
 use Rattle.device_template.specs.declared.fault.TemplateFault.{TemplateFault}
-use Rattle.device_template.specs.Template.{Template, empty_class, with_catalogue, with_store, most_accounts, account_fault, object_fault, instance_fault, kind_taken}
+use Rattle.device_template.specs.Template.{Template, empty_class, with_catalogue, with_store, most_accounts}
+use Rattle.device_template.specs.Template.{account_fault, object_fault, instance_fault, kind_taken}
 
 -- ---- what is written of a class, each in ascending order
 
@@ -39,7 +40,8 @@ abbrev pub with_objects : Template → List ObjectDef → Template
 with_objects c objects = with_catalogue c (base ++ objects)
 
 abbrev pub with_instances : Template → List InstancePath → Template
-with_instances c places = with_store c (record { values = c.store.values; instances = finite.from_sorted (map (λ p. (p, tt)) places) })
+with_instances c places =
+    with_store c (record { values = c.store.values; instances = finite.from_sorted (map (λ p. (p, tt)) places) })
 
 abbrev pub with_values : Template → List (FullPath × Value) → Template
 with_values c values = with_store c (record { values = finite.from_sorted values; instances = c.store.instances })
@@ -52,7 +54,9 @@ is_taken fault = not (is_some fault)
 
 -- an account above those before it, which the class takes
 unfoldable pub account : List ℕ → Part ℕ
-account before = judged BadField (λ n. list_all (λ m. nat_lt m n) before && is_taken (account_fault (with_accounts before) n)) (number w16)
+account before =
+    judged BadField (λ n. list_all (λ m. nat_lt m n) before && is_taken (account_fault (with_accounts before) n))
+    (number w16)
 
 unfoldable pub accounts : Part (List ℕ)
 accounts = counted (at_most most_accounts (number w8)) account
@@ -62,7 +66,9 @@ defined id definitions = record { id = id; resources = definitions }
 
 -- the number of an object, above those that the class has, which the class takes
 unfoldable pub object_id : Template → List ObjectDef → Part ℕ
-object_id c before = judged BadField (λ id. list_all (λ o. nat_lt o.id id) (base ++ before) && is_taken (object_fault (with_objects c before) id)) (number w16)
+object_id c before =
+    judged BadField (λ id. list_all (λ o. nat_lt o.id id) (base ++ before)
+    && is_taken (object_fault (with_objects c before) id)) (number w16)
 
 -- an object of the class's own: its number, and the definitions of its resources
 unfoldable pub object : Template → List ObjectDef → Part ObjectDef
@@ -73,18 +79,24 @@ objects c = counted (at_most 11 (number w8)) (object c)
 
 -- an instance behind those before it, which the class takes
 unfoldable pub instance : Template → List InstancePath → Part InstancePath
-instance c before = judged BadField (λ p. list_all (λ q. is_lt (instance_cmp q p)) before && is_taken (instance_fault (with_instances c before) p)) place
+instance c before =
+    judged BadField (λ p. list_all (λ q. is_lt (instance_cmp q p)) before
+    && is_taken (instance_fault (with_instances c before) p)) place
 
 unfoldable pub instances : Template → Part (List InstancePath)
 instances c = counted (number w16) (instance c)
 
 -- the path of a value, behind those before it, at which the class takes values of some kind
 unfoldable pub value_path : Template → List (FullPath × Value) → Part FullPath
-value_path c before = judged BadField (λ p. list_all (λ e. is_lt (path_cmp e.0 p)) before && is_some (kind_taken (with_values c before) p)) path
+value_path c before =
+    judged BadField (λ p. list_all (λ e. is_lt (path_cmp e.0 p)) before
+    && is_some (kind_taken (with_values c before) p)) path
 
 -- a path, and a value of the kind that is taken there
 unfoldable pub entry : Template → List (FullPath × Value) → Part (FullPath × Value)
-entry c before = split (λ e. e.0) (value_path c before) (λ p. last (λ e. e.1) (λ v. (p, v)) (value (kind_taken (with_values c before) p)))
+entry c before =
+    split (λ e. e.0) (value_path c before) (λ p. last (λ e. e.1) (λ v. (p, v))
+    (value (kind_taken (with_values c before) p)))
 
 unfoldable pub values : Template → Part (List (FullPath × Value))
 values c = counted (number w16) (entry c)

@@ -39,11 +39,14 @@ kind_fits E k = number_of k == 0
 kind_fits _ k = true
 
 abbrev pub definition : ℕ → Ops → ℕ → ValueKind → ResourceDef
-definition n o flags k = record { id = n; ops = o; multiple = flags == 1 || flags == 3; mandatory = nat_lt 1 flags; kind = k }
+definition n o flags k =
+    record { id = n; ops = o; multiple = flags == 1 || flags == 3; mandatory = nat_lt 1 flags; kind = k }
 
 -- what stands behind the number of a resource: operations, flags, kind
 abbrev pub behind_id : ℕ → Part ResourceDef
-behind_id n = split (λ r. r.ops) ops (λ o. split (λ r. flags_of r.multiple r.mandatory) (judged BadField (flags_fit o) (number w8)) (λ flags. last (λ r. r.kind) (definition n o flags) (judged BadField (kind_fits o) kind)))
+behind_id n = split (λ r. r.ops) ops (λ o. split (λ r. flags_of r.multiple r.mandatory)
+    (judged BadField (flags_fit o) (number w8))
+    (λ flags. last (λ r. r.kind) (definition n o flags) (judged BadField (kind_fits o) kind)))
 
 -- a definition, whose number is above those of the definitions before it
 unfoldable pub resource : List ResourceDef → Part ResourceDef

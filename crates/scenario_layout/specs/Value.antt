@@ -1,5 +1,6 @@
 -- Paths, kinds and values as bytes, in this profile's formats.
-use Rattle.std.specs.Prelude.{ℕ, zero, suc, ℤ, pos, ◌==◌, Bool, true, List, [], Option, None, Some, nat_lt, unwrap_or, if◌then◌else◌}
+use Rattle.std.specs.Prelude.{ℕ, zero, suc, ℤ, pos, ◌==◌, Bool, true, List, [], Option, None, Some, nat_lt, unwrap_or}
+use Rattle.std.specs.Prelude.{if◌then◌else◌}
 use Rattle.std.specs.Int.{w8, w16, w64}
 use Rattle.std.specs.Str.{is_utf8}
 use Rattle.byte_layout.specs.declared.fault.Break.TheVariants.{BadField}
@@ -38,7 +39,9 @@ abbrev pub path_of : ℕ → ℕ → ℕ → Option ℕ → FullPath
 path_of o i r n = record { object = o; instance = i; resource = r; part = n }
 
 unfoldable pub path : Part FullPath
-path = split (λ p. p.object) (number w16) (λ o. split (λ p. p.instance) (number w16) (λ i. split (λ p. p.resource) (number w16) (λ r. last (λ p. p.part) (path_of o i r) part_number)))
+path = split (λ p. p.object) (number w16)
+    (λ o. split (λ p. p.instance) (number w16)
+    (λ i. split (λ p. p.resource) (number w16) (λ r. last (λ p. p.part) (path_of o i r) part_number)))
 
 -- ---- kinds
 
@@ -53,7 +56,10 @@ number_of kinds.Link = 5
 
 -- the kind of a number below 6
 abbrev pub kind_numbered : ℕ → ValueKind
-kind_numbered n = if n == 0 then kinds.Text else (if n == 1 then kinds.Whole else (if n == 2 then kinds.Flag else (if n == 3 then kinds.Opaque else (if n == 4 then kinds.Moment else kinds.Link))))
+kind_numbered n =
+    if n == 0 then kinds.Text else (if n == 1 then kinds.Whole
+    else (if n == 2 then kinds.Flag else (if n == 3 then kinds.Opaque
+    else (if n == 4 then kinds.Moment else kinds.Link))))
 
 unfoldable pub kind : Part ValueKind
 kind = last number_of kind_numbered (judged BadField (λ n. nat_lt n 6) (number w8))

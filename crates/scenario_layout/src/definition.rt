@@ -2,7 +2,8 @@ ghost use Rattle.std.specs.Prelude.{◌≡◌, ◌≢◌, ◌++◌, nat_lt, IfEr
 ghost use Rattle.std.specs.List.{list_all};
 ghost use Rattle.byte_layout.specs.declared.fault.ReadError.TheVariants.{Memory};
 ghost use Rattle.byte_layout.specs.Outcome.{Gives};
-ghost use Rattle.scenario_layout.specs.Definition.{ops, flags_fit, kind_fits, behind_id, ops_number, flags_of, resources};
+ghost use Rattle.scenario_layout.specs.Definition.{ops, flags_fit, kind_fits, behind_id, ops_number, flags_of};
+ghost use Rattle.scenario_layout.specs.Definition.{resources};
 
 use crate::value::kind_at;
 use crate::value_writing::put_kind;

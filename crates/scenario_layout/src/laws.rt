@@ -26,16 +26,21 @@ pub fn exact_layouts()
     ensures class { IsExact class }
 {}
 
-/// What has bytes: paths of numbers below 65,536; good values whose kind fits, and only those, if what they spell is bytes; and
-/// definitions whose number is above those before them, an executable one single and of the kind Text.
+/// What has bytes: paths of numbers below 65,536; good values whose kind fits, and only those, if what they spell is
+/// bytes; and definitions whose number is above those before them, an executable one single and of the kind Text.
 pub fn what_has_bytes()
     ensures place { (p : InstancePath) → p.object < 65536 → p.instance < 65536 → place.Good p }
-    ensures path { (p : FullPath) → p.object < 65536 → p.instance < 65536 → p.resource < 65536 → IfSome p.part (λ n. n < 65536) → path.Good p }
+    ensures path { (p : FullPath) → p.object < 65536 → p.instance < 65536 → p.resource < 65536
+        → IfSome p.part (λ n. n < 65536) → path.Good p }
     ensures kind { (k : ValueKind) → kind.Good k }
-    ensures value { (wanted : Option ValueKind) (v : Value) → IsGood v → fits wanted (kind_of v) ≡ true → (value wanted).Good v }
-    ensures good { (wanted : Option ValueKind) (v : Value) → (value wanted).Good v → IsBytes ((value wanted).spell v) → IsGood v × (fits wanted (kind_of v) ≡ true) }
-    ensures definition { (before : List ResourceDef) (r : ResourceDef) → r.id < 65536 → list_all (λ q. nat_lt q.id r.id) before ≡ true
-        → flags_fit r.ops (flags_of r.multiple r.mandatory) ≡ true → kind_fits r.ops r.kind ≡ true → (resource before).Good r }
+    ensures value { (wanted : Option ValueKind) (v : Value) → IsGood v → fits wanted (kind_of v) ≡ true
+        → (value wanted).Good v }
+    ensures good { (wanted : Option ValueKind) (v : Value) → (value wanted).Good v → IsBytes ((value wanted).spell v)
+        → IsGood v × (fits wanted (kind_of v) ≡ true) }
+    ensures definition { (before : List ResourceDef) (r : ResourceDef) → r.id < 65536
+        → list_all (λ q. nat_lt q.id r.id) before ≡ true
+        → flags_fit r.ops (flags_of r.multiple r.mandatory) ≡ true → kind_fits r.ops r.kind ≡ true
+        → (resource before).Good r }
 {}
 
 /// Each class that there is has bytes.

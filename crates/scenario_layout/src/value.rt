@@ -113,7 +113,8 @@ fn text_at(alloc: Global, bytes: &[u8]) -> Result<(Text, &[u8]), ReadError>
 
 /// The text of bytes that are UTF-8.
 fn utf8(bytes: &[u8]) -> Option<&str>
-    ensures test { MatchOption result (is_utf8 bytes.now ≡ false) (λ s. (s.now ≡ bytes.now) × (is_utf8 bytes.now ≡ true)) }
+    ensures test { MatchOption result (is_utf8 bytes.now ≡ false)
+        (λ s. (s.now ≡ bytes.now) × (is_utf8 bytes.now ≡ true)) }
     ensures found { IfSome result (λ s. IsUtf8 bytes.now) }
 {
     match str::from_utf8(bytes) {

@@ -1,5 +1,6 @@
 -- The message of a mnemonic has that mnemonic.
-use Rattle.std.proofs.Common.{◌≡◌, ℕ, ◌<◌, ◌≤◌, true, cond, List, [], ◌∷◌, length, Option, None, Some, refl, ap, sym, ◌∙◌}
+use Rattle.std.proofs.Common.{◌≡◌, ℕ, ◌<◌, ◌≤◌, true, cond, List, [], ◌∷◌, length, Option, None, Some, refl, ap, sym}
+use Rattle.std.proofs.Common.{◌∙◌}
 use Rattle.std.specs.Prelude.{option_map, option_and_then}
 use Rattle.std.specs.Fmt.{decimal}
 use Rattle.std.proofs.lemmas.Bool.{le-leb, ne_eqb}
@@ -21,8 +22,11 @@ use Rattle.scenario_mnemonics.specs.declared.mnemonic.Request.{Request}
 use Rattle.scenario_mnemonics.specs.declared.mnemonic.Mnemonic.{Mnemonic}
 use Rattle.scenario_mnemonics.specs.declared.mnemonic.Mnemonic.TheVariants as mnemonic
 use Rattle.scenario_mnemonics.specs.Queries.{are_queries}
-use Rattle.scenario_mnemonics.specs.Messages.{fits, kind_of, code_of, format_values, observe_values, segments, content_values, query_values, accept_values, options_of, message_of, datagram_of, has_words, IsGoodRequest, IsGood}
-use Rattle.scenario_mnemonics.specs.Denoting.{values, type_from, path_from, get_from, post_from, put_from, action_from, token_from, request_from, mnemonic_from, mnemonic_read, own, mnemonic_of}
+use Rattle.scenario_mnemonics.specs.Messages.{fits, kind_of, code_of, format_values, observe_values, segments}
+use Rattle.scenario_mnemonics.specs.Messages.{content_values, query_values, accept_values, options_of, message_of}
+use Rattle.scenario_mnemonics.specs.Messages.{datagram_of, has_words, IsGoodRequest, IsGood}
+use Rattle.scenario_mnemonics.specs.Denoting.{values, type_from, path_from, get_from, post_from, put_from, action_from}
+use Rattle.scenario_mnemonics.specs.Denoting.{token_from, request_from, mnemonic_from, mnemonic_read, own, mnemonic_of}
 use Rattle.scenario_mnemonics.proofs.OptionOrder.{code_some, well_formed}
 use Rattle.scenario_mnemonics.proofs.Values.{observe_found, path_found, content_found, queries_found, accept_found}
 
@@ -59,7 +63,8 @@ write_again format.Text b = refl
 write_again format.Opaque b = refl
 write_again format.Tlv b = refl
 
-update_again : (o i : ℕ) (f : Format) (b : List ℕ) → post_from (Instance o i) (format_values f) b ≡ Some (act.Update f b)
+update_again : (o i : ℕ) (f : Format) (b : List ℕ)
+    → post_from (Instance o i) (format_values f) b ≡ Some (act.Update f b)
 update_again o i format.Any b = refl
 update_again o i format.Text b = refl
 update_again o i format.Opaque b = refl
@@ -71,21 +76,30 @@ create_again o format.Text b = refl
 create_again o format.Opaque b = refl
 create_again o format.Tlv b = refl
 
-attr_again : (qs contents : List (List ℕ)) (b : List ℕ) → are_queries qs ≡ true → put_from qs contents b ≡ Some (act.Attr qs)
+attr_again : (qs contents : List (List ℕ)) (b : List ℕ) → are_queries qs ≡ true
+    → put_from qs contents b ≡ Some (act.Attr qs)
 attr_again [] contents b h = cc
 attr_again (q ∷ qs) contents b h = ap (λ t. cond t (Some (act.Attr (q ∷ qs))) None) h
 
-get_found : (p : Path) (a : Action) → get_from (values 6 (options_of p a)) (values 17 (options_of p a)) ≡ get_from (observe_values a) (accept_values a)
-get_found p a = ap (λ v. get_from v (values 17 (options_of p a))) (observe_found p a) ∙ ap (get_from (observe_values a)) (accept_found p a)
+get_found : (p : Path) (a : Action)
+    → get_from (values 6 (options_of p a)) (values 17 (options_of p a)) ≡ get_from (observe_values a) (accept_values a)
+get_found p a = ap (λ v. get_from v (values 17 (options_of p a))) (observe_found p a)
+    ∙ ap (get_from (observe_values a)) (accept_found p a)
 
-post_found : (p : Path) (a : Action) (b : List ℕ) → post_from p (values 12 (options_of p a)) b ≡ post_from p (content_values a) b
+post_found : (p : Path) (a : Action) (b : List ℕ)
+    → post_from p (values 12 (options_of p a)) b ≡ post_from p (content_values a) b
 post_found p a b = ap (λ v. post_from p v b) (content_found p a)
 
-put_found : (p : Path) (a : Action) (b : List ℕ) → put_from (values 15 (options_of p a)) (values 12 (options_of p a)) b ≡ put_from (query_values a) (content_values a) b
-put_found p a b = ap (λ v. put_from v (values 12 (options_of p a)) b) (queries_found p a) ∙ ap (λ v. put_from (query_values a) v b) (content_found p a)
+put_found : (p : Path) (a : Action) (b : List ℕ)
+    → put_from (values 15 (options_of p a)) (values 12 (options_of p a)) b
+    ≡ put_from (query_values a) (content_values a) b
+put_found p a b =
+    ap (λ v. put_from v (values 12 (options_of p a)) b) (queries_found p a)
+    ∙ ap (λ v. put_from (query_values a) v b) (content_found p a)
 
 action_again : (r : Request) (p : Path) (a : Action) → r.path ≡ p → r.action ≡ a → fits a p ≡ true → has_words a ≡ true
-    → action_from (message_of (mnemonic.Request (record { kind = r.kind; mid = r.mid; token = r.token; path = p; action = a }))) p ≡ Some a
+    → action_from (message_of (mnemonic.Request
+    (record { kind = r.kind; mid = r.mid; token = r.token; path = p; action = a }))) p ≡ Some a
 action_again r p (act.Read f) x y fit words = get_found p (act.Read f) ∙ read_again f
 action_again r p (act.Observe f) x y fit words = get_found p (act.Observe f) ∙ observe_again f
 action_again r p (act.Cancel f) x y fit words = get_found p (act.Cancel f) ∙ cancel_again f
@@ -93,7 +107,8 @@ action_again r p act.Discover x y fit words = get_found p act.Discover
 action_again r p act.Delete x y fit words = refl
 action_again r p (act.Write f b) x y fit words = put_found p (act.Write f b) b ∙ write_again f b
 action_again r (Object o) (act.Update f b) x y fit words = cc
-action_again r (Instance o i) (act.Update f b) x y fit words = post_found (Instance o i) (act.Update f b) b ∙ update_again o i f b
+action_again r (Instance o i) (act.Update f b) x y fit words =
+    post_found (Instance o i) (act.Update f b) b ∙ update_again o i f b
 action_again r (Resource o i n) (act.Update f b) x y fit words = cc
 action_again r (Part o i n k) (act.Update f b) x y fit words = cc
 action_again r (Object o) (act.Create f b) x y fit words = post_found (Object o) (act.Create f b) b ∙ create_again o f b
@@ -115,20 +130,26 @@ token_again t h = ap (λ b. cond b (Some t) None) (le-leb (length t) 8 h)
 
 -- behind the path, the action and the token
 abbrev with_token : RequestType → ℕ → Path → Action → Option (List ℕ) → Option Mnemonic
-with_token k mid p a t = option_map (λ t. mnemonic.Request (record { kind = k; mid = mid; token = t; path = p; action = a })) t
+with_token k mid p a t =
+    option_map (λ t. mnemonic.Request (record { kind = k; mid = mid; token = t; path = p; action = a })) t
 
-request_again : (r : Request) → IsGoodRequest r → request_from (message_of (mnemonic.Request r)) ≡ Some (mnemonic.Request r)
+request_again : (r : Request) → IsGoodRequest r
+    → request_from (message_of (mnemonic.Request r)) ≡ Some (mnemonic.Request r)
 request_again r h =
     let m : Message = message_of (mnemonic.Request r) in
     let k : RequestType = type_from (kind_of r.kind) in
-    ap (λ o. option_and_then (λ p. option_and_then (λ a. with_token k r.mid p a (token_from r.token)) (action_from m p)) o) (ap path_from (path_found r.path r.action) ∙ path_again r.path h.path)
-    ∙ ap (λ o. option_and_then (λ a. with_token k r.mid r.path a (token_from r.token)) o) (action_again r r.path r.action refl refl h.fits h.queries)
+    ap (λ o. option_and_then (λ p. option_and_then (λ a. with_token k r.mid p a (token_from r.token)) (action_from m p))
+    o) (ap path_from (path_found r.path r.action) ∙ path_again r.path h.path)
+    ∙ ap (λ o. option_and_then (λ a. with_token k r.mid r.path a (token_from r.token)) o)
+    (action_again r r.path r.action refl refl h.fits h.queries)
     ∙ ap (with_token k r.mid r.path r.action) (token_again r.token h.token)
-    ∙ ap (λ t. Some (mnemonic.Request (record { kind = t; mid = r.mid; token = r.token; path = r.path; action = r.action }))) (type_again r.kind)
+    ∙ ap (λ t. Some (mnemonic.Request (record
+    { kind = t; mid = r.mid; token = r.token; path = r.path; action = r.action }))) (type_again r.kind)
 
 message_again : (m : Mnemonic) → IsGood m → mnemonic_from (message_of m) ≡ Some m
 message_again (mnemonic.Request r) h =
-    ap (λ t. cond t (Some (mnemonic.Reset r.mid)) (request_from (message_of (mnemonic.Request r)))) (ne_eqb (code_of r.action) 0 (code_some r.action))
+    ap (λ t. cond t (Some (mnemonic.Reset r.mid)) (request_from (message_of (mnemonic.Request r))))
+    (ne_eqb (code_of r.action) 0 (code_some r.action))
     ∙ request_again r h
 message_again (mnemonic.Reset mid) h = refl
 

@@ -1,5 +1,6 @@
 -- The mnemonic of a datagram is good, and the datagram is its own.
-use Rattle.std.proofs.Common.{◌≡◌, ℕ, ◌<◌, ◌≤◌, ◌↔◌, Bool, true, false, cond, eqb, leb, List, [], ◌∷◌, ◌++◌, length, Option, None, Some, Result, Ok, Err, refl, ap, sym, subst, ◌∙◌, All}
+use Rattle.std.proofs.Common.{◌≡◌, ℕ, ◌<◌, ◌≤◌, ◌↔◌, Bool, true, false, cond, eqb, leb, List, [], ◌∷◌, ◌++◌, length}
+use Rattle.std.proofs.Common.{Option, None, Some, Result, Ok, Err, refl, ap, sym, subst, ◌∙◌, All}
 use Rattle.std.specs.Prelude.{IfSome, option_map, option_and_then}
 use Rattle.std.specs.Int.Digits.{AllBelowBase}
 use Rattle.std.specs.Str.{bytes_eq}
@@ -21,7 +22,9 @@ use Rattle.scenario_mnemonics.specs.declared.mnemonic.Mnemonic.{Mnemonic}
 use Rattle.scenario_mnemonics.specs.declared.mnemonic.Mnemonic.TheVariants as mnemonic
 use Rattle.scenario_mnemonics.specs.Queries.{are_queries}
 use Rattle.scenario_mnemonics.specs.Messages.{fits, payload_of, datagram_of, has_words, IsGood}
-use Rattle.scenario_mnemonics.specs.Denoting.{values, type_from, format_from, path_from, is_discover, get_from, post_from, put_from, action_from, token_from, request_from, mnemonic_from, mnemonic_read, own, mnemonic_of}
+use Rattle.scenario_mnemonics.specs.Denoting.{values, type_from, format_from, path_from, is_discover, get_from}
+use Rattle.scenario_mnemonics.specs.Denoting.{post_from, put_from, action_from, token_from, request_from, mnemonic_from}
+use Rattle.scenario_mnemonics.specs.Denoting.{mnemonic_read, own, mnemonic_of}
 use Rattle.scenario_mnemonics.proofs.Denoted.{datagram_again}
 
 mapped : {A B : Type 0} (P : B → Type 0) (f : A → B) (o : Option A) → ((x : A) → P (f x)) → IfSome (option_map f o) P
@@ -29,15 +32,18 @@ mapped P f None h = tt
 mapped P f (Some x) h = h x
 
 -- the same, of a value that is known to be there
-known : {A B : Type 0} (P : B → Type 0) (f : A → B) (o : Option A) → ((x : A) → o ≡ Some x → P (f x)) → IfSome (option_map f o) P
+known : {A B : Type 0} (P : B → Type 0) (f : A → B) (o : Option A) → ((x : A) → o ≡ Some x → P (f x))
+    → IfSome (option_map f o) P
 known P f None h = tt
 known P f (Some x) h = h x refl
 
-behind : {A B : Type 0} (P : B → Type 0) (f : A → Option B) (o : Option A) → ((x : A) → o ≡ Some x → IfSome (f x) P) → IfSome (option_and_then f o) P
+behind : {A B : Type 0} (P : B → Type 0) (f : A → Option B) (o : Option A) → ((x : A) → o ≡ Some x → IfSome (f x) P)
+    → IfSome (option_and_then f o) P
 behind P f None h = tt
 behind P f (Some x) h = h x refl
 
-chosen : {A : Type 0} (P : A → Type 0) (b : Bool) (x y : Option A) → (b ≡ true → IfSome x P) → IfSome y P → IfSome (cond b x y) P
+chosen : {A : Type 0} (P : A → Type 0) (b : Bool) (x y : Option A) → (b ≡ true → IfSome x P) → IfSome y P
+    → IfSome (cond b x y) P
 chosen P true x y h k = h refl
 chosen P false x y h k = k
 
@@ -51,12 +57,15 @@ path_small : (vs : List (List ℕ)) → IfSome (path_from vs) IsPath
 path_small [] = tt
 path_small (a ∷ []) = known IsPath (λ o. Object o) (number_of a) (λ o h. number_small a o h)
 path_small (a ∷ b ∷ []) =
-    behind IsPath _ (number_of a) (λ o h. known IsPath (λ i. Instance o i) (number_of b) (λ i k. (number_small a o h, number_small b i k)))
+    behind IsPath _ (number_of a) (λ o h. known IsPath (λ i. Instance o i) (number_of b)
+    (λ i k. (number_small a o h, number_small b i k)))
 path_small (a ∷ b ∷ c ∷ []) =
-    behind IsPath _ (number_of a) (λ o h. behind IsPath _ (number_of b) (λ i k. known IsPath (λ r. Resource o i r) (number_of c) (λ r l.
+    behind IsPath _ (number_of a) (λ o h. behind IsPath _ (number_of b)
+    (λ i k. known IsPath (λ r. Resource o i r) (number_of c) (λ r l.
     (number_small a o h, number_small b i k, number_small c r l))))
 path_small (a ∷ b ∷ c ∷ d ∷ []) =
-    behind IsPath _ (number_of a) (λ o h. behind IsPath _ (number_of b) (λ i k. behind IsPath _ (number_of c) (λ r l. known IsPath (λ n. Part o i r n) (number_of d) (λ n q.
+    behind IsPath _ (number_of a) (λ o h. behind IsPath _ (number_of b)
+    (λ i k. behind IsPath _ (number_of c) (λ r l. known IsPath (λ n. Part o i r n) (number_of d) (λ n q.
     (number_small a o h, number_small b i k, number_small c r l, number_small d n q)))))
 path_small (a ∷ b ∷ c ∷ d ∷ e ∷ more) = tt
 
@@ -71,33 +80,48 @@ get_fits [] vs p b =
     chosen (Fits p b) (is_discover vs) _ _ (λ h. record { fit = refl; words = refl; bytes = λ k. tt })
     (mapped (Fits p b) (λ f. act.Read f) (format_from vs) (λ f. record { fit = refl; words = refl; bytes = λ k. tt }))
 get_fits (o ∷ os) vs p b =
-    chosen (Fits p b) (bytes_eq o []) _ _ (λ h. mapped (Fits p b) (λ f. act.Observe f) (format_from vs) (λ f. record { fit = refl; words = refl; bytes = λ k. tt }))
+    chosen (Fits p b) (bytes_eq o []) _ _ (λ h. mapped (Fits p b) (λ f. act.Observe f) (format_from vs)
+    (λ f. record { fit = refl; words = refl; bytes = λ k. tt }))
     (mapped (Fits p b) (λ f. act.Cancel f) (format_from vs) (λ f. record { fit = refl; words = refl; bytes = λ k. tt }))
 
 post_fits : (p : Path) (vs : List (List ℕ)) (b : List ℕ) → IfSome (post_from p vs b) (Fits p b)
-post_fits (Object o) vs b = mapped (Fits (Object o) b) (λ f. act.Create f b) (format_from vs) (λ f. record { fit = refl; words = refl; bytes = λ k. k })
-post_fits (Instance o i) vs b = mapped (Fits (Instance o i) b) (λ f. act.Update f b) (format_from vs) (λ f. record { fit = refl; words = refl; bytes = λ k. k })
+post_fits (Object o) vs b =
+    mapped (Fits (Object o) b) (λ f. act.Create f b) (format_from vs)
+    (λ f. record { fit = refl; words = refl; bytes = λ k. k })
+post_fits (Instance o i) vs b =
+    mapped (Fits (Instance o i) b) (λ f. act.Update f b) (format_from vs)
+    (λ f. record { fit = refl; words = refl; bytes = λ k. k })
 post_fits (Resource o i r) vs b = record { fit = refl; words = refl; bytes = λ k. k }
 post_fits (Part o i r n) vs b = tt
 
 put_fits : (qs vs : List (List ℕ)) (p : Path) (b : List ℕ) → IfSome (put_from qs vs b) (Fits p b)
-put_fits [] vs p b = mapped (Fits p b) (λ f. act.Write f b) (format_from vs) (λ f. record { fit = refl; words = refl; bytes = λ k. k })
-put_fits (q ∷ qs) vs p b = chosen (Fits p b) (are_queries (q ∷ qs)) _ _ (λ h. record { fit = refl; words = h; bytes = λ k. tt }) tt
+put_fits [] vs p b =
+    mapped (Fits p b) (λ f. act.Write f b) (format_from vs) (λ f. record { fit = refl; words = refl; bytes = λ k. k })
+put_fits (q ∷ qs) vs p b =
+    chosen (Fits p b) (are_queries (q ∷ qs)) _ _ (λ h. record { fit = refl; words = h; bytes = λ k. tt }) tt
 
 action_fits : (m : Message) (p : Path) → IfSome (action_from m p) (Fits p m.payload)
 action_fits m p =
     chosen (Fits p m.payload) (eqb m.code 1) _ _ (λ h. get_fits (values 6 m.options) (values 17 m.options) p m.payload)
     (chosen (Fits p m.payload) (eqb m.code 2) _ _ (λ h. post_fits p (values 12 m.options) m.payload)
-    (chosen (Fits p m.payload) (eqb m.code 3) _ _ (λ h. put_fits (values 15 m.options) (values 12 m.options) p m.payload)
+    (chosen (Fits p m.payload) (eqb m.code 3) _ _
+    (λ h. put_fits (values 15 m.options) (values 12 m.options) p m.payload)
     (chosen (Fits p m.payload) (eqb m.code 4) _ _ (λ h. record { fit = refl; words = refl; bytes = λ k. tt }) tt)))
 
 token_same : (t u : List ℕ) → token_from t ≡ Some u → (u ≡ t) × (length t ≤ 8)
 token_same t u h =
-    there (λ x. (x ≡ t) × (length t ≤ 8)) (token_from t) u (chosen (λ x. (x ≡ t) × (length t ≤ 8)) (leb (length t) 8) (Some t) None (λ e. (refl, leb-true (length t) 8 e)) tt) h
+    there (λ x. (x ≡ t) × (length t ≤ 8)) (token_from t) u
+    (chosen (λ x. (x ≡ t) × (length t ≤ 8)) (leb (length t) 8) (Some t) None
+    (λ e. (refl, leb-true (length t) 8 e)) tt) h
 
-request_good : (m : Message) → m.mid < 65536 → AllBelowBase 256 m.token → AllBelowBase 256 m.payload → IfSome (request_from m) IsGood
+request_good : (m : Message) → m.mid < 65536 → AllBelowBase 256 m.token → AllBelowBase 256 m.payload
+    → IfSome (request_from m) IsGood
 request_good m mid token payload =
-    behind IsGood _ (path_from (values 11 m.options)) (λ p path. behind IsGood _ (action_from m p) (λ a action. known IsGood (λ t. mnemonic.Request (record { kind = type_from m.kind; mid = m.mid; token = t; path = p; action = a })) (token_from m.token) (λ t taken.
+    behind IsGood _ (path_from (values 11 m.options))
+    (λ p path. behind IsGood _ (action_from m p)
+    (λ a action. known IsGood (λ t. mnemonic.Request
+    (record { kind = type_from m.kind; mid = m.mid; token = t; path = p; action = a })) (token_from m.token)
+    (λ t taken.
     let fit = there (Fits p m.payload) (action_from m p) a (action_fits m p) action in
     let same = token_same m.token t taken in
     record {
@@ -110,7 +134,8 @@ request_good m mid token payload =
       queries = fit.words;
     })))
 
-message_good : (m : Message) → m.mid < 65536 → AllBelowBase 256 m.token → AllBelowBase 256 m.payload → IfSome (mnemonic_from m) IsGood
+message_good : (m : Message) → m.mid < 65536 → AllBelowBase 256 m.token → AllBelowBase 256 m.payload
+    → IfSome (mnemonic_from m) IsGood
 message_good m mid token payload = chosen IsGood (eqb m.code 0) _ _ (λ h. mid) (request_good m mid token payload)
 
 below : (bs : List ℕ) → All (λ b. b < 256) bs → AllBelowBase 256 bs
@@ -129,23 +154,30 @@ payload_below : (b : List ℕ) → AllBelowBase 256 (payload_bytes b) → AllBel
 payload_below [] h = tt
 payload_below (b ∷ bs) h = h.1
 
-read_good : (bytes : List ℕ) (r : Result Message CoapFault) → All (λ b. b < 256) bytes → reading_of bytes ≡ r → IfSome (mnemonic_read r) IsGood
+read_good : (bytes : List ℕ) (r : Result Message CoapFault) → All (λ b. b < 256) bytes → reading_of bytes ≡ r
+    → IfSome (mnemonic_read r) IsGood
 read_good bytes (Err fault) h e = tt
 read_good bytes (Ok m) h e =
     let spells = spelled_from_reading bytes m h e in
     let all : AllBelowBase 256 (spelling m) = subst (AllBelowBase 256) spells.parts (below bytes h) in
     let behind_header = last_below (header_bytes m) _ all in
-    message_good m spells.well_formed.mid (first_below m.token _ behind_header) (payload_below m.payload (last_below (options_bytes 0 m.options) _ (last_below m.token _ behind_header)))
+    message_good m spells.well_formed.mid (first_below m.token _ behind_header)
+    (payload_below m.payload (last_below (options_bytes 0 m.options) _ (last_below m.token _ behind_header)))
 
 own_good : (bytes : List ℕ) (k : Mnemonic) → IsGood k → IfSome (own bytes k) (λ m. IsGood m × (datagram_of m ≡ bytes))
-own_good bytes k good = chosen (λ m. IsGood m × (datagram_of m ≡ bytes)) (bytes_eq (datagram_of k) bytes) (Some k) None (λ e. (good, (bytes_eq-Decides (datagram_of k) bytes).0 e)) tt
+own_good bytes k good =
+    chosen (λ m. IsGood m × (datagram_of m ≡ bytes)) (bytes_eq (datagram_of k) bytes) (Some k) None
+    (λ e. (good, (bytes_eq-Decides (datagram_of k) bytes).0 e)) tt
 
 -- a datagram has this mnemonic exactly where it is the good mnemonic's own
-pub denotes : (bytes : List ℕ) (m : Mnemonic) → All (λ b. b < 256) bytes → (mnemonic_of bytes ≡ Some m) ↔ (IsGood m × (datagram_of m ≡ bytes))
+pub denotes : (bytes : List ℕ) (m : Mnemonic) → All (λ b. b < 256) bytes → (mnemonic_of bytes ≡ Some m)
+    ↔ (IsGood m × (datagram_of m ≡ bytes))
 denotes bytes m h = (
   (λ e.
       there (λ k. IsGood k × (datagram_of k ≡ bytes)) (mnemonic_of bytes) m
-      (behind (λ k. IsGood k × (datagram_of k ≡ bytes)) (own bytes) (mnemonic_read (reading_of bytes)) (λ k found. own_good bytes k (there IsGood (mnemonic_read (reading_of bytes)) k (read_good bytes (reading_of bytes) h refl) found)))
+      (behind (λ k. IsGood k × (datagram_of k ≡ bytes)) (own bytes) (mnemonic_read (reading_of bytes))
+      (λ k found. own_good bytes k (there IsGood (mnemonic_read (reading_of bytes)) k
+      (read_good bytes (reading_of bytes) h refl) found)))
       e),
   (λ g. sym (ap mnemonic_of g.1) ∙ datagram_again m g.0),
 )

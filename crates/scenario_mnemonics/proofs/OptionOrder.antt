@@ -18,23 +18,30 @@ use Rattle.scenario_mnemonics.specs.declared.mnemonic.Request.{Request}
 use Rattle.scenario_mnemonics.specs.declared.mnemonic.Mnemonic.{Mnemonic}
 use Rattle.scenario_mnemonics.specs.declared.mnemonic.Mnemonic.TheVariants as mnemonic
 use Rattle.scenario_mnemonics.specs.Queries.{is_query}
-use Rattle.scenario_mnemonics.specs.Messages.{options_with, format_values, observe_values, segments, content_values, query_values, accept_values, options_of, code_of, message_of, has_words, IsGood}
+use Rattle.scenario_mnemonics.specs.Messages.{options_with, format_values, observe_values, segments, content_values}
+use Rattle.scenario_mnemonics.specs.Messages.{query_values, accept_values, options_of, code_of, message_of, has_words}
+use Rattle.scenario_mnemonics.specs.Messages.{IsGood}
 
 abbrev Short : List ℕ → Type 0
 Short v = length v ≤ 65804
 
 lower : (n k : ℕ) (os : List Opt) → n ≤ k → IsOptionList k os → IsOptionList n os
 lower n k [] h t = tt
-lower n k (o ∷ os) h t = (record { ascends = omega (arith, h, t.0.ascends); in_range = t.0.in_range; fits = t.0.fits }, t.1)
+lower n k (o ∷ os) h t =
+    (record { ascends = omega (arith, h, t.0.ascends); in_range = t.0.in_range; fits = t.0.fits }, t.1)
 
 -- options of one number, behind one of no greater number and before others
-list_then : (n k : ℕ) (vs : List (List ℕ)) (tail : List Opt) → n ≤ k → k < 65536 → AllByRecursion Short vs → IsOptionList k tail → IsOptionList n (options_with k vs ++ tail)
+list_then : (n k : ℕ) (vs : List (List ℕ)) (tail : List Opt) → n ≤ k → k < 65536 → AllByRecursion Short vs
+    → IsOptionList k tail → IsOptionList n (options_with k vs ++ tail)
 list_then n k [] tail h small short t = lower n k tail h t
-list_then n k (v ∷ vs) tail h small short t = (record { ascends = h; in_range = small; fits = short.0 }, list_then k k vs tail (omega arith) small short.1 t)
+list_then n k (v ∷ vs) tail h small short t =
+    (record { ascends = h; in_range = small; fits = short.0 }, list_then k k vs tail (omega arith) small short.1 t)
 
-list_alone : (n k : ℕ) (vs : List (List ℕ)) → n ≤ k → k < 65536 → AllByRecursion Short vs → IsOptionList n (options_with k vs)
+list_alone : (n k : ℕ) (vs : List (List ℕ)) → n ≤ k → k < 65536 → AllByRecursion Short vs
+    → IsOptionList n (options_with k vs)
 list_alone n k [] h small short = tt
-list_alone n k (v ∷ vs) h small short = (record { ascends = h; in_range = small; fits = short.0 }, list_alone k k vs (omega arith) small short.1)
+list_alone n k (v ∷ vs) h small short =
+    (record { ascends = h; in_range = small; fits = short.0 }, list_alone k k vs (omega arith) small short.1)
 
 short_decimal : (n : ℕ) → n < 65536 → Short (decimal n)
 short_decimal n h = omega (arith, length-decimal-le 5 n (omega (arith)) (omega (arith, h)) (omega (arith, h)))
@@ -43,7 +50,8 @@ short_segments : (p : Path) → IsPath p → AllByRecursion Short (segments p)
 short_segments (Object o) h = (short_decimal o h, tt)
 short_segments (Instance o i) h = (short_decimal o h.0, (short_decimal i h.1, tt))
 short_segments (Resource o i r) h = (short_decimal o h.0, (short_decimal i h.1, (short_decimal r h.2, tt)))
-short_segments (Part o i r n) h = (short_decimal o h.0, (short_decimal i h.1, (short_decimal r h.2, (short_decimal n h.3, tt))))
+short_segments (Part o i r n) h =
+    (short_decimal o h.0, (short_decimal i h.1, (short_decimal r h.2, (short_decimal n h.3, tt))))
 
 short_format : (f : Format) → AllByRecursion Short (format_values f)
 short_format format.Any = tt
@@ -90,13 +98,17 @@ short_accept (act.Exec b) = tt
 short_query : (q : List ℕ) → is_query q ≡ true → Short q
 short_query [] h = omega arith
 short_query (b ∷ bs) h =
-    let behind = and_parts (not (eqb b 35) && not (eqb b 34)) (leb (length (b ∷ bs)) 255 && list_all is_ascii_graphic (b ∷ bs)) h in
-    let size : length (b ∷ bs) ≤ 255 = leb-true (length (b ∷ bs)) 255 (and_parts (leb (length (b ∷ bs)) 255) (list_all is_ascii_graphic (b ∷ bs)) behind.1).0 in
+    let behind = and_parts (not (eqb b 35) && not (eqb b 34))
+    (leb (length (b ∷ bs)) 255 && list_all is_ascii_graphic (b ∷ bs)) h in
+    let size : length (b ∷ bs) ≤ 255 =
+    leb-true (length (b ∷ bs)) 255 (and_parts (leb (length (b ∷ bs)) 255)
+    (list_all is_ascii_graphic (b ∷ bs)) behind.1).0 in
     omega (arith, size)
 
 short_each : (qs : List (List ℕ)) → list_all is_query qs ≡ true → AllByRecursion Short qs
 short_each [] h = tt
-short_each (q ∷ qs) h = let both = and_parts (is_query q) (list_all is_query qs) h in (short_query q both.0, short_each qs both.1)
+short_each (q ∷ qs) h = let both =
+    and_parts (is_query q) (list_all is_query qs) h in (short_query q both.0, short_each qs both.1)
 
 short_queries : (a : Action) → has_words a ≡ true → AllByRecursion Short (query_values a)
 short_queries (act.Read f) h = tt
@@ -142,10 +154,19 @@ code_some (act.Create f b) h = cc
 code_some (act.Attr qs) h = cc
 code_some (act.Exec b) h = cc
 
-pub request_well_formed : (r : Request) → r.mid < 65536 → length r.token ≤ 8 → IsPath r.path → has_words r.action ≡ true → IsWellFormed (message_of (mnemonic.Request r))
+pub request_well_formed : (r : Request) → r.mid < 65536 → length r.token ≤ 8 → IsPath r.path → has_words r.action ≡ true
+    → IsWellFormed (message_of (mnemonic.Request r))
 request_well_formed r mid token path words =
-    record { code = code_small r.action; mid = mid; token = token; options = options_good r.path r.action path words; empty = λ z. absurd (code_some r.action z) }
+    record {
+      code = code_small r.action;
+      mid = mid;
+      token = token;
+      options =
+          options_good r.path r.action path words;
+      empty = λ z. absurd (code_some r.action z);
+    }
 
 pub well_formed : (m : Mnemonic) → IsGood m → IsWellFormed (message_of m)
 well_formed (mnemonic.Request r) h = request_well_formed r h.mid h.token h.path h.queries
-well_formed (mnemonic.Reset mid) h = record { code = omega arith; mid = h; token = omega arith; options = tt; empty = λ z. (refl, refl, refl) }
+well_formed (mnemonic.Reset mid) h =
+    record { code = omega arith; mid = h; token = omega arith; options = tt; empty = λ z. (refl, refl, refl) }

@@ -1,5 +1,6 @@
 -- The words of a mnemonic that is written are read again, and each is one word.
-use Rattle.std.proofs.Common.{◌≡◌, ℕ, ◌/◌, ◌%◌, ◌<◌, ◌≤◌, ◌^◌, not, Bool, true, false, cond, eqb, ltb, List, [], ◌∷◌, ◌++◌, length, Some, Ok, Err, refl, ap, sym, ◌∙◌, arith, append-nil}
+use Rattle.std.proofs.Common.{◌≡◌, ℕ, ◌/◌, ◌%◌, ◌<◌, ◌≤◌, ◌^◌, not, Bool, true, false, cond, eqb, ltb, List, [], ◌∷◌}
+use Rattle.std.proofs.Common.{◌++◌, length, Some, Ok, Err, refl, ap, sym, ◌∙◌, arith, append-nil}
 use Rattle.std.specs.List.{list_all, onto_first, flat_map, join_with_byte, AllByRecursion}
 use Rattle.std.specs.Char.{is_ascii_digit, is_ascii_graphic}
 use Rattle.std.specs.Fmt.{decimal}
@@ -34,7 +35,10 @@ use Rattle.scenario_mnemonics.specs.declared.mnemonic.Mnemonic.{Mnemonic}
 use Rattle.scenario_mnemonics.specs.declared.mnemonic.Mnemonic.TheVariants as mnemonic
 use Rattle.scenario_mnemonics.specs.Queries.{is_query, are_queries}
 use Rattle.scenario_mnemonics.specs.Messages.{payload_of, has_words, IsGood}
-use Rattle.scenario_mnemonics.specs.MnemonicWords.{verb_word, keyword_word, keyword_named, verb_of, keyword_of, type_word, type_of, format_word, format_of, short_token, token_at, head_at, format_at, payload_at, content_at, queries_at, action_at, mnemonic_at, details, behind_keyword, spelled, spaced}
+use Rattle.scenario_mnemonics.specs.MnemonicWords.{verb_word, keyword_word, keyword_named, verb_of, keyword_of}
+use Rattle.scenario_mnemonics.specs.MnemonicWords.{type_word, type_of, format_word, format_of, short_token, token_at}
+use Rattle.scenario_mnemonics.specs.MnemonicWords.{head_at, format_at, payload_at, content_at, queries_at, action_at}
+use Rattle.scenario_mnemonics.specs.MnemonicWords.{mnemonic_at, details, behind_keyword, spelled, spaced}
 
 -- read again
 
@@ -57,16 +61,25 @@ bytes_again b h = (hex_law (hex_word b) b).1 (hex_written b h)
 short_again : (t : List ℕ) → length t ≤ 8 → short_token t ≡ Ok t
 short_again t short = ap (λ b. cond b (Ok t) (Err cause.Token)) (le-leb (length t) 8 short)
 
-token_again : (t : List ℕ) (ws : List (List ℕ)) → AllBelowBase 256 t → length t ≤ 8 → token_at (hex_word t ∷ ws) ≡ Ok (t, ws)
+token_again : (t : List ℕ) (ws : List (List ℕ)) → AllBelowBase 256 t → length t ≤ 8
+    → token_at (hex_word t ∷ ws) ≡ Ok (t, ws)
 token_again t ws h short = rw (bytes_again t h, short_again t short) refl
 
 path_again : (p : Path) → IsPath p → path_of (path_word p) ≡ Ok p
 path_again p h = (path_law (path_word p) p).1 (refl, h)
 
-head_again : (server mid : ℕ) (k : RequestType) (t : List ℕ) (p : Path) (ws : List (List ℕ)) → 1 ≤ server → server ≤ 65534 → mid < 65536 → AllBelowBase 256 t → length t ≤ 8 → IsPath p
-    → head_at (decimal server ∷ type_word k ∷ decimal mid ∷ hex_word t ∷ path_word p ∷ ws) ≡ Ok (record { server = server; kind = k; mid = mid; token = t; path = p }, ws)
+head_again : (server mid : ℕ) (k : RequestType) (t : List ℕ) (p : Path) (ws : List (List ℕ)) → 1 ≤ server
+    → server ≤ 65534 → mid < 65536 → AllBelowBase 256 t → length t ≤ 8 → IsPath p
+    → head_at (decimal server ∷ type_word k ∷ decimal mid ∷ hex_word t ∷ path_word p ∷ ws)
+    ≡ Ok (record { server = server; kind = k; mid = mid; token = t; path = p }, ws)
 head_again server mid k t p ws some small m bytes short path =
-    rw (number_again 1 65534 server (omega arith) some small, type_again k, number_again 0 65535 mid (omega arith) (omega arith) (omega (arith, m)), token_again t (path_word p ∷ ws) bytes short, path_again p path) refl
+    rw (
+      number_again 1 65534 server (omega arith) some small,
+      type_again k,
+      number_again 0 65535 mid (omega arith) (omega arith) (omega (arith, m)),
+      token_again t (path_word p ∷ ws) bytes short,
+      path_again p path,
+    ) refl
 
 format_alone : (f : Format) → format_at (format_word f ∷ []) ≡ Ok f
 format_alone f = rw (format_again f) refl
@@ -74,14 +87,16 @@ format_alone f = rw (format_again f) refl
 payload_again : (b : List ℕ) → AllBelowBase 256 b → payload_at (hex_word b ∷ []) ≡ Ok b
 payload_again b h = rw (bytes_again b h) refl
 
-content_again : (f : Format) (b : List ℕ) → AllBelowBase 256 b → content_at (format_word f ∷ hex_word b ∷ []) ≡ Ok (f, b)
+content_again : (f : Format) (b : List ℕ) → AllBelowBase 256 b
+    → content_at (format_word f ∷ hex_word b ∷ []) ≡ Ok (f, b)
 content_again f b h = rw (format_again f, payload_again b h) refl
 
 queries_again : (qs : List (List ℕ)) → are_queries qs ≡ true → queries_at qs ≡ Ok qs
 queries_again [] h = cc
 queries_again (q ∷ qs) h = ap (λ t. cond t (Ok (q ∷ qs)) (Err cause.Token)) h
 
-action_again : (a : Action) → has_words a ≡ true → AllBelowBase 256 (payload_of a) → action_at (verb_of a) (details a) ≡ Ok a
+action_again : (a : Action) → has_words a ≡ true → AllBelowBase 256 (payload_of a)
+    → action_at (verb_of a) (details a) ≡ Ok a
 action_again (act.Read f) h b = rw (format_alone f) refl
 action_again (act.Observe f) h b = rw (format_alone f) refl
 action_again (act.Cancel f) h b = rw (format_alone f) refl
@@ -93,11 +108,18 @@ action_again (act.Create f bs) h b = rw (content_again f bs b) refl
 action_again (act.Attr qs) h b = rw (queries_again qs h) refl
 action_again (act.Exec bs) h b = rw (payload_again bs b) refl
 
-pub mnemonic_again : (server : ℕ) (m : Mnemonic) → 1 ≤ server → server ≤ 65534 → IsGood m → mnemonic_at (keyword_of m) (behind_keyword server m) ≡ Ok (server, m)
+pub mnemonic_again : (server : ℕ) (m : Mnemonic) → 1 ≤ server → server ≤ 65534 → IsGood m
+    → mnemonic_at (keyword_of m) (behind_keyword server m) ≡ Ok (server, m)
 mnemonic_again server (mnemonic.Request r) some small h =
-    rw (head_again server r.mid r.kind r.token r.path (details r.action) some small h.mid h.token_bytes h.token h.path, action_again r.action h.queries h.payload) refl
+    rw (
+      head_again server r.mid r.kind r.token r.path (details r.action) some small h.mid h.token_bytes h.token h.path,
+      action_again r.action h.queries h.payload,
+    ) refl
 mnemonic_again server (mnemonic.Reset mid) some small h =
-    rw (number_again 1 65534 server (omega arith) some small, number_again 0 65535 mid (omega arith) (omega arith) (omega (arith, h))) refl
+    rw (
+      number_again 1 65534 server (omega arith) some small,
+      number_again 0 65535 mid (omega arith) (omega arith) (omega (arith, h)),
+    ) refl
 
 verb_again : (v : Verb) → keyword_named (verb_word v) ≡ Some (keyword.Request v)
 verb_again verb.Read = refl
@@ -183,7 +205,8 @@ bytes_word [] = refl
 bytes_word (b ∷ bs) = high_word (flat_map hex_byte (b ∷ bs)) (omega arith) (hex_high (b ∷ bs))
 
 slashed : (n : ℕ) (w : List ℕ) → n < 65536 → high w ≡ true → high (47 ∷ (decimal n ++ w)) ≡ true
-slashed n w h rest = and_from _ _ refl (list_all-append (λ b. ltb 35 b) (decimal n) w ∙ and_from _ _ (decimal_high n h) rest)
+slashed n w h rest =
+    and_from _ _ refl (list_all-append (λ b. ltb 35 b) (decimal n) w ∙ and_from _ _ (decimal_high n h) rest)
 
 slashed_last : (n : ℕ) → n < 65536 → high (47 ∷ decimal n) ≡ true
 slashed_last n h = and_from _ _ refl (decimal_high n h)
@@ -232,11 +255,13 @@ queries_word (b ∷ bs) h =
     let firsts = and_parts _ _ both.0 in
     let graphic = graphic_solid (b ∷ bs) (and_parts _ _ both.1).1 in
     let large : 32 < b = ltb-true 32 b (and_parts (ltb 32 b) (solid bs) graphic).0 in
-    solid_word b bs large (λ e. no_byte b 34 firsts.1 e) (λ e. no_byte b 35 firsts.0 e) (and_parts (ltb 32 b) (solid bs) graphic).1
+    solid_word b bs large (λ e. no_byte b 34 firsts.1 e) (λ e. no_byte b 35 firsts.0 e)
+    (and_parts (ltb 32 b) (solid bs) graphic).1
 
 each_word : (qs : List (List ℕ)) → list_all is_query qs ≡ true → AllByRecursion IsWord qs
 each_word [] h = tt
-each_word (q ∷ qs) h = let both = and_parts (is_query q) (list_all is_query qs) h in (queries_word q both.0, each_word qs both.1)
+each_word (q ∷ qs) h = let both =
+    and_parts (is_query q) (list_all is_query qs) h in (queries_word q both.0, each_word qs both.1)
 
 details_words : (a : Action) → has_words a ≡ true → AllByRecursion IsWord (details a)
 details_words (act.Read f) h = (formats_word f, tt)
@@ -263,9 +288,22 @@ verbs_word verb.Attr = refl
 verbs_word verb.Exec = refl
 
 pub all_words : (server : ℕ) (m : Mnemonic) → server ≤ 65534 → IsGood m → AllByRecursion IsWord (spelled server m)
-all_words server (mnemonic.Request r) small h =
-    (verbs_word (verb_of r.action), (decimal_word server (omega (arith, small)), (types_word r.kind, (decimal_word r.mid h.mid, (bytes_word r.token, (paths_word r.path h.path, details_words r.action h.queries))))))
-all_words server (mnemonic.Reset mid) small h = (refl, (decimal_word server (omega (arith, small)), (decimal_word mid h, tt)))
+all_words server (mnemonic.Request r) small h = (
+  verbs_word (verb_of r.action),
+  (
+    decimal_word server (omega (arith, small)),
+    (
+      types_word r.kind,
+      (
+        decimal_word r.mid h.mid,
+        (bytes_word r.token, (paths_word r.path h.path, details_words r.action h.queries)),
+      ),
+    ),
+  ),
+)
+all_words server (mnemonic.Reset mid) small h =
+    (refl, (decimal_word server (omega (arith, small)), (decimal_word mid h, tt)))
 
-pub line_again : (server : ℕ) (m : Mnemonic) → server ≤ 65534 → IsGood m → words (join_with_byte 32 (spelled server m)) ≡ spelled server m
+pub line_again : (server : ℕ) (m : Mnemonic) → server ≤ 65534 → IsGood m
+    → words (join_with_byte 32 (spelled server m)) ≡ spelled server m
 line_again server m small h = words_again (spelled server m) (all_words server m small h)

@@ -4,7 +4,8 @@ use Rattle.std.proofs.lemmas.Bool.{eq-eqb}
 use Rattle.coap_codec.specs.declared.option.Opt.{Opt}
 use Rattle.object_defs.specs.declared.path.Path.{Path}
 use Rattle.scenario_mnemonics.specs.declared.action.Action.{Action}
-use Rattle.scenario_mnemonics.specs.Messages.{options_with, observe_values, segments, content_values, query_values, accept_values, options_of}
+use Rattle.scenario_mnemonics.specs.Messages.{options_with, observe_values, segments, content_values, query_values}
+use Rattle.scenario_mnemonics.specs.Messages.{accept_values, options_of}
 use Rattle.scenario_mnemonics.specs.Denoting.{values}
 
 own_then : (k : ℕ) (vs : List (List ℕ)) (tail : List Opt) → values k (options_with k vs ++ tail) ≡ vs ++ values k tail
@@ -19,7 +20,8 @@ own_alone k (v ∷ vs) =
     ap (λ b. cond b (v ∷ []) [] ++ values k (options_with k vs)) (eq-eqb k k refl)
     ∙ ap (λ r. v ∷ r) (own_alone k vs)
 
-other_then : (j k : ℕ) (vs : List (List ℕ)) (tail : List Opt) → eqb j k ≡ false → values k (options_with j vs ++ tail) ≡ values k tail
+other_then : (j k : ℕ) (vs : List (List ℕ)) (tail : List Opt) → eqb j k ≡ false
+    → values k (options_with j vs ++ tail) ≡ values k tail
 other_then j k [] tail h = refl
 other_then j k (v ∷ vs) tail h =
     ap (λ b. cond b (v ∷ []) [] ++ values k (options_with j vs ++ tail)) h
@@ -47,14 +49,16 @@ behind_queries k a q c = other_then 15 k (query_values a) _ q ∙ other_alone 17
 pub observe_found : (p : Path) (a : Action) → values 6 (options_of p a) ≡ observe_values a
 observe_found p a =
     own_then 6 (observe_values a) (path_on p a)
-    ∙ ap (λ r. observe_values a ++ r) (other_then 11 6 (segments p) (content_on a) refl ∙ other_then 12 6 (content_values a) (queries_on a) refl ∙ behind_queries 6 a refl refl)
+    ∙ ap (λ r. observe_values a ++ r) (other_then 11 6 (segments p) (content_on a) refl
+    ∙ other_then 12 6 (content_values a) (queries_on a) refl ∙ behind_queries 6 a refl refl)
     ∙ append-nil (observe_values a)
 
 pub path_found : (p : Path) (a : Action) → values 11 (options_of p a) ≡ segments p
 path_found p a =
     other_then 6 11 (observe_values a) (path_on p a) refl
     ∙ own_then 11 (segments p) (content_on a)
-    ∙ ap (λ r. segments p ++ r) (other_then 12 11 (content_values a) (queries_on a) refl ∙ behind_queries 11 a refl refl)
+    ∙ ap (λ r. segments p ++ r) (other_then 12 11 (content_values a) (queries_on a) refl
+    ∙ behind_queries 11 a refl refl)
     ∙ append-nil (segments p)
 
 pub content_found : (p : Path) (a : Action) → values 12 (options_of p a) ≡ content_values a

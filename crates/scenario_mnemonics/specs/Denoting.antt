@@ -1,6 +1,7 @@
 -- The mnemonic of a datagram, computed: the one that its message would have, where the datagram is that one's.
 -- That it is the only one is a law (`one_mnemonic`).
-use Rattle.std.specs.Prelude.{ℕ, nat_le, ◌==◌, Bool, false, List, [], ◌∷◌, length, Option, None, Some, option_map, option_and_then, Result, Ok, Err, if◌then◌else◌}
+use Rattle.std.specs.Prelude.{ℕ, nat_le, ◌==◌, Bool, false, List, [], ◌∷◌, length, Option, None, Some, option_map}
+use Rattle.std.specs.Prelude.{option_and_then, Result, Ok, Err, if◌then◌else◌}
 use Rattle.std.specs.Str.{bytes_eq}
 use Rattle.std.specs.List.{flat_map}
 use Rattle.coap_codec.specs.declared.kind.Kind.{Kind}
@@ -54,9 +55,12 @@ abbrev pub path_from : List (List ℕ) → Option Path
 path_from [] = None
 path_from (a ∷ []) = option_map (λ o. Object o) (number_of a)
 path_from (a ∷ b ∷ []) = option_and_then (λ o. option_map (λ i. Instance o i) (number_of b)) (number_of a)
-path_from (a ∷ b ∷ c ∷ []) = option_and_then (λ o. option_and_then (λ i. option_map (λ r. Resource o i r) (number_of c)) (number_of b)) (number_of a)
+path_from (a ∷ b ∷ c ∷ []) =
+    option_and_then (λ o. option_and_then (λ i. option_map (λ r. Resource o i r) (number_of c)) (number_of b))
+    (number_of a)
 path_from (a ∷ b ∷ c ∷ d ∷ []) =
-    option_and_then (λ o. option_and_then (λ i. option_and_then (λ r. option_map (λ n. Part o i r n) (number_of d)) (number_of c)) (number_of b)) (number_of a)
+    option_and_then (λ o. option_and_then (λ i. option_and_then (λ r. option_map (λ n. Part o i r n) (number_of d))
+    (number_of c)) (number_of b)) (number_of a)
 path_from (a ∷ b ∷ c ∷ d ∷ e ∷ more) = None
 
 -- an Accept of 40
@@ -66,9 +70,11 @@ is_discover (v ∷ vs) = bytes_eq v (40 ∷ [])
 
 -- of a GET, by its Observe and Accept
 abbrev pub get_from : List (List ℕ) → List (List ℕ) → Option Action
-get_from [] accepts = if is_discover accepts then Some act.Discover else option_map (λ f. act.Read f) (format_from accepts)
+get_from [] accepts =
+    if is_discover accepts then Some act.Discover else option_map (λ f. act.Read f) (format_from accepts)
 get_from (v ∷ vs) accepts =
-    if bytes_eq v [] then option_map (λ f. act.Observe f) (format_from accepts) else option_map (λ f. act.Cancel f) (format_from accepts)
+    if bytes_eq v [] then option_map (λ f. act.Observe f) (format_from accepts)
+    else option_map (λ f. act.Cancel f) (format_from accepts)
 
 -- of a POST, by its path
 abbrev pub post_from : Path → List (List ℕ) → List ℕ → Option Action
@@ -97,7 +103,8 @@ abbrev pub request_from : Message → Option Mnemonic
 request_from m =
     option_and_then (λ p.
     option_and_then (λ a.
-    option_map (λ t. mnemonic.Request (record { kind = type_from m.kind; mid = m.mid; token = t; path = p; action = a })) (token_from m.token))
+    option_map (λ t. mnemonic.Request (record
+    { kind = type_from m.kind; mid = m.mid; token = t; path = p; action = a })) (token_from m.token))
     (action_from m p))
     (path_from (values 11 m.options))
 

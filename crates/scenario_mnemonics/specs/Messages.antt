@@ -158,8 +158,17 @@ options_of p a =
 -- the message of a mnemonic
 abbrev pub message_of : Mnemonic → Message
 message_of (mnemonic.Request r) =
-    record { kind = kind_of r.kind; code = code_of r.action; mid = r.mid; token = r.token; options = options_of r.path r.action; payload = payload_of r.action }
-message_of (mnemonic.Reset mid) = record { kind = kind.Rst; code = 0; mid = mid; token = []; options = []; payload = [] }
+    record {
+      kind = kind_of r.kind;
+      code = code_of r.action;
+      mid = r.mid;
+      token = r.token;
+      options =
+          options_of r.path r.action;
+      payload = payload_of r.action;
+    }
+message_of (mnemonic.Reset mid) =
+    record { kind = kind.Rst; code = 0; mid = mid; token = []; options = []; payload = [] }
 
 -- the datagram of a mnemonic
 abbrev pub datagram_of : Mnemonic → List ℕ

@@ -1,5 +1,6 @@
 -- The words of a mnemonic, read from the left and written.
-use Rattle.std.specs.Prelude.{ℕ, nat_le, List, [], ◌∷◌, length, Option, None, Some, Result, Ok, Err, codes, if◌then◌else◌}
+use Rattle.std.specs.Prelude.{ℕ, nat_le, List, [], ◌∷◌, length, Option, None, Some, Result, Ok, Err, codes}
+use Rattle.std.specs.Prelude.{if◌then◌else◌}
 use Rattle.std.specs.Str.{bytes_eq}
 use Rattle.std.specs.List.{flat_map}
 use Rattle.std.specs.Fmt.{decimal}
@@ -92,7 +93,8 @@ type_word Non = codes "non"
 
 -- the type that a word names
 abbrev pub type_of : List ℕ → Result RequestType Cause
-type_of w = if bytes_eq w (codes "con") then Ok Con else (if bytes_eq w (codes "non") then Ok Non else Err (name_fault w))
+type_of w = if bytes_eq w (codes "con") then Ok Con
+    else (if bytes_eq w (codes "non") then Ok Non else Err (name_fault w))
 
 abbrev pub format_word : Format → List ℕ
 format_word format.Any = codes "any"
@@ -173,7 +175,10 @@ action_at verb.Exec ws = payload_at ws >>= (λ b. Ok (act.Exec b))
 
 -- the server of a head, and its request
 abbrev pub said : Head → Action → ℕ × Mnemonic
-said h a = (h.server, mnemonic.Request (record { kind = h.kind; mid = h.mid; token = h.token; path = h.path; action = a }))
+said h a = (
+  h.server,
+  mnemonic.Request (record { kind = h.kind; mid = h.mid; token = h.token; path = h.path; action = a }),
+)
 
 -- the words behind a keyword: a server, and the mnemonic that it sends
 abbrev pub mnemonic_at : Keyword → List (List ℕ) → Result (ℕ × Mnemonic) Cause

@@ -6,7 +6,8 @@ use Rattle.std.specs.Char.{is_ascii_graphic}
 -- 1 to 255 bytes from 21 to 7E, of which the first begins neither a comment nor a quoted word
 abbrev pub is_query : List ℕ → Bool
 is_query [] = false
-is_query (b ∷ bs) = (not (b == 35) && not (b == 34)) && (nat_le (length (b ∷ bs)) 255 && list_all is_ascii_graphic (b ∷ bs))
+is_query (b ∷ bs) =
+    (not (b == 35) && not (b == 34)) && (nat_le (length (b ∷ bs)) 255 && list_all is_ascii_graphic (b ∷ bs))
 
 -- one such query or more
 abbrev pub are_queries : List (List ℕ) → Bool

@@ -4,7 +4,9 @@ ghost use Rattle.std.specs.Prelude.{◌≡◌, ◌++◌, IfOk, OnOk};
 ghost use Rattle.std.specs.Str.{bytes_eq};
 ghost use Rattle.coap_codec.specs.Reading.{reading_of};
 ghost use Rattle.object_defs.specs.Decimal.{number_of};
-ghost use Rattle.scenario_mnemonics.specs.Denoting.{value_with, values, type_from, format_named, format_from, path_from, is_discover, get_from, post_from, put_from, action_from, request_from, mnemonic_from, mnemonic_read, own, mnemonic_of};
+ghost use Rattle.scenario_mnemonics.specs.Denoting.{value_with, values, type_from, format_named, format_from};
+ghost use Rattle.scenario_mnemonics.specs.Denoting.{path_from, is_discover, get_from, post_from, put_from, action_from};
+ghost use Rattle.scenario_mnemonics.specs.Denoting.{request_from, mnemonic_from, mnemonic_read, own, mnemonic_of};
 
 use crate::action::Action;
 use crate::format::Format;

@@ -5,7 +5,8 @@ ghost use Rattle.scenario_mnemonics.specs.declared.mnemonic.Mnemonic.{Mnemonic};
 ghost use Rattle.scenario_mnemonics.specs.declared.verb.Keyword.{Keyword};
 ghost use Rattle.scenario_mnemonics.specs.Messages.{datagram_of, IsGood};
 ghost use Rattle.scenario_mnemonics.specs.Denoting.{mnemonic_of};
-ghost use Rattle.scenario_mnemonics.specs.MnemonicWords.{keyword_word, keyword_named, keyword_of, mnemonic_at, behind_keyword, spelled};
+ghost use Rattle.scenario_mnemonics.specs.MnemonicWords.{keyword_word, keyword_named, keyword_of, mnemonic_at};
+ghost use Rattle.scenario_mnemonics.specs.MnemonicWords.{behind_keyword, spelled};
 
 /// The law of mnemonics and datagrams: the mnemonic of a datagram is the one whose datagram it is, of those that text
 /// can say and that fit; so a datagram has at most one.

@@ -4,7 +4,8 @@ ghost use Rattle.std.specs.Prelude.{◌≡◌, ◌<◌, ◌∷◌, ◌++◌, [],
 ghost use Rattle.std.specs.Fmt.{decimal};
 ghost use Rattle.coap_codec.specs.Number.{shortest};
 ghost use Rattle.scenario_words.specs.PathWord.{IsPath};
-ghost use Rattle.scenario_mnemonics.specs.Messages.{options_with, format_values, observe_values, segments, content_values, query_values, accept_values, options_of};
+ghost use Rattle.scenario_mnemonics.specs.Messages.{options_with, format_values, observe_values, segments};
+ghost use Rattle.scenario_mnemonics.specs.Messages.{content_values, query_values, accept_values, options_of};
 
 use crate::action::Action;
 use crate::format::Format;

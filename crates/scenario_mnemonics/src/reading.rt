@@ -3,7 +3,9 @@
 ghost use Rattle.std.specs.Prelude.{◌≡◌, IfOk};
 ghost use Rattle.scenario_words.specs.Words.{words};
 ghost use Rattle.scenario_words.specs.Reading.{Gives, Reads, word_by};
-ghost use Rattle.scenario_mnemonics.specs.MnemonicWords.{type_of, format_of, short_token, token_at, head_at, format_at, payload_at, content_at, formed_queries, queries_at, action_at, mnemonic_at};
+ghost use Rattle.scenario_mnemonics.specs.MnemonicWords.{type_of, format_of, short_token, token_at, head_at, format_at};
+ghost use Rattle.scenario_mnemonics.specs.MnemonicWords.{payload_at, content_at, formed_queries, queries_at, action_at};
+ghost use Rattle.scenario_mnemonics.specs.MnemonicWords.{mnemonic_at};
 
 use crate::action::Action;
 use crate::format::Format;

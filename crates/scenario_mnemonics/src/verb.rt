@@ -1,5 +1,6 @@
 ghost use Rattle.std.specs.Prelude.{◌≡◌};
-ghost use Rattle.scenario_mnemonics.specs.MnemonicWords.{verb_word, keyword_word, bare_named, bringing_named, keyword_named};
+ghost use Rattle.scenario_mnemonics.specs.MnemonicWords.{verb_word, keyword_word, bare_named, bringing_named};
+ghost use Rattle.scenario_mnemonics.specs.MnemonicWords.{keyword_named};
 
 use scenario_words::is_name;
 

@@ -8,7 +8,8 @@ ghost use Rattle.std.specs.Fmt.{decimal};
 ghost use Rattle.std.specs.String.{string_bytes};
 ghost use Rattle.scenario_words.specs.HexWord.{hex_word};
 ghost use Rattle.scenario_words.specs.PathWord.{path_word};
-ghost use Rattle.scenario_mnemonics.specs.MnemonicWords.{type_word, format_word, details, behind_keyword, spelled, spaced};
+ghost use Rattle.scenario_mnemonics.specs.MnemonicWords.{type_word, format_word, details, behind_keyword, spelled};
+ghost use Rattle.scenario_mnemonics.specs.MnemonicWords.{spaced};
 
 use crate::action::Action;
 use crate::format::Format;
@@ -112,7 +113,8 @@ fn put_details(alloc: Global, out: &mut String, action: &Action) -> Result<(), A
 /// Writes the words between the server and the details.
 fn put_request(alloc: Global, out: &mut String, request: &Request) -> Result<(), AllocError>
     ensures { OnOk result (string_bytes out.new ≡ string_bytes out.old
-        ++ spaced (type_word request.now.kind ∷ decimal request.now.mid ∷ hex_word request.now.token ∷ path_word request.now.path ∷ details request.now.action)) }
+        ++ spaced (type_word request.now.kind ∷ decimal request.now.mid ∷ hex_word request.now.token ∷ path_word
+        request.now.path ∷ details request.now.action)) }
 {
     put_word(out, type_word(request.kind))?;
     put_number(out, request.mid)?;

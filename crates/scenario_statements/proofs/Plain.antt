@@ -1,5 +1,6 @@
 -- Words of bytes above `#`, which stand between spaces as they are; and bytes that stand in one line.
-use Rattle.std.proofs.Common.{◌≡◌, ◌≢◌, ℕ, ◌/◌, ◌%◌, ◌<◌, ◌^◌, inl, inr, ◌&&◌, Bool, true, false, cond, ltb, List, [], ◌∷◌, ◌++◌, length, refl, ap, ◌∙◌, arith, pos, negsuc, suc}
+use Rattle.std.proofs.Common.{◌≡◌, ◌≢◌, ℕ, ◌/◌, ◌%◌, ◌<◌, ◌^◌, inl, inr, ◌&&◌, Bool, true, false, cond, ltb, List, []}
+use Rattle.std.proofs.Common.{◌∷◌, ◌++◌, length, refl, ap, ◌∙◌, arith, pos, negsuc, suc}
 use Rattle.std.specs.List.{list_all, onto_first, flat_map, join_with_byte}
 use Rattle.std.specs.Char.{is_ascii_digit}
 use Rattle.std.specs.Fmt.{decimal}
@@ -117,12 +118,16 @@ half_above n h = decimal_above n (omega arith)
 
 path_above : (p : Path) → IsPath p → above (path_word p) ≡ true
 path_above (Object o) h = and_from _ _ refl (half_above o h)
-path_above (Instance o i) h = and_from _ _ refl (joined_above 47 (decimal o) (decimal i) refl (half_above o h.0) (half_above i h.1))
+path_above (Instance o i) h =
+    and_from _ _ refl (joined_above 47 (decimal o) (decimal i) refl (half_above o h.0) (half_above i h.1))
 path_above (Resource o i r) h =
-    and_from _ _ refl (joined_above 47 (decimal o) (decimal i ++ 47 ∷ decimal r) refl (half_above o h.0) (joined_above 47 (decimal i) (decimal r) refl (half_above i h.1) (half_above r h.2)))
+    and_from _ _ refl (joined_above 47 (decimal o) (decimal i ++ 47 ∷ decimal r) refl (half_above o h.0)
+    (joined_above 47 (decimal i) (decimal r) refl (half_above i h.1) (half_above r h.2)))
 path_above (Part o i r p) h =
-    and_from _ _ refl (joined_above 47 (decimal o) (decimal i ++ 47 ∷ (decimal r ++ 47 ∷ decimal p)) refl (half_above o h.0)
-    (joined_above 47 (decimal i) (decimal r ++ 47 ∷ decimal p) refl (half_above i h.1) (joined_above 47 (decimal r) (decimal p) refl (half_above r h.2) (half_above p h.3))))
+    and_from _ _ refl (joined_above 47 (decimal o) (decimal i ++ 47 ∷ (decimal r ++ 47 ∷ decimal p)) refl
+    (half_above o h.0)
+    (joined_above 47 (decimal i) (decimal r ++ 47 ∷ decimal p) refl (half_above i h.1)
+    (joined_above 47 (decimal r) (decimal p) refl (half_above r h.2) (half_above p h.3))))
 
 path_some : (p : Path) → 0 < length (path_word p)
 path_some (Object o) = omega arith
@@ -150,7 +155,8 @@ above_shown_byte b h = grind (arith, nat_tests)
 
 above_shown : (w : List ℕ) → above w ≡ true → is_shown w ≡ true
 above_shown [] h = refl
-above_shown (b ∷ w) h = let both = and_parts (ltb 35 b) (above w) h in and_from _ _ (above_shown_byte b both.0) (above_shown w both.1)
+above_shown (b ∷ w) h = let both =
+    and_parts (ltb 35 b) (above w) h in and_from _ _ (above_shown_byte b both.0) (above_shown w both.1)
 
 pub bare_shown : (w : List ℕ) → is_bare w ≡ true → is_shown w ≡ true
 bare_shown w h = above_shown w (and_parts (ltb 0 (length w)) (above w) h).1
@@ -173,7 +179,8 @@ hex_digit_shown v = above_shown_byte (digit_of v) (hex_digit_above v)
 
 escaped_shown : (b : ℕ) → is_shown (escaped b) ≡ true
 escaped_shown b = elim (cases_Bool (is_plain b)) [
-  | inl itself ↦ ap (λ t. is_shown (cond t (b ∷ []) (92 ∷ hex_byte b))) itself ∙ and_from _ _ (plain_shown b itself) refl
+  | inl itself ↦ ap (λ t. is_shown (cond t (b ∷ []) (92 ∷ hex_byte b))) itself
+      ∙ and_from _ _ (plain_shown b itself) refl
   | inr other ↦
       ap (λ t. is_shown (cond t (b ∷ []) (92 ∷ hex_byte b))) other
       ∙ and_from _ _ refl (and_from _ _ (hex_digit_shown (b / 16)) (and_from _ _ (hex_digit_shown (b % 16)) refl))
@@ -181,21 +188,27 @@ escaped_shown b = elim (cases_Bool (is_plain b)) [
 
 texts_shown : (t : List ℕ) → is_shown (flat_map escaped t) ≡ true
 texts_shown [] = refl
-texts_shown (b ∷ t) = list_all-append (λ x. ltb 31 x) (escaped b) (flat_map escaped t) ∙ and_from _ _ (escaped_shown b) (texts_shown t)
+texts_shown (b ∷ t) =
+    list_all-append (λ x. ltb 31 x) (escaped b) (flat_map escaped t) ∙ and_from _ _ (escaped_shown b) (texts_shown t)
 
 quoted_shown : (t : List ℕ) → is_shown (quoted_word t) ≡ true
-quoted_shown t = and_from _ _ refl (list_all-append (λ x. ltb 31 x) (flat_map escaped t) (34 ∷ []) ∙ and_from _ _ (texts_shown t) refl)
+quoted_shown t =
+    and_from _ _ refl (list_all-append (λ x. ltb 31 x) (flat_map escaped t) (34 ∷ [])
+    ∙ and_from _ _ (texts_shown t) refl)
 
 pub value_shown : (v : Value) → IsValue v → is_shown (value_word v) ≡ true
 value_shown (value.Text t) h = quoted_shown t
 value_shown (value.Whole (pos n)) h = bare_shown (decimal n) (decimal_bare n (omega (arith, h.sfits)))
-value_shown (value.Whole (negsuc n)) h = above_shown (45 ∷ decimal (suc n)) (and_from _ _ refl (decimal_above (suc n) (omega (arith, h.sfits))))
+value_shown (value.Whole (negsuc n)) h =
+    above_shown (45 ∷ decimal (suc n)) (and_from _ _ refl (decimal_above (suc n) (omega (arith, h.sfits))))
 value_shown (value.Flag true) h = refl
 value_shown (value.Flag false) h = refl
 value_shown (value.Opaque b) h = bare_shown (hex_word b) (hex_bare b)
 value_shown (value.Moment (pos n)) h = bare_shown (decimal n) (decimal_bare n (omega (arith, h.sfits)))
-value_shown (value.Moment (negsuc n)) h = above_shown (45 ∷ decimal (suc n)) (and_from _ _ refl (decimal_above (suc n) (omega (arith, h.sfits))))
-value_shown (value.Link o i) h = above_shown (link_word o i) (joined_above 58 (decimal o) (decimal i) refl (half_above o h.0) (half_above i h.1))
+value_shown (value.Moment (negsuc n)) h =
+    above_shown (45 ∷ decimal (suc n)) (and_from _ _ refl (decimal_above (suc n) (omega (arith, h.sfits))))
+value_shown (value.Link o i) h =
+    above_shown (link_word o i) (joined_above 58 (decimal o) (decimal i) refl (half_above o h.0) (half_above i h.1))
 
 pub kind_bare : (k : ValueKind) → is_bare (kind_word k) ≡ true
 kind_bare kind.Text = refl

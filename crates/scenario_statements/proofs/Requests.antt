@@ -23,7 +23,8 @@ use Rattle.scenario_mnemonics.specs.declared.mnemonic.Mnemonic.{Mnemonic}
 use Rattle.scenario_mnemonics.specs.declared.mnemonic.Mnemonic.TheVariants as mnemonic
 use Rattle.scenario_mnemonics.specs.Queries.{is_query}
 use Rattle.scenario_mnemonics.specs.Messages.{has_words, IsGood}
-use Rattle.scenario_mnemonics.specs.MnemonicWords.{verb_word, keyword_word, verb_of, keyword_of, type_word, format_word, mnemonic_at, details, behind_keyword, spelled as mnemonic_words}
+use Rattle.scenario_mnemonics.specs.MnemonicWords.{verb_word, keyword_word, verb_of, keyword_of, type_word, format_word}
+use Rattle.scenario_mnemonics.specs.MnemonicWords.{mnemonic_at, details, behind_keyword, spelled as mnemonic_words}
 use Rattle.scenario_mnemonics.proofs.Spelling.{mnemonic_again}
 use Rattle.scenario_statements.specs.declared.statement.Statement.{Statement}
 use Rattle.scenario_statements.specs.declared.statement.Statement.TheVariants as says
@@ -35,7 +36,8 @@ abbrev requested : ℕ × Mnemonic → Result Statement Cause
 requested m = Ok (says.Request m.0 m.1)
 
 -- behind the keyword of a mnemonic stand the words of one
-by_keyword : (k : Keyword) (ws : List (List ℕ)) → statement_of (keyword_word k ∷ ws) ≡ some (mnemonic_at k ws >>= requested)
+by_keyword : (k : Keyword) (ws : List (List ℕ))
+    → statement_of (keyword_word k ∷ ws) ≡ some (mnemonic_at k ws >>= requested)
 by_keyword (keyword.Request verb.Read) ws = refl
 by_keyword (keyword.Request verb.Observe) ws = refl
 by_keyword (keyword.Request verb.Cancel) ws = refl
@@ -48,7 +50,8 @@ by_keyword (keyword.Request verb.Attr) ws = refl
 by_keyword (keyword.Request verb.Exec) ws = refl
 by_keyword keyword.Reset ws = refl
 
-pub request_again : (s : ℕ) (m : Mnemonic) → IsWithin 1 65534 s → IsGood m → statement_of (mnemonic_words s m) ≡ Ok (Some (says.Request s m))
+pub request_again : (s : ℕ) (m : Mnemonic) → IsWithin 1 65534 s → IsGood m
+    → statement_of (mnemonic_words s m) ≡ Ok (Some (says.Request s m))
 request_again s m h good =
     by_keyword (keyword_of m) (behind_keyword s m)
     ∙ ap (λ r. some (r >>= requested)) (mnemonic_again s m h.0 h.1 good)
@@ -98,7 +101,8 @@ query_shown (b ∷ bs) h = let both = and_parts _ _ h in graphic_shown (b ∷ bs
 
 queries_shown : (qs : List (List ℕ)) → list_all is_query qs ≡ true → list_all is_shown qs ≡ true
 queries_shown [] h = refl
-queries_shown (q ∷ qs) h = let both = and_parts (is_query q) (list_all is_query qs) h in and_from _ _ (query_shown q both.0) (queries_shown qs both.1)
+queries_shown (q ∷ qs) h = let both =
+    and_parts (is_query q) (list_all is_query qs) h in and_from _ _ (query_shown q both.0) (queries_shown qs both.1)
 
 content_shown : (f : Format) (b : List ℕ) → list_all is_shown (format_word f ∷ hex_word b ∷ []) ≡ true
 content_shown f b = and_from _ _ (format_shown f) (and_from _ _ (bytes_shown b) refl)
@@ -117,9 +121,11 @@ details_shown (act.Exec b) h = and_from _ _ (bytes_shown b) refl
 
 words_shown : (s : ℕ) (m : Mnemonic) → s ≤ 65534 → IsGood m → list_all is_shown (mnemonic_words s m) ≡ true
 words_shown s (mnemonic.Request r) h good =
-    and_from _ _ (verb_shown (verb_of r.action)) (and_from _ _ (number_shown s (omega (arith, h))) (and_from _ _ (type_shown r.kind)
+    and_from _ _ (verb_shown (verb_of r.action))
+    (and_from _ _ (number_shown s (omega (arith, h))) (and_from _ _ (type_shown r.kind)
     (and_from _ _ (number_shown r.mid good.mid) (and_from _ _ (bytes_shown r.token)
-    (and_from _ _ (bare_shown (path_word r.path) (path_bare r.path good.path)) (details_shown r.action good.queries))))))
+    (and_from _ _ (bare_shown (path_word r.path) (path_bare r.path good.path))
+    (details_shown r.action good.queries))))))
 words_shown s (mnemonic.Reset mid) h good =
     and_from _ _ refl (and_from _ _ (number_shown s (omega (arith, h))) (and_from _ _ (number_shown mid good) refl))
 
@@ -130,5 +136,6 @@ joined_shown (w ∷ v ∷ ws) h =
     let both = and_parts (is_shown w) (list_all is_shown (v ∷ ws)) h in
     spaced_shown w (join_with_byte 32 (v ∷ ws)) both.0 (joined_shown (v ∷ ws) both.1)
 
-pub request_shown : (s : ℕ) (m : Mnemonic) → s ≤ 65534 → IsGood m → is_shown (join_with_byte 32 (mnemonic_words s m)) ≡ true
+pub request_shown : (s : ℕ) (m : Mnemonic) → s ≤ 65534 → IsGood m
+    → is_shown (join_with_byte 32 (mnemonic_words s m)) ≡ true
 request_shown s m h good = joined_shown (mnemonic_words s m) (words_shown s m h good)

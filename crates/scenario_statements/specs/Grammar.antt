@@ -1,5 +1,7 @@
--- What the words of a line say: a keyword, and the words that stand behind it, from the left. Each fault is the first one.
-use Rattle.std.specs.Prelude.{ℕ, Bool, true, false, List, [], ◌∷◌, Option, None, Some, Result, Ok, Err, codes, if◌then◌else◌}
+-- What the words of a line say: a keyword, and the words that stand behind it, from the left. Each fault is the first
+-- one.
+use Rattle.std.specs.Prelude.{ℕ, Bool, true, false, List, [], ◌∷◌, Option, None, Some, Result, Ok, Err, codes}
+use Rattle.std.specs.Prelude.{if◌then◌else◌}
 use Rattle.std.specs.Str.{bytes_eq}
 use Rattle.object_defs.specs.declared.definition.Ops.{Ops}
 use Rattle.object_defs.specs.declared.definition.Ops.TheVariants.{R, W, RW, E}
@@ -24,7 +26,8 @@ ops_named w =
 
 -- whether a word is the first of two names, of which it has to be one
 abbrev pub one_of : List ℕ → List ℕ → List ℕ → Result Bool Cause
-one_of first second w = if bytes_eq w first then Ok true else (if bytes_eq w second then Ok false else Err (name_fault w))
+one_of first second w =
+    if bytes_eq w first then Ok true else (if bytes_eq w second then Ok false else Err (name_fault w))
 
 -- one number from low to high, and no word behind it
 abbrev pub only_number : ℕ → ℕ → List (List ℕ) → Result ℕ Cause

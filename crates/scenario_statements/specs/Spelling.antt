@@ -55,7 +55,8 @@ line_of s = join_with_byte 32 (spelled s)
 abbrev pub IsWithin : ℕ → ℕ → ℕ → Type 0
 IsWithin low high n = (low ≤ n) × (n ≤ high)
 
--- a statement whose numbers are in the ranges of their words, its path and its value in those of theirs, and whose mnemonic is a good one
+-- a statement whose numbers are in the ranges of their words, its path and its value in those of theirs, and whose
+-- mnemonic is a good one
 abbrev pub IsSayable : Statement → Type 0
 IsSayable says.Scenario = Unit {0}
 IsSayable says.Class = Unit {0}

@@ -4,7 +4,8 @@ ghost use Rattle.std.specs.Prelude.{◌≡◌, ◌≤◌, IfOk};
 ghost use Rattle.scenario_words.specs.Words.{words};
 ghost use Rattle.scenario_words.specs.Reading.{Gives, Reads};
 ghost use Rattle.scenario_mnemonics.specs.MnemonicWords.{keyword_named};
-ghost use Rattle.scenario_statements.specs.Grammar.{definition, instance, need, of_device, only_number, put, recv, request, statement_by, statement_of, value};
+ghost use Rattle.scenario_statements.specs.Grammar.{definition, instance, need, of_device, only_number, put, recv};
+ghost use Rattle.scenario_statements.specs.Grammar.{request, statement_by, statement_of, value};
 
 use crate::choice::{choice, ops};
 use crate::statement::Statement;

@@ -99,7 +99,7 @@ pub tests_64 : (z : ℤ) → FitsSigned w64 z → is_64_bits z ≡ true
 tests_64 (pos n) h = lt-ltb n 9223372036854775808 h.sfits
 tests_64 (negsuc n) h = lt-ltb n 9223372036854775808 h.sfits
 
--- what stands behind a minus sign
+-- what stands after a minus sign
 behind_minus : (cs : List ℕ) (m : ℕ) → decimal m ≡ cs → 48 < get_or cs 0 0 → 45 ∷ cs ≡ signed_decimal (neg_ℤ (pos m))
 behind_minus cs zero e first = absurd (omega (arith, ap (λ t. get_or t 0 0) (sym (decimal_digit 0 (omega arith)) ∙ e)))
 behind_minus cs (suc m) e first = ap (λ t. 45 ∷ t) (sym e)

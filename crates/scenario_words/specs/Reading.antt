@@ -19,7 +19,7 @@ abbrev pub ◌>>=◌ : {A B : Type 0} → Result A Cause → (A → Result B Cau
 Ok x >>= f = f x
 Err e >>= f = Err e
 
--- a word is needed: the first, and those behind it
+-- a word is needed: the first, and those after it
 abbrev pub first_of : List (List ℕ) → Result (List ℕ × List (List ℕ)) Cause
 first_of [] = Err Missing
 first_of (w ∷ ws) = Ok (w, ws)
@@ -29,7 +29,7 @@ abbrev pub ended : List (List ℕ) → Result (Unit {0}) Cause
 ended [] = Ok tt
 ended (w ∷ ws) = Err Token
 
--- the first word, read by this reader of a word, and the words behind it
+-- the first word, read by this reader of a word, and the words after it
 abbrev pub word_by : {A : Type 0} → (List ℕ → Result A Cause) → List (List ℕ) → Result (A × List (List ℕ)) Cause
 word_by read ws = do
   w ← first_of ws

@@ -1,4 +1,4 @@
--- Kinds and values: a kind's name, and the word behind it.
+-- Kinds and values: a kind's name, and the word after it.
 use Rattle.std.specs.Prelude.{ℕ, ◌<◌, ◌==◌, Bool, true, List, [], ◌∷◌, ◌++◌, length, Result, Ok, Err, codes, is_ok}
 use Rattle.std.specs.Prelude.{FitsSigned, if◌then◌else◌}
 use Rattle.std.specs.List.{list_all}
@@ -57,7 +57,7 @@ value_of kind.Opaque w = bytes_of w >>= (λ b. Ok (value.Opaque b))
 value_of kind.Moment w = integer_of w >>= (λ z. Ok (value.Moment z))
 value_of kind.Link w = link_of w >>= (λ p. Ok (value.Link p.0 p.1))
 
--- a kind and a value of it, and the words behind them
+-- a kind and a value of it, and the words after them
 abbrev pub value_at : List (List ℕ) → Result (Value × List (List ℕ)) Cause
 value_at ws = word_by kind_named ws >>= (λ k. word_by (value_of k.0) k.1)
 
@@ -79,7 +79,7 @@ IsValue (value.Opaque b) = AllBelowBase 256 b
 IsValue (value.Moment z) = FitsSigned w64 z
 IsValue (value.Link o i) = (o < 65536) × (i < 65536)
 
--- the word of a value, behind its kind
+-- the word of a value, after its kind
 abbrev pub value_word : Value → List ℕ
 value_word (value.Text t) = quoted_word t
 value_word (value.Whole z) = signed_decimal z

@@ -7,7 +7,7 @@ use Rattle.std.specs.List.{slice_split, onto_first}
 abbrev pub parts : ℕ → List ℕ → List (List ℕ)
 parts byte bytes = slice_split (λ b. b == byte) bytes
 
--- the parts of what stands behind such a byte, where there was one
+-- the parts of what stands after such a byte, where there was one
 abbrev pub parts_behind : ℕ → Option (List ℕ) → List (List ℕ)
 parts_behind byte None = []
 parts_behind byte (Some bytes) = parts byte bytes
@@ -19,7 +19,7 @@ pub record HasTwo (ps : List (List ℕ)) : Type 0 where
   pub others : List (List ℕ)
   pub are : ps ≡ first ∷ second ∷ others
 
--- the lines of a text, without their LF; behind a last LF stands one more, which is empty
+-- the lines of a text, without their LF; after a last LF stands one more, which is empty
 abbrev pub lines : List ℕ → List (List ℕ)
 lines text = parts 10 text
 
@@ -45,7 +45,7 @@ scan plain (b ∷ bs) = if b == 32 then [] ∷ scan gap bs else onto_first b (sc
 scan quoted [] = [] ∷ []
 scan quoted (b ∷ bs) = onto_first b (scan (if b == 34 then plain else quoted) bs)
 
--- the words of a line, with their quotes. A quoted word that is not closed, or that goes on behind its
+-- the words of a line, with their quotes. A quoted word that is not closed, or that goes on after its
 -- quotes, is one word; no reader takes it
 abbrev pub words : List ℕ → List (List ℕ)
 words line = scan gap line

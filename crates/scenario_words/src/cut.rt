@@ -7,7 +7,7 @@ fn place_of(bytes: &[u8], byte: u8) -> Option<usize>
     bytes.iter().position(|b| *b == byte)
 }
 
-/// What stands before the first byte that is this one, and, where there is one, what stands behind it.
+/// What stands before the first byte that is this one, and, where there is one, what stands after it.
 pub(crate) fn cut(bytes: &[u8], byte: u8) -> (&[u8], Option<&[u8]>)
     ensures parts { parts byte bytes.now ≡ result.0.now ∷ parts_behind byte (option_map (λ x. x.now) result.1) }
     ensures shorter { IfSome result.1 (λ x. length x.now < length bytes.now) }
@@ -30,7 +30,7 @@ pub(crate) fn last(bytes: &[u8], byte: u8) -> Option<&[u8]>
     }
 }
 
-/// The first line of a text, and what stands behind the LF that ends it, where one does.
+/// The first line of a text, and what stands after the LF that ends it, where one does.
 pub fn next_line(text: &[u8]) -> (&[u8], Option<&[u8]>)
     ensures first { lines text.now ≡ result.0.now ∷ parts_behind 10 (option_map (λ x. x.now) result.1) }
     ensures shorter { IfSome result.1 (λ x. length x.now < length text.now) }

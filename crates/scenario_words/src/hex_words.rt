@@ -40,7 +40,7 @@ pub(crate) fn bytes_of(alloc: Global, word: &[u8]) -> Result<Bytes, Cause>
     }
 }
 
-/// The first word of the line as bytes in hex, in either case, with `-` for none, and the line behind it.
+/// The first word of the line as bytes in hex, in either case, with `-` for none, and the line after it.
 pub fn hex_bytes(alloc: Global, line: &[u8]) -> Result<(Bytes, &[u8]), Cause>
     ensures read { Gives (λ x. (x.0, words x.1.now)) result (word_by bytes_of (words line.now)) }
     ensures missing { words line.now ≡ [] → result ≡ Err Missing }

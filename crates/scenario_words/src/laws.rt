@@ -52,7 +52,7 @@ pub fn values_read_again()
 {}
 
 /// The law of words and lines: words that are joined by spaces are found again, and so are lines that are ended.
-/// Behind the last LF stands one more line, without bytes.
+/// After the last LF stands one more line, without bytes.
 pub fn words_and_lines()
     ensures words { (ws : List (List ℕ)) → AllByRecursion IsWord ws → words (join_with_byte 32 ws) ≡ ws }
     ensures lines { (ls : List (List ℕ)) → AllByRecursion IsLine ls → lines (flat_map ended_line ls) ≡ ls ++ [] ∷ [] }

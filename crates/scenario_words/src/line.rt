@@ -25,7 +25,7 @@ fn is_in_word(quoted: bool, byte: u8) -> bool
     quoted || byte != b' '
 }
 
-/// Whether quotes are open behind a byte.
+/// Whether quotes are open after a byte.
 fn stays_quoted(quoted: bool, byte: u8) -> bool
     ensures { result ≡ (quoted && not (byte == 34)) }
 {
@@ -49,7 +49,7 @@ fn word_len(line: &[u8]) -> usize
     len
 }
 
-/// The first word of a line and the line behind it, or none where only spaces or a comment are left.
+/// The first word of a line and the line after it, or none where only spaces or a comment are left.
 pub fn next_word(line: &[u8]) -> Option<(&[u8], &[u8])>
     ensures { MatchOption result (words line.now ≡ []) (λ x. words line.now ≡ x.0.now ∷ words x.1.now) }
 {
@@ -61,7 +61,7 @@ pub fn next_word(line: &[u8]) -> Option<(&[u8], &[u8])>
     Some((word, rest))
 }
 
-/// The first word of a line, which may not be absent, and the line behind it.
+/// The first word of a line, which may not be absent, and the line after it.
 pub fn first_word(line: &[u8]) -> Result<(&[u8], &[u8]), Cause>
     ensures { Reads (λ x. (x.0.now, words x.1.now)) result (first_of (words line.now)) }
 {

@@ -86,7 +86,7 @@ pub(crate) fn integer_of(word: &[u8]) -> Result<i64, Cause>
     integer_value(word).ok_or(Cause::Range)
 }
 
-/// The first word of the line as a number from `low` to `high`, and the line behind it.
+/// The first word of the line as a number from `low` to `high`, and the line after it.
 pub fn natural(line: &[u8], low: u64, high: u64) -> Result<(u64, &[u8]), Cause>
     ensures read { Reads (λ x. (x.0, words x.1.now)) result (word_by (number_of low high) (words line.now)) }
     ensures range { IfOk result (λ x. (low ≤ x.0) × (x.0 ≤ high)) }
@@ -96,7 +96,7 @@ pub fn natural(line: &[u8], low: u64, high: u64) -> Result<(u64, &[u8]), Cause>
     Ok((number, line))
 }
 
-/// The first word of the line as an integer of 64 bits, and the line behind it.
+/// The first word of the line as an integer of 64 bits, and the line after it.
 pub fn integer(line: &[u8]) -> Result<(i64, &[u8]), Cause>
     ensures { Reads (λ x. (x.0, words x.1.now)) result (word_by integer_of (words line.now)) }
 {

@@ -90,7 +90,7 @@ fn path_of(word: &[u8]) -> Result<Path, Cause>
     path_of_numbers(numbers)
 }
 
-/// The first word of the line as a path of one to four numbers from 0 to 65535, and the line behind it.
+/// The first word of the line as a path of one to four numbers from 0 to 65535, and the line after it.
 pub fn path(line: &[u8]) -> Result<(Path, &[u8]), Cause>
     ensures { Reads (λ x. (x.0, words x.1.now)) result (word_by path_of (words line.now)) }
 {

@@ -36,7 +36,7 @@ fn digit_value(digit: u8) -> Option<u8>
     }
 }
 
-/// The byte that stands in quotes at the front, by itself or as an escape, and what stands behind it.
+/// The byte that stands in quotes at the front, by itself or as an escape, and what stands after it.
 fn byte_at(bytes: &[u8]) -> Option<(u8, &[u8])>
     ensures byte { MatchOption result
         (unquoted bytes.now ≡ (if bytes_eq bytes.now (34 ∷ []) then Some [] else None))
@@ -93,7 +93,7 @@ pub(crate) fn text_of(alloc: Global, word: &[u8]) -> Result<Text, Cause>
     }
 }
 
-/// The first word of the line as a text in quotes, and the line behind it.
+/// The first word of the line as a text in quotes, and the line after it.
 pub fn quoted(alloc: Global, line: &[u8]) -> Result<(Text, &[u8]), Cause>
     ensures read { Gives (λ x. (x.0, words x.1.now)) result (word_by text_of (words line.now)) }
     ensures missing { words line.now ≡ [] → result ≡ Err Missing }

@@ -68,7 +68,7 @@ fn kind_named(alloc: Global, word: &[u8]) -> Result<ValueKind, Cause>
     }
 }
 
-/// The first word of the line as the name of a kind, and the line behind it.
+/// The first word of the line as the name of a kind, and the line after it.
 pub fn kind(alloc: Global, line: &[u8]) -> Result<(ValueKind, &[u8]), Cause>
     ensures read { Gives (λ x. (x.0, words x.1.now)) result (word_by kind_named (words line.now)) }
     ensures missing { words line.now ≡ [] → result ≡ Err Missing }
@@ -99,7 +99,7 @@ fn value_of(alloc: Global, kind: ValueKind, word: &[u8]) -> Result<Value, Cause>
     }
 }
 
-/// The first two words of the line as a kind and a value of it, of whatever length, and the line behind them.
+/// The first two words of the line as a kind and a value of it, of whatever length, and the line after them.
 pub fn value(alloc: Global, line: &[u8]) -> Result<(Value, &[u8]), Cause>
     ensures read { Gives (λ x. (x.0, words x.1.now)) result (value_at (words line.now)) }
     ensures missing { words line.now ≡ [] → result ≡ Err Missing }
@@ -138,7 +138,7 @@ pub fn kind_word(kind: ValueKind) -> &'static str
     }
 }
 
-/// The word of a value, behind its kind.
+/// The word of a value, after its kind.
 fn value_word(alloc: Global, value: &Value) -> Result<String, AllocError>
     ensures { IfOk result (λ s. string_bytes s ≡ value_word value.now) }
 {

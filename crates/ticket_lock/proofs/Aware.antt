@@ -27,7 +27,7 @@ module _ {T E S O : Type 0} (R : Reading T E S O) where
   own-append : (w : ℕ) (a b : List E) → own R w (a ++ b) ≡ own R w a ++ own R w b
   own-append w a b = filter-append (λ e. eqb (R.worker e) w) a b
 
-  -- behind a front, entries of others do not count
+  -- after a front, entries of others do not count
   pub own_stays : (front after : List E) (low count w : ℕ) → AllByRecursion (IsOther R low count) after → low ≤ w
       → w < low + count → own R w (front ++ after) ≡ own R w front
   own_stays front after low count w others a b =

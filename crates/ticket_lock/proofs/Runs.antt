@@ -57,7 +57,8 @@ module _ {T E S O : Type 0} (R : Reading T E S O) (opened : T × ℕ) where
               ap (λ l. get_elem? l 0) f.homes ∙ ap some (odd_home f.serving (f.serving / 2) f.value (omega arith)),
               (h.0, h.1, k.0, h.2, k.1 ∙ ap (λ n. Inside (n / 2) k.0) (sym is)),
             );
-        inside = λ i v a p. ap (λ n. n % 2) is ∙ (inside_served f.next f.serving f.value v.stage p (f.each i v a).stands).0;
+        inside = λ i v a p. ap (λ n. n % 2) is ∙ (inside_served f.next f.serving f.value v.stage p
+            (f.each i v a).stands).0;
       }
 
   -- one step

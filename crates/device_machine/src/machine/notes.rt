@@ -1,7 +1,8 @@
 //! What a request leaves of the observations.
 
 ghost use Rattle.std.specs.Prelude.{◌≡◌, ◌≤◌, true, false, is_some, length, IfOk, OnErr, OnOk};
-ghost use Rattle.device_machine.specs.Observing.{Notes, begun, entered, lacks_place, noted, noted_read, replies_non, reply_mid};
+ghost use Rattle.device_machine.specs.Observing.{Notes, begun, entered, lacks_place, noted, noted_read, replies_non};
+ghost use Rattle.device_machine.specs.Observing.{reply_mid};
 ghost use Rattle.device_notifications.specs.Second.{is_content};
 ghost use Rattle.device_requests.specs.Observe.{interest_of};
 ghost use Rattle.notifier.specs.Observed.{has_name};
@@ -66,8 +67,32 @@ fn enter(
     non: bool,
 ) -> Result<Option<u32>, AllocError>
     requires { length token ≤ 8 }
-    ensures number { IfOk result (λ n. n ≡ (entered observations.old (record { server = server; token = token; path = path; accept = accept; report = report; second = second; number = 0; non = non; mid = mid })).number) }
-    ensures left { OnOk result (observations.new ≡ (entered observations.old (record { server = server; token = token; path = path; accept = accept; report = report; second = second; number = 0; non = non; mid = mid })).left) }
+    ensures number { IfOk result (λ n. n ≡ (entered observations.old
+        (record {
+          server = server;
+          token = token;
+          path = path;
+          accept = accept;
+          report = report;
+          second =
+              second;
+          number = 0;
+          non = non;
+          mid = mid;
+        })).number) }
+    ensures left { OnOk result (observations.new
+        ≡ (entered observations.old (record {
+          server = server;
+          token = token;
+          path = path;
+          accept = accept;
+          report =
+              report;
+          second = second;
+          number = 0;
+          non = non;
+          mid = mid;
+        })).left) }
 
     // Only a new name takes memory, where there is a place for it.
     ensures grows { OnErr result (has_name observations.old server token ≡ false) }
@@ -127,7 +152,8 @@ impl Machine {
         accept: Option<u16>,
         answer: &Answer,
     ) -> Result<Option<u32>, AllocError>
-        ensures kept { IfOk result (λ n. Notes n self.old.kept self.new.kept (noted_read self.old.kept server message.now path accept answer.now)) }
+        ensures kept { IfOk result (λ n. Notes n self.old.kept self.new.kept
+            (noted_read self.old.kept server message.now path accept answer.now)) }
         ensures recorded { OnOk result (self.new.recorded ≡ self.old.recorded) }
         ensures grows { OnErr result (is_content answer.now ≡ true) }
         ensures unchanged { OnErr result (self.new ≡ self.old) }
@@ -147,7 +173,8 @@ impl Machine {
         message: &Message,
         answer: &Answer,
     ) -> Result<Option<u32>, AllocError>
-        ensures kept { IfOk result (λ n. Notes n self.old.kept self.new.kept (noted self.old.kept server message.now answer.now)) }
+        ensures kept { IfOk result (λ n. Notes n self.old.kept self.new.kept
+            (noted self.old.kept server message.now answer.now)) }
         ensures recorded { OnOk result (self.new.recorded ≡ self.old.recorded) }
 
         // Only the content of a Read that registers takes memory.

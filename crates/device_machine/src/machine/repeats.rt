@@ -41,7 +41,8 @@ fn is_live(clock: u64, request: &Recorded) -> bool
 
 /// Whether the request is of this server, type and message ID.
 fn is_same(request: &Recorded, server: u16, kind: Kind, mid: u16) -> bool
-    ensures { result ≡ (request.now.server == server && (request.now.mid == mid && kind_number request.now.kind == kind_number kind)) }
+    ensures { result ≡ (request.now.server == server
+        && (request.now.mid == mid && kind_number request.now.kind == kind_number kind)) }
 {
     request.server == server && request.mid == mid && same_kind(request.kind, kind)
 }
@@ -55,7 +56,8 @@ fn first_repeat(
     mid: u16,
 ) -> Option<&Recorded>
     ensures { option_copied result
-        ≡ find (λ r. is_live clock r && (r.server == server && (r.mid == mid && kind_number r.kind == kind_number kind))) recorded.now }
+        ≡ find (λ r. is_live clock r && (r.server == server
+        && (r.mid == mid && kind_number r.kind == kind_number kind))) recorded.now }
 {
     recorded
         .iter()

@@ -2,7 +2,8 @@
 
 ghost use Rattle.std.specs.Prelude.{◌≡◌, true, is_some, IfOk, OnErr};
 ghost use Rattle.device_machine.specs.declared.event.Event.TheVariants.{Recv};
-ghost use Rattle.device_machine.specs.Reactions.{Gives, claims_confirmable, is_request, on_fresh, on_message, on_noise, on_outcome, on_request, reaction_to, repeat_of, reply_to};
+ghost use Rattle.device_machine.specs.Reactions.{Gives, claims_confirmable, is_request, on_fresh, on_message, on_noise};
+ghost use Rattle.device_machine.specs.Reactions.{on_outcome, on_request, reaction_to, repeat_of, reply_to};
 ghost use Rattle.device_machine.specs.Memory.{KeepsRecords, message_grows, request_grows};
 ghost use Rattle.device_requests.specs.Client.{has_account};
 ghost use Rattle.device_requests.specs.Request.{outcome_of};
@@ -31,7 +32,8 @@ impl Machine {
         number: Option<u32>,
         answer: Answer,
     ) -> Result<Option<Message>, AllocError>
-        ensures reply { IfOk result (λ r. r ≡ reply_to self.now.kept.next_id message.now message.now.kind number answer) }
+        ensures reply { IfOk result (λ r.
+            r ≡ reply_to self.now.kept.next_id message.now message.now.kind number answer) }
         ensures grows { OnErr result
             (is_some (reply_to self.now.kept.next_id message.now message.now.kind number answer) ≡ true) }
     {
@@ -58,7 +60,8 @@ impl Machine {
         reply: Option<Message>,
         act: Option<Act>,
     ) -> Result<Outputs, AllocError>
-        ensures gives { IfOk result (λ o. Gives o self.new (on_fresh self.old server message.now self.old.kept reply act)) }
+        ensures gives { IfOk result (λ o. Gives o self.new
+            (on_fresh self.old server message.now self.old.kept reply act)) }
         ensures unchanged { OnErr result (self.new ≡ self.old) }
     {
         let kind = message.kind();
@@ -87,7 +90,8 @@ impl Machine {
     /// Does what a request asks for that is no repeat, answers and records it.
     fn take_fresh(&mut self, server: u16, message: &Message) -> Result<Outputs, AllocError>
         ensures gives { IfOk result
-            (λ o. Gives o self.new (on_outcome self.old server message.now (outcome_of self.old.kept.client server message.now))) }
+            (λ o. Gives o self.new (on_outcome self.old server message.now
+            (outcome_of self.old.kept.client server message.now))) }
         ensures left { OnErr result (KeepsRecords self.old self.new) }
     {
         let answer = self.client.answer(server, message)?;

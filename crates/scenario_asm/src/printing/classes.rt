@@ -19,7 +19,8 @@ use scenario_statements::{Statement, value_line};
 use std::alloc::{AllocError, Global};
 
 fn put_accounts(alloc: Global, out: &mut String, accounts: &[u16]) -> Result<(), AllocError>
-    ensures { OnOk result (string_bytes out.new ≡ string_bytes out.old ++ printed_lines (map (λ s. Account s) accounts.now)) }
+    ensures { OnOk result (string_bytes out.new ≡ string_bytes out.old
+        ++ printed_lines (map (λ s. Account s) accounts.now)) }
 {
     for account in accounts {
         put_statement(alloc, out, &Statement::Account(*account))?;
@@ -32,7 +33,8 @@ fn put_definitions(
     out: &mut String,
     definitions: &[ResourceDef],
 ) -> Result<(), AllocError>
-    ensures { OnOk result (string_bytes out.new ≡ string_bytes out.old ++ printed_lines (map (λ d. Def d) definitions.now)) }
+    ensures { OnOk result (string_bytes out.new ≡ string_bytes out.old
+        ++ printed_lines (map (λ d. Def d) definitions.now)) }
 {
     for definition in definitions {
         put_statement(alloc, out, &Statement::Def(*definition))?;
@@ -49,7 +51,8 @@ fn put_object(alloc: Global, out: &mut String, object: &ObjectDef) -> Result<(),
 }
 
 fn put_objects(alloc: Global, out: &mut String, objects: &[ObjectDef]) -> Result<(), AllocError>
-    ensures { OnOk result (string_bytes out.new ≡ string_bytes out.old ++ printed_lines (flat_map of_object objects.now)) }
+    ensures { OnOk result (string_bytes out.new ≡ string_bytes out.old
+        ++ printed_lines (flat_map of_object objects.now)) }
 {
     for object in objects {
         put_object(alloc, out, object)?;
@@ -62,7 +65,8 @@ fn put_instances(
     out: &mut String,
     instances: &[InstancePath],
 ) -> Result<(), AllocError>
-    ensures { OnOk result (string_bytes out.new ≡ string_bytes out.old ++ printed_lines (map (λ p. Instance p) instances.now)) }
+    ensures { OnOk result (string_bytes out.new ≡ string_bytes out.old
+        ++ printed_lines (map (λ p. Instance p) instances.now)) }
 {
     for place in instances {
         put_statement(alloc, out, &Statement::Instance(*place))?;
@@ -96,7 +100,8 @@ fn put_values(
     out: &mut String,
     values: &[(FullPath, &Value)],
 ) -> Result<(), AllocError>
-    ensures { OnOk result (string_bytes out.new ≡ string_bytes out.old ++ printed_lines (map of_value (shown_pairs values.now))) }
+    ensures { OnOk result (string_bytes out.new ≡ string_bytes out.old
+        ++ printed_lines (map of_value (shown_pairs values.now))) }
 {
     for (path, value) in values {
         put_value(alloc, out, *path, value)?;
@@ -142,7 +147,8 @@ pub(crate) fn put_classes(
     out: &mut String,
     scenario: &Scenario,
 ) -> Result<(), AllocError>
-    ensures text { OnOk result (string_bytes out.new ≡ string_bytes out.old ++ printed_lines (flat_map of_class scenario.now.classes)) }
+    ensures text { OnOk result (string_bytes out.new ≡ string_bytes out.old
+        ++ printed_lines (flat_map of_class scenario.now.classes)) }
     ensures built { OnOk result (AllByRecursion IsBuilt scenario.now.classes) }
 {
     for number in 0..class_count(scenario) {

@@ -24,7 +24,8 @@ fn put_datagram(
     server: u16,
     bytes: &[u8],
 ) -> Result<(), AllocError>
-    ensures { OnOk result (string_bytes out.new ≡ string_bytes out.old ++ printed_line (of_datagram server bytes.now (mnemonic_of bytes.now))) }
+    ensures { OnOk result (string_bytes out.new ≡ string_bytes out.old
+        ++ printed_line (of_datagram server bytes.now (mnemonic_of bytes.now))) }
 {
     if let Some(mnemonic) = mnemonic_for(alloc, bytes)? {
         return put_statement(alloc, out, &Statement::Request { server, mnemonic });
@@ -76,7 +77,8 @@ fn put_steps(alloc: Global, out: &mut String, steps: &[Step]) -> Result<(), Allo
 
 /// Writes a device of the class at this place, and its steps.
 fn put_row(alloc: Global, out: &mut String, class: u16, steps: &[Step]) -> Result<(), AllocError>
-    ensures { OnOk result (string_bytes out.new ≡ string_bytes out.old ++ printed_lines (of_row (record { class = class; steps = steps.now }))) }
+    ensures { OnOk result (string_bytes out.new ≡ string_bytes out.old
+        ++ printed_lines (of_row (record { class = class; steps = steps.now }))) }
 {
     put_statement(alloc, out, &Statement::Device(class))?;
     put_steps(alloc, out, steps)
@@ -88,7 +90,8 @@ pub(crate) fn put_rows(
     out: &mut String,
     scenario: &Scenario,
 ) -> Result<(), AllocError>
-    ensures text { OnOk result (string_bytes out.new ≡ string_bytes out.old ++ printed_lines (flat_map of_row scenario.now.rows)) }
+    ensures text { OnOk result (string_bytes out.new ≡ string_bytes out.old
+        ++ printed_lines (flat_map of_row scenario.now.rows)) }
     ensures valid { OnOk result (IsValid scenario.now) }
 {
     for device in 0..scenario.rows() {

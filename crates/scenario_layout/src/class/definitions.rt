@@ -20,7 +20,8 @@ pub(crate) fn define(
     requires new { object_of template.now.catalogue id ≡ Some (new_object id) }
     requires vendor { is_vendor id ≡ true }
     requires good { resources.Good definitions.now }
-    ensures made { OnOk result (template.new ≡ with_catalogue template.old (with_definitions template.old.catalogue id definitions.now)) }
+    ensures made { OnOk result (template.new
+        ≡ with_catalogue template.old (with_definitions template.old.catalogue id definitions.now)) }
     ensures only_memory { IfErr result (λ e. e ≡ Memory) }
 {
     for definition in definitions {
@@ -36,7 +37,8 @@ fn add_definition(
     definition: &ResourceDef,
 ) -> Result<(), ReadError>
     requires { definition_fault template.now id definition.now ≡ None }
-    ensures made { OnOk result (template.new ≡ with_catalogue template.old (with_resource template.old.catalogue id definition.now)) }
+    ensures made { OnOk result (template.new
+        ≡ with_catalogue template.old (with_resource template.old.catalogue id definition.now)) }
     ensures only_memory { IfErr result (λ e. e ≡ Memory) }
 {
     match template.add_resource(id, *definition) {

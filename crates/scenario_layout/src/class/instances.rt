@@ -19,7 +19,8 @@ pub(crate) fn instances_at<'a>(
     bytes: &'a [u8],
 ) -> Result<&'a [u8], ReadError>
     requires { template.now.store.instances ≡ finite.empty }
-    ensures read { Gives (λ rest. (instances_in template.new, rest.now)) result ((instances template.old).read bytes.now) }
+    ensures read { Gives (λ rest. (instances_in template.new, rest.now)) result
+        ((instances template.old).read bytes.now) }
     ensures made { OnOk result (template.new ≡ with_instances template.old (instances_in template.new)) }
 {
     let (count, rest) = u16_at(bytes)?;
@@ -32,7 +33,8 @@ fn instances_each<'a>(
     bytes: &'a [u8],
 ) -> Result<&'a [u8], ReadError>
     requires { template.now.store.instances ≡ finite.empty }
-    ensures read { Gives (λ rest. (instances_in template.new, rest.now)) result ((each (instance template.old) count []).read bytes.now) }
+    ensures read { Gives (λ rest. (instances_in template.new, rest.now)) result
+        ((each (instance template.old) count []).read bytes.now) }
     ensures made { OnOk result (template.new ≡ with_instances template.old (instances_in template.new)) }
 {
     let mut rest = bytes;

@@ -40,7 +40,8 @@ fn objects_each<'a>(
     bytes: &'a [u8],
 ) -> Result<&'a [u8], ReadError>
     requires { template.now.catalogue ≡ base }
-    ensures read { Gives (λ rest. (objects_in template.new, rest.now)) result ((each (object template.old) count []).read bytes.now) }
+    ensures read { Gives (λ rest. (objects_in template.new, rest.now)) result
+        ((each (object template.old) count []).read bytes.now) }
     ensures made { OnOk result (template.new ≡ with_objects template.old (objects_in template.new)) }
 {
     let mut rest = bytes;
@@ -73,8 +74,10 @@ fn object_at<'a>(
 #[tactic(auto, unfolding(crate::specs::Class::object_id))]
 fn object_id_at<'a>(template: &mut Template, bytes: &'a [u8]) -> Result<(u16, &'a [u8]), ReadError>
     requires { template.now ≡ with_objects template.now (objects_in template.now) }
-    ensures read { Gives (λ x. (x.0, x.1.now)) result ((object_id template.old (objects_in template.old)).read bytes.now) }
-    ensures made { IfOk result (λ x. template.new ≡ with_objects template.old (objects_in template.old ++ new_object x.0 ∷ [])) }
+    ensures read { Gives (λ x. (x.0, x.1.now)) result
+        ((object_id template.old (objects_in template.old)).read bytes.now) }
+    ensures made { IfOk result (λ x. template.new
+        ≡ with_objects template.old (objects_in template.old ++ new_object x.0 ∷ [])) }
     ensures above { IfOk result (λ x. list_all (λ o. nat_lt o.id x.0) template.old.catalogue ≡ true) }
     ensures vendor { IfOk result (λ x. is_vendor x.0 ≡ true) }
 {

@@ -42,7 +42,8 @@ fn values_each<'a>(
     bytes: &'a [u8],
 ) -> Result<&'a [u8], ReadError>
     requires { template.now.store.values ≡ finite.empty }
-    ensures read { Gives (λ rest. (values_in template.new, rest.now)) result ((each (entry template.old) count []).read bytes.now) }
+    ensures read { Gives (λ rest. (values_in template.new, rest.now)) result
+        ((each (entry template.old) count []).read bytes.now) }
     ensures made { OnOk result (template.new ≡ with_values template.old (values_in template.new)) }
 {
     let mut rest = bytes;
@@ -85,10 +86,12 @@ fn value_path_at<'a>(
     bytes: &'a [u8],
 ) -> Result<(FullPath, ValueKind, &'a [u8]), ReadError>
     requires { IsLast path_cmp (λ e. e.0) (values_in template.now) last }
-    ensures read { Gives (λ x. (x.0, x.2.now)) result ((value_path template.now (values_in template.now)).read bytes.now) }
+    ensures read { Gives (λ x. (x.0, x.2.now)) result
+        ((value_path template.now (values_in template.now)).read bytes.now) }
     ensures behind { IfOk result (λ x. list_all (λ e. is_lt (path_cmp e.0 x.0)) (values_in template.now) ≡ true) }
     ensures kind { IfOk result (λ x. kind_taken template.now x.0 ≡ Some x.1) }
-    ensures taken { IfOk result (λ x. (v : Value) → has_kind v x.1 ≡ true → is_within_limits v ≡ true → value_fault_at template.now x.0 v ≡ None) }
+    ensures taken { IfOk result (λ x. (v : Value) → has_kind v x.1 ≡ true → is_within_limits v ≡ true
+        → value_fault_at template.now x.0 v ≡ None) }
 {
     let (path, rest) = path_at(bytes)?;
     if !is_behind(last, path) {

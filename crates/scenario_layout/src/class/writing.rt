@@ -9,7 +9,8 @@ ghost use Rattle.object_defs.specs.declared.definition.ObjectDef.{ObjectDef};
 ghost use Rattle.instance_store.specs.Listing.{shown_pairs};
 ghost use Rattle.scenario_layout.specs.Definition.{resources};
 ghost use Rattle.device_template.specs.Template.{Template};
-ghost use Rattle.scenario_layout.specs.Class.{account, accounts, class, entry, instance, instances, object, objects, values};
+ghost use Rattle.scenario_layout.specs.Class.{account, accounts, class, entry, instance, instances, object, objects};
+ghost use Rattle.scenario_layout.specs.Class.{values};
 
 use crate::definition::put_resources;
 use crate::laws::{class_has_bytes, good_parts};
@@ -21,7 +22,8 @@ use lwm2m_values::Value;
 use object_defs::{Catalog, FullPath, InstancePath, ObjectDef};
 use std::alloc::AllocError;
 
-/// Writes a class: each that there is has bytes, so nothing is refused. Where memory runs out, some of its bytes may have been written.
+/// Writes a class: each that there is has bytes, so nothing is refused. Where memory runs out, some of its bytes may
+/// have been written.
 #[tactic(auto, unfolding(crate::specs::Class::class, crate::specs::Class::behind_accounts, crate::specs::Class::behind_objects, crate::specs::Class::behind_instances))]
 pub fn put_class(out: &mut Vec<u8>, template: &Template) -> Result<(), AllocError>
     ensures good { class.Good template.now }
@@ -71,7 +73,8 @@ fn put_each_account(out: &mut Vec<u8>, list: &[u16]) -> Result<(), AllocError>
 fn put_objects(out: &mut Vec<u8>, list: &[ObjectDef]) -> Result<(), AllocError>
     requires few { length list.now ≤ 11 }
     requires defined { All (λ o. resources.Good o.resources) list.now }
-    ensures { OnOk result ((c : Template) → (objects c).Good list.now → out.new.items ≡ out.old.items ++ (objects c).spell list.now) }
+    ensures { OnOk result ((c : Template) → (objects c).Good list.now
+        → out.new.items ≡ out.old.items ++ (objects c).spell list.now) }
 {
     put_u8(out, list.len() as u8)?;
     put_each_object(out, list)
@@ -91,7 +94,8 @@ fn put_each_object(out: &mut Vec<u8>, list: &[ObjectDef]) -> Result<(), AllocErr
 #[tactic(auto, unfolding(crate::specs::Class::object, crate::specs::Class::object_id))]
 fn put_object(out: &mut Vec<u8>, definition: &ObjectDef) -> Result<(), AllocError>
     requires { resources.Good definition.now.resources }
-    ensures { OnOk result ((c : Template) (before : List ObjectDef) → out.new.items ≡ out.old.items ++ (object c before).spell definition.now) }
+    ensures { OnOk result ((c : Template) (before : List ObjectDef)
+        → out.new.items ≡ out.old.items ++ (object c before).spell definition.now) }
 {
     put_u16(out, definition.id)?;
     put_resources(out, definition.resources.as_slice())
@@ -100,7 +104,8 @@ fn put_object(out: &mut Vec<u8>, definition: &ObjectDef) -> Result<(), AllocErro
 #[tactic(auto, unfolding(crate::specs::Class::instances))]
 fn put_instances(out: &mut Vec<u8>, list: &[InstancePath]) -> Result<(), AllocError>
     requires { length list.now < 65536 }
-    ensures { OnOk result ((c : Template) → (instances c).Good list.now → out.new.items ≡ out.old.items ++ (instances c).spell list.now) }
+    ensures { OnOk result ((c : Template) → (instances c).Good list.now
+        → out.new.items ≡ out.old.items ++ (instances c).spell list.now) }
 {
     put_u16(out, list.len() as u16)?;
     put_each_instance(out, list)
@@ -141,7 +146,8 @@ fn put_each_value(out: &mut Vec<u8>, list: &[(FullPath, &Value)]) -> Result<(), 
 #[tactic(auto, unfolding(crate::specs::Class::entry, crate::specs::Class::value_path))]
 fn put_entry(out: &mut Vec<u8>, path: FullPath, value: &Value) -> Result<(), AllocError>
     requires { IsGood value.now }
-    ensures { OnOk result ((c : Template) (before : List (FullPath × Value)) → out.new.items ≡ out.old.items ++ (entry c before).spell (path, value.now)) }
+    ensures { OnOk result ((c : Template) (before : List (FullPath × Value))
+        → out.new.items ≡ out.old.items ++ (entry c before).spell (path, value.now)) }
 {
     put_path(out, path)?;
     put_value(out, value)

@@ -7,11 +7,13 @@ use Rattle.bench_words.proofs.words.batch_of.Goals as goal
 pub returns-clause-some : goal.returns-clause-some
 returns-clause-some c =
     let rows = one_text-rows (found_of c.args.found.now) (codes "batch") in
-    is_number 32 (reads 32) (one_of (codes "batch") (rows_of (found_of c.args.found.now))) c.get_one.result (λ t x g. g.0)
+    is_number 32 (reads 32) (one_of (codes "batch") (rows_of (found_of c.args.found.now))) c.get_one.result
+    (λ t x g. g.0)
     (λ none. c.get_one.ensures.none (rows ∙ none)) (λ t some. c.get_one.ensures.value t (rows ∙ some))
 
 pub returns-clause-none : goal.returns-clause-none
 returns-clause-none c =
     let rows = one_text-rows (found_of c.args.found.now) (codes "batch") in
-    no_number 32 (reads 32) (one_of (codes "batch") (rows_of (found_of c.args.found.now))) c.get_one.result (λ t x g. g.0)
+    no_number 32 (reads 32) (one_of (codes "batch") (rows_of (found_of c.args.found.now))) c.get_one.result
+    (λ t x g. g.0)
     (λ t some. c.get_one.ensures.value t (rows ∙ some))

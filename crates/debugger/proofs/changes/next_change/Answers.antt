@@ -1,4 +1,5 @@
-use Rattle.debugger.proofs.Changing.{at_entry, change_else, change_yes, change_no, shows_still, shows_step, shows_next, steps_next}
+use Rattle.debugger.proofs.Changing.{at_entry, change_else, change_yes, change_no, shows_still, shows_step, shows_next}
+use Rattle.debugger.proofs.Changing.{steps_next}
 use Rattle.debugger.proofs.changes.next_change.Goals as goal
 
 pub places-preserved-then-entry-device : goal.places-preserved-then-entry-device

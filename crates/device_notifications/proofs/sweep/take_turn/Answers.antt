@@ -22,19 +22,24 @@ returns-in_ok-post-in-Sends-clause-passes c =
     λ o at.
     let same = some_same c.in-Some.observation.now o (c.in-Some.ensures.value ∙ at) in
     let number = c.next_number.ensures ∙ ap (λ (x : Observation). next_number x.number) same in
-    let report = c.report_of-report.ensures ∙ ap (λ (x : Observation). report_of c.args.client.now x.path c.in-Sends.answer.payload) same in
-    passes_sends c.args.client.now c.args.clock c.args.observations.now c.sent.new.self c.args.place o c.args.outbox.now c.post.new.self
+    let report = c.report_of-report.ensures ∙ ap
+    (λ (x : Observation). report_of c.args.client.now x.path c.in-Sends.answer.payload) same in
+    passes_sends c.args.client.now c.args.clock c.args.observations.now c.sent.new.self c.args.place o c.args.outbox.now
+    c.post.new.self
     c.in-Sends.answer c.in_ok-datagram_of-in-Sends.field-0 at
     (sym c.in-Sends.is ∙ c.in_ok-judge.ensures ∙ ap (λ x. verdict_of c.args.client.now c.args.clock x) same)
-    (c.in_ok-datagram_of-in-Sends.ensures ∙ (λ j. datagram_of (same j) (c.next_id-mid.ensures j) (Some (number j)) c.in-Sends.answer))
-    (c.sent.ensures.sent ∙ (λ j. with_sent c.args.observations.now c.args.place c.args.clock (c.next_id-mid.ensures j) (report j)))
+    (c.in_ok-datagram_of-in-Sends.ensures ∙ (λ j. datagram_of (same j) (c.next_id-mid.ensures j)
+    (Some (number j)) c.in-Sends.answer))
+    (c.sent.ensures.sent ∙ (λ j. with_sent c.args.observations.now c.args.place c.args.clock (c.next_id-mid.ensures j)
+    (report j)))
     c.in_ok-post-in-Sends.ensures.posted
 
 pub returns-in_ok-post-in-Gone-clause-passes : goal.returns-in_ok-post-in-Gone-clause-passes
 returns-in_ok-post-in-Gone-clause-passes c =
     λ o at.
     let same = some_same c.in-Some.observation.now o (c.in-Some.ensures.value ∙ at) in
-    passes_gone c.args.client.now c.args.clock c.args.observations.now c.remove.new.self c.args.place o c.args.outbox.now c.post-in-Gone.new.self
+    passes_gone c.args.client.now c.args.clock c.args.observations.now c.remove.new.self c.args.place o
+    c.args.outbox.now c.post-in-Gone.new.self
     c.in-Gone.answer c.in_ok-datagram_of-in-Gone.field-0
     (sym c.in-Gone.is ∙ c.in_ok-judge.ensures ∙ ap (λ x. verdict_of c.args.client.now c.args.clock x) same)
     (c.in_ok-datagram_of-in-Gone.ensures ∙ (λ j. datagram_of (same j) (c.next_id-mid.ensures j) None c.in-Gone.answer))

@@ -1,4 +1,5 @@
-use Rattle.device_requests.proofs.Order.{formats_eighth, methods_third, operations_seventh, options_first, paths_second, payloads_ninth, rights_sixth, security_fourth, targets_fifth}
+use Rattle.device_requests.proofs.Order.{formats_eighth, methods_third, operations_seventh, options_first, paths_second}
+use Rattle.device_requests.proofs.Order.{payloads_ninth, rights_sixth, security_fourth, targets_fifth}
 use Rattle.device_requests.proofs.laws.refusals_come_in_order.Goals as goal
 
 pub returns-clause-options : goal.returns-clause-options

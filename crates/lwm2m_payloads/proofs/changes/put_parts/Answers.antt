@@ -11,19 +11,22 @@ loop-part-preserved c = record {
   set = c.in_ok-put_part.ensures.ok
       ∙ ap (λ s. with_value s (part_of c.args.path c.in-Some.part) c.in-Some.value) c.loop-part.invariant.set
       ∙ sym (with_parts-push c.args.store.now c.args.path c.loop-part.yielded (c.in-Some.part, c.in-Some.value));
-  left = c.loop-part.invariant.left ∙ ap (λ t. c.loop-part.yielded ++ t) c.in-Some.ensures.steps.0 ∙ sym (append_assoc c.loop-part.yielded ((c.in-Some.part, c.in-Some.value) ∷ []) c.next.new.self.rest.items);
+  left = c.loop-part.invariant.left ∙ ap (λ t. c.loop-part.yielded ++ t) c.in-Some.ensures.steps.0
+      ∙ sym (append_assoc c.loop-part.yielded ((c.in-Some.part, c.in-Some.value) ∷ []) c.next.new.self.rest.items);
 }
 
 pub returns-in_err-put_part-clause-absent : goal.returns-in_err-put_part-clause-absent
 returns-in_err-put_part-clause-absent c = λ h.
     let p = err_from_is_err_and c.from_residual.result c.from_residual.ensures.1 in
-    sym (ap (λ s. has_instance s (instance_of c.args.path)) c.loop-part.invariant.set ∙ parts_present c.loop-part.yielded c.args.store.now c.args.path (instance_of c.args.path))
+    sym (ap (λ s. has_instance s (instance_of c.args.path)) c.loop-part.invariant.set
+    ∙ parts_present c.loop-part.yielded c.args.store.now c.args.path (instance_of c.args.path))
     ∙ c.in_err-put_part.ensures.absent.0 (ap Err (sym p.2) ∙ sym p.1 ∙ h)
 
 pub returns-in_err-put_part-clause-full : goal.returns-in_err-put_part-clause-full
 returns-in_err-put_part-clause-full c = λ h.
     let p = err_from_is_err_and c.from_residual.result c.from_residual.ensures.1 in
     let full = c.in_err-put_part.ensures.full.0 (ap Err (sym p.2) ∙ sym p.1 ∙ h) in
-    full_means c.args.store.now c.args.path c.args.parts c.loop-part.yielded (c.in-Some.part, c.in-Some.value) c.next.new.self.rest.items
+    full_means c.args.store.now c.args.path c.args.parts c.loop-part.yielded
+    (c.in-Some.part, c.in-Some.value) c.next.new.self.rest.items
     (c.loop-part.invariant.left ∙ ap (λ t. c.loop-part.yielded ++ t) c.in-Some.ensures.steps.0)
     (ap (λ s. is_full s c.args.path c.in-Some.part) (sym c.loop-part.invariant.set) ∙ full.1)

@@ -10,5 +10,6 @@ returns-in_ok-clear_resource-in-Replace-clause-full c = λ h.
     ap (λ m. is_too_many m c.args.store.now c.args.path c.args.given) c.in-Replace.is
     ∙ ap (λ g. is_too_many Replace c.args.store.now c.args.path g) c.in-Parts.is
     ∙ sym (cleared c.args.store.now c.args.path c.in-Parts.parts)
-    ∙ ap (λ s. is_too_many Update s c.args.path (Parts c.in-Parts.parts)) (sym c.in_ok-clear_resource-in-Replace.ensures.ok)
+    ∙ ap (λ s. is_too_many Update s c.args.path (Parts c.in-Parts.parts))
+    (sym c.in_ok-clear_resource-in-Replace.ensures.ok)
     ∙ c.put_parts.ensures.full h

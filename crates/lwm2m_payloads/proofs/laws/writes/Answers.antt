@@ -3,7 +3,8 @@ use Rattle.lwm2m_payloads.proofs.Written.{at_given, given_instances, at_written,
 use Rattle.lwm2m_payloads.proofs.laws.writes.Goals as goal
 
 pub returns-clause-resource : goal.returns-clause-resource
-returns-clause-resource c = λ mode given stored p q once. (at_given mode given stored p q once, given_instances mode given stored p)
+returns-clause-resource c =
+    λ mode given stored p q once. (at_given mode given stored p q once, given_instances mode given stored p)
 
 pub returns-clause-values : goal.returns-clause-values
 returns-clause-values c = at_written

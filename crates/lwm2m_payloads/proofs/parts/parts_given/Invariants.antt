@@ -8,6 +8,7 @@ use Rattle.lwm2m_payloads.proofs.parts.parts_given.Given as goal
 -- the parts so far and those that are left are all the parts, and no number is there twice so far
 abbrev pub invariant-loop-node : goal.invariant-loop-node
 invariant-loop-node l = record {
-  told : joined part_key l.parts (parts_given l.kind (trees_of (drop l.node-index l.nodes))) ≡ parts_given l.kind (trees_of l.nodes);
+  told : joined part_key l.parts (parts_given l.kind (trees_of (drop l.node-index l.nodes)))
+      ≡ parts_given l.kind (trees_of l.nodes);
   once : joined part_key l.parts (Some []) ≡ Some l.parts;
 }

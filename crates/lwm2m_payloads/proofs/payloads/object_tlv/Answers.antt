@@ -7,4 +7,5 @@ use Rattle.lwm2m_payloads.proofs.payloads.object_tlv.Goals as goal
 
 pub tlv_of-requires : goal.tlv_of-requires
 tlv_of-requires c =
-    subst (AreNested Top) (sym (ap trees_of c.as_slice.ensures.value ∙ c.in_ok-nodes.ensures)) (nested_object c.args.store.now c.args.resources.now c.args.object c.args.instances.now)
+    subst (AreNested Top) (sym (ap trees_of c.as_slice.ensures.value ∙ c.in_ok-nodes.ensures))
+    (nested_object c.args.store.now c.args.resources.now c.args.object c.args.instances.now)

@@ -14,6 +14,8 @@ loop-instance-preserved c =
     ap trees_of c.in_ok-push.ensures.items
     ∙ trees_of-push c.loop-instance.nodes.items c.instance_node.result
     ∙ ap (λ t. with_last t (tree_of c.instance_node.result)) c.loop-instance.invariant
-    ∙ ap (with_last (shown (take i c.args.instances.now))) (c.instance_node.ensures ∙ ap (instance (get_or c.args.instances.now i 0)) c.in_ok-children.ensures)
-    ∙ sym (object_nodes-push c.args.store.now c.args.resources.now c.args.object (take i c.args.instances.now) (get_or c.args.instances.now i 0))
+    ∙ ap (with_last (shown (take i c.args.instances.now)))
+    (c.instance_node.ensures ∙ ap (instance (get_or c.args.instances.now i 0)) c.in_ok-children.ensures)
+    ∙ sym (object_nodes-push c.args.store.now c.args.resources.now c.args.object (take i c.args.instances.now)
+    (get_or c.args.instances.now i 0))
     ∙ ap shown (sym (take_more c.args.instances.now i 0 c.loop-instance-test.true))

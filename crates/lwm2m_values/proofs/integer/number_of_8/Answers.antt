@@ -12,5 +12,6 @@ returns-clause-found c =
     let fits : FitsSigned w64 z = search rules in
     let size : length bytes ≡ 8 = search rules in
     let small : (i : ℕ) → get_or bytes i 0 < 256 = search rules in
-    let made = eight_bytes bytes c.from_be_bytes-number.result z size small c.from_be_bytes-number.type_inv c.from_be_bytes-number.ensures c.cast_signed.ensures fits in
+    let made = eight_bytes bytes c.from_be_bytes-number.result z size small c.from_be_bytes-number.type_inv
+    c.from_be_bytes-number.ensures c.cast_signed.ensures fits in
     subst (λ (x : ℤ). IsIntegerOf w64 x bytes) (sym (to_z-of_z w64 z fits)) made

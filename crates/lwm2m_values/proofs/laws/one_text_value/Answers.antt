@@ -3,4 +3,10 @@ use Rattle.lwm2m_values.proofs.TextReading.{value_of_text_exact, value_of_text_w
 use Rattle.lwm2m_values.proofs.laws.one_text_value.Goals as goal
 
 pub returns : goal.returns
-returns c = record { written = text_written; one = one_value; reads = value_of_text_exact; reads_written = value_of_text_written }
+returns c = record {
+  written = text_written;
+  one = one_value;
+  reads = value_of_text_exact;
+  reads_written =
+      value_of_text_written;
+}

@@ -5,4 +5,5 @@ pub returns-clause-reading : goal.returns-clause-reading
 returns-clause-reading c = is_reading _ _ c.good_of.result c.good_of.ensures.found c.good_of.ensures.refused
 
 pub returns-clause-bad : goal.returns-clause-bad
-returns-clause-bad c = is_bad _ _ c.good_of.result c.good_of.ensures.found c.good_of.ensures.fixed c.good_of.ensures.memory
+returns-clause-bad c =
+    is_bad _ _ c.good_of.result c.good_of.ensures.found c.good_of.ensures.fixed c.good_of.ensures.memory

@@ -7,4 +7,5 @@ returns-in_err-head-clause-cut c = rw c.from_residual.ensures (IsCut-from_head _
 pub returns-in_err-content-clause-cut : goal.returns-in_err-content-clause-cut
 returns-in_err-content-clause-cut c =
     let found = c.in_ok-head.ensures.found in
-    rw c.from_residual-in_err-content.ensures (IsCut-from_size _ found.0 _ _ _ _ found.1 found.2 c.in_err-content.ensures.cases)
+    rw c.from_residual-in_err-content.ensures
+    (IsCut-from_size _ found.0 _ _ _ _ found.1 found.2 c.in_err-content.ensures.cases)

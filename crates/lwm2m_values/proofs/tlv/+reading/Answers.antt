@@ -12,15 +12,19 @@ nodes_of-returns-in_default-clause-fault t c =
 pub nodes_of-returns-then-not-may_stand-clause-fault :
     goal.nodes_of-returns-then-not-may_stand-clause-fault
 nodes_of-returns-then-not-may_stand-clause-fault t c =
-    λ _. let found = c.in-Some.ensures.found in nesting_here _ _ _ _ _ _ _ _ _ c.loop-rest.invariant found.1 found.2 (sym c.may_stand.ensures ∙ c.if-not-may_stand.true)
+    λ _. let found =
+    c.in-Some.ensures.found in nesting_here _ _ _ _ _ _ _ _ _ c.loop-rest.invariant found.1 found.2
+    (sym c.may_stand.ensures ∙ c.if-not-may_stand.true)
 
 pub nodes_of-returns-in_err-node-clause-fault : goal.nodes_of-returns-in_err-node-clause-fault
 nodes_of-returns-in_err-node-clause-fault t c =
     let found = c.in-Some.ensures.found in
     let p = err_from_is_err_and c.from_residual.result c.from_residual.ensures.1 in
-    rw (p.1, p.2) (λ other. within_here _ _ _ _ _ _ _ _ _ _ c.loop-rest.invariant found.1 found.2 (sym c.may_stand.ensures ∙ c.if-not-may_stand.false) (c.in_err-node.ensures.fault other))
+    rw (p.1, p.2) (λ other. within_here _ _ _ _ _ _ _ _ _ _ c.loop-rest.invariant found.1 found.2
+    (sym c.may_stand.ensures ∙ c.if-not-may_stand.false) (c.in_err-node.ensures.fault other))
 
 pub nodes_of-loop-rest-preserved : goal.nodes_of-loop-rest-preserved
 nodes_of-loop-rest-preserved t c =
     let found = c.in-Some.ensures.found in
-    rw c.in_ok-push.ensures.items (front_grows _ _ _ _ _ _ _ _ _ _ c.loop-rest.invariant found.1 found.2 (sym c.may_stand.ensures ∙ c.if-not-may_stand.false) c.in_ok-node.ensures.found)
+    rw c.in_ok-push.ensures.items (front_grows _ _ _ _ _ _ _ _ _ _ c.loop-rest.invariant found.1 found.2
+    (sym c.may_stand.ensures ∙ c.if-not-may_stand.false) c.in_ok-node.ensures.found)

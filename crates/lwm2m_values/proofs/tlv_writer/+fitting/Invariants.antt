@@ -5,4 +5,5 @@ use Rattle.lwm2m_values.proofs.tlv_writer.+fitting.Given as goal
 
 abbrev pub invariant-all_fit-loop-node : goal.invariant-all_fit-loop-node
 invariant-all_fit-loop-node l =
-    (AreNested l.level (trees_of l.nodes) × AreShort (trees_of l.nodes)) ↔ (AreNested l.level (trees_of (drop l.node-index l.nodes)) × AreShort (trees_of (drop l.node-index l.nodes)))
+    (AreNested l.level (trees_of l.nodes) × AreShort (trees_of l.nodes))
+    ↔ (AreNested l.level (trees_of (drop l.node-index l.nodes)) × AreShort (trees_of (drop l.node-index l.nodes)))

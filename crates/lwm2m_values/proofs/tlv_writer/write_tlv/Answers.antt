@@ -8,5 +8,6 @@ use Rattle.lwm2m_values.proofs.tlv_writer.write_tlv.Goals as goal
 pub returns-clause-read_again : goal.returns-clause-read_again
 returns-clause-read_again c =
     let trees = trees_of c.args.nodes.now in
-    let written : c.from_vec.result ≡ shortest_tlv trees = c.from_vec.ensures ∙ c.in_ok-put_nodes.ensures ∙ ap (λ x. x ++ shortest_tlv trees) c.new-out.ensures.items in
+    let written : c.from_vec.result ≡ shortest_tlv trees =
+    c.from_vec.ensures ∙ c.in_ok-put_nodes.ensures ∙ ap (λ x. x ++ shortest_tlv trees) c.new-out.ensures.items in
     subst (IsTlv trees) (sym written) (nodes_written trees Top c.requires.0)

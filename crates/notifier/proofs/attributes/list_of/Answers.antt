@@ -8,15 +8,22 @@ use Rattle.notifier.proofs.attributes.list_of.Goals as goal
 pub returns-clause-listed : goal.returns-clause-listed
 returns-clause-listed c =
     sym (append-nil _)
-    ∙ ap (λ t. c.loop-key.found.items ++ map (λ e. (path_of e.0, e.0.name, e.1)) (filter (λ e. e.0.server == c.args.server) t)) (sym c.in-None.ensures.steps.0)
+    ∙ ap (λ t. c.loop-key.found.items ++ map (λ e. (path_of e.0, e.0.name, e.1))
+    (filter (λ e. e.0.server == c.args.server) t)) (sym c.in-None.ensures.steps.0)
     ∙ c.loop-key.invariant
-    ∙ ap (λ es. map (λ e. (path_of e.0, e.0.name, e.1)) (filter (λ e. e.0.server == c.args.server) es)) (sym (entries-from_entries key_total key_exact c.args.numbers.now.entries c.into_iter-key-iterator.ensures.into_iter_gives.5))
+    ∙ ap (λ es. map (λ e. (path_of e.0, e.0.name, e.1)) (filter (λ e. e.0.server == c.args.server) es))
+    (sym (entries-from_entries key_total key_exact c.args.numbers.now.entries
+    c.into_iter-key-iterator.ensures.into_iter_gives.5))
 
 pub returns-in_err-push-clause-grows : goal.returns-in_err-push-clause-grows
 returns-in_err-push-clause-grows c =
     on_error c.from_residual.result _
-    (λ none. one_found c.loop-key.found.items (λ e. (path_of e.0, e.0.name, e.1)) (λ e. e.0.server == c.args.server) c.loop-key.key-iterator
-    c.next.new.self (c.in-Some.key.now, c.in-Some.number.now) c.in-Some.ensures.steps (eq-eqb c.in-Some.key.now.server c.args.server c.if-key-server.true)
+    (λ none. one_found c.loop-key.found.items (λ e. (path_of e.0, e.0.name, e.1))
+    (λ e. e.0.server == c.args.server) c.loop-key.key-iterator
+    c.next.new.self (c.in-Some.key.now, c.in-Some.number.now) c.in-Some.ensures.steps
+    (eq-eqb c.in-Some.key.now.server c.args.server c.if-key-server.true)
     (c.loop-key.invariant
-    ∙ sym (ap (λ es. map (λ e. (path_of e.0, e.0.name, e.1)) (filter (λ e. e.0.server == c.args.server) es)) (entries-from_entries key_total key_exact c.args.numbers.now.entries c.into_iter-key-iterator.ensures.into_iter_gives.5))
+    ∙ sym (ap (λ es. map (λ e. (path_of e.0, e.0.name, e.1)) (filter (λ e. e.0.server == c.args.server) es))
+    (entries-from_entries key_total key_exact c.args.numbers.now.entries
+    c.into_iter-key-iterator.ensures.into_iter_gives.5))
     ∙ none))

@@ -7,4 +7,5 @@ pub returns : goal.returns
 returns c =
     nothing_left c.loop-change.number c.args.changes.now c.args.name c.loop-change.change-index c.loop-change-test.false
     ∙ c.loop-change.invariant
-    ∙ sym (after_written (map.from_entries c.args.numbers.now.entries) c.args.server c.args.path c.args.changes.now c.args.name)
+    ∙ sym (after_written (map.from_entries c.args.numbers.now.entries) c.args.server c.args.path c.args.changes.now
+    c.args.name)

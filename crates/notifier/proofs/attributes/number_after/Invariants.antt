@@ -8,4 +8,5 @@ use Rattle.notifier.proofs.attributes.number_after.Given as goal
 abbrev pub invariant-loop-change : goal.invariant-loop-change
 invariant-loop-change l =
     last_of l.number (drop l.change-index l.changes) l.name
-    ≡ last_of (assigned (map.from_entries {R = key_cmp} l.fn.numbers.entries) l.server l.fn.path l.name) l.changes l.name
+    ≡ last_of (assigned (map.from_entries {R = key_cmp} l.fn.numbers.entries) l.server l.fn.path l.name) l.changes
+    l.name

@@ -16,5 +16,6 @@ returns-in_ok-set-in-Some c =
 
 pub returns-in-None : goal.returns-in-None
 returns-in-None c =
-    one_removed key_total key_exact c.args.numbers.now.entries c.remove.new.self.entries c.args.key c.remove.ensures.updates.0
+    one_removed key_total key_exact c.args.numbers.now.entries c.remove.new.self.entries c.args.key
+    c.remove.ensures.updates.0
     ∙ ap (with_number (map.from_entries c.args.numbers.now.entries) c.args.key) (sym c.in-None.is)

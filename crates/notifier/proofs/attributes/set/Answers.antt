@@ -9,5 +9,6 @@ use Rattle.notifier.proofs.attributes.set.Goals as goal
 pub returns : goal.returns
 returns c =
     let fits : FitsSigned w64 c.args.number = search rules in
-    one_put key_total key_exact c.args.numbers.now.entries c.insert.new.self.entries c.args.key _ c.in_ok-insert.ensures.updates.0
+    one_put key_total key_exact c.args.numbers.now.entries c.insert.new.self.entries c.args.key _
+    c.in_ok-insert.ensures.updates.0
     ∙ ap (map.insert (map.from_entries c.args.numbers.now.entries) c.args.key) (to_z-of_z w64 c.args.number fits)

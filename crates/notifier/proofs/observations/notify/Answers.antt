@@ -10,11 +10,16 @@ pub returns-clause-values : goal.returns-clause-values
 returns-clause-values c =
     let all = values_of c.args.entries.now.entries in
     values-set_value_at c.args.entries.now.entries c.args.place _
-    ∙ ap (λ n. slice_set all c.args.place (record (notified c.args.now c.args.mid c.args.report c.index_mut-observation.result.now) { number = n })) c.next_number-number.ensures
-    ∙ ap (λ f. option_map_or (λ o. slice_set all c.args.place (notified c.args.now c.args.mid c.args.report o)) f all) (sym c.index_mut-observation.ensures.value)
+    ∙ ap (λ n. slice_set all c.args.place (record
+    (notified c.args.now c.args.mid c.args.report c.index_mut-observation.result.now) { number = n }))
+    c.next_number-number.ensures
+    ∙ ap (λ f. option_map_or (λ o. slice_set all c.args.place (notified c.args.now c.args.mid c.args.report o)) f all)
+    (sym c.index_mut-observation.ensures.value)
 
 pub returns-clause-keyed : goal.returns-clause-keyed
-returns-clause-keyed c = keyed_set _ _ c.index_mut-observation.result.now _ c.requires.keyed c.index_mut-observation.ensures.value refl refl (next_fits c.index_mut-observation.result.now.number c.next_number-number.result c.next_number-number.ensures)
+returns-clause-keyed c =
+    keyed_set _ _ c.index_mut-observation.result.now _ c.requires.keyed c.index_mut-observation.ensures.value refl refl
+    (next_fits c.index_mut-observation.result.now.number c.next_number-number.result c.next_number-number.ensures)
 
 pub returns-clause-len : goal.returns-clause-len
 returns-clause-len c = index_map_len-with_value_at c.args.entries.now c.args.place _

@@ -7,20 +7,29 @@ use Rattle.notifier.proofs.query.parse_query.Goals as goal
 
 pub returns-in_err-add_query-clause-fault : goal.returns-in_err-add_query-clause-fault
 returns-in_err-add_query-clause-fault c =
-    handed c.from_residual.result (λ e. e ≢ Memory → changes_of [] c.args.level (map (λ q. q.now) c.args.queries.now) ≡ Err e) c.in_err-add_query.field-0.0 c.from_residual.ensures.1
-    (λ other. sym c.loop-query.invariant.0 ∙ one_refused c.loop-query.changes c.args.level c.args.queries.now c.loop-query.query-index _ c.in_err-add_query.field-0.0 c.loop-query-test.true (c.in_err-add_query.ensures.fault other))
+    handed c.from_residual.result (λ e. e ≢ Memory
+    → changes_of [] c.args.level (map (λ q. q.now) c.args.queries.now) ≡ Err e) c.in_err-add_query.field-0.0
+    c.from_residual.ensures.1
+    (λ other. sym c.loop-query.invariant.0 ∙ one_refused c.loop-query.changes c.args.level c.args.queries.now
+    c.loop-query.query-index _ c.in_err-add_query.field-0.0 c.loop-query-test.true
+    (c.in_err-add_query.ensures.fault other))
 
 pub returns-in_err-add_query-clause-grows : goal.returns-in_err-add_query-clause-grows
 returns-in_err-add_query-clause-grows c =
     λ grew.
-    first_spelled c.args.level c.args.queries.now c.loop-query.query-index _ c.loop-query.changes c.loop-query-test.true c.loop-query.invariant.1
-    (c.add_query.ensures.grows (same_fault c.from_residual.result c.add_query.result c.in_err-add_query.field-0.0 Memory c.from_residual.ensures.1 c.in_err-add_query.was grew))
+    first_spelled c.args.level c.args.queries.now c.loop-query.query-index _ c.loop-query.changes c.loop-query-test.true
+    c.loop-query.invariant.1
+    (c.add_query.ensures.grows (same_fault c.from_residual.result c.add_query.result c.in_err-add_query.field-0.0 Memory
+    c.from_residual.ensures.1 c.in_err-add_query.was grew))
 
 pub loop-query-preserved : goal.loop-query-preserved
 loop-query-preserved c = (
-  one_read c.loop-query.changes c.add_query.new.self c.args.level c.args.queries.now c.loop-query.query-index _ c.loop-query-test.true c.in_ok-add_query.ensures.ok
+  one_read c.loop-query.changes c.add_query.new.self c.args.level c.args.queries.now c.loop-query.query-index _
+      c.loop-query-test.true c.in_ok-add_query.ensures.ok
       ∙ c.loop-query.invariant.0,
   inr (let no_query : Bor (List ℕ) = record { ref_ptr = (0, 0); now = [] } in
-      first_spelled c.args.level c.args.queries.now c.loop-query.query-index no_query c.loop-query.changes c.loop-query-test.true c.loop-query.invariant.1
-      (one_spelled c.loop-query.changes c.add_query.new.self c.args.level (get_or c.args.queries.now c.loop-query.query-index no_query).now c.in_ok-add_query.ensures.ok)),
+      first_spelled c.args.level c.args.queries.now c.loop-query.query-index no_query c.loop-query.changes
+      c.loop-query-test.true c.loop-query.invariant.1
+      (one_spelled c.loop-query.changes c.add_query.new.self c.args.level
+      (get_or c.args.queries.now c.loop-query.query-index no_query).now c.in_ok-add_query.ensures.ok)),
 )

@@ -10,19 +10,23 @@ load-requires c = image_exact
 
 pub returns-in-Err-clause-only : goal.returns-in-Err-clause-only
 returns-in-Err-clause-only c = λ s h.
-    rw c.fault_at.ensures (failed_only image image_exact c.args.bytes.now (length c.args.bytes.now) c.in-Err.error s (front_fails _ _ c.in-Err.ensures.read) h)
+    rw c.fault_at.ensures (failed_only image image_exact c.args.bytes.now (length c.args.bytes.now) c.in-Err.error s
+    (front_fails _ _ c.in-Err.ensures.read) h)
 
 pub returns-in-Err-clause-fault : goal.returns-in-Err-clause-fault
 returns-in-Err-clause-fault c =
-    rw c.fault_at.ensures (failed_fault image image_exact c.args.bytes.now (λ i. omega (arith, c.type_inv.bytes i)) c.in-Err.error (front_fails _ _ c.in-Err.ensures.read))
+    rw c.fault_at.ensures (failed_fault image image_exact c.args.bytes.now
+    (λ i. omega (arith, c.type_inv.bytes i)) c.in-Err.error (front_fails _ _ c.in-Err.ensures.read))
 
 pub returns-in-Err-clause-refused : goal.returns-in-Err-clause-refused
 returns-in-Err-clause-refused c = λ f h.
-    rw c.fault_at.ensures (failed_refused image image_exact c.args.bytes.now c.in-Err.error f (front_fails _ _ c.in-Err.ensures.read) h)
+    rw c.fault_at.ensures (failed_refused image image_exact c.args.bytes.now c.in-Err.error f
+    (front_fails _ _ c.in-Err.ensures.read) h)
 
 pub returns-in-Err-clause-front : goal.returns-in-Err-clause-front
 returns-in-Err-clause-front c = λ b h.
-    let e = front_broke c.args.bytes.now (length c.args.bytes.now) c.in-Err.error b c.in-Err.ensures.no_memory c.in-Err.ensures.read h in
+    let e = front_broke c.args.bytes.now (length c.args.bytes.now) c.in-Err.error b c.in-Err.ensures.no_memory
+    c.in-Err.ensures.read h in
     let f = c.fault_at.ensures in
     cc
 

@@ -7,6 +7,8 @@ use Rattle.scenario_image.proofs.rows.rows_at.Goals as goal
 pub returns : goal.returns
 unfolding rows
 returns c =
-    subst (λ r. Gives (λ x. (x.0.items, x.1.now)) c.items_at.result (r >>= (λ x. (each (λ before. row c.args.classes.now) x.0 []).read x.1)))
+    subst (λ r. Gives (λ x. (x.0.items, x.1.now)) c.items_at.result
+    (r >>= (λ x. (each (λ before. row c.args.classes.now) x.0 []).read x.1)))
     (sym c.in_ok-count.ensures.read)
-    (subst (λ n. Gives (λ x. (x.0.items, x.1.now)) c.items_at.result ((each (λ before. row c.args.classes.now) n []).read c.in_ok-count.rest.now)) c.from.ensures c.items_at.ensures)
+    (subst (λ n. Gives (λ x. (x.0.items, x.1.now)) c.items_at.result
+    ((each (λ before. row c.args.classes.now) n []).read c.in_ok-count.rest.now)) c.from.ensures c.items_at.ensures)

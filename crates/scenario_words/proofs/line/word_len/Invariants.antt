@@ -3,7 +3,7 @@ use Rattle.scenario_words.specs.Words.{scan, words}
 use Rattle.scenario_words.proofs.Scanning.{onto, mode_of}
 use Rattle.scenario_words.proofs.line.word_len.Given as goal
 
--- what was found, put before what is scanned behind it
+-- what was found, put before what is scanned after it
 abbrev pub invariant-loop-len : goal.invariant-loop-len
 invariant-loop-len l = record {
   within : l.len ≤ length l.line;

@@ -16,5 +16,6 @@ returns-clause-shows c =
       holds = ap living c.forget.ensures
           ∙ living_remembered c.react.new.self c.args.event.now
           ∙ ap living c.in_ok-outputs.ensures.gives.then_flat
-          ∙ (alike c.self.inside.machine f (ap (λ s. s.flat) c.self.view_is ∙ shows.holds) c.args.event.now).living_then;
+          ∙ (alike c.self.inside.machine f (ap (λ s. s.flat) c.self.view_is ∙ shows.holds)
+          c.args.event.now).living_then;
     }

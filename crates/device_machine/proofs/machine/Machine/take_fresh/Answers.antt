@@ -9,8 +9,11 @@ pub returns-clause-gives : goal.returns-clause-gives
 returns-clause-gives c =
     let server = c.args.server in
     let m = c.args.message.now in
-    subst (λ f. IfOk c.reply.result (λ o. Gives o c.reply.new.self (on_outcome f server m (outcome_of f.kept.client server m)))) c.self.view_is
+    subst (λ f. IfOk c.reply.result (λ o. Gives o c.reply.new.self
+    (on_outcome f server m (outcome_of f.kept.client server m)))) c.self.view_is
     (subst (λ r. IfOk c.reply.result (λ o. Gives o c.reply.new.self r))
-    (taken _ c.note.new.self server m c.answer.new.self c.in_ok-answer.answer c.in_ok-number.number c.in_ok-reply.reply c.in_ok-answer.answer.act
-    c.in_ok-answer.ensures.outcome c.in_ok-number.ensures.kept c.in_ok-number.ensures.recorded c.in_ok-reply.ensures.reply refl)
+    (taken _ c.note.new.self server m c.answer.new.self c.in_ok-answer.answer c.in_ok-number.number c.in_ok-reply.reply
+    c.in_ok-answer.answer.act
+    c.in_ok-answer.ensures.outcome c.in_ok-number.ensures.kept c.in_ok-number.ensures.recorded
+    c.in_ok-reply.ensures.reply refl)
     c.reply.ensures.gives)

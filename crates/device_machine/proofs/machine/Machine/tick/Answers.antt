@@ -11,6 +11,8 @@ returns-in_err-outputs-clause-grows c =
     on_error c.from_residual-in_err-outputs.result _
     (λ none. c.in_err-outputs.ensures.grows
     (c.into_vec.ensures ∙ c.in_ok-seconds.ensures.done.sent
-    ∙ ap (λ (box : Outbox). box.sent ++ (seconds c.self.inside.client c.self.inside.clock c.args.count box.next_id c.self.inside.observations).sent) c.new-outbox.ensures
-    ∙ ap (λ os. (seconds c.self.inside.client c.self.inside.clock c.args.count c.self.inside.next_id os).sent) (ap (λ f. f.kept.observations) c.self.view_is ∙ none)
+    ∙ ap (λ (box : Outbox). box.sent ++ (seconds c.self.inside.client c.self.inside.clock c.args.count box.next_id
+    c.self.inside.observations).sent) c.new-outbox.ensures
+    ∙ ap (λ os. (seconds c.self.inside.client c.self.inside.clock c.args.count c.self.inside.next_id os).sent)
+    (ap (λ f. f.kept.observations) c.self.view_is ∙ none)
     ∙ none_sent c.self.inside.client c.self.inside.clock c.args.count c.self.inside.next_id))

@@ -14,5 +14,6 @@ returns-clause-grows c =
     let may : (rights_on client c.args.server c.args.path).write ≡ true = search rules in
     let can : can_be_written client.catalogue c.args.path ≡ true = search rules in
     of_error c.write_payload.result _ _
-    (write_grows client c.args.server c.args.mode c.args.path (content_format_of c.args.message.now.options) c.args.message.now.payload no target may can)
+    (write_grows client c.args.server c.args.mode c.args.path
+    (content_format_of c.args.message.now.options) c.args.message.now.payload no target may can)
     c.write_payload.ensures.grows

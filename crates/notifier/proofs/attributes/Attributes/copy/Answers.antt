@@ -6,4 +6,5 @@ use Rattle.notifier.proofs.attributes.Attributes.copy.Goals as goal
 pub returns-in_err-clone_of-clause-grows : goal.returns-in_err-clone_of-clause-grows
 returns-in_err-clone_of-clause-grows c =
     on_error c.from_residual.result _
-    (λ none. true≢false (sym (c.is_empty.ensures.1 (ap length (none_left c.self.inside.numbers.entries (c.self.view_is ∙ none)))) ∙ c.if-is_empty.false))
+    (λ none. true≢false (sym (c.is_empty.ensures.1
+    (ap length (none_left c.self.inside.numbers.entries (c.self.view_is ∙ none)))) ∙ c.if-is_empty.false))

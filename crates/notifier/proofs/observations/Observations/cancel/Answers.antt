@@ -9,7 +9,12 @@ pub invariant_of-self : goal.invariant_of-self
 invariant_of-self c =
     let left = c.keep_others.ensures in (
       subst (AllByRecursion IsKeyed) (sym left) (each-filter IsKeyed _ _ c.self.invariant.0),
-      omega (arith, ap length left, kept_at_most (λ e. not (is_named c.args.server c.args.token.now e.1)) c.self.inside.entries.entries, c.self.invariant.1),
+      omega (
+        arith,
+        ap length left,
+        kept_at_most (λ e. not (is_named c.args.server c.args.token.now e.1)) c.self.inside.entries.entries,
+        c.self.invariant.1,
+      ),
     )
 
 pub returns-clause-left : goal.returns-clause-left

@@ -7,7 +7,9 @@ use Rattle.notifier.proofs.observations.Observations.len.Goals as goal
 
 pub returns-clause-names : goal.returns-clause-names
 returns-clause-names c =
-    subst HaveDistinctNames c.self.view_is (names_differ eq-value.it (λ k j. refl) c.self.inside.entries.entries c.self.invariant.0 c.len.ensures.unique)
+    subst HaveDistinctNames c.self.view_is (names_differ eq-value.it
+    (λ k j. refl) c.self.inside.entries.entries c.self.invariant.0 c.len.ensures.unique)
 
 pub returns-clause-numbers : goal.returns-clause-numbers
-returns-clause-numbers c = subst (AllByRecursion HasNumber) c.self.view_is (numbers_fit c.self.inside.entries.entries c.self.invariant.0)
+returns-clause-numbers c =
+    subst (AllByRecursion HasNumber) c.self.view_is (numbers_fit c.self.inside.entries.entries c.self.invariant.0)

@@ -1,4 +1,5 @@
-use Rattle.std.proofs.Common.{◌≡◌, ℕ, ◌≤◌, List, Option, None, Some, length, position, refl, sym, ap, true≢false, ◌++◌, ◌∷◌, [], ◌∙◌, arith}
+use Rattle.std.proofs.Common.{◌≡◌, ℕ, ◌≤◌, List, Option, None, Some, length, position, refl, sym, ap, true≢false, ◌++◌}
+use Rattle.std.proofs.Common.{◌∷◌, [], ◌∙◌, arith}
 use Rattle.std.specs.Option.{is_some}
 use Rattle.std.specs.Map.{values_of}
 use Rattle.std.proofs.lemmas.Map.Entries.{length-values_of}
@@ -8,35 +9,65 @@ use Rattle.notifier.proofs.Places.{any_place}
 use Rattle.notifier.proofs.ObservedLaws.{registered-none, number_for-none}
 use Rattle.notifier.proofs.observations.Observations.register.Goals as goal
 
-known : (os all : List Observation) (server : ℕ) (t token : List ℕ) (r o : Option ℕ) → os ≡ all → t ≡ token → r ≡ position (is_named server t) os → r ≡ o → has_name all server token ≡ is_some o
+known : (os all : List Observation) (server : ℕ) (t token : List ℕ) (r o : Option ℕ) → os ≡ all → t ≡ token
+    → r ≡ position (is_named server t) os → r ≡ o → has_name all server token ≡ is_some o
 known os all server t token r o same text h is =
     (λ i. has_name (sym same i) server (sym text i)) ∙ any_place (is_named server t) os ∙ ap is_some (sym h ∙ is)
 
 pub add-requires-clause-absent : goal.add-requires-clause-absent
-add-requires-clause-absent c = known (values_of c.self.inside.entries.entries) (values_of c.self.inside.entries.entries) c.args.server c.as_slice.result.now c.args.token c.place_of.result None refl c.as_slice.ensures c.place_of.ensures c.in-None.is
+add-requires-clause-absent c =
+    known (values_of c.self.inside.entries.entries)
+    (values_of c.self.inside.entries.entries) c.args.server c.as_slice.result.now c.args.token c.place_of.result
+    None refl c.as_slice.ensures c.place_of.ensures c.in-None.is
 
 pub returns-then-len-ge-MOST-clause-full : goal.returns-then-len-ge-MOST-clause-full
 returns-then-len-ge-MOST-clause-full c =
-    let absent = known (values_of c.self.inside.entries.entries) c.args.self.now c.args.server c.as_slice.result.now c.args.token c.place_of.result None c.self.view_is c.as_slice.ensures c.place_of.ensures c.in-None.is in
-    let count : 32 ≤ length c.args.self.now = omega (arith, c.if-len-ge-MOST.true, c.len.ensures.len, length-values_of c.self.inside.entries.entries, ap length c.self.view_is) in
+    let absent = known (values_of c.self.inside.entries.entries) c.args.self.now c.args.server c.as_slice.result.now
+    c.args.token c.place_of.result None c.self.view_is c.as_slice.ensures c.place_of.ensures c.in-None.is in
+    let count : 32 ≤ length c.args.self.now =
+    omega (
+      arith,
+      c.if-len-ge-MOST.true,
+      c.len.ensures.len,
+      length-values_of c.self.inside.entries.entries,
+      ap length c.self.view_is,
+    ) in
     (λ _. (absent, count), λ _. refl)
 
 pub returns-in_err-add-in-None-clause-grows : goal.returns-in_err-add-in-None-clause-grows
 returns-in_err-add-in-None-clause-grows c =
-    λ _. known (values_of c.self.inside.entries.entries) c.args.self.now c.args.server c.as_slice.result.now c.args.token c.place_of.result None c.self.view_is c.as_slice.ensures c.place_of.ensures c.in-None.is
+    λ _. known (values_of c.self.inside.entries.entries) c.args.self.now c.args.server c.as_slice.result.now
+    c.args.token c.place_of.result None c.self.view_is c.as_slice.ensures c.place_of.ensures c.in-None.is
 
 pub returns-in-Some-clause-full : goal.returns-in-Some-clause-full
 returns-in-Some-clause-full c =
-    let held = known (values_of c.self.inside.entries.entries) c.args.self.now c.args.server c.as_slice.result.now c.args.token c.place_of.result (Some c.in-Some.place) c.self.view_is c.as_slice.ensures c.place_of.ensures c.in-Some.is in
+    let held = known (values_of c.self.inside.entries.entries) c.args.self.now c.args.server c.as_slice.result.now
+    c.args.token c.place_of.result (Some c.in-Some.place) c.self.view_is c.as_slice.ensures c.place_of.ensures
+    c.in-Some.is in
     (λ h. cc, λ h. absurd (true≢false (sym held ∙ h.0)))
 
 pub returns-in_ok-add-in-None-clause-ok : goal.returns-in_ok-add-in-None-clause-ok
 returns-in_ok-add-in-None-clause-ok c =
-    let absent = known (values_of c.self.inside.entries.entries) c.args.self.now c.args.server c.as_slice.result.now c.args.token c.place_of.result None c.self.view_is c.as_slice.ensures c.place_of.ensures c.in-None.is in
-    let new : Observation = record { server = c.args.server; token = c.args.token; path = c.args.path; accept = c.args.accept; report = c.args.report; second = c.args.now; number = 0; non = c.args.non; mid = c.args.mid } in
-    c.in_ok-add-in-None.ensures.ok ∙ ap (λ all. all ++ new ∷ []) c.self.view_is ∙ sym (registered-none c.args.self.now new absent)
+    let absent = known (values_of c.self.inside.entries.entries) c.args.self.now c.args.server c.as_slice.result.now
+    c.args.token c.place_of.result None c.self.view_is c.as_slice.ensures c.place_of.ensures c.in-None.is in
+    let new : Observation =
+    record {
+      server = c.args.server;
+      token = c.args.token;
+      path = c.args.path;
+      accept = c.args.accept;
+      report =
+          c.args.report;
+      second = c.args.now;
+      number = 0;
+      non = c.args.non;
+      mid = c.args.mid;
+    } in
+    c.in_ok-add-in-None.ensures.ok ∙ ap (λ all. all ++ new ∷ []) c.self.view_is
+    ∙ sym (registered-none c.args.self.now new absent)
 
 pub returns-in_ok-add-in-None-clause-number : goal.returns-in_ok-add-in-None-clause-number
 returns-in_ok-add-in-None-clause-number c =
-    let absent = known (values_of c.self.inside.entries.entries) c.args.self.now c.args.server c.as_slice.result.now c.args.token c.place_of.result None c.self.view_is c.as_slice.ensures c.place_of.ensures c.in-None.is in
+    let absent = known (values_of c.self.inside.entries.entries) c.args.self.now c.args.server c.as_slice.result.now
+    c.args.token c.place_of.result None c.self.view_is c.as_slice.ensures c.place_of.ensures c.in-None.is in
     sym (number_for-none c.args.self.now c.args.server c.args.token absent)

@@ -4,4 +4,6 @@ use Rattle.scenario_asm.proofs.Refusals.{scenario_refused}
 use Rattle.scenario_asm.proofs.draft.Draft.add_step.Goals as goal
 
 pub returns-clause-refused : goal.returns-clause-refused
-returns-clause-refused c = λ k e. c.of_scenario.ensures ∙ scenario_refused _ _ c.add_step.result k c.add_step.ensures.refuses (subst (λ d. step_added c.args.step d ≡ Err k) (sym c.self.view_is) e)
+returns-clause-refused c =
+    λ k e. c.of_scenario.ensures ∙ scenario_refused _ _ c.add_step.result k c.add_step.ensures.refuses
+    (subst (λ d. step_added c.args.step d ≡ Err k) (sym c.self.view_is) e)

@@ -6,4 +6,6 @@ use Rattle.scenario_asm.proofs.printing.classes.put_accounts.Given as goal
 
 -- what is written, and what is still to come
 abbrev pub invariant-loop-account : goal.invariant-loop-account
-invariant-loop-account l = string_bytes l.out ++ printed_lines (map (λ s. Account s) (drop l.account-index l.accounts)) ≡ string_bytes l.initial.out ++ printed_lines (map (λ s. Account s) l.accounts)
+invariant-loop-account l =
+    string_bytes l.out ++ printed_lines (map (λ s. Account s) (drop l.account-index l.accounts))
+    ≡ string_bytes l.initial.out ++ printed_lines (map (λ s. Account s) l.accounts)

@@ -13,9 +13,13 @@ loop-number-preserved c =
     let number = c.loop-number.number in
     elim c.match-class.branch [
       | in-Some+in_ok-put_class w ↦ record {
-        so_far = printed_next of_class classes number _ w.in-Some.class.now (string_bytes c.loop-number.out) (string_bytes c.match-class.out) (string_bytes c.args.out.now) (printed_lines (flat_map of_class classes))
-            (omega arith) (sym w.in-Some.ensures) (ap string_bytes w.out-is ∙ w.in_ok-put_class.ensures.text) c.loop-number.invariant.so_far;
-        built = each_next IsBuilt classes number _ w.in-Some.class.now (omega arith) (sym w.in-Some.ensures) w.in_ok-put_class.ensures.built c.loop-number.invariant.built;
+        so_far = printed_next of_class classes number _ w.in-Some.class.now (string_bytes c.loop-number.out)
+            (string_bytes c.match-class.out) (string_bytes c.args.out.now) (printed_lines (flat_map of_class classes))
+            (omega arith) (sym w.in-Some.ensures) (ap string_bytes w.out-is ∙ w.in_ok-put_class.ensures.text)
+            c.loop-number.invariant.so_far;
+        built = each_next IsBuilt classes number _ w.in-Some.class.now (omega arith)
+            (sym w.in-Some.ensures) w.in_ok-put_class.ensures.built c.loop-number.invariant.built;
       }
-      | in_default w ↦ absurd (none_at classes number (subst (λ n. number < n) c.class_count-number-end.ensures c.loop-number-test.true) (sym w.in_default.ensures))
+      | in_default w ↦ absurd (none_at classes number
+          (subst (λ n. number < n) c.class_count-number-end.ensures c.loop-number-test.true) (sym w.in_default.ensures))
     ]

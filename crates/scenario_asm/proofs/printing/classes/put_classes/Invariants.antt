@@ -8,6 +8,7 @@ use Rattle.scenario_asm.proofs.printing.classes.put_classes.Given as goal
 -- what is written, and what is still to come; the classes that were written are what accepted additions made
 abbrev pub invariant-loop-number : goal.invariant-loop-number
 invariant-loop-number l = record {
-  so_far : string_bytes l.out ++ printed_lines (flat_map of_class (drop l.number l.scenario.classes)) ≡ string_bytes l.initial.out ++ printed_lines (flat_map of_class l.scenario.classes);
+  so_far : string_bytes l.out ++ printed_lines (flat_map of_class (drop l.number l.scenario.classes))
+      ≡ string_bytes l.initial.out ++ printed_lines (flat_map of_class l.scenario.classes);
   built : AllByRecursion IsBuilt (take l.number l.scenario.classes);
 }

@@ -6,4 +6,6 @@ use Rattle.scenario_asm.proofs.printing.classes.put_definitions.Given as goal
 
 -- what is written, and what is still to come
 abbrev pub invariant-loop-definition : goal.invariant-loop-definition
-invariant-loop-definition l = string_bytes l.out ++ printed_lines (map (λ d. Def d) (drop l.definition-index l.definitions)) ≡ string_bytes l.initial.out ++ printed_lines (map (λ d. Def d) l.definitions)
+invariant-loop-definition l =
+    string_bytes l.out ++ printed_lines (map (λ d. Def d) (drop l.definition-index l.definitions))
+    ≡ string_bytes l.initial.out ++ printed_lines (map (λ d. Def d) l.definitions)

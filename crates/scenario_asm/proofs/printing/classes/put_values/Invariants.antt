@@ -6,4 +6,6 @@ use Rattle.scenario_asm.proofs.printing.classes.put_values.Given as goal
 
 -- what is written, and what is still to come
 abbrev pub invariant-loop-path : goal.invariant-loop-path
-invariant-loop-path l = string_bytes l.out ++ printed_lines (map of_value (shown_pairs (drop l.path-index l.values))) ≡ string_bytes l.initial.out ++ printed_lines (map of_value (shown_pairs l.values))
+invariant-loop-path l =
+    string_bytes l.out ++ printed_lines (map of_value (shown_pairs (drop l.path-index l.values)))
+    ≡ string_bytes l.initial.out ++ printed_lines (map of_value (shown_pairs l.values))

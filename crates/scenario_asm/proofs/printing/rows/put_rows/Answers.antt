@@ -14,7 +14,10 @@ loop-device-preserved c =
     elim c.match-row.branch [
       | in-Some+in_ok-put_row w ↦
           let row : Row = record { class = w.in-Some.class; steps = w.in-Some.steps.now } in
-          printed_next of_row rows device _ row (string_bytes c.loop-device.out) (string_bytes c.match-row.out) (string_bytes c.args.out.now) (printed_lines (flat_map of_row rows))
-          (omega arith) (sym w.in-Some.ensures) (ap string_bytes w.out-is ∙ w.in_ok-put_row.ensures) c.loop-device.invariant
-      | in_default w ↦ absurd (none_at rows device (subst (λ n. device < n) c.rows-device-end.ensures.count c.loop-device-test.true) (sym w.in_default.ensures))
+          printed_next of_row rows device _ row (string_bytes c.loop-device.out) (string_bytes c.match-row.out)
+          (string_bytes c.args.out.now) (printed_lines (flat_map of_row rows))
+          (omega arith) (sym w.in-Some.ensures) (ap string_bytes w.out-is ∙ w.in_ok-put_row.ensures)
+          c.loop-device.invariant
+      | in_default w ↦ absurd (none_at rows device
+          (subst (λ n. device < n) c.rows-device-end.ensures.count c.loop-device-test.true) (sym w.in_default.ensures))
     ]

@@ -6,4 +6,6 @@ use Rattle.scenario_asm.proofs.printing.rows.put_rows.Given as goal
 
 -- what is written, and what is still to come
 abbrev pub invariant-loop-device : goal.invariant-loop-device
-invariant-loop-device l = string_bytes l.out ++ printed_lines (flat_map of_row (drop l.device l.scenario.rows)) ≡ string_bytes l.initial.out ++ printed_lines (flat_map of_row l.scenario.rows)
+invariant-loop-device l =
+    string_bytes l.out ++ printed_lines (flat_map of_row (drop l.device l.scenario.rows)) ≡ string_bytes l.initial.out
+    ++ printed_lines (flat_map of_row l.scenario.rows)

@@ -7,12 +7,17 @@ use Rattle.scenario_layout.proofs.class.accounts.account_at.Goals as goal
 
 pub returns-then-not-is_above-clause-read : goal.returns-then-not-is_above-clause-read
 returns-then-not-is_above-clause-read c =
-    account_low c.args.template.now.accounts c.args.bytes.now c.in_ok-number.number c.in_ok-number.rest.now c.in_ok-number.ensures.read
-    (ap (list_all (λ m. nat_lt m c.in_ok-number.number)) (sym c.accounts.ensures.lent) ∙ sym c.is_above.ensures ∙ c.if-not-is_above.true)
+    account_low c.args.template.now.accounts c.args.bytes.now c.in_ok-number.number c.in_ok-number.rest.now
+    c.in_ok-number.ensures.read
+    (ap (list_all (λ m. nat_lt m c.in_ok-number.number)) (sym c.accounts.ensures.lent) ∙ sym c.is_above.ensures
+    ∙ c.if-not-is_above.true)
 
 pub returns-clause-read : goal.returns-clause-read
 returns-clause-read c =
-    account_fits c.args.template.now.accounts c.add_account.new.self c.args.bytes.now c.in_ok-number.number c.in_ok-number.rest.now c.in_ok-number.ensures.read
-    (ap (list_all (λ m. nat_lt m c.in_ok-number.number)) (sym c.accounts.ensures.lent) ∙ sym c.is_above.ensures ∙ c.if-not-is_above.false)
-    (ap (λ k. account_fault k c.in_ok-number.number) (sym c.requires) ∙ not_refused _ c.add_account.result c.in_default.field-0 c.in_default.is c.add_account.ensures.refuses)
+    account_fits c.args.template.now.accounts c.add_account.new.self c.args.bytes.now c.in_ok-number.number
+    c.in_ok-number.rest.now c.in_ok-number.ensures.read
+    (ap (list_all (λ m. nat_lt m c.in_ok-number.number)) (sym c.accounts.ensures.lent) ∙ sym c.is_above.ensures
+    ∙ c.if-not-is_above.false)
+    (ap (λ k. account_fault k c.in_ok-number.number) (sym c.requires)
+    ∙ not_refused _ c.add_account.result c.in_default.field-0 c.in_default.is c.add_account.ensures.refuses)
     (ap (λ k. k.accounts) c.in_default.ensures.added)

@@ -8,6 +8,7 @@ use Rattle.scenario_layout.proofs.class.definitions.define.Given as goal
 -- the object has the definitions before the index
 abbrev pub invariant-loop-definition : goal.invariant-loop-definition
 invariant-loop-definition l = record {
-  made : l.template ≡ with_catalogue l.fn.template (with_definitions l.fn.template.catalogue l.id (take l.definition-index l.definitions));
+  made : l.template ≡ with_catalogue l.fn.template
+      (with_definitions l.fn.template.catalogue l.id (take l.definition-index l.definitions));
   found : object_of l.template.catalogue l.id ≡ Some (defined l.id (take l.definition-index l.definitions));
 }

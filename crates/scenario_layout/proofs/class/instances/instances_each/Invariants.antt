@@ -9,6 +9,7 @@ use Rattle.scenario_layout.proofs.class.instances.instances_each.Given as goal
 -- the class has the instances that were read
 abbrev pub invariant-loop : goal.invariant-loop
 invariant-loop l = record {
-  filled : IsFilled instance instances_in with_instances l.fn.template l.template (l.count - l.counter) l.rest ((each (instance l.fn.template) l.count []).read l.fn.bytes);
+  filled : IsFilled instance instances_in with_instances l.fn.template l.template (l.count - l.counter) l.rest
+      ((each (instance l.fn.template) l.count []).read l.fn.bytes);
   last : IsLast instance_cmp (λ p. p) (instances_in l.template) l.last;
 }

@@ -7,24 +7,32 @@ use Rattle.scenario_layout.proofs.Filling.{objects_same, objects_twice, objects_
 use Rattle.scenario_layout.proofs.class.objects.objects_each.Goals as goal
 
 pub loop-init : goal.loop-init
-loop-init c = filled_starts object objects_in with_objects c.args.template.now c.args.count c.args.bytes.now (objects_none c.args.template.now c.requires) (objects_itself c.args.template.now c.requires)
+loop-init c = filled_starts object objects_in with_objects c.args.template.now c.args.count c.args.bytes.now
+    (objects_none c.args.template.now c.requires) (objects_itself c.args.template.now c.requires)
 
 pub object_at-requires : goal.object_at-requires
 object_at-requires c = objects_now c.args.template.now c.loop.template c.loop.invariant.1
 
 pub loop-preserved : goal.loop-preserved
 loop-preserved c =
-    filled_on object objects_in with_objects objects_same objects_twice c.args.template.now c.loop.template c.object_at.new.template c.args.count c.loop.counter c.loop.rest.now c.in_ok-after.after.now ((each (object c.args.template.now) c.args.count []).read c.args.bytes.now)
+    filled_on object objects_in with_objects objects_same objects_twice c.args.template.now c.loop.template
+    c.object_at.new.template c.args.count c.loop.counter c.loop.rest.now c.in_ok-after.after.now
+    ((each (object c.args.template.now) c.args.count []).read c.args.bytes.now)
     c.loop-test.true c.in_ok-after.ensures.read c.in_ok-after.ensures.made c.loop.invariant
 
 pub returns-in_err-after-clause-read : goal.returns-in_err-after-clause-read
 returns-in_err-after-clause-read c =
     let p = err_from_is_err_and c.from_residual.result c.from_residual.ensures.1 in
-    rw (p.1, p.2) (filled_no_more object objects_in with_objects objects_same objects_twice c.args.template.now c.loop.template c.in_err-after.field-0.0 c.args.count c.loop.counter c.loop.rest.now ((each (object c.args.template.now) c.args.count []).read c.args.bytes.now)
+    rw (p.1, p.2) (filled_no_more object objects_in with_objects objects_same objects_twice c.args.template.now
+    c.loop.template c.in_err-after.field-0.0 c.args.count c.loop.counter c.loop.rest.now
+    ((each (object c.args.template.now) c.args.count []).read c.args.bytes.now)
     c.loop-test.true c.in_err-after.ensures.read c.loop.invariant)
 
 pub returns-clause-read : goal.returns-clause-read
-returns-clause-read c = filled_done object objects_in with_objects c.args.template.now c.loop.template c.args.count c.loop.counter c.loop.rest.now ((each (object c.args.template.now) c.args.count []).read c.args.bytes.now) c.loop-test.false c.loop.invariant
+returns-clause-read c =
+    filled_done object objects_in with_objects c.args.template.now c.loop.template c.args.count c.loop.counter
+    c.loop.rest.now ((each (object c.args.template.now) c.args.count []).read c.args.bytes.now) c.loop-test.false
+    c.loop.invariant
 
 pub returns-clause-made : goal.returns-clause-made
 returns-clause-made c = c.loop.invariant.1

@@ -8,7 +8,8 @@ use Rattle.scenario_layout.proofs.class.values.values_each.Goals as goal
 
 pub loop-init : goal.loop-init
 loop-init c = record {
-  filled = filled_starts entry values_in with_values c.args.template.now c.args.count c.args.bytes.now (values_none c.args.template.now c.requires) (values_itself c.args.template.now);
+  filled = filled_starts entry values_in with_values c.args.template.now c.args.count c.args.bytes.now
+      (values_none c.args.template.now c.requires) (values_itself c.args.template.now);
   last = values_none_last c.args.template.now c.requires;
 }
 
@@ -18,7 +19,9 @@ entry_at-requires c = c.loop.invariant.last
 pub loop-preserved : goal.loop-preserved
 loop-preserved c = record {
   filled =
-      filled_on entry values_in with_values values_same values_twice c.args.template.now c.loop.template c.entry_at.new.template c.args.count c.loop.counter c.loop.rest.now c.in_ok-path.after.now ((each (entry c.args.template.now) c.args.count []).read c.args.bytes.now)
+      filled_on entry values_in with_values values_same values_twice c.args.template.now c.loop.template
+      c.entry_at.new.template c.args.count c.loop.counter c.loop.rest.now c.in_ok-path.after.now
+      ((each (entry c.args.template.now) c.args.count []).read c.args.bytes.now)
       c.loop-test.true c.in_ok-path.ensures.read c.in_ok-path.ensures.made c.loop.invariant.filled;
   last = c.in_ok-path.ensures.last;
 }
@@ -26,11 +29,16 @@ loop-preserved c = record {
 pub returns-in_err-path-clause-read : goal.returns-in_err-path-clause-read
 returns-in_err-path-clause-read c =
     let p = err_from_is_err_and c.from_residual.result c.from_residual.ensures.1 in
-    rw (p.1, p.2) (filled_no_more entry values_in with_values values_same values_twice c.args.template.now c.loop.template c.in_err-path.field-0.0 c.args.count c.loop.counter c.loop.rest.now ((each (entry c.args.template.now) c.args.count []).read c.args.bytes.now)
+    rw (p.1, p.2) (filled_no_more entry values_in with_values values_same values_twice c.args.template.now
+    c.loop.template c.in_err-path.field-0.0 c.args.count c.loop.counter c.loop.rest.now
+    ((each (entry c.args.template.now) c.args.count []).read c.args.bytes.now)
     c.loop-test.true c.in_err-path.ensures.read c.loop.invariant.filled)
 
 pub returns-clause-read : goal.returns-clause-read
-returns-clause-read c = filled_done entry values_in with_values c.args.template.now c.loop.template c.args.count c.loop.counter c.loop.rest.now ((each (entry c.args.template.now) c.args.count []).read c.args.bytes.now) c.loop-test.false c.loop.invariant.filled
+returns-clause-read c =
+    filled_done entry values_in with_values c.args.template.now c.loop.template c.args.count c.loop.counter
+    c.loop.rest.now ((each (entry c.args.template.now) c.args.count []).read c.args.bytes.now) c.loop-test.false
+    c.loop.invariant.filled
 
 pub returns-clause-made : goal.returns-clause-made
 returns-clause-made c = c.loop.invariant.filled.1

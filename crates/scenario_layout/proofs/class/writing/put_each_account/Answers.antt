@@ -5,7 +5,12 @@ use Rattle.scenario_layout.proofs.class.writing.put_each_account.Goals as goal
 
 pub loop-number-preserved : goal.loop-number-preserved
 unfolding account
-loop-number-preserved c = writes_on account c.args.list.now c.loop-number.number-index _ c.args.out.now.items c.loop-number.out.items c.put_u16.new.out.items c.loop-number-test.true (get_or_default c.args.list.now c.loop-number.number-index _ _ c.loop-number-test.true) c.in_ok-put_u16.ensures.ok c.loop-number.invariant
+loop-number-preserved c =
+    writes_on account c.args.list.now c.loop-number.number-index _ c.args.out.now.items c.loop-number.out.items
+    c.put_u16.new.out.items c.loop-number-test.true
+    (get_or_default c.args.list.now c.loop-number.number-index _ _ c.loop-number-test.true)
+    c.in_ok-put_u16.ensures.ok c.loop-number.invariant
 
 pub returns : goal.returns
-returns c = all_written account c.args.list.now c.loop-number.number-index c.args.out.now.items c.loop-number.out.items c.requires c.loop-number-test.false c.loop-number.invariant
+returns c = all_written account c.args.list.now c.loop-number.number-index c.args.out.now.items c.loop-number.out.items
+    c.requires c.loop-number-test.false c.loop-number.invariant

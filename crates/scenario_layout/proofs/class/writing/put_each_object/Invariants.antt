@@ -5,4 +5,5 @@ use Rattle.scenario_layout.specs.Class as layout
 use Rattle.scenario_layout.proofs.class.writing.put_each_object.Given as goal
 
 abbrev pub invariant-loop-object : goal.invariant-loop-object
-invariant-loop-object l = (k : Template) → l.out.items ≡ l.fn.out.items ++ spelled (layout.object k) [] (take l.object-index l.list)
+invariant-loop-object l =
+    (k : Template) → l.out.items ≡ l.fn.out.items ++ spelled (layout.object k) [] (take l.object-index l.list)

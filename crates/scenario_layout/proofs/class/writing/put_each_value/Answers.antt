@@ -5,10 +5,17 @@ use Rattle.scenario_layout.proofs.Shown.{shown_good, shown_on, shown_all}
 use Rattle.scenario_layout.proofs.class.writing.put_each_value.Goals as goal
 
 pub put_entry-requires : goal.put_entry-requires
-put_entry-requires c = shown_good c.args.list.now c.loop-path.path-index c.loop-path-item.result c.requires c.loop-path-test.true c.loop-path-item.is
+put_entry-requires c =
+    shown_good c.args.list.now c.loop-path.path-index c.loop-path-item.result c.requires c.loop-path-test.true
+    c.loop-path-item.is
 
 pub loop-path-preserved : goal.loop-path-preserved
-loop-path-preserved c = λ k. shown_on (entry k) c.args.list.now c.loop-path.path-index c.loop-path-item.result c.args.out.now.items c.loop-path.out.items c.put_entry.new.out.items c.loop-path-test.true c.loop-path-item.is (c.in_ok-put_entry.ensures k (shown_pairs (take c.loop-path.path-index c.args.list.now))) (c.loop-path.invariant k)
+loop-path-preserved c =
+    λ k. shown_on (entry k) c.args.list.now c.loop-path.path-index c.loop-path-item.result c.args.out.now.items
+    c.loop-path.out.items c.put_entry.new.out.items c.loop-path-test.true c.loop-path-item.is
+    (c.in_ok-put_entry.ensures k (shown_pairs (take c.loop-path.path-index c.args.list.now)))
+    (c.loop-path.invariant k)
 
 pub returns : goal.returns
-returns c = λ k good. shown_all (entry k) c.args.list.now c.loop-path.path-index c.args.out.now.items c.loop-path.out.items good c.loop-path-test.false (c.loop-path.invariant k)
+returns c = λ k good. shown_all (entry k) c.args.list.now c.loop-path.path-index c.args.out.now.items
+    c.loop-path.out.items good c.loop-path-test.false (c.loop-path.invariant k)

@@ -11,5 +11,6 @@ compare_exchange-requires g c = let saw = c.load-ticket.ensures.2 in let same =
     saw.other c.if-ticket-eq-LAST.false ∙ c.loop.invariant.2 in let most = saw.most in (
       search rules,
       search rules,
-      draws g.T.Logged.log _ _ _ _ c.load-ticket.result (omega arith) (ap (λ m. is_resting m.0.stage) same ∙ c.requires.1),
+      draws g.T.Logged.log _ _ _ _ c.load-ticket.result (omega arith)
+          (ap (λ m. is_resting m.0.stage) same ∙ c.requires.1),
     )
