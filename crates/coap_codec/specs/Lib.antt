@@ -2,3 +2,4 @@ pub mod Message
 pub mod Fault
 pub mod Reading
 pub mod Number
+pub mod Options

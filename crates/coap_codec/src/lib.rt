@@ -9,6 +9,7 @@ mod laws;
 mod message;
 mod number;
 mod option;
+pub mod option_number;
 mod reading;
 mod writing;
 

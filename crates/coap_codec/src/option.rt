@@ -1,5 +1,7 @@
-ghost use Rattle.std.specs.Prelude.{◌≡◌, ◌++◌, ◌∷◌, ◌↔◌, [], length, IsTrue, OnOk, OnErr};
+ghost use Rattle.std.specs.Prelude.{◌≡◌, ◌++◌, ◌∷◌, ◌↔◌, [], length, is_some, true, IsTrue, OnOk, OnErr};
+ghost use Rattle.coap_codec.specs.Options.{number_option};
 
+use crate::number::uint_bytes;
 use octets::Bytes;
 use std::alloc::{AllocError, Global};
 use std::marker::Model;
@@ -52,6 +54,41 @@ impl Options {
     {
         self.items.push(option)?;
         Ok(())
+    }
+
+    /// One more option, whose value is this number in the fewest bytes, after the others; or none.
+    pub fn push_number(
+        &mut self,
+        alloc: Global,
+        number: u16,
+        value: Option<u32>,
+    ) -> Result<(), AllocError>
+        ensures ok { OnOk result (self.new ≡ self.old ++ number_option number value) }
+        ensures err { OnErr result (self.new ≡ self.old) }
+        ensures grows { OnErr result (is_some value ≡ true) }
+    {
+        let Some(value) = value else {
+            return Ok(());
+        };
+        let value = uint_bytes(alloc, value)?;
+        self.push(Opt { number, value })
+    }
+
+    /// The same for a number of 16 bits.
+    pub fn push_short_number(
+        &mut self,
+        alloc: Global,
+        number: u16,
+        value: Option<u16>,
+    ) -> Result<(), AllocError>
+        ensures ok { OnOk result (self.new ≡ self.old ++ number_option number value) }
+        ensures err { OnErr result (self.new ≡ self.old) }
+        ensures grows { OnErr result (is_some value ≡ true) }
+    {
+        let Some(value) = value else {
+            return Ok(());
+        };
+        self.push_number(alloc, number, Some(u32::from(value)))
     }
 
     /// The options, lent.

@@ -15,12 +15,11 @@ use byte_layout::{
     put_u8, put_u16, put_u32, u8_at, u8_at_most, u16_at, u16_at_most, u32_at,
 };
 use lwm2m_values::Value;
-use object_defs::{InstancePath, Ops, Path, ResourceDef};
+use object_defs::{InstancePath, Ops, Path, ResourceDef, path_text};
 use scenario_layout::{
     kind_at, path_at, place_at, put_kind, put_path, put_place, put_resources, put_value,
     resources_at, value_at,
 };
-use scenario_words::path_word;
 use std::alloc::{AllocError, Global};
 
 /// The answer to a question of this subject, or `None` where the subject is none of this module's.
@@ -195,7 +194,7 @@ fn named_field_at<'a>(
         "instance" => {
             let (place, rest) = place_at(bytes)?;
             let path = Path::Instance(place.object, place.instance);
-            Ok((path_word(alloc, path)?, rest))
+            Ok((path_text(alloc, path)?, rest))
         }
         "path" => {
             let (path, rest) = path_at(bytes)?;

@@ -7,9 +7,8 @@ use crate::forms::{
 use crate::notifying::{change_of, name, name_word};
 use crate::places::{add, listed, only_path, path, yes_no};
 use notifier::{Attributes, Change, Name, Observations, ObserveFault, Report, WriteFault};
-use object_defs::Path;
+use object_defs::{Path, path_text};
 use octets::Bytes;
-use scenario_words::path_word;
 use std::alloc::{AllocError, Global};
 
 /// The answer to a question of this subject, or `None` where the subject is none of this module's.
@@ -116,7 +115,7 @@ fn number_text(alloc: Global, number: Option<i64>) -> Result<String, Unanswered>
 fn attributes_text(alloc: Global, items: &[(Path, Name, i64)]) -> Result<String, AllocError> {
     let mut list = String::new(alloc);
     for (path, name, number) in items {
-        let path = path_word(alloc, *path)?;
+        let path = path_text(alloc, *path)?;
         let name = name_word(*name);
         let number = signed(alloc, *number)?;
         add(&mut list, ", ", path.as_str())?;

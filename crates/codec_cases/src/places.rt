@@ -2,8 +2,7 @@
 
 use crate::forms::{Unanswered, decimal, end, put_text, text, word};
 use lwm2m_values::Text;
-use object_defs::{FullPath, InstancePath, Path, ResourcePath};
-use scenario_words::path_word;
+use object_defs::{FullPath, InstancePath, Path, ResourcePath, path_text};
 use std::alloc::{AllocError, Global};
 
 /// The first word as a path, and the words after it.
@@ -53,8 +52,8 @@ pub fn only_resource(rest: &str) -> Result<ResourcePath, Unanswered> {
 pub fn full_path_word(alloc: Global, path: FullPath) -> Result<String, AllocError> {
     let (object, instance, resource) = (path.object, path.instance, path.resource);
     match path.part {
-        None => path_word(alloc, Path::Resource(object, instance, resource)),
-        Some(part) => path_word(alloc, Path::Part(object, instance, resource, part)),
+        None => path_text(alloc, Path::Resource(object, instance, resource)),
+        Some(part) => path_text(alloc, Path::Part(object, instance, resource, part)),
     }
 }
 

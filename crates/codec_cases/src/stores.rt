@@ -8,8 +8,7 @@ use crate::places::{
 use crate::values::{value_at, value_words};
 use instance_store::{Store, StoreFault};
 use lwm2m_values::Value;
-use object_defs::{FullPath, InstancePath, Path, ResourcePath};
-use scenario_words::path_word;
+use object_defs::{FullPath, InstancePath, Path, ResourcePath, path_text};
 use std::alloc::{AllocError, Global};
 
 /// The answer to a question of this subject, or `None` where the subject is none of this module's.
@@ -307,7 +306,7 @@ fn values_text(alloc: Global, values: &[(FullPath, &Value)]) -> Result<String, A
 fn places_text(alloc: Global, places: &[InstancePath]) -> Result<String, AllocError> {
     let mut list = String::new(alloc);
     for place in places {
-        let path = path_word(alloc, Path::Instance(place.object, place.instance))?;
+        let path = path_text(alloc, Path::Instance(place.object, place.instance))?;
         add(&mut list, ",", path.as_str())?;
     }
     listed(alloc, list)

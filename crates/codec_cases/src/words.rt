@@ -2,10 +2,10 @@
 
 use crate::forms::{self, Unanswered};
 use crate::values;
-use object_defs::Path;
+use object_defs::{Path, path_text};
 use scenario_words::{
     Cause, end, hex_bytes, hex_word, integer, is_too_long, kind, natural, next_line, next_word,
-    path, path_word, quoted, quoted_word, spell, value,
+    path, quoted, quoted_word, spell, value,
 };
 use std::alloc::{AllocError, Global};
 
@@ -108,7 +108,7 @@ fn path_of(alloc: Global, rest: &str) -> Result<String, Unanswered> {
         Ok((path, _)) => path,
         Err(cause) => return refused(alloc, cause),
     };
-    let word = path_word(alloc, path)?;
+    let word = path_text(alloc, path)?;
     Ok(forms::joined(alloc, &[path_kind(path), " ", word.as_str()])?)
 }
 

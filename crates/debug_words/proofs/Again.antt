@@ -7,7 +7,8 @@ use Rattle.object_defs.specs.declared.path.Path.{Path}
 use Rattle.scenario_words.specs.declared.cause.Cause.{Cause}
 use Rattle.scenario_words.specs.Reading.{◌>>=◌, Reads}
 use Rattle.scenario_words.specs.Number.{number_of}
-use Rattle.scenario_words.specs.PathWord.{IsPath, path_of, path_word}
+use Rattle.scenario_words.specs.PathWord.{IsPath, path_of}
+use Rattle.object_defs.specs.Path.{path_text}
 use Rattle.scenario_words.proofs.NumberLaws.{number_of-law}
 use Rattle.scenario_words.proofs.PathLaws.{path_law}
 use Rattle.debug_words.specs.declared.command.Command.{Command}
@@ -22,13 +23,13 @@ use Rattle.debug_words.proofs.Found.{found}
 number_again : (high n : ℕ) → high < 2 ^ 64 → n ≤ high → number_of 0 high (decimal n) ≡ Ok n
 number_again high n small h = (number_of-law 0 high n (decimal n) small).1 (refl, omega arith, h)
 
-path_again : (p : Path) → IsPath p → path_of (path_word p) ≡ Ok p
-path_again p h = (path_law (path_word p) p).1 (refl, h)
+path_again : (p : Path) → IsPath p → path_of (path_text p) ≡ Ok p
+path_again p h = (path_law (path_text p) p).1 (refl, h)
 
 only_again : (high n : ℕ) → high < 2 ^ 64 → n ≤ high → only_number high (decimal n ∷ []) ≡ Ok n
 only_again high n small h = rw (number_again high n small h) refl
 
-pair_again : (d : ℕ) (p : Path) → d < 2 ^ 16 → IsPath p → device_and_path (decimal d ∷ path_word p ∷ []) ≡ Ok (d, p)
+pair_again : (d : ℕ) (p : Path) → d < 2 ^ 16 → IsPath p → device_and_path (decimal d ∷ path_text p ∷ []) ≡ Ok (d, p)
 pair_again d p small h = rw (number_again 65535 d (omega arith) (omega arith), path_again p h) refl
 
 abbrev becomes : {A B : Type 0} → (A → B) → A → Result B Cause

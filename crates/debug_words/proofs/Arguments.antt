@@ -11,7 +11,8 @@ use Rattle.scenario_words.specs.declared.cause.Cause.{Cause}
 use Rattle.scenario_words.specs.Reading.{◌>>=◌, word_by, ended}
 use Rattle.scenario_words.specs.Number.{number_of}
 use Rattle.scenario_words.specs.HexWord.{IsByte}
-use Rattle.scenario_words.specs.PathWord.{IsPath, path_of, path_word}
+use Rattle.scenario_words.specs.PathWord.{IsPath, path_of}
+use Rattle.object_defs.specs.Path.{path_text}
 use Rattle.scenario_words.proofs.NumberLaws.{number_of-law}
 use Rattle.scenario_words.proofs.PathLaws.{path_law}
 use Rattle.debug_words.specs.Reading.{only_number, device_and_path, byte_by, byte_of}
@@ -72,7 +73,7 @@ abbrev path_in : ℕ × Path → Path
 path_in x = x.1
 
 pub pair_read : (x : ℕ × Path) (ws : List (List ℕ)) → device_and_path ws ≡ Ok x
-    → (ws ≡ decimal x.0 ∷ path_word x.1 ∷ []) × (x.0 < 2 ^ 16) × IsPath x.1
+    → (ws ≡ decimal x.0 ∷ path_text x.1 ∷ []) × (x.0 < 2 ^ 16) × IsPath x.1
 pair_read x ws h =
     let first = taken (number_of 0 65535) ws
     (λ m. word_by path_of m.1 >>= (λ q. ended q.1 >>= (λ e. Ok (m.0, q.0)))) x h in

@@ -5,7 +5,8 @@ use Rattle.std.specs.Fmt.{decimal}
 use Rattle.object_defs.specs.declared.path.Path.{Path}
 use Rattle.scenario_words.specs.Reading.{◌>>=◌, word_by, ended}
 use Rattle.scenario_words.specs.Number.{number_of}
-use Rattle.scenario_words.specs.PathWord.{IsPath, path_word}
+use Rattle.scenario_words.specs.PathWord.{IsPath}
+use Rattle.object_defs.specs.Path.{path_text}
 use Rattle.scenario_words.proofs.PathLaws.{bind_ok}
 use Rattle.debug_words.specs.declared.command.Command.{Command}
 use Rattle.debug_words.specs.declared.command.Command.TheVariants as command
@@ -37,14 +38,14 @@ numbered Said f high y w name ws small said same h =
 
 placed : {A : Type 0} (Said : A → List (List ℕ) → Type 0) (f : ℕ → Path → A) (y : A) (w name : List ℕ)
     (ws : List (List ℕ))
-    → ((d : ℕ) (p : Path) → d < 2 ^ 16 → IsPath p → Said (f d p) (name ∷ decimal d ∷ path_word p ∷ []))
+    → ((d : ℕ) (p : Path) → d < 2 ^ 16 → IsPath p → Said (f d p) (name ∷ decimal d ∷ path_text p ∷ []))
     → w ≡ name → (device_and_path ws >>= (λ x. Ok (f x.0 x.1))) ≡ Ok y → Said y (w ∷ ws)
 placed Said f y w name ws said same h =
     let b = bind_ok (device_and_path ws) (λ x. Ok (f x.0 x.1)) y h in
     let pair = pair_read b.0 ws b.1 in
-    let all : name ∷ decimal b.0.0 ∷ path_word b.0.1 ∷ [] ≡ w ∷ ws = cc (same, pair.0) in
+    let all : name ∷ decimal b.0.0 ∷ path_text b.0.1 ∷ [] ≡ w ∷ ws = cc (same, pair.0) in
     let is : f b.0.0 b.0.1 ≡ y = cc (b.2) in
-    subst (λ v. Said y v) all (subst (λ z. Said z (name ∷ decimal b.0.0 ∷ path_word b.0.1 ∷ [])) is
+    subst (λ v. Said y v) all (subst (λ z. Said z (name ∷ decimal b.0.0 ∷ path_text b.0.1 ∷ [])) is
     (said b.0.0 b.0.1 pair.1 pair.2))
 
 -- ---- points

@@ -5,7 +5,7 @@ use Rattle.std.specs.List.{list_all}
 use Rattle.std.specs.Fmt.{decimal}
 use Rattle.std.proofs.lemmas.Bool.{and_from}
 use Rattle.scenario_words.specs.Words.{words}
-use Rattle.scenario_words.specs.PathWord.{path_word}
+use Rattle.object_defs.specs.Path.{path_text}
 use Rattle.scenario_words.specs.HexWord.{IsByte, IsHex, ArePairs, digit_of, hex_word}
 use Rattle.scenario_words.proofs.Pairs.{hex_written}
 use Rattle.scenario_statements.proofs.Plain.{is_bare, bare_words, decimal_bare, hex_bare, path_bare}
@@ -74,7 +74,7 @@ two_bare n w h k = and_from _ _ (decimal_bare n (omega arith)) (and_from _ _ k r
 point_bare : (p : Point) → IsPoint p → list_all is_bare (point_words p) ≡ true
 point_bare (point.At n) h = and_from _ _ refl (number_bare n h)
 point_bare (point.Step d k) h = and_from _ _ refl (two_bare d (decimal k) h.0 (decimal_bare k (omega (arith, h.1))))
-point_bare (point.Changed d p) h = and_from _ _ refl (two_bare d (path_word p) h.0 (path_bare p h.1))
+point_bare (point.Changed d p) h = and_from _ _ refl (two_bare d (path_text p) h.0 (path_bare p h.1))
 point_bare (point.Code d c) h = and_from _ _ refl (two_bare d (hex_word (c ∷ [])) h.0 (hex_bare (c ∷ [])))
 point_bare (point.Notified d) h = and_from _ _ refl (number_bare d (omega arith))
 
@@ -85,7 +85,7 @@ bare (command.Back n) h = and_from _ _ refl (number_bare n h)
 bare (command.Break p) h = and_from _ _ refl (point_bare p h)
 bare (command.Clear id) h = and_from _ _ refl (number_bare id (omega arith))
 bare command.Resume h = refl
-bare (command.Value d p) h = and_from _ _ refl (two_bare d (path_word p) h.0 (path_bare p h.1))
+bare (command.Value d p) h = and_from _ _ refl (two_bare d (path_text p) h.0 (path_bare p h.1))
 bare (command.Observations d) h = and_from _ _ refl (number_bare d (omega arith))
 bare (command.Outputs d) h = and_from _ _ refl (number_bare d (omega arith))
 bare command.Help h = refl

@@ -3,7 +3,8 @@ use Rattle.std.specs.Prelude.{◌≡◌, ◌<◌, ◌^◌, ◌==◌, ◌&&◌, �
 use Rattle.std.specs.List.{list_all}
 use Rattle.std.specs.Fmt.{decimal}
 use Rattle.scenario_words.specs.HexWord.{IsByte}
-use Rattle.scenario_words.specs.PathWord.{IsPath, path_word}
+use Rattle.scenario_words.specs.PathWord.{IsPath}
+use Rattle.object_defs.specs.Path.{path_text}
 use Rattle.scenario_words.specs.Words.{words}
 use Rattle.debug_words.specs.declared.command.Command.{Command}
 use Rattle.debug_words.specs.declared.command.Command.TheVariants as command
@@ -16,7 +17,7 @@ IsBreakSaidBy (point.At n) ws = (ws ≡ codes "break" ∷ codes "at" ∷ decimal
 IsBreakSaidBy (point.Step d k) ws =
     (ws ≡ codes "break" ∷ codes "step" ∷ decimal d ∷ decimal k ∷ []) × (d < 2 ^ 16) × (k < 2 ^ 32)
 IsBreakSaidBy (point.Changed d p) ws =
-    (ws ≡ codes "break" ∷ codes "changed" ∷ decimal d ∷ path_word p ∷ []) × (d < 2 ^ 16) × IsPath p
+    (ws ≡ codes "break" ∷ codes "changed" ∷ decimal d ∷ path_text p ∷ []) × (d < 2 ^ 16) × IsPath p
 IsBreakSaidBy (point.Code d c) ws =
     (high : ℕ) × (low : ℕ) × (ws ≡ codes "break" ∷ codes "code" ∷ decimal d ∷ (high ∷ low ∷ []) ∷ []) × (d < 2 ^ 16)
     × IsByte c high low
@@ -30,7 +31,7 @@ IsSaidBy (command.Back n) ws = (ws ≡ codes "back" ∷ decimal n ∷ []) × (n 
 IsSaidBy (command.Break p) ws = IsBreakSaidBy p ws
 IsSaidBy (command.Clear id) ws = (ws ≡ codes "clear" ∷ decimal id ∷ []) × (id < 2 ^ 8)
 IsSaidBy command.Resume ws = ws ≡ codes "resume" ∷ []
-IsSaidBy (command.Value d p) ws = (ws ≡ codes "value" ∷ decimal d ∷ path_word p ∷ []) × (d < 2 ^ 16) × IsPath p
+IsSaidBy (command.Value d p) ws = (ws ≡ codes "value" ∷ decimal d ∷ path_text p ∷ []) × (d < 2 ^ 16) × IsPath p
 IsSaidBy (command.Observations d) ws = (ws ≡ codes "obs" ∷ decimal d ∷ []) × (d < 2 ^ 16)
 IsSaidBy (command.Outputs d) ws = (ws ≡ codes "out" ∷ decimal d ∷ []) × (d < 2 ^ 16)
 IsSaidBy command.Help ws = ws ≡ codes "help" ∷ []

@@ -3,7 +3,8 @@ use Rattle.std.specs.Prelude.{◌<◌, ◌^◌, ℕ, List, [], ◌∷◌, codes}
 use Rattle.std.specs.List.{join_with_byte}
 use Rattle.std.specs.Fmt.{decimal}
 use Rattle.scenario_words.specs.HexWord.{hex_word}
-use Rattle.scenario_words.specs.PathWord.{IsPath, path_word}
+use Rattle.scenario_words.specs.PathWord.{IsPath}
+use Rattle.object_defs.specs.Path.{path_text}
 use Rattle.debug_words.specs.declared.command.Command.{Command}
 use Rattle.debug_words.specs.declared.command.Command.TheVariants as command
 use Rattle.debug_words.specs.declared.command.Point.{Point}
@@ -35,7 +36,7 @@ IsCommand command.Quit = Unit {0}
 abbrev pub point_words : Point → List (List ℕ)
 point_words (point.At n) = codes "at" ∷ decimal n ∷ []
 point_words (point.Step d k) = codes "step" ∷ decimal d ∷ decimal k ∷ []
-point_words (point.Changed d p) = codes "changed" ∷ decimal d ∷ path_word p ∷ []
+point_words (point.Changed d p) = codes "changed" ∷ decimal d ∷ path_text p ∷ []
 point_words (point.Code d c) = codes "code" ∷ decimal d ∷ hex_word (c ∷ []) ∷ []
 point_words (point.Notified d) = codes "notified" ∷ decimal d ∷ []
 
@@ -47,7 +48,7 @@ words_of (command.Back n) = codes "back" ∷ decimal n ∷ []
 words_of (command.Break p) = codes "break" ∷ point_words p
 words_of (command.Clear id) = codes "clear" ∷ decimal id ∷ []
 words_of command.Resume = codes "resume" ∷ []
-words_of (command.Value d p) = codes "value" ∷ decimal d ∷ path_word p ∷ []
+words_of (command.Value d p) = codes "value" ∷ decimal d ∷ path_text p ∷ []
 words_of (command.Observations d) = codes "obs" ∷ decimal d ∷ []
 words_of (command.Outputs d) = codes "out" ∷ decimal d ∷ []
 words_of command.Help = codes "help" ∷ []

@@ -12,7 +12,7 @@ ghost use Rattle.debugger.specs.Session.{AreAt, AreCounted};
 ghost use Rattle.debugger.specs.Moves.{HasSteps, IsMoved, AreMoved, placed};
 
 use device_machine::Device;
-use fleet_core::{make_step, step_of};
+use fleet_core::{make_step, start_of_row, step_of};
 use scenario_image::Scenario;
 use std::alloc::{AllocError, Global};
 use trace_file::Entry;
@@ -53,21 +53,6 @@ pub(crate) fn count_rows(
     let (passed, _) = entries.split_at(place);
     let made = count_entries(alloc, rows, passed)?;
     Ok(made)
-}
-
-/// A device at the start of its row.
-fn start_of_row(scenario: &Scenario, device: u16) -> Result<Device, AllocError>
-    requires { device < length scenario.now.rows }
-    ensures { IfOk result (λ x. ShowsAfter scenario.now device 0 x) }
-{
-    let _rows = scenario.rows();
-    let Some((class, _)) = scenario.row(device) else {
-        unreachable!()
-    };
-    let Some(class) = scenario.class(class) else {
-        unreachable!()
-    };
-    Device::start(class)
 }
 
 /// Lets a device that has made the first steps of its row make those up to the last of these numbers.

@@ -1,11 +1,9 @@
 ghost use Rattle.std.specs.Prelude.{◌≡◌, ◌≢◌, ◌≤◌, ◌↔◌, true, false, OnOk, OnErr, IsTrue, IsFalse, IsErrOf, Err};
-ghost use Rattle.std.specs.Option.{option_copied};
 ghost use Rattle.object_defs.specs.Path.{single_of};
 ghost use Rattle.instance_store.specs.Stored.{Stored, has_instance, instance_of, resource_path, with_instance};
 ghost use Rattle.instance_store.specs.Stored.{without_values};
 ghost use Rattle.access_control.specs.Rights.{control};
-ghost use Rattle.lwm2m_payloads.specs.Changes.{is_kept_as, is_too_many, has_too_many, instance_written};
-ghost use Rattle.object_defs.specs.Catalogue.{resource_in};
+ghost use Rattle.lwm2m_payloads.specs.Changes.{is_too_many, has_too_many, instance_written};
 ghost use Rattle.object_defs.specs.declared.path.InstancePath.{InstancePath};
 ghost use Rattle.object_defs.specs.declared.path.ResourcePath.{ResourcePath};
 ghost use Rattle.lwm2m_payloads.specs.declared.given.Mode.TheVariants.{Replace};
@@ -15,7 +13,7 @@ ghost use Rattle.device_instances.specs.Creations.{with_created};
 
 use crate::number::free_number;
 use instance_store::{Store, StoreFault};
-use lwm2m_payloads::{Assignments, Given, Mode, write_instance};
+use lwm2m_payloads::{Assignments, Given, Mode, is_kept, write_instance};
 use lwm2m_values::Value;
 use object_defs::{InstancePath, ResourceDef, ResourcePath};
 use std::alloc::AllocError;
@@ -28,23 +26,6 @@ fn is_full(store: &Store, object: u16) -> bool
     ensures { result ≡ is_full store.now object }
 {
     store.instances(object).len() >= 64
-}
-
-/// The definition of the resource of this number, lent.
-fn definition_in(resources: &[ResourceDef], number: u16) -> Option<&ResourceDef>
-    ensures { option_copied result ≡ resource_in resources.now number }
-{
-    resources.iter().find(|r| r.id == number)
-}
-
-/// Whether values of the resource of this number are kept: those of a readable one.
-fn is_kept(resources: &[ResourceDef], number: u16) -> bool
-    ensures { result ≡ is_kept_as (resource_in resources.now number) }
-{
-    match definition_in(resources, number) {
-        Some(definition) => definition.ops.can_read(),
-        None => false,
-    }
 }
 
 /// Whether a new resource would have more than 32 parts.

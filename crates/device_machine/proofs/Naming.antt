@@ -8,7 +8,8 @@ use Rattle.coap_codec.specs.Message.{IsOptionList}
 use Rattle.coap_codec.specs.Number.{shortest}
 use Rattle.coap_codec.specs.declared.option.Opt.{Opt}
 use Rattle.object_defs.specs.declared.path.InstancePath.{InstancePath}
-use Rattle.device_notifications.specs.Message.{format_option, number_option}
+use Rattle.device_notifications.specs.Message.{format_option}
+use Rattle.coap_codec.specs.Options.{number_option}
 use Rattle.device_machine.specs.Reactions.{IsShort, answer_options, location_options}
 
 short_choice : (a b c d : Bool) (n : ℕ)

@@ -4,18 +4,15 @@ ghost use Rattle.std.specs.Prelude.{◌≡◌, ◌≤◌, ◌<◌, ◌∷◌, �
 ghost use Rattle.coap_codec.specs.Message.{IsOptionList, spelling};
 ghost use Rattle.device_machine.specs.declared.output.Output.TheVariants.{Send};
 ghost use Rattle.device_machine.specs.Reactions.{IsShort, answer_options, location_options, reset, response, sent_to};
-ghost use Rattle.device_notifications.specs.Message.{number_option};
 ghost use Rattle.std.specs.Fmt.{decimal};
 
 use crate::output::{Output, Outputs};
-use coap_codec::{Kind, Message, Opt, Options, encode, uint_bytes};
-use device_requests::{Answer, CONTENT_FORMAT, OBSERVE};
+use coap_codec::option_number::{CONTENT_FORMAT, LOCATION_PATH, OBSERVE};
+use coap_codec::{Kind, Message, Opt, Options, encode};
+use device_requests::Answer;
 use object_defs::InstancePath;
 use octets::Bytes;
 use std::alloc::{AllocError, Global};
-
-/// Location-Path (RFC 7252 section 5.10.7).
-const LOCATION_PATH: u16 = 8;
 
 /// A segment of Location-Path: a number in decimal.
 #[tactic(auto, using(crate::proofs::Naming::short_decimal))]
@@ -51,35 +48,6 @@ fn push_location(
     Ok(())
 }
 
-/// Adds an option with a number, if there is one, in the fewest bytes.
-fn push_number(
-    alloc: Global,
-    options: &mut Options,
-    option: u16,
-    number: Option<u32>,
-) -> Result<(), AllocError>
-    ensures options { OnOk result (options.new ≡ options.old ++ number_option option number) }
-    ensures grows { OnErr result (is_some number ≡ true) }
-{
-    let Some(number) = number else {
-        return Ok(());
-    };
-    let value = uint_bytes(alloc, number)?;
-    options.push(Opt {
-        number: option,
-        value,
-    })?;
-    Ok(())
-}
-
-/// The number of a format.
-fn widened(format: Option<u16>) -> Option<u32>
-    ensures { result ≡ format }
-{
-    let format = format?;
-    Some(u32::from(format))
-}
-
 /// Observe, Location-Path and Content-Format, in the order of their numbers.
 #[tactic(auto, using(crate::proofs::Naming::in_order))]
 fn answer_options(
@@ -92,9 +60,9 @@ fn answer_options(
     ensures good { IfOk result (λ o. IsOptionList 0 (answer_options number location format)) }
 {
     let mut options = Options::new(alloc);
-    push_number(alloc, &mut options, OBSERVE, number)?;
+    options.push_number(alloc, OBSERVE, number)?;
     push_location(alloc, &mut options, location)?;
-    push_number(alloc, &mut options, CONTENT_FORMAT, widened(format))?;
+    options.push_short_number(alloc, CONTENT_FORMAT, format)?;
     Ok(options)
 }
 

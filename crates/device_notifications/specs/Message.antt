@@ -1,18 +1,13 @@
 -- The messages of an observation (RFC 7641 section 4).
 use Rattle.std.specs.Prelude.{ℕ, List, [], ◌∷◌, ◌++◌, Option, None, Some}
 use Rattle.coap_codec.specs.Message.{Message, spelling}
-use Rattle.coap_codec.specs.Number.{shortest}
+use Rattle.coap_codec.specs.Options.{number_option}
 use Rattle.coap_codec.specs.declared.kind.Kind.TheVariants.{Non}
 use Rattle.coap_codec.specs.declared.option.Opt.{Opt}
 use Rattle.notifier.specs.declared.observation.Observation.{Observation}
 use Rattle.device_requests.specs.Answer.{code_byte}
 use Rattle.device_requests.specs.declared.answer.Answer.{Answer}
 use Rattle.device_notifications.specs.declared.datagram.Datagram.{Datagram}
-
--- an option of this number, in the fewest bytes, where there is one
-abbrev pub number_option : ℕ → Option ℕ → List Opt
-number_option option None = []
-number_option option (Some n) = record { number = option; value = shortest n } ∷ []
 
 -- Observe with this number, and Content-Format
 abbrev pub observe_option : Option ℕ → List Opt

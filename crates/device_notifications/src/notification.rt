@@ -3,48 +3,15 @@
 ghost use Rattle.std.specs.Prelude.{◌≡◌, ◌++◌, ℕ, Option, IfOk, OnOk};
 ghost use Rattle.coap_codec.specs.Message.{IsOptionList, spelling};
 ghost use Rattle.notifier.specs.Observed.{HasToken};
-ghost use Rattle.device_notifications.specs.Message.{datagram_of, format_option, notification, number_option};
-ghost use Rattle.device_notifications.specs.Message.{observe_option};
+ghost use Rattle.device_notifications.specs.Message.{datagram_of, format_option, notification, observe_option};
 
 use crate::datagram::Datagram;
-use coap_codec::{Kind, Message, Opt, Options, encode, uint_bytes};
-use device_requests::{Answer, CONTENT_FORMAT};
+use coap_codec::option_number::{CONTENT_FORMAT, OBSERVE};
+use coap_codec::{Kind, Message, Options, encode};
+use device_requests::Answer;
 use notifier::Observation;
 use octets::Bytes;
 use std::alloc::{AllocError, Global};
-
-/// Observe (RFC 7641 section 2).
-const OBSERVE: u16 = 6;
-
-/// Adds an option with a number, where there is one.
-fn push_number(
-    alloc: Global,
-    options: &mut Options,
-    option: u16,
-    number: Option<u32>,
-) -> Result<(), AllocError>
-    ensures { OnOk result (options.new ≡ options.old ++ number_option option number) }
-{
-    let Some(number) = number else {
-        return Ok(());
-    };
-    let value = uint_bytes(alloc, number)?;
-    options.push(Opt {
-        number: option,
-        value,
-    })?;
-    Ok(())
-}
-
-/// The number of a format as that of an option.
-fn widened(format: Option<u16>) -> Option<u32>
-    ensures { result ≡ format }
-{
-    match format {
-        Some(format) => Some(u32::from(format)),
-        None => None,
-    }
-}
 
 /// Observe and Content-Format, in the order of their numbers.
 fn options_of(
@@ -55,8 +22,8 @@ fn options_of(
     ensures { IfOk result (λ o. o ≡ observe_option number ++ format_option format) }
 {
     let mut options = Options::new(alloc);
-    push_number(alloc, &mut options, OBSERVE, number)?;
-    push_number(alloc, &mut options, CONTENT_FORMAT, widened(format))?;
+    options.push_number(alloc, OBSERVE, number)?;
+    options.push_short_number(alloc, CONTENT_FORMAT, format)?;
     Ok(options)
 }
 

@@ -17,7 +17,7 @@ use Rattle.object_defs.specs.declared.path.Path.TheVariants.{Object, Instance, R
 use Rattle.instance_store.specs.Stored.{Stored, instances_of, parts_of}
 use Rattle.device_requests.specs.Client.{Client}
 use Rattle.device_requests.specs.Targets.{defined, exists, is_multiple, resource_place}
-use Rattle.object_defs.specs.Path.{object_in}
+use Rattle.object_defs.specs.Path.{object_in, path_text}
 use Rattle.device_requests.specs.declared.answer.Answer.{Answer}
 use Rattle.device_requests.specs.declared.answer.Code.{Code}
 use Rattle.device_requests.specs.declared.answer.Code.TheVariants.{Unauthorized, NotFound, InternalServerError}
@@ -48,11 +48,6 @@ abbrev pub linked : List ObjectDef → Stored → Path → List Path
 linked catalogue stored path = path ∷ paths_below catalogue stored path
 
 -- a path as `/3/0/9`
-abbrev pub path_text : Path → List ℕ
-path_text (Object o) = 47 ∷ decimal o
-path_text (Instance o i) = 47 ∷ decimal o ++ 47 ∷ decimal i
-path_text (Resource o i r) = 47 ∷ decimal o ++ (47 ∷ decimal i ++ 47 ∷ decimal r)
-path_text (Part o i r n) = 47 ∷ decimal o ++ (47 ∷ decimal i ++ (47 ∷ decimal r ++ 47 ∷ decimal n))
 
 -- how many parts a multiple resource holds
 abbrev pub dimension : List ObjectDef → Stored → Path → ℕ

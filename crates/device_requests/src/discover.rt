@@ -6,7 +6,7 @@ ghost use Rattle.device_requests.specs.Answer.{takes_memory};
 ghost use Rattle.device_requests.specs.Discover.{attribute_text, attributes_text, behind, dimension, dimension_text};
 ghost use Rattle.device_requests.specs.Discover.{discover_answer, existing, fraction_text, inherits_at, instance_paths};
 ghost use Rattle.device_requests.specs.Discover.{is_period, link, linked, links_text, more_links, name_text};
-ghost use Rattle.device_requests.specs.Discover.{number_text, path_text, paths_below, shown_attribute, shown_number};
+ghost use Rattle.device_requests.specs.Discover.{number_text, paths_below, shown_attribute, shown_number};
 ghost use Rattle.device_requests.specs.Discover.{thousandths_text, unsigned_text};
 ghost use Rattle.device_requests.specs.Targets.{exists};
 
@@ -17,28 +17,12 @@ use crate::operation::LINK_FORMAT;
 use crate::targets::{defined, definition_at, exists, is_multiple, resource_place};
 use instance_store::Store;
 use notifier::{Attributes, Name};
-use object_defs::{Catalog, InstancePath, Path, ResourceDef};
+use object_defs::{Catalog, InstancePath, Path, ResourceDef, path_text};
 use octets::Bytes;
 use std::alloc::{AllocError, Global};
 
 /// The greatest payload of a reply, in bytes (this profile).
 const LARGEST_PAYLOAD: usize = 1024;
-
-/// A path as `/3/0/9`.
-fn path_text(alloc: Global, path: Path) -> Result<String, AllocError>
-    ensures { IfOk result (λ t. string_bytes t ≡ path_text path) }
-{
-    match path {
-        Path::Object(object) => format!(in alloc; "/{object}"),
-        Path::Instance(object, instance) => format!(in alloc; "/{object}/{instance}"),
-        Path::Resource(object, instance, resource) => {
-            format!(in alloc; "/{object}/{instance}/{resource}")
-        }
-        Path::Part(object, instance, resource, part) => {
-            format!(in alloc; "/{object}/{instance}/{resource}/{part}")
-        }
-    }
-}
 
 /// How many parts a multiple resource holds.
 fn dimension(catalog: &Catalog, store: &Store, path: Path) -> usize

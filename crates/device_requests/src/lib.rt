@@ -28,4 +28,4 @@ pub use laws::{
 };
 pub use observe::{Interest, interest_of};
 pub use operation::Operation;
-pub use options::{CONTENT_FORMAT, OBSERVE, has_unrecognized_critical};
+pub use options::has_unrecognized_critical;

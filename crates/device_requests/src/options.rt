@@ -7,25 +7,11 @@ ghost use Rattle.device_requests.specs.Options.{has_unrecognized_critical, short
 ghost use Rattle.device_requests.specs.Options.{has_query, observe_number, observe_of, segments_of, path_of, path_from};
 ghost use Rattle.device_requests.specs.Inside.{numbers_in};
 
+use coap_codec::option_number::{
+    ACCEPT, CONTENT_FORMAT, OBSERVE, URI_HOST, URI_PATH, URI_PORT, URI_QUERY,
+};
 use coap_codec::{Opt, uint};
 use object_defs::{Path, decimal_number};
-
-const URI_HOST: u16 = 3;
-
-/// The option Observe.
-pub const OBSERVE: u16 = 6;
-
-const URI_PORT: u16 = 7;
-
-const URI_PATH: u16 = 11;
-
-/// The option Content-Format.
-pub const CONTENT_FORMAT: u16 = 12;
-
-/// The option Uri-Query.
-pub(crate) const URI_QUERY: u16 = 15;
-
-const ACCEPT: u16 = 17;
 
 /// Whether the option is a recognized one whose value has a length that this one may have.
 fn has_known_form(option: &Opt) -> bool

@@ -5,6 +5,7 @@ use Rattle.lwm2m_values.specs.declared.kind.ValueKind.{ValueKind}
 use Rattle.lwm2m_values.specs.declared.kind.ValueKind.TheVariants as kind
 use Rattle.lwm2m_values.specs.declared.value.Value.{Value}
 use Rattle.lwm2m_values.specs.declared.value.Value.TheVariants.{Text, Whole, Flag, Opaque, Moment, Link}
+use Rattle.lwm2m_values.specs.Value.{has_good_length}
 use Rattle.object_defs.specs.Catalogue.{object_of, resource_in}
 use Rattle.object_defs.specs.Operations.{can_read}
 use Rattle.object_defs.specs.declared.definition.ObjectDef.{ObjectDef}
@@ -24,15 +25,6 @@ has_kind (Moment _) kind.Moment = true
 has_kind (Link _ _) kind.Link = true
 has_kind value kind = false
 
--- Text has at most 255 bytes, Opaque at most 1,024
-abbrev pub is_within_limits : Value → Bool
-is_within_limits (Text t) = nat_le (length t) 255
-is_within_limits (Whole _) = true
-is_within_limits (Flag _) = true
-is_within_limits (Opaque b) = nat_le (length b) 1024
-is_within_limits (Moment _) = true
-is_within_limits (Link _ _) = true
-
 -- Package URI, State and Update Result, which the device itself sets at its start
 abbrev pub is_set_at_start : FullPath → Bool
 is_set_at_start p = p.object == 5 && (p.instance == 0 && (p.resource == 1 || (p.resource == 3 || p.resource == 5)))
@@ -50,7 +42,7 @@ fits_object p value (Some o) = fits_resource p value (resource_in o.resources p.
 
 -- a value within its limits, which the definition at its path takes
 abbrev pub fits : List ObjectDef → FullPath → Value → Bool
-fits catalogue p value = is_within_limits value && fits_object p value (object_of catalogue p.object)
+fits catalogue p value = has_good_length value && fits_object p value (object_of catalogue p.object)
 
 abbrev pub instance_at : FullPath → InstancePath
 instance_at p = record { object = p.object; instance = p.instance }

@@ -7,7 +7,8 @@ ghost use Rattle.device_template.specs.Template.{kind_taken, may_stand, object_f
 ghost use Rattle.device_template.specs.Template.{with_account, with_catalogue, with_idle_firmware, with_store};
 ghost use Rattle.device_template.specs.Built.{IsBuilt, IsShort};
 ghost use Rattle.lwm2m_values.specs.Value.{IsGood};
-ghost use Rattle.device_template.specs.Values.{has_kind, instance_at, is_one_too_many, is_within_limits, with_value_at};
+ghost use Rattle.device_template.specs.Values.{has_kind, instance_at, is_one_too_many, with_value_at};
+ghost use Rattle.lwm2m_values.specs.Value.{has_good_length};
 ghost use Rattle.lwm2m_values.specs.declared.kind.ValueKind.{ValueKind};
 ghost use Rattle.lwm2m_values.specs.declared.value.Value.{Value};
 ghost use Rattle.object_defs.specs.Vendor.{with_object, with_resource};
@@ -232,7 +233,7 @@ impl Template {
 
         // A value of that kind, within the limits of its length, is not refused.
         ensures taken { (kind : ValueKind) (value : Value) → result ≡ Some kind → has_kind value kind ≡ true
-            → is_within_limits value ≡ true
+            → has_good_length value ≡ true
             → value_fault_at self.now path value ≡ None }
     {
         let definition = self.catalog.resource(path.object, path.resource)?;

@@ -1,11 +1,10 @@
 //! When a value may stand at a path, and how it comes there.
 
 ghost use Rattle.std.specs.Prelude.{◌≡◌, ◌≢◌, ◌↔◌, IsErrOf, IsFalse, IsTrue, Err, OnOk, OnErr, Some};
-ghost use Rattle.lwm2m_values.specs.Value.{IsGood};
 ghost use Rattle.instance_store.specs.Stored.{has_instance, with_value};
 ghost use Rattle.device_template.specs.Template.{plain};
 ghost use Rattle.device_template.specs.Values.{fits, fits_resource, has_all_parts, has_kind, has_place, instance_at};
-ghost use Rattle.device_template.specs.Values.{is_one_too_many, is_set_at_start, is_within_limits, misses, resource_at};
+ghost use Rattle.device_template.specs.Values.{is_one_too_many, is_set_at_start, misses, resource_at};
 
 use instance_store::{Store, StoreFault};
 use lwm2m_values::{Text, Value, ValueKind};
@@ -24,30 +23,6 @@ pub(crate) fn plain(alloc: Global, kind: ValueKind) -> Value
         ValueKind::Opaque => Value::Opaque(Bytes::new(alloc)),
         ValueKind::Moment => Value::Moment(0),
         ValueKind::Link => Value::Link(0, 0),
-    }
-}
-
-/// Whether the value has a length that its kind may have: then it is a good one.
-fn is_within_limits(value: &Value) -> bool
-    ensures short { result ≡ is_within_limits value.now }
-    ensures good { IsTrue result → IsGood value.now }
-{
-    match value {
-        Value::Text(text) => text.as_str().len() <= 255,
-        Value::Opaque(bytes) => {
-            let bytes = bytes.as_slice();
-            bytes.len() <= 1024
-        }
-        Value::Whole(number) | Value::Moment(number) => {
-            // A number that is read is known to be in its type's range.
-            let _number = *number;
-            true
-        }
-        Value::Flag(_) => true,
-        Value::Link(object, instance) => {
-            let (_object, _instance) = (*object, *instance);
-            true
-        }
     }
 }
 
@@ -97,7 +72,7 @@ pub fn fits(catalog: &Catalog, path: FullPath, value: &Value) -> bool
     ensures fits { result ≡ fits catalog.now path value.now }
     ensures good { IsTrue result → IsGood value.now }
 {
-    if !is_within_limits(value) {
+    if !value.is_good() {
         return false;
     }
     match catalog.object(path.object) {

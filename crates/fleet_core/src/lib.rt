@@ -18,7 +18,7 @@ pub use laws::{
     blocks_follow, counts_add_up, devices_stand_alone, outputs_are_the_rows, runs_agree, runs_end,
     runs_grow, steps_are_taken,
 };
-pub use performing::{make_step, note_post, start_devices, step_of};
+pub use performing::{make_step, note_post, start_devices, start_of_row, step_of};
 pub use serial::run_serial;
 pub use trace_file::{Entries, Entry, OutputList, WriteFault, read_entries, write_entries};
 pub use verdict::Verdict;

@@ -26,7 +26,7 @@ pub fn step_of(scenario: &Scenario, device: u16, place: u32) -> Option<&Step>
 }
 
 /// A device at the start of a row.
-fn start_of_row(scenario: &Scenario, device: u16) -> Result<Device, AllocError>
+pub fn start_of_row(scenario: &Scenario, device: u16) -> Result<Device, AllocError>
     requires { device < length scenario.now.rows }
     ensures { IfOk result (λ x. (class : Template) (steps : List Step) → IsRowOf scenario.now device class steps
         → Shows x (start class)) }

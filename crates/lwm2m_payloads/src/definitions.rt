@@ -13,7 +13,7 @@ pub(crate) fn definition_in(resources: &[ResourceDef], id: u16) -> Option<&Resou
 }
 
 /// Whether the value of the resource of this number is kept: that of a write-only one isn't.
-pub(crate) fn is_kept(resources: &[ResourceDef], id: u16) -> bool
+pub fn is_kept(resources: &[ResourceDef], id: u16) -> bool
     ensures { result ≡ is_kept_as (resource_in resources.now id) }
 {
     match definition_in(resources, id) {

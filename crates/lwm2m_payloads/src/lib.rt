@@ -19,6 +19,7 @@ mod spelled;
 pub use arguments::are_arguments;
 pub use changes::{set_given, write_instance};
 pub use counts::{has_too_many, is_too_many};
+pub use definitions::is_kept;
 pub use format::{Format, format_for};
 pub use given::{Assignment, Assignments, Creation, Given, Mode, Parts, Purpose};
 pub use instance::{creation_given, instance_given};

@@ -1,6 +1,7 @@
 -- Values: their kinds, which are good, their plain text, their bytes, and their code, by which a finite map can hold
 -- them.
-use Rattle.std.specs.Prelude.{◌≡◌, ℕ, ◌<◌, ◌≤◌, ℤ, pos, negsuc, nat_lt, List, [], ◌∷◌, ◌++◌, length, Bool, true, false}
+use Rattle.std.specs.Prelude.{◌≡◌, ℕ, ◌<◌, ◌≤◌, ℤ, pos, negsuc, nat_le, nat_lt, List, [], ◌∷◌, ◌++◌, length, Bool, true}
+use Rattle.std.specs.Prelude.{false}
 use Rattle.std.specs.Prelude.{if◌then◌else◌, ◌⊎◌, refl}
 use Rattle.std.specs.Prelude.{neg_ℤ, FitsSigned}
 use Rattle.std.specs.Int.{Width, w8, w16, w32, w64, to_be_bytes, cast_unsigned}
@@ -25,6 +26,15 @@ kind_of (Flag _) = kind.Flag
 kind_of (Opaque _) = kind.Opaque
 kind_of (Moment _) = kind.Moment
 kind_of (Link _ _) = kind.Link
+
+-- Text has at most 255 bytes, Opaque at most 1,024
+abbrev pub has_good_length : Value → Bool
+has_good_length (Text t) = nat_le (length t) 255
+has_good_length (Whole _) = true
+has_good_length (Flag _) = true
+has_good_length (Opaque b) = nat_le (length b) 1024
+has_good_length (Moment _) = true
+has_good_length (Link _ _) = true
 
 -- whether a value of this kind holds a list of bytes, for which memory is taken
 abbrev pub holds_bytes : ValueKind → Bool

@@ -1,5 +1,5 @@
 ghost use Rattle.std.specs.Prelude.{◌≡◌, ◌↔◌, IfOk, IsTrue};
-ghost use Rattle.lwm2m_values.specs.Value.{kind_of, IsGood};
+ghost use Rattle.lwm2m_values.specs.Value.{has_good_length, kind_of, IsGood};
 
 use crate::kind::ValueKind;
 use crate::text::Text;
@@ -40,7 +40,8 @@ impl Value {
 
     /// Whether the value keeps to the lengths of its kind: a Text 255 bytes, an Opaque 1,024.
     pub fn is_good(&self) -> bool
-        ensures { IsTrue result ↔ IsGood self.now }
+        ensures good { IsTrue result ↔ IsGood self.now }
+        ensures length { result ≡ has_good_length self.now }
     {
         match self {
             Value::Text(text) => text.as_str().len() <= 255,

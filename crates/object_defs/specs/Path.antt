@@ -1,5 +1,6 @@
 -- Paths to values and to instances: their order, and their codes, by which a finite map has them as keys.
-use Rattle.std.specs.Prelude.{ℕ, Option, None, Some, refl}
+use Rattle.std.specs.Prelude.{ℕ, List, ◌∷◌, ◌++◌, Option, None, Some, refl}
+use Rattle.std.specs.Fmt.{decimal}
 use Rattle.std.specs.declared.cmp.Ordering.{Ordering}
 use Rattle.std.specs.Ordering.{nat_cmp, ordering_then}
 use Rattle.std.specs.Option.{option_cmp}
@@ -30,6 +31,13 @@ object_in (Object o) = o
 object_in (Instance o i) = o
 object_in (Resource o i r) = o
 object_in (Part o i r p) = o
+
+-- a path as it is written, such as `/3/0/9`: 47 is `/`
+abbrev pub path_text : Path → List ℕ
+path_text (Object o) = 47 ∷ decimal o
+path_text (Instance o i) = 47 ∷ (decimal o ++ 47 ∷ decimal i)
+path_text (Resource o i r) = 47 ∷ (decimal o ++ 47 ∷ (decimal i ++ 47 ∷ decimal r))
+path_text (Part o i r p) = 47 ∷ (decimal o ++ 47 ∷ (decimal i ++ 47 ∷ (decimal r ++ 47 ∷ decimal p)))
 
 -- by object, instance and resource, then the single value before the parts by their number
 abbrev pub path_cmp : FullPath → FullPath → Ordering

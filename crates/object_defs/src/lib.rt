@@ -12,4 +12,4 @@ pub use catalog::Catalog;
 pub use decimal::decimal_number;
 pub use definition::{ObjectDef, Ops, ResourceDef, Resources};
 pub use fault::CatalogFault;
-pub use path::{FullPath, InstancePath, Path, ResourcePath};
+pub use path::{FullPath, InstancePath, Path, ResourcePath, path_text};

@@ -1,5 +1,8 @@
-ghost use Rattle.std.specs.Prelude.{◌≡◌};
-ghost use Rattle.object_defs.specs.Path.{full_path, object_in, part_of, single_of};
+ghost use Rattle.std.specs.Prelude.{◌≡◌, IfOk};
+ghost use Rattle.std.specs.String.{string_bytes};
+ghost use Rattle.object_defs.specs.Path.{full_path, object_in, part_of, path_text, single_of};
+
+use std::alloc::{AllocError, Global};
 
 /// A path to an object, an object instance, a resource or a resource instance (a part), by their
 /// numbers (OMA LwM2M 1.1 Core).
@@ -104,6 +107,22 @@ impl Path {
                 resource,
                 part: Some(part),
             }),
+        }
+    }
+}
+
+/// A path as it is written, such as `/3/0/9`.
+pub fn path_text(alloc: Global, path: Path) -> Result<String, AllocError>
+    ensures { IfOk result (λ s. string_bytes s ≡ path_text path) }
+{
+    match path {
+        Path::Object(object) => format!(in alloc; "/{object}"),
+        Path::Instance(object, instance) => format!(in alloc; "/{object}/{instance}"),
+        Path::Resource(object, instance, resource) => {
+            format!(in alloc; "/{object}/{instance}/{resource}")
+        }
+        Path::Part(object, instance, resource, part) => {
+            format!(in alloc; "/{object}/{instance}/{resource}/{part}")
         }
     }
 }

@@ -32,7 +32,8 @@ use Rattle.scenario_layout.specs.Definition.{resource, resources}
 use Rattle.device_template.specs.Template.{Template, account_fault, empty_class, instance_fault, kind_taken}
 use Rattle.device_template.specs.Template.{kind_taken_by, object_fault, plain, value_fault, value_fault_at, may_stand}
 use Rattle.device_template.specs.Template.{with_account, with_catalogue, with_store}
-use Rattle.device_template.specs.Values.{fits_object, has_all_parts, has_place, is_within_limits, with_value_at}
+use Rattle.device_template.specs.Values.{fits_object, has_all_parts, has_place, with_value_at}
+use Rattle.lwm2m_values.specs.Value.{has_good_length}
 use Rattle.device_template.specs.Built.{IsBuilt}
 use Rattle.device_template.specs.declared.fault.TemplateFault.{TemplateFault}
 use Rattle.device_template.specs.declared.fault.TemplateFault.TheVariants as template
@@ -192,7 +193,7 @@ unfolding opaque
 short_opaque b h = below_test (length b) 1024 h.0.1
 
 -- a value that has a spelling is short
-spelled_short : (v : Value) → (of_kind (kind_of v)).Good v → is_within_limits v ≡ true
+spelled_short : (v : Value) → (of_kind (kind_of v)).Good v → has_good_length v ≡ true
 spelled_short (held.Text t) h = short_text t h.0
 spelled_short (held.Whole z) h = refl
 spelled_short (held.Flag b) h = refl
@@ -201,7 +202,7 @@ spelled_short (held.Moment z) h = refl
 spelled_short (held.Link o i) h = refl
 
 -- a value that may stand where a kind is taken is of that kind, and short
-of_kind_taken : (j : ValueKind) (v : Value) → (value (Some j)).Good v → (kind_of v ≡ j) × (is_within_limits v ≡ true)
+of_kind_taken : (j : ValueKind) (v : Value) → (value (Some j)).Good v → (kind_of v ≡ j) × (has_good_length v ≡ true)
 unfolding value
 of_kind_taken j v good =
     let same : number_of (kind_of v) ≡ number_of j = eqb-true (number_of (kind_of v)) (number_of j) good.0.1 in
@@ -234,7 +235,7 @@ judged_so k p w a =
     ) ∷ (has_all_parts k.store p, template.Full) ∷ [])
 
 value_free : (k : Template) (p : FullPath) (v : Value) (j : ValueKind) → kind_taken k p ≡ Some j → kind_of v ≡ j
-    → is_within_limits v ≡ true → value_fault_at k p v ≡ None
+    → has_good_length v ≡ true → value_fault_at k p v ≡ None
 value_free k p v j taken is short =
     let o = object_of k.catalogue p.object in
     ap (λ w. judged_so k p w (fits_object p v o)) short
@@ -259,16 +260,16 @@ not_both true h k = let e : true ≡ false = k in cc
 not_both false h k = let e : false ≡ true = h in cc
 
 value_taken : (s : Scenario) (o : Option ℕ) (k : Template) (p : FullPath) (v : Value) → value_fault_at k p v ≡ None
-    → is_within_limits v ≡ true
+    → has_good_length v ≡ true
     → effect (says.Value (path_to p) v) (opened s k o) ≡ Ok (opened s (with_store k (with_value k.store p v)) o)
 value_taken s o k p v free short =
     let full : full_path (path_to p) ≡ Some p = full_again p.object p.instance p.resource p.part in
-    let placed = (five_lines (is_within_limits v && fits_object p v (object_of k.catalogue p.object))
+    let placed = (five_lines (has_good_length v && fits_object p v (object_of k.catalogue p.object))
     (has_place k.catalogue k.store p) (is_some (value_at k.store p)) (nat_le 65535 (value_count k.store))
     (has_all_parts k.store p) free).1 in
     let stated : is_stated k (path_to p) ≡ true = stated_at k p.object p.instance p.resource p.part ∙ placed in
     let cause : value_cause k (full_path (path_to p)) v ≡ None =
-    short_told k (path_to p) v stated (λ long. not_both (is_within_limits v) short (too_long v long))
+    short_told k (path_to p) v stated (λ long. not_both (has_good_length v) short (too_long v long))
     ∙ ap (λ q. option_map template_cause (value_fault k q v)) full
     ∙ ap (option_map template_cause) free in
     ap (λ b. needs b (unless (value_cause k (full_path (path_to p)) v)

@@ -21,7 +21,8 @@ use Rattle.object_defs.specs.declared.path.Path.TheVariants.{Object, Instance, R
 use Rattle.instance_store.specs.Stored.{value_at, value_count}
 use Rattle.device_template.specs.Template.{Template, plain, value_fault, value_fault_at, with_store}
 use Rattle.device_template.specs.Values.{fits_object, fits_resource, has_all_parts, has_kind, has_place}
-use Rattle.device_template.specs.Values.{is_set_at_start, is_within_limits, with_value_at}
+use Rattle.device_template.specs.Values.{is_set_at_start, with_value_at}
+use Rattle.lwm2m_values.specs.Value.{has_good_length}
 use Rattle.device_template.specs.declared.fault.TemplateFault.{TemplateFault}
 use Rattle.device_template.specs.declared.fault.TemplateFault.TheVariants as template
 use Rattle.scenario_words.specs.ValueWords.{IsTooLong}
@@ -41,7 +42,7 @@ short n m h = let le : n ≤ m = omega (arith, h) in below n m le
     below : (n m : ℕ) → n ≤ m → nat_le n m ≡ true
     below n m le = grind (arith, nat_tests)
 
-pub too_long : (v : Value) → IsTooLong v → is_within_limits v ≡ false
+pub too_long : (v : Value) → IsTooLong v → has_good_length v ≡ false
 too_long (held.Text t) h = long (length t) 255 h
 too_long (held.Whole z) h = absurd h
 too_long (held.Flag b) h = absurd h
@@ -49,7 +50,7 @@ too_long (held.Opaque b) h = long (length b) 1024 h
 too_long (held.Moment z) h = absurd h
 too_long (held.Link o i) h = absurd h
 
-not_long : (v : Value) → (IsTooLong v → ⊥) → is_within_limits v ≡ true
+not_long : (v : Value) → (IsTooLong v → ⊥) → has_good_length v ≡ true
 not_long (held.Text t) h = short (length t) 255 h
 not_long (held.Whole z) h = refl
 not_long (held.Flag b) h = refl
@@ -59,7 +60,7 @@ not_long (held.Link o i) h = refl
 
 -- ---- the empty value of a kind fits where a value of the kind does
 
-pub plain_short : (k : ValueKind) → is_within_limits (plain k) ≡ true
+pub plain_short : (k : ValueKind) → has_good_length (plain k) ≡ true
 plain_short kind.Text = refl
 plain_short kind.Whole = refl
 plain_short kind.Flag = refl
@@ -156,18 +157,18 @@ told_long true a true d true e g hw hb hs = absurd cc
 short_cause : (c : Template) (q : FullPath) (v : Value) → has_place c.catalogue c.store q ≡ true → (IsTooLong v → ⊥)
     → value_cause c (Some q) v ≡ option_map template_cause (value_fault_at c q v)
 short_cause c q v placed fits =
-    told_short (is_within_limits v) (fits_object q v (object_of c.catalogue q.object)) (has_place c.catalogue c.store q)
+    told_short (has_good_length v) (fits_object q v (object_of c.catalogue q.object)) (has_place c.catalogue c.store q)
     (is_some (value_at c.store q)) (nat_le 65535 (value_count c.store)) (has_all_parts c.store q)
     (not_long v fits) placed
 
 long_cause : (c : Template) (q : FullPath) (v : Value) → has_place c.catalogue c.store q ≡ true → IsTooLong v
     → value_cause c (Some q) v ≡ else_long (value_fault_at c q (plain (kind_of v)))
 long_cause c q v placed is_long =
-    ap (λ a. told a (is_some (value_at c.store q)) (is_within_limits v) (nat_le 65535 (value_count c.store))
+    ap (λ a. told a (is_some (value_at c.store q)) (has_good_length v) (nat_le 65535 (value_count c.store))
     (has_all_parts c.store q)) (sym (same_fit q v (object_of c.catalogue q.object)))
-    ∙ told_long (is_within_limits (plain (kind_of v)))
+    ∙ told_long (has_good_length (plain (kind_of v)))
     (fits_object q (plain (kind_of v)) (object_of c.catalogue q.object)) (has_place c.catalogue c.store q)
-    (is_some (value_at c.store q)) (is_within_limits v) (nat_le 65535 (value_count c.store))
+    (is_some (value_at c.store q)) (has_good_length v) (nat_le 65535 (value_count c.store))
     (has_all_parts c.store q)
     (plain_short (kind_of v)) placed (too_long v is_long)
 

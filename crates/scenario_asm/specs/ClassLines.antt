@@ -15,7 +15,8 @@ use Rattle.object_defs.specs.declared.path.Path.TheVariants.{Object, Instance, R
 use Rattle.instance_store.specs.Stored.{has_instance, value_at, value_count, with_instance}
 use Rattle.device_template.specs.Template.{Template, account_fault, definition_fault, instance_fault, object_fault}
 use Rattle.device_template.specs.Template.{with_account, with_catalogue, with_store}
-use Rattle.device_template.specs.Values.{fits_object, has_all_parts, is_within_limits, with_value_at}
+use Rattle.device_template.specs.Values.{fits_object, has_all_parts, with_value_at}
+use Rattle.lwm2m_values.specs.Value.{has_good_length}
 use Rattle.scenario_words.specs.declared.cause.Cause.{Cause}
 use Rattle.scenario_words.specs.declared.cause.Cause.TheVariants.{Range, Duplicate, Limit}
 use Rattle.scenario_asm.specs.Causes.{needs, template_cause, unless}
@@ -60,7 +61,7 @@ value_cause c (Some p) value =
     first_line (
     (not (fits_object p value (object_of c.catalogue p.object)), Range)
     ∷ (is_some (value_at c.store p), Duplicate)
-    ∷ (not (is_within_limits value), Limit)
+    ∷ (not (has_good_length value), Limit)
     ∷ (nat_le 65535 (value_count c.store), Limit)
     ∷ (has_all_parts c.store p, Limit)
     ∷ []

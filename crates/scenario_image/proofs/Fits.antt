@@ -22,7 +22,7 @@ use Rattle.std.specs.Str.{IsUtf8}
 use Rattle.std.proofs.lemmas.Str.{IsUtf8-from_is_utf8}
 use Rattle.scenario_layout.proofs.GoodValue.{path_good, value_good, good_value}
 use Rattle.device_template.specs.Template.{Template}
-use Rattle.device_template.specs.Values.{is_within_limits as is_short}
+use Rattle.lwm2m_values.specs.Value.{has_good_length}
 use Rattle.device_machine.specs.declared.event.Event.TheVariants.{Recv, Put, Firmware, Tick}
 use Rattle.scenario_image.specs.declared.kind.StepKind.{StepKind}
 use Rattle.scenario_image.specs.declared.kind.StepKind.TheVariants as kinds
@@ -106,7 +106,7 @@ short_path p h = record {
   part = short_part p.part h.1.1.1.0;
 }
 
-short_value : (v : Value) → IsGood v → is_short v ≡ true
+short_value : (v : Value) → IsGood v → has_good_length v ≡ true
 short_value (values.Text t) good = le-leb (length t) 255 good.1
 short_value (values.Whole z) good = refl
 short_value (values.Flag b) good = refl
@@ -126,7 +126,7 @@ unfolding opaque
 good_opaque b h = let below : length b < 1025 = ltb-true (length b) 1025 h.0.1 in omega arith
 
 -- a value that has a spelling is short
-pub spelled_short : (v : Value) → (value None).Good v → is_short v ≡ true
+pub spelled_short : (v : Value) → (value None).Good v → has_good_length v ≡ true
 unfolding value
 spelled_short (values.Text t) h = le-leb (length t) 255 (good_text t h.1.0).1
 spelled_short (values.Whole z) h = refl

@@ -10,7 +10,7 @@ use Rattle.object_defs.specs.Path.{full_path}
 use Rattle.object_defs.specs.declared.path.FullPath.{FullPath}
 use Rattle.device_machine.specs.declared.event.Event.TheVariants.{Recv, Put, Firmware, Tick}
 use Rattle.device_template.specs.Template.{Template}
-use Rattle.device_template.specs.Values.{is_within_limits as is_short}
+use Rattle.lwm2m_values.specs.Value.{has_good_length}
 use Rattle.scenario_image.specs.declared.step.Step.{Step}
 use Rattle.scenario_image.specs.declared.step.Step.TheVariants.{Event, Post, Need}
 use Rattle.scenario_image.specs.declared.fault.ScenarioFault.{ScenarioFault}
@@ -41,7 +41,7 @@ is_in_range (Need group count) = nat_le 1 count && nat_le count 1000000
 -- a datagram has at most 1,500 bytes; a Text that is put 255, an Opaque 1,024
 abbrev pub is_within_limits : Step → Bool
 is_within_limits (Event (Recv server bytes)) = nat_le (length bytes) 1500
-is_within_limits (Event (Put path value)) = is_short value
+is_within_limits (Event (Put path value)) = has_good_length value
 is_within_limits (Event (Firmware code)) = true
 is_within_limits (Event (Tick seconds)) = true
 is_within_limits (Post group) = true

@@ -1,13 +1,10 @@
 ghost use Rattle.std.specs.Prelude.{◌≡◌, ◌==◌, nat_le, is_some, IfSome, IsTrue};
 ghost use Rattle.std.specs.List.{list_any};
-ghost use Rattle.device_template.specs.Values.{is_within_limits as is_short};
-ghost use Rattle.lwm2m_values.specs.Value.{IsGood};
 ghost use Rattle.object_defs.specs.Path.{full_path};
 ghost use Rattle.scenario_image.specs.Scenario.{is_in_range, is_within_limits, accounts_of, is_known, HasFields};
 ghost use Rattle.scenario_image.specs.Scenario.{HasShortNumbers};
 
 use device_machine::{Event, Template};
-use lwm2m_values::Value;
 use object_defs::Path;
 
 /// A step of a device in a scenario.
@@ -36,30 +33,6 @@ pub(crate) fn is_in_range(step: &Step) -> bool
     }
 }
 
-/// Whether a Text has at most 255 bytes, an Opaque at most 1,024: then the value is a good one.
-pub(crate) fn is_short(value: &Value) -> bool
-    ensures short { result ≡ is_short value.now }
-    ensures good { IsTrue result → IsGood value.now }
-{
-    match value {
-        Value::Text(text) => text.as_str().len() <= 255,
-        Value::Opaque(bytes) => {
-            let bytes = bytes.as_slice();
-            bytes.len() <= 1024
-        }
-        Value::Whole(number) | Value::Moment(number) => {
-            // A number that is read is known to be in its type's range.
-            let _number = *number;
-            true
-        }
-        Value::Flag(_) => true,
-        Value::Link(object, instance) => {
-            let (_object, _instance) = (*object, *instance);
-            true
-        }
-    }
-}
-
 /// Reads the numbers of a path, which are then known to be of two bytes.
 fn read_numbers(path: Path)
     ensures { IfSome (full_path path) HasShortNumbers }
@@ -85,7 +58,7 @@ pub(crate) fn is_within_limits(step: &Step) -> bool
         }
         Step::Event(Event::Put { path, value }) => {
             read_numbers(*path);
-            is_short(value)
+            value.is_good()
         }
         Step::Event(Event::Firmware(_) | Event::Tick(_)) => true,
         Step::Post(group) | Step::Need(group, _) => {

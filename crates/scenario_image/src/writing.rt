@@ -7,7 +7,7 @@ ghost use Rattle.scenario_image.specs.Layout.{kind, kind_of, datagram, of_kind, 
 
 use crate::kind::put_kind;
 use crate::reading::Steps;
-use crate::step::{Step, is_short};
+use crate::step::Step;
 use byte_layout::{PutItems, put_bytes, put_items, put_u8, put_u16, put_u32};
 use device_machine::Event;
 use lwm2m_values::Value;
@@ -44,7 +44,7 @@ fn put_any(out: &mut Vec<u8>, held: &Value) -> Result<(), AllocError>
     ensures { OnOk result (out.new.items ≡ out.old.items ++ (value None).spell held.now) }
 {
     // A value that has a spelling is short, and one that is short is known to be good.
-    let _short = is_short(held);
+    let _good = held.is_good();
     put_value(out, held)
 }
 

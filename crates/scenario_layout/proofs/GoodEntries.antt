@@ -34,7 +34,8 @@ use Rattle.scenario_layout.specs.Value as fields
 use Rattle.scenario_layout.proofs.GoodValue.{path_good, value_good}
 use Rattle.device_template.specs.Template.{Template, kind_taken, kind_taken_by, plain, value_fault_at}
 use Rattle.device_template.specs.Values.{fits, fits_object, fits_resource, has_all_parts, has_kind, has_place}
-use Rattle.device_template.specs.Values.{instance_at, is_set_at_start, is_within_limits, resource_at}
+use Rattle.device_template.specs.Values.{instance_at, is_set_at_start, resource_at}
+use Rattle.lwm2m_values.specs.Value.{has_good_length}
 use Rattle.device_template.specs.Built.{IsBuilt, IsShort}
 use Rattle.device_template.specs.Built.IsBuilt.{nothing, account, object, resource, instance, value as added}
 use Rattle.scenario_layout.specs.Class.{values_in, with_values, values}
@@ -171,7 +172,7 @@ value_more c p v short good before free =
     let es = finite.entries c.store.values in
     let lines = five_lines (not (fits c.catalogue p v)) (not (has_place c.catalogue c.store p))
     (is_some (value_at c.store p)) (nat_le 65535 (value_count c.store)) (has_all_parts c.store p) _ _ _ _ _ free in
-    let fit = both_true (is_within_limits v) (fits_object p v (object_of c.catalogue p.object))
+    let fit = both_true (has_good_length v) (fits_object p v (object_of c.catalogue p.object))
     (not_false (fits c.catalogue p v) lines.0) in
     let there = both_true (is_some (object_of c.catalogue p.object))
     (finite.contains_key c.store.instances (instance_at p)) (not_false (has_place c.catalogue c.store p) lines.1) in
@@ -279,7 +280,7 @@ has_values _ (added {class} p v short good built free) = value_more class p v sh
 
 -- ---- their bytes
 
-plain_short : (k : ValueKind) → is_within_limits (plain k) ≡ true
+plain_short : (k : ValueKind) → has_good_length (plain k) ≡ true
 plain_short kinds.Text = refl
 plain_short kinds.Whole = refl
 plain_short kinds.Flag = refl
@@ -408,7 +409,7 @@ module _ (k : Template) (front : List Entry) (e : Entry) (back : List Entry)
   free d defined fitting unset placed =
       no_five _ _ _ _ _ _ _ _ _ _
       (not_true (fits k.catalogue e.0 (plain d.kind))
-      (and_true (is_within_limits (plain d.kind)) _ (plain_short d.kind)
+      (and_true (has_good_length (plain d.kind)) _ (plain_short d.kind)
       (plain_fits e.0 d (object_of k.catalogue e.0.object) defined
       (plain_fits_resource e.0 e.1 d fitting).1 unset)))
       (not_true (has_place k.catalogue k.store e.0)

@@ -32,7 +32,8 @@ use Rattle.scenario_layout.specs.Value.{place, path, value, number_of, kind_numb
 use Rattle.scenario_layout.proofs.ExactValue.{value_exact}
 use Rattle.device_template.specs.Template.{Template, with_catalogue, with_store, account_fault, object_fault, fault_of}
 use Rattle.device_template.specs.Template.{kind_taken, value_fault, value_fault_at}
-use Rattle.device_template.specs.Values.{has_kind, is_within_limits, with_value_at}
+use Rattle.device_template.specs.Values.{has_kind, with_value_at}
+use Rattle.lwm2m_values.specs.Value.{has_good_length}
 use Rattle.device_template.specs.declared.fault.TemplateFault.{TemplateFault}
 use Rattle.instance_store.specs.Stored.{with_instance, with_value}
 use Rattle.scenario_layout.specs.Growing.{grown, IsLast}
@@ -198,7 +199,7 @@ is_of_kind k v bytes after fits read =
 short : (n m : ℕ) → n ≤ m → nat_le n m ≡ true
 short n m h = grind (arith, nat_tests)
 
-pub within : (v : Value) → IsGood v → is_within_limits v ≡ true
+pub within : (v : Value) → IsGood v → has_good_length v ≡ true
 within (held.Text t) good = short (length t) 255 good.1
 within (held.Whole z) good = refl
 within (held.Flag b) good = refl

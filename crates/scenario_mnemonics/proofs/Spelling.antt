@@ -15,7 +15,8 @@ use Rattle.scenario_words.specs.declared.cause.Cause.TheVariants as cause
 use Rattle.scenario_words.specs.Words.{plain, quoted, scan, words, IsWord}
 use Rattle.scenario_words.specs.Number.{number_of}
 use Rattle.scenario_words.specs.HexWord.{digit_of, hex_byte, hex_word, bytes_of}
-use Rattle.scenario_words.specs.PathWord.{path_of, path_word, IsPath}
+use Rattle.scenario_words.specs.PathWord.{path_of, IsPath}
+use Rattle.object_defs.specs.Path.{path_text}
 use Rattle.scenario_words.proofs.Digits.{natural_digits}
 use Rattle.scenario_words.proofs.NumberLaws.{is_natural-decimal, number_of-law}
 use Rattle.scenario_words.proofs.Pairs.{hex_law, hex_written}
@@ -65,19 +66,19 @@ token_again : (t : List ℕ) (ws : List (List ℕ)) → AllBelowBase 256 t → l
     → token_at (hex_word t ∷ ws) ≡ Ok (t, ws)
 token_again t ws h short = rw (bytes_again t h, short_again t short) refl
 
-path_again : (p : Path) → IsPath p → path_of (path_word p) ≡ Ok p
-path_again p h = (path_law (path_word p) p).1 (refl, h)
+path_again : (p : Path) → IsPath p → path_of (path_text p) ≡ Ok p
+path_again p h = (path_law (path_text p) p).1 (refl, h)
 
 head_again : (server mid : ℕ) (k : RequestType) (t : List ℕ) (p : Path) (ws : List (List ℕ)) → 1 ≤ server
     → server ≤ 65534 → mid < 65536 → AllBelowBase 256 t → length t ≤ 8 → IsPath p
-    → head_at (decimal server ∷ type_word k ∷ decimal mid ∷ hex_word t ∷ path_word p ∷ ws)
+    → head_at (decimal server ∷ type_word k ∷ decimal mid ∷ hex_word t ∷ path_text p ∷ ws)
     ≡ Ok (record { server = server; kind = k; mid = mid; token = t; path = p }, ws)
 head_again server mid k t p ws some small m bytes short path =
     rw (
       number_again 1 65534 server (omega arith) some small,
       type_again k,
       number_again 0 65535 mid (omega arith) (omega arith) (omega (arith, m)),
-      token_again t (path_word p ∷ ws) bytes short,
+      token_again t (path_text p ∷ ws) bytes short,
       path_again p path,
     ) refl
 
@@ -211,20 +212,20 @@ slashed n w h rest =
 slashed_last : (n : ℕ) → n < 65536 → high (47 ∷ decimal n) ≡ true
 slashed_last n h = and_from _ _ refl (decimal_high n h)
 
-path_high : (p : Path) → IsPath p → high (path_word p) ≡ true
+path_high : (p : Path) → IsPath p → high (path_text p) ≡ true
 path_high (Object o) h = slashed_last o h
 path_high (Instance o i) h = slashed o _ h.0 (slashed_last i h.1)
 path_high (Resource o i r) h = slashed o _ h.0 (slashed i _ h.1 (slashed_last r h.2))
 path_high (Part o i r n) h = slashed o _ h.0 (slashed i _ h.1 (slashed r _ h.2 (slashed_last n h.3)))
 
-path_some : (p : Path) → 0 < length (path_word p)
+path_some : (p : Path) → 0 < length (path_text p)
 path_some (Object o) = omega arith
 path_some (Instance o i) = omega arith
 path_some (Resource o i r) = omega arith
 path_some (Part o i r n) = omega arith
 
-paths_word : (p : Path) → IsPath p → IsWord (path_word p)
-paths_word p h = high_word (path_word p) (path_some p) (path_high p h)
+paths_word : (p : Path) → IsPath p → IsWord (path_text p)
+paths_word p h = high_word (path_text p) (path_some p) (path_high p h)
 
 types_word : (k : RequestType) → IsWord (type_word k)
 types_word Con = refl

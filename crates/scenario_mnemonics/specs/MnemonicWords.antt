@@ -9,7 +9,8 @@ use Rattle.scenario_words.specs.declared.cause.Cause.TheVariants.{Missing, Token
 use Rattle.scenario_words.specs.Reading.{◌>>=◌, word_by, ended}
 use Rattle.scenario_words.specs.Number.{number_of}
 use Rattle.scenario_words.specs.HexWord.{bytes_of, hex_word}
-use Rattle.scenario_words.specs.PathWord.{path_of, path_word}
+use Rattle.scenario_words.specs.PathWord.{path_of}
+use Rattle.object_defs.specs.Path.{path_text}
 use Rattle.scenario_words.specs.ValueWords.{name_fault}
 use Rattle.scenario_mnemonics.specs.declared.request_type.RequestType.{RequestType}
 use Rattle.scenario_mnemonics.specs.declared.request_type.RequestType.TheVariants.{Con, Non}
@@ -208,7 +209,7 @@ details (act.Exec b) = hex_word b ∷ []
 -- the words behind the keyword, as they are written
 abbrev pub behind_keyword : ℕ → Mnemonic → List (List ℕ)
 behind_keyword server (mnemonic.Request r) =
-    decimal server ∷ type_word r.kind ∷ decimal r.mid ∷ hex_word r.token ∷ path_word r.path ∷ details r.action
+    decimal server ∷ type_word r.kind ∷ decimal r.mid ∷ hex_word r.token ∷ path_text r.path ∷ details r.action
 behind_keyword server (mnemonic.Reset mid) = decimal server ∷ decimal mid ∷ []
 
 -- the words of a mnemonic that a server sends, as they are written

@@ -9,25 +9,11 @@ ghost use Rattle.scenario_mnemonics.specs.Messages.{content_values, query_values
 
 use crate::action::Action;
 use crate::format::Format;
+use coap_codec::option_number::{ACCEPT, CONTENT_FORMAT, OBSERVE, URI_PATH, URI_QUERY};
 use coap_codec::{Opt, Options, uint_bytes};
 use object_defs::Path;
 use octets::Bytes;
 use std::alloc::{AllocError, Global};
-
-/// Observe, whose value is 0 or 1.
-pub(crate) const OBSERVE: u16 = 6;
-
-/// Uri-Path, a number of the path in decimal.
-pub(crate) const URI_PATH: u16 = 11;
-
-/// Content-Format, a number.
-pub(crate) const CONTENT_FORMAT: u16 = 12;
-
-/// Uri-Query, a query.
-pub(crate) const URI_QUERY: u16 = 15;
-
-/// Accept, a number.
-pub(crate) const ACCEPT: u16 = 17;
 
 /// Adds an option whose value is a number in the fewest bytes.
 fn put_number(

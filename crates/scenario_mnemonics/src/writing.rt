@@ -7,7 +7,7 @@ ghost use Rattle.scenario_mnemonics.specs.Queries.{is_query};
 ghost use Rattle.std.specs.Fmt.{decimal};
 ghost use Rattle.std.specs.String.{string_bytes};
 ghost use Rattle.scenario_words.specs.HexWord.{hex_word};
-ghost use Rattle.scenario_words.specs.PathWord.{path_word};
+ghost use Rattle.object_defs.specs.Path.{path_text};
 ghost use Rattle.scenario_mnemonics.specs.MnemonicWords.{type_word, format_word, details, behind_keyword, spelled};
 ghost use Rattle.scenario_mnemonics.specs.MnemonicWords.{spaced};
 
@@ -15,9 +15,9 @@ use crate::action::Action;
 use crate::format::Format;
 use crate::mnemonic::{Mnemonic, Request};
 use crate::request_type::RequestType;
-use object_defs::Path;
+use object_defs::{Path, path_text};
 use octets::Bytes;
-use scenario_words::{hex_word, path_word};
+use scenario_words::hex_word;
 use std::alloc::{AllocError, Global};
 
 fn type_word(kind: RequestType) -> &'static str
@@ -62,9 +62,9 @@ fn put_hex(alloc: Global, out: &mut String, bytes: &Bytes) -> Result<(), AllocEr
 }
 
 fn put_path(alloc: Global, out: &mut String, path: Path) -> Result<(), AllocError>
-    ensures { OnOk result (string_bytes out.new ≡ string_bytes out.old ++ spaced (path_word path ∷ [])) }
+    ensures { OnOk result (string_bytes out.new ≡ string_bytes out.old ++ spaced (path_text path ∷ [])) }
 {
-    let word = path_word(alloc, path)?;
+    let word = path_text(alloc, path)?;
     put_word(out, word.as_str())
 }
 
@@ -113,7 +113,7 @@ fn put_details(alloc: Global, out: &mut String, action: &Action) -> Result<(), A
 /// Writes the words between the server and the details.
 fn put_request(alloc: Global, out: &mut String, request: &Request) -> Result<(), AllocError>
     ensures { OnOk result (string_bytes out.new ≡ string_bytes out.old
-        ++ spaced (type_word request.now.kind ∷ decimal request.now.mid ∷ hex_word request.now.token ∷ path_word
+        ++ spaced (type_word request.now.kind ∷ decimal request.now.mid ∷ hex_word request.now.token ∷ path_text
         request.now.path ∷ details request.now.action)) }
 {
     put_word(out, type_word(request.kind))?;

@@ -18,7 +18,8 @@ use Rattle.scenario_words.specs.Words.{words, IsLine}
 use Rattle.scenario_words.specs.Reading.{◌>>=◌, word_by, ended}
 use Rattle.scenario_words.specs.Number.{number_of}
 use Rattle.scenario_words.specs.HexWord.{hex_word}
-use Rattle.scenario_words.specs.PathWord.{IsPath, path_of, path_word}
+use Rattle.scenario_words.specs.PathWord.{IsPath, path_of}
+use Rattle.object_defs.specs.Path.{path_text}
 use Rattle.scenario_words.specs.ValueWords.{IsValue, kind_named, kind_word, value_word}
 use Rattle.scenario_words.proofs.NumberLaws.{number_of-law}
 use Rattle.scenario_words.proofs.Pairs.{hex_law, hex_written}
@@ -80,8 +81,8 @@ kind_again kind.Opaque = refl
 kind_again kind.Moment = refl
 kind_again kind.Link = refl
 
-path_again : (p : Path) → IsPath p → path_of (path_word p) ≡ Ok p
-path_again p h = (path_law (path_word p) p).1 (refl, h)
+path_again : (p : Path) → IsPath p → path_of (path_text p) ≡ Ok p
+path_again p h = (path_law (path_text p) p).1 (refl, h)
 
 definition_again : (d : ResourceDef) → d.id < 65536 → statement_of (spelled (says.Def d)) ≡ Ok (Some (says.Def d))
 definition_again d h =
@@ -164,18 +165,18 @@ bare_stands : (s : Statement) → list_all is_bare (spelled s) ≡ true → Stan
 bare_stands s h = (bare_words (spelled s) h, bare_line (spelled s) h)
 
 valued_words : (keyword : List ℕ) (p : Path) (v : Value) → is_bare keyword ≡ true → IsPath p → IsValue v
-    → words (keyword ++ 32 ∷ (path_word p ++ 32 ∷ (kind_word (kind_of v) ++ 32 ∷ value_word v)))
-    ≡ keyword ∷ path_word p ∷ kind_word (kind_of v) ∷ value_word v ∷ []
+    → words (keyword ++ 32 ∷ (path_text p ++ 32 ∷ (kind_word (kind_of v) ++ 32 ∷ value_word v)))
+    ≡ keyword ∷ path_text p ∷ kind_word (kind_of v) ∷ value_word v ∷ []
 valued_words keyword p v k h m =
-    word_then keyword (path_word p ++ 32 ∷ (kind_word (kind_of v) ++ 32 ∷ value_word v)) k
-    ∙ ap (λ r. keyword ∷ r) (word_then (path_word p) (kind_word (kind_of v) ++ 32 ∷ value_word v) (path_bare p h)
-    ∙ ap (λ r. path_word p ∷ r) (value_words v m))
+    word_then keyword (path_text p ++ 32 ∷ (kind_word (kind_of v) ++ 32 ∷ value_word v)) k
+    ∙ ap (λ r. keyword ∷ r) (word_then (path_text p) (kind_word (kind_of v) ++ 32 ∷ value_word v) (path_bare p h)
+    ∙ ap (λ r. path_text p ∷ r) (value_words v m))
 
 valued_shown : (keyword : List ℕ) (p : Path) (v : Value) → is_bare keyword ≡ true → IsPath p → IsValue v
-    → is_shown (keyword ++ 32 ∷ (path_word p ++ 32 ∷ (kind_word (kind_of v) ++ 32 ∷ value_word v))) ≡ true
+    → is_shown (keyword ++ 32 ∷ (path_text p ++ 32 ∷ (kind_word (kind_of v) ++ 32 ∷ value_word v))) ≡ true
 valued_shown keyword p v k h m =
-    spaced_shown keyword (path_word p ++ 32 ∷ (kind_word (kind_of v) ++ 32 ∷ value_word v)) (bare_shown keyword k)
-    (spaced_shown (path_word p) (kind_word (kind_of v) ++ 32 ∷ value_word v) (bare_shown (path_word p) (path_bare p h))
+    spaced_shown keyword (path_text p ++ 32 ∷ (kind_word (kind_of v) ++ 32 ∷ value_word v)) (bare_shown keyword k)
+    (spaced_shown (path_text p) (kind_word (kind_of v) ++ 32 ∷ value_word v) (bare_shown (path_text p) (path_bare p h))
     (spaced_shown (kind_word (kind_of v)) (value_word v) (bare_shown (kind_word (kind_of v)) (kind_bare (kind_of v)))
     (value_shown v m)))
 

@@ -17,7 +17,8 @@ use Rattle.lwm2m_values.specs.declared.kind.ValueKind.TheVariants as kind
 use Rattle.scenario_words.specs.Words.{gap, plain, quoted, scan, words, lines, IsLine}
 use Rattle.scenario_words.specs.HexWord.{digit_of, hex_byte, hex_word}
 use Rattle.scenario_words.specs.Quoted.{is_plain, escaped, quoted_word}
-use Rattle.scenario_words.specs.PathWord.{IsPath, path_word, link_word}
+use Rattle.scenario_words.specs.PathWord.{IsPath, link_word}
+use Rattle.object_defs.specs.Path.{path_text}
 use Rattle.scenario_words.specs.ValueWords.{kind_word, value_word, IsValue}
 use Rattle.scenario_words.proofs.Digits.{natural_digits}
 use Rattle.scenario_words.proofs.NumberLaws.{is_natural-decimal}
@@ -116,7 +117,7 @@ joined_above c v w k h m = list_all-append (λ b. ltb 35 b) v (c ∷ w) ∙ and_
 half_above : (n : ℕ) → n < 65536 → above (decimal n) ≡ true
 half_above n h = decimal_above n (omega arith)
 
-path_above : (p : Path) → IsPath p → above (path_word p) ≡ true
+path_above : (p : Path) → IsPath p → above (path_text p) ≡ true
 path_above (Object o) h = and_from _ _ refl (half_above o h)
 path_above (Instance o i) h =
     and_from _ _ refl (joined_above 47 (decimal o) (decimal i) refl (half_above o h.0) (half_above i h.1))
@@ -129,14 +130,14 @@ path_above (Part o i r p) h =
     (joined_above 47 (decimal i) (decimal r ++ 47 ∷ decimal p) refl (half_above i h.1)
     (joined_above 47 (decimal r) (decimal p) refl (half_above r h.2) (half_above p h.3))))
 
-path_some : (p : Path) → 0 < length (path_word p)
+path_some : (p : Path) → 0 < length (path_text p)
 path_some (Object o) = omega arith
 path_some (Instance o i) = omega arith
 path_some (Resource o i r) = omega arith
 path_some (Part o i r p) = omega arith
 
-pub path_bare : (p : Path) → IsPath p → is_bare (path_word p) ≡ true
-path_bare p h = bare_from (path_word p) (path_some p) (path_above p h)
+pub path_bare : (p : Path) → IsPath p → is_bare (path_text p) ≡ true
+path_bare p h = bare_from (path_text p) (path_some p) (path_above p h)
 
 -- ---- bytes of one line
 

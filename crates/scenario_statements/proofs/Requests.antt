@@ -8,7 +8,7 @@ use Rattle.std.proofs.lemmas.Bool.Decides.{nat_tests}
 use Rattle.scenario_words.specs.declared.cause.Cause.{Cause}
 use Rattle.scenario_words.specs.Reading.{◌>>=◌}
 use Rattle.scenario_words.specs.HexWord.{hex_word}
-use Rattle.scenario_words.specs.PathWord.{path_word}
+use Rattle.object_defs.specs.Path.{path_text}
 use Rattle.scenario_mnemonics.specs.declared.request_type.RequestType.{RequestType}
 use Rattle.scenario_mnemonics.specs.declared.request_type.RequestType.TheVariants.{Con, Non}
 use Rattle.scenario_mnemonics.specs.declared.format.Format.{Format}
@@ -124,7 +124,7 @@ words_shown s (mnemonic.Request r) h good =
     and_from _ _ (verb_shown (verb_of r.action))
     (and_from _ _ (number_shown s (omega (arith, h))) (and_from _ _ (type_shown r.kind)
     (and_from _ _ (number_shown r.mid good.mid) (and_from _ _ (bytes_shown r.token)
-    (and_from _ _ (bare_shown (path_word r.path) (path_bare r.path good.path))
+    (and_from _ _ (bare_shown (path_text r.path) (path_bare r.path good.path))
     (details_shown r.action good.queries))))))
 words_shown s (mnemonic.Reset mid) h good =
     and_from _ _ refl (and_from _ _ (number_shown s (omega (arith, h))) (and_from _ _ (number_shown mid good) refl))

@@ -9,7 +9,8 @@ use Rattle.object_defs.specs.declared.definition.Ops.{Ops}
 use Rattle.object_defs.specs.declared.definition.Ops.TheVariants.{R, W, RW, E}
 use Rattle.object_defs.specs.declared.path.Path.{Path}
 use Rattle.scenario_words.specs.HexWord.{hex_word}
-use Rattle.scenario_words.specs.PathWord.{IsPath, path_word}
+use Rattle.scenario_words.specs.PathWord.{IsPath}
+use Rattle.object_defs.specs.Path.{path_text}
 use Rattle.scenario_words.specs.ValueWords.{IsValue, kind_word, value_word}
 use Rattle.scenario_mnemonics.specs.Messages.{IsGood}
 use Rattle.scenario_mnemonics.specs.MnemonicWords.{spelled as mnemonic_words}
@@ -25,7 +26,7 @@ ops_word E = codes "e"
 
 -- a keyword, a path and a value
 abbrev pub value_words : List ℕ → Path → Value → List (List ℕ)
-value_words keyword p v = keyword ∷ path_word p ∷ kind_word (kind_of v) ∷ value_word v ∷ []
+value_words keyword p v = keyword ∷ path_text p ∷ kind_word (kind_of v) ∷ value_word v ∷ []
 
 -- the words of a statement
 abbrev pub spelled : Statement → List (List ℕ)

@@ -8,9 +8,9 @@ ghost use Rattle.scenario_statements.specs.declared.statement.Statement.TheVaria
 
 use crate::statement::Statement;
 use lwm2m_values::Value;
-use object_defs::{Ops, Path, ResourceDef};
+use object_defs::{Ops, Path, ResourceDef, path_text};
 use scenario_mnemonics::spell as spell_mnemonic;
-use scenario_words::{hex_word, kind_word, path_word, spell};
+use scenario_words::{hex_word, kind_word, spell};
 use std::alloc::{AllocError, Global};
 
 /// The name of operations.
@@ -53,7 +53,7 @@ pub fn value_line(
 ) -> Result<String, AllocError>
     ensures { IfOk result (λ s. string_bytes s ≡ join_with_byte 32 (value_words keyword.now path value.now)) }
 {
-    let path = path_word(alloc, path)?;
+    let path = path_text(alloc, path)?;
     let value = spell(alloc, value)?;
     format!(in alloc; "{keyword} {path} {value}")
 }

@@ -13,7 +13,8 @@ use Rattle.scenario_words.specs.declared.cause.Cause.TheVariants.{Token}
 use Rattle.scenario_words.specs.Words.{parts}
 use Rattle.scenario_words.specs.Reading.{◌>>=◌}
 use Rattle.scenario_words.specs.Number.{is_number, number_of}
-use Rattle.scenario_words.specs.PathWord.{path_of_numbers, path_of_parts, path_of, IsPath, path_word, link_of_parts}
+use Rattle.scenario_words.specs.PathWord.{path_of_numbers, path_of_parts, path_of, IsPath, link_of_parts}
+use Rattle.object_defs.specs.Path.{path_text}
 use Rattle.scenario_words.specs.PathWord.{link_of, link_word}
 use Rattle.scenario_words.proofs.Digits.{natural_digits}
 use Rattle.scenario_words.proofs.NumberLaws.{chosen, chosen_value, number_of-law, is_natural-decimal, is_number-natural}
@@ -31,26 +32,26 @@ half_from n h = (number_of-law 0 65535 n (decimal n) (omega arith)).1 (refl, ome
 
 -- what is read
 
-one_read : (a : List ℕ) (p : Path) → path_of_numbers (a ∷ []) ≡ Ok p → (join_with_byte 47 ([] ∷ a ∷ []) ≡ path_word p)
+one_read : (a : List ℕ) (p : Path) → path_of_numbers (a ∷ []) ≡ Ok p → (join_with_byte 47 ([] ∷ a ∷ []) ≡ path_text p)
     × IsPath p
 one_read a p e =
     let o = bind_ok (number_of 0 65535 a) (λ n. Ok (Object n)) p e in
     let first = half_read a o.0 o.1 in
     let same = (chosen_value true (Object o.0) Token p o.2).1 in
-    subst (λ q. (47 ∷ a ≡ path_word q) × IsPath q) same (ap (λ x. 47 ∷ x) first.0, first.1)
+    subst (λ q. (47 ∷ a ≡ path_text q) × IsPath q) same (ap (λ x. 47 ∷ x) first.0, first.1)
 
 two_read : (a b : List ℕ) (p : Path) → path_of_numbers (a ∷ b ∷ []) ≡ Ok p
-    → (join_with_byte 47 ([] ∷ a ∷ b ∷ []) ≡ path_word p) × IsPath p
+    → (join_with_byte 47 ([] ∷ a ∷ b ∷ []) ≡ path_text p) × IsPath p
 two_read a b p e =
     let o = bind_ok (number_of 0 65535 a) (λ n. number_of 0 65535 b >>= (λ m. Ok (Instance n m))) p e in
     let i = bind_ok (number_of 0 65535 b) (λ m. Ok (Instance o.0 m)) p o.2 in
     let first = half_read a o.0 o.1 in
     let second = half_read b i.0 i.1 in
     let same = (chosen_value true (Instance o.0 i.0) Token p i.2).1 in
-    subst (λ q. (47 ∷ (a ++ 47 ∷ b) ≡ path_word q) × IsPath q) same (cc (first.0, second.0), (first.1, second.1))
+    subst (λ q. (47 ∷ (a ++ 47 ∷ b) ≡ path_text q) × IsPath q) same (cc (first.0, second.0), (first.1, second.1))
 
 three_read : (a b c : List ℕ) (p : Path) → path_of_numbers (a ∷ b ∷ c ∷ []) ≡ Ok p
-    → (join_with_byte 47 ([] ∷ a ∷ b ∷ c ∷ []) ≡ path_word p) × IsPath p
+    → (join_with_byte 47 ([] ∷ a ∷ b ∷ c ∷ []) ≡ path_text p) × IsPath p
 three_read a b c p e =
     let o = bind_ok (number_of 0 65535 a) (λ n. number_of 0 65535 b >>=
     (λ m. number_of 0 65535 c >>= (λ k. Ok (Resource n m k)))) p e in
@@ -60,11 +61,11 @@ three_read a b c p e =
     let second = half_read b i.0 i.1 in
     let third = half_read c r.0 r.1 in
     let same = (chosen_value true (Resource o.0 i.0 r.0) Token p r.2).1 in
-    subst (λ q. (47 ∷ (a ++ 47 ∷ (b ++ 47 ∷ c)) ≡ path_word q) × IsPath q) same
+    subst (λ q. (47 ∷ (a ++ 47 ∷ (b ++ 47 ∷ c)) ≡ path_text q) × IsPath q) same
     (cc (first.0, second.0, third.0), (first.1, second.1, third.1))
 
 four_read : (a b c d : List ℕ) (p : Path) → path_of_numbers (a ∷ b ∷ c ∷ d ∷ []) ≡ Ok p
-    → (join_with_byte 47 ([] ∷ a ∷ b ∷ c ∷ d ∷ []) ≡ path_word p) × IsPath p
+    → (join_with_byte 47 ([] ∷ a ∷ b ∷ c ∷ d ∷ []) ≡ path_text p) × IsPath p
 four_read a b c d p e =
     let o = bind_ok (number_of 0 65535 a) (λ n. number_of 0 65535 b >>=
     (λ m. number_of 0 65535 c >>= (λ k. number_of 0 65535 d >>= (λ j. Ok (Part n m k j))))) p e in
@@ -77,10 +78,10 @@ four_read a b c d p e =
     let third = half_read c r.0 r.1 in
     let fourth = half_read d s.0 s.1 in
     let same = (chosen_value true (Part o.0 i.0 r.0 s.0) Token p s.2).1 in
-    subst (λ q. (47 ∷ (a ++ 47 ∷ (b ++ 47 ∷ (c ++ 47 ∷ d))) ≡ path_word q) × IsPath q) same
+    subst (λ q. (47 ∷ (a ++ 47 ∷ (b ++ 47 ∷ (c ++ 47 ∷ d))) ≡ path_text q) × IsPath q) same
     (cc (first.0, second.0, third.0, fourth.0), (first.1, second.1, third.1, fourth.1))
 
-numbers_read : (ws : List (List ℕ)) (p : Path) → path_of_numbers ws ≡ Ok p → (join_with_byte 47 ([] ∷ ws) ≡ path_word p)
+numbers_read : (ws : List (List ℕ)) (p : Path) → path_of_numbers ws ≡ Ok p → (join_with_byte 47 ([] ∷ ws) ≡ path_text p)
     × IsPath p
 numbers_read [] p e = cc
 numbers_read (a ∷ []) p e = one_read a p e
@@ -89,7 +90,7 @@ numbers_read (a ∷ b ∷ c ∷ []) p e = three_read a b c p e
 numbers_read (a ∷ b ∷ c ∷ d ∷ []) p e = four_read a b c d p e
 numbers_read (a ∷ b ∷ c ∷ d ∷ x ∷ more) p e = cc
 
-parts_read : (ps : List (List ℕ)) (p : Path) → path_of_parts ps ≡ Ok p → (join_with_byte 47 ps ≡ path_word p) × IsPath p
+parts_read : (ps : List (List ℕ)) (p : Path) → path_of_parts ps ≡ Ok p → (join_with_byte 47 ps ≡ path_text p) × IsPath p
 parts_read [] p e = cc
 parts_read ([] ∷ ws) p e = numbers_read ws p (chosen (list_all is_number ws) (path_of_numbers ws) Token p e).1
 parts_read ((b ∷ bs) ∷ ws) p e = cc
@@ -134,7 +135,7 @@ number_words (Instance o i) = decimal o ∷ decimal i ∷ []
 number_words (Resource o i r) = decimal o ∷ decimal i ∷ decimal r ∷ []
 number_words (Part o i r p) = decimal o ∷ decimal i ∷ decimal r ∷ decimal p ∷ []
 
-path_parts : (p : Path) → IsPath p → parts 47 (path_word p) ≡ [] ∷ number_words p
+path_parts : (p : Path) → IsPath p → parts 47 (path_text p) ≡ [] ∷ number_words p
 unfolding number_words
 path_parts (Object o) h = ap (λ ps. [] ∷ ps) (half_alone 47 o refl h)
 path_parts (Instance o i) h =
@@ -166,17 +167,17 @@ numbers_again (Instance o i) h = rw (half_from o h.0, half_from i h.1) refl
 numbers_again (Resource o i r) h = rw (half_from o h.0, half_from i h.1, half_from r h.2) refl
 numbers_again (Part o i r p) h = rw (half_from o h.0, half_from i h.1, half_from r h.2, half_from p h.3) refl
 
-path_again : (p : Path) → IsPath p → path_of (path_word p) ≡ Ok p
+path_again : (p : Path) → IsPath p → path_of (path_text p) ≡ Ok p
 path_again p h =
     ap path_of_parts (path_parts p h) ∙ ap (λ t. cond t (path_of_numbers (number_words p)) (Err Token))
     (are_numbers p h) ∙ numbers_again p h
 
-path_found : (w : List ℕ) (p : Path) → path_of w ≡ Ok p → (w ≡ path_word p) × IsPath p
+path_found : (w : List ℕ) (p : Path) → path_of w ≡ Ok p → (w ≡ path_text p) × IsPath p
 path_found w p e =
     let read = parts_read (parts 47 w) p e in
     (sym (join_with_byte-slice_split 47 w) ∙ read.0, read.1)
 
-pub path_law : (w : List ℕ) (p : Path) → (path_of w ≡ Ok p) ↔ ((w ≡ path_word p) × IsPath p)
+pub path_law : (w : List ℕ) (p : Path) → (path_of w ≡ Ok p) ↔ ((w ≡ path_text p) × IsPath p)
 path_law w p = (path_found w p, λ h. ap path_of h.0 ∙ path_again p h.1)
 
 -- links

@@ -50,13 +50,6 @@ IsPath (Instance o i) = (o < 65536) × (i < 65536)
 IsPath (Resource o i r) = (o < 65536) × (i < 65536) × (r < 65536)
 IsPath (Part o i r p) = (o < 65536) × (i < 65536) × (r < 65536) × (p < 65536)
 
--- a path as it is written
-abbrev pub path_word : Path → List ℕ
-path_word (Object o) = 47 ∷ decimal o
-path_word (Instance o i) = 47 ∷ (decimal o ++ 47 ∷ decimal i)
-path_word (Resource o i r) = 47 ∷ (decimal o ++ 47 ∷ (decimal i ++ 47 ∷ decimal r))
-path_word (Part o i r p) = 47 ∷ (decimal o ++ 47 ∷ (decimal i ++ 47 ∷ (decimal r ++ 47 ∷ decimal p)))
-
 -- the two numbers of a link
 abbrev pub link_of_parts : List (List ℕ) → Result (ℕ × ℕ) Cause
 link_of_parts [] = Err Token

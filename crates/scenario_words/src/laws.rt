@@ -10,7 +10,8 @@ ghost use Rattle.scenario_words.specs.Quoted.{text_of, quoted_word, IsQuoted};
 ghost use Rattle.object_defs.specs.declared.path.Path.{Path};
 ghost use Rattle.lwm2m_values.specs.declared.value.Value.{Value};
 ghost use Rattle.lwm2m_values.specs.Value.{kind_of};
-ghost use Rattle.scenario_words.specs.PathWord.{path_of, path_word, IsPath, link_of, link_word};
+ghost use Rattle.scenario_words.specs.PathWord.{path_of, IsPath, link_of, link_word};
+ghost use Rattle.object_defs.specs.Path.{path_text};
 ghost use Rattle.scenario_words.specs.ValueWords.{kind_word, value_at, value_word, spelled, IsValue};
 ghost use Rattle.scenario_words.specs.Number.{number_of, integer_of};
 
@@ -38,7 +39,7 @@ pub fn texts_in_quotes()
 
 /// The law of paths and links: a word is read as one exactly where it is as that is written, with numbers of 16 bits.
 pub fn paths_and_links()
-    ensures path { (w : List ℕ) (p : Path) → (path_of w ≡ Ok p) ↔ ((w ≡ path_word p) × IsPath p) }
+    ensures path { (w : List ℕ) (p : Path) → (path_of w ≡ Ok p) ↔ ((w ≡ path_text p) × IsPath p) }
     ensures link { (w : List ℕ) (o i : ℕ) → (link_of w ≡ Ok (o, i))
         ↔ ((w ≡ link_word o i) × (o < 65536) × (i < 65536)) }
 {}

@@ -20,6 +20,6 @@ pub use laws::{
 };
 pub use line::{end, first_word, is_name, next_word};
 pub use number::{integer, natural};
-pub use paths::{path, path_word};
+pub use paths::path;
 pub use quotes::{quoted, quoted_word};
 pub use values::{is_too_long, kind, kind_word, name_fault, spell, value};

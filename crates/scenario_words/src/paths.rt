@@ -1,17 +1,15 @@
-ghost use Rattle.std.specs.Prelude.{◌≡◌, ◌∷◌, [], IfOk};
-ghost use Rattle.std.specs.String.{string_bytes};
+ghost use Rattle.std.specs.Prelude.{◌≡◌, ◌∷◌, []};
 ghost use Rattle.std.specs.List.{list_all};
 ghost use Rattle.scenario_words.specs.Words.{words, parts};
 ghost use Rattle.scenario_words.specs.Reading.{Reads, word_by};
 ghost use Rattle.scenario_words.specs.Number.{is_number, number_of};
-ghost use Rattle.scenario_words.specs.PathWord.{path_of, path_of_numbers, path_word, link_of};
+ghost use Rattle.scenario_words.specs.PathWord.{path_of, path_of_numbers, link_of};
 
 use crate::cause::Cause;
 use crate::cut::{cut, last};
 use crate::line::first_word;
 use crate::number::{is_number, number_of};
 use object_defs::Path;
-use std::alloc::{AllocError, Global};
 
 /// Whether each part between bytes that are this one is a number.
 fn are_numbers(bytes: &[u8], byte: u8) -> bool
@@ -116,20 +114,4 @@ pub(crate) fn link_of(word: &[u8]) -> Result<(u16, u16), Cause>
     let object = half_of(object)?;
     let instance = half_of(instance)?;
     Ok((object, instance))
-}
-
-/// A path as it is written, such as `/3/0/9`.
-pub fn path_word(alloc: Global, path: Path) -> Result<String, AllocError>
-    ensures { IfOk result (λ s. string_bytes s ≡ path_word path) }
-{
-    match path {
-        Path::Object(object) => format!(in alloc; "/{object}"),
-        Path::Instance(object, instance) => format!(in alloc; "/{object}/{instance}"),
-        Path::Resource(object, instance, resource) => {
-            format!(in alloc; "/{object}/{instance}/{resource}")
-        }
-        Path::Part(object, instance, resource, part) => {
-            format!(in alloc; "/{object}/{instance}/{resource}/{part}")
-        }
-    }
 }

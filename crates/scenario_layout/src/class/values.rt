@@ -6,7 +6,8 @@ ghost use Rattle.byte_layout.specs.Outcome.{Gives};
 ghost use Rattle.byte_layout.specs.Part.{each};
 ghost use Rattle.object_defs.specs.Path.{full_path, path_cmp};
 ghost use Rattle.device_template.specs.Template.{kind_taken, value_fault_at};
-ghost use Rattle.device_template.specs.Values.{has_kind, is_within_limits};
+ghost use Rattle.device_template.specs.Values.{has_kind};
+ghost use Rattle.lwm2m_values.specs.Value.{has_good_length};
 ghost use Rattle.lwm2m_values.specs.declared.value.Value.{Value};
 ghost use Rattle.scenario_layout.specs.Growing.{grown, is_behind, IsLast};
 ghost use Rattle.scenario_layout.specs.Class.{entry, value_path, values, values_in, with_values};
@@ -90,7 +91,7 @@ fn value_path_at<'a>(
         ((value_path template.now (values_in template.now)).read bytes.now) }
     ensures behind { IfOk result (λ x. list_all (λ e. is_lt (path_cmp e.0 x.0)) (values_in template.now) ≡ true) }
     ensures kind { IfOk result (λ x. kind_taken template.now x.0 ≡ Some x.1) }
-    ensures taken { IfOk result (λ x. (v : Value) → has_kind v x.1 ≡ true → is_within_limits v ≡ true
+    ensures taken { IfOk result (λ x. (v : Value) → has_kind v x.1 ≡ true → has_good_length v ≡ true
         → value_fault_at template.now x.0 v ≡ None) }
 {
     let (path, rest) = path_at(bytes)?;
