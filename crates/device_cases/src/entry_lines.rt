@@ -5,10 +5,10 @@ use crate::named::act_name;
 use crate::outputs::lines_of;
 use crate::pieces::bytes_of;
 use crate::words::{decimal, put_words};
-use device_machine::{Act, Output};
+use device_machine::{Act, Output, Outputs};
 use octets::Bytes;
 use std::alloc::{AllocError, Global};
-use trace_file::{Entries, Entry, OutputList};
+use trace_file::{Entries, Entry};
 
 const ACTS: [Act; 5] = [
     Act::Reboot,
@@ -93,10 +93,10 @@ fn numbers_of(words: &str) -> Option<(u16, u16, u32)> {
     ))
 }
 
-fn outputs_of(alloc: Global, words: &str) -> Result<Option<OutputList>, AllocError> {
+fn outputs_of(alloc: Global, words: &str) -> Result<Option<Outputs>, AllocError> {
     let mut outputs = Vec::new(alloc);
     if words == "nothing" {
-        return Ok(Some(OutputList::from_vec(outputs)));
+        return Ok(Some(Outputs::from_vec(outputs)));
     }
     for words in words.split(", ") {
         let Some(output) = output_of(alloc, words)? else {
@@ -104,7 +104,7 @@ fn outputs_of(alloc: Global, words: &str) -> Result<Option<OutputList>, AllocErr
         };
         outputs.push(output)?;
     }
-    Ok(Some(OutputList::from_vec(outputs)))
+    Ok(Some(Outputs::from_vec(outputs)))
 }
 
 fn output_of(alloc: Global, words: &str) -> Result<Option<Output>, AllocError> {

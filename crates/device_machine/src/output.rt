@@ -21,7 +21,7 @@ pub enum Output {
     Act(Act),
 }
 
-/// The outputs of one event, in order. Contracts see their list.
+/// What a device puts out at one event, in order. Contracts see the list.
 #[derive(Clone, Debug, Drop)]
 pub struct Outputs {
     items: Vec<Output>,
@@ -87,6 +87,22 @@ impl Outputs {
                 Ok(())
             }
         }
+    }
+
+    /// The outputs of a vector, which keeps its memory.
+    pub fn from_vec(items: Vec<Output>) -> Outputs
+        ensures { result ≡ items.items }
+    {
+        Outputs { items }
+    }
+
+    /// A copy of these outputs.
+    pub fn copy_of(alloc: Global, outputs: &[Output]) -> Result<Outputs, AllocError>
+        ensures { IfOk result (λ o. o ≡ outputs.now) }
+    {
+        Ok(Outputs {
+            items: outputs.to_vec(alloc)?,
+        })
     }
 
     /// The outputs, lent, in order.

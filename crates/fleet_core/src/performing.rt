@@ -12,10 +12,9 @@ ghost use Rattle.fleet_core.specs.Run.{step_at, out_at};
 ghost use Rattle.fleet_core.specs.Board.{AreStarted, ShowsAfter, posts_after};
 ghost use Rattle.scenario_image.specs.declared.step.Step.{Step};
 
-use device_machine::{Device, StepFault};
+use device_machine::{Device, Outputs, StepFault};
 use scenario_image::{Scenario, Step, take_step};
 use std::alloc::{AllocError, Global};
-use trace_file::OutputList;
 
 /// A reference to the step of this number, counted from 0, in the device's row; none after its last one.
 pub fn step_of(scenario: &Scenario, device: u16, place: u32) -> Option<&Step>
@@ -59,15 +58,15 @@ pub(crate) fn perform(
     alloc: Global,
     device: &mut Device,
     step: &Step,
-) -> Result<OutputList, AllocError>
+) -> Result<Outputs, AllocError>
     requires { is_step_refused device.old step.now ≡ false }
     ensures outputs { (f : Machine) → Shows device.old f → IfOk result (λ o. o ≡ step_outputs f step.now) }
     ensures shows { (f : Machine) → Shows device.old f → OnOk result (Shows device.new (step_after f step.now)) }
     ensures silent { is_event step.now ≡ false → IsOk result }
 {
     match take_step(device, step) {
-        Ok(None) => Ok(OutputList::from_vec(Vec::new(alloc))),
-        Ok(Some(outputs)) => OutputList::copy_of(alloc, outputs.as_slice()),
+        Ok(None) => Ok(Outputs::from_vec(Vec::new(alloc))),
+        Ok(Some(outputs)) => Outputs::copy_of(alloc, outputs.as_slice()),
         Err(StepFault::Memory) => Err(AllocError),
         Err(StepFault::Spent) => unreachable!(),
     }
@@ -82,7 +81,7 @@ pub fn make_step(
     device: u16,
     place: u32,
     step: &Step,
-) -> Result<OutputList, AllocError>
+) -> Result<Outputs, AllocError>
     requires stands { step_at scenario.now device place ≡ Some step.now }
     requires shows { ShowsAfter scenario.now device place machine.old }
     ensures outputs { IfOk result (λ o. o ≡ out_at scenario.now device place) }

@@ -1,6 +1,6 @@
 ghost use Rattle.std.specs.Prelude.{◌≡◌, IfOk};
 
-use crate::outputs::OutputList;
+use device_machine::Outputs;
 use std::alloc::AllocError;
 
 /// A step of a run: which worker made it, of which device, which of its steps it was, and what the device put out.
@@ -13,7 +13,7 @@ pub struct Entry {
     /// Which of the device's steps it was, from 0.
     pub step: u32,
     /// What the device put out, in order.
-    pub outputs: OutputList,
+    pub outputs: Outputs,
 }
 
 impl Entry {

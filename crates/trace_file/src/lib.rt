@@ -5,7 +5,6 @@ mod entries;
 mod entry;
 mod fault;
 mod laws;
-mod outputs;
 mod reading;
 mod writing;
 
@@ -13,6 +12,5 @@ pub use entries::Entries;
 pub use entry::Entry;
 pub use fault::WriteFault;
 pub use laws::{one_trace_file, what_has_a_trace_file};
-pub use outputs::OutputList;
 pub use reading::read_entries;
 pub use writing::write_entries;

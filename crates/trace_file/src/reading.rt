@@ -13,12 +13,11 @@ ghost use Rattle.trace_file.specs.Layout.{front, IsTraceFile};
 
 use crate::entries::Entries;
 use crate::entry::Entry;
-use crate::outputs::OutputList;
 use byte_layout::{
     Break, Format, Items, LayoutFault, ReadError, bytes_at, fault_at, items_at, load, u8_at,
     u16_at, u32_at,
 };
-use device_machine::{Act, Output};
+use device_machine::{Act, Output, Outputs};
 use octets::Bytes;
 use std::alloc::Global;
 
@@ -89,12 +88,12 @@ impl Items for OutputItems {
 }
 
 #[tactic(auto, unfolding(crate::specs::Layout::output_list))]
-fn outputs_at(alloc: Global, bytes: &[u8]) -> Result<(OutputList, &[u8]), ReadError>
+fn outputs_at(alloc: Global, bytes: &[u8]) -> Result<(Outputs, &[u8]), ReadError>
     ensures { Gives (λ x. (x.0, x.1.now)) result (output_list.read bytes.now) }
 {
     let (count, rest) = u32_at(bytes)?;
     let (items, rest) = items_at(&OutputItems, alloc, count as usize, rest)?;
-    Ok((OutputList::from_vec(items), rest))
+    Ok((Outputs::from_vec(items), rest))
 }
 
 #[tactic(auto, unfolding(crate::specs::Layout::entry))]
