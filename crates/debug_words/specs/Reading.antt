@@ -1,4 +1,5 @@
--- How the words of a line are read as a debug command, from the left. What is promised of it stands in Saying.
+-- How the words of a line are read as a debug command, from the left, as clauses of private functions name it. No
+-- promise rests on it: what is promised stands in Saying.
 use Rattle.std.specs.Prelude.{ℕ, ◌+◌, ◌*◌, List, [], ◌∷◌, Option, None, Some, Result, Ok, Err, codes, if◌then◌else◌}
 use Rattle.std.specs.Str.{bytes_eq}
 use Rattle.hex.specs.Hex.{hex_digit_value}

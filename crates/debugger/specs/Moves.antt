@@ -1,4 +1,4 @@
--- How the devices of a debugger are moved.
+-- How the devices of a debugger are moved, as clauses of private functions name it. No promise rests on it.
 use Rattle.std.specs.Prelude.{◌≡◌, ℕ, ◌≤◌, List, length, Option, None, Some, slice_get, slice_index}
 use Rattle.device_machine.specs.State.{Device}
 use Rattle.scenario_image.specs.Scenario.{Scenario}

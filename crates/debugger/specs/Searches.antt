@@ -1,4 +1,4 @@
--- How the next stop is searched for.
+-- How the next stop is searched for, as clauses of private functions name it. No promise rests on it.
 use Rattle.std.specs.Prelude.{◌≡◌, ℕ, ◌+◌, ◌<◌, ◌≤◌, ◌==◌, ◌&&◌, Bool, false, length, Option, None, Some, slice_get}
 use Rattle.std.specs.List.{list_any}
 use Rattle.object_defs.specs.declared.path.Path.{Path}

@@ -1,6 +1,7 @@
 //! When a value may stand at a path, and how it comes there.
 
 ghost use Rattle.std.specs.Prelude.{◌≡◌, ◌≢◌, ◌↔◌, IsErrOf, IsFalse, IsTrue, Err, OnOk, OnErr, Some};
+ghost use Rattle.lwm2m_values.specs.Value.{IsGood};
 ghost use Rattle.instance_store.specs.Stored.{has_instance, with_value};
 ghost use Rattle.device_template.specs.Template.{plain};
 ghost use Rattle.device_template.specs.Values.{fits, fits_resource, has_all_parts, has_kind, has_place, instance_at};

@@ -1,4 +1,4 @@
--- How records are put together and taken apart.
+-- How records are put together and taken apart, as clauses of private functions name it. No promise rests on it.
 use Rattle.std.specs.Prelude.{ℕ, ◌==◌, Option, None, Some, option_map, if◌then◌else◌}
 use Rattle.lwm2m_values.specs.declared.kind.ValueKind.{ValueKind}
 use Rattle.lwm2m_values.specs.declared.value.Value.{Value}

@@ -1,4 +1,4 @@
--- A list that grows by one item at a time, as bytes are read.
+-- A list that grows by one item at a time, as clauses of private functions name it. No promise rests on it.
 use Rattle.std.specs.Prelude.{◌≡◌, ℕ, Bool, true, List, [], ◌∷◌, ◌++◌, Option, None, Some, Result, Ok}
 use Rattle.std.specs.List.{list_all}
 use Rattle.std.specs.Ordering.{is_lt}
