@@ -1,43 +1,17 @@
 //! How the devices of a debugger are moved to another place of a run.
 
-ghost use Rattle.std.specs.Prelude.{◌≡◌, ℕ, ◌+◌, ◌^◌, ◌<◌, ◌≤◌, length, take, slice_get, slice_index, slice_set, IfOk};
+ghost use Rattle.std.specs.Prelude.{◌≡◌, ℕ, ◌<◌, ◌≤◌, length, take, slice_get, slice_index, IfOk};
 ghost use Rattle.std.specs.Prelude.{OnOk};
-ghost use Rattle.device_template.specs.Template.{Template};
-ghost use Rattle.device_machine.specs.State.{Device, Shows};
-ghost use Rattle.scenario_image.specs.declared.step.Step.{Step};
-ghost use Rattle.scenario_image.specs.Play.{start, IsRowOf};
-ghost use Rattle.fleet_core.specs.Run.{made_by};
+ghost use Rattle.device_machine.specs.State.{Device};
 ghost use Rattle.fleet_core.specs.Board.{ShowsAfter};
 ghost use Rattle.debugger.specs.Session.{AreAt, AreCounted};
 ghost use Rattle.debugger.specs.Moves.{HasSteps, IsMoved, AreMoved, placed};
 
 use device_machine::Device;
-use fleet_core::{make_step, start_of_row, step_of};
+use fleet_core::{count_entries, make_step, start_of_row, step_of};
 use scenario_image::Scenario;
 use std::alloc::{AllocError, Global};
 use trace_file::Entry;
-
-/// Counts an entry of a device.
-fn count_one(made: &mut Vec<u64>, device: u16)
-    requires { slice_index made.old.items device + 1 < 2 ^ 64 }
-    ensures { made.new.items ≡ slice_set made.old.items device (slice_index made.old.items device + 1) }
-{
-    if usize::from(device) < made.len() {
-        made[usize::from(device)] += 1;
-    }
-}
-
-/// How many entries each of the devices has.
-fn count_entries(alloc: Global, rows: usize, entries: &[Entry]) -> Result<Vec<u64>, AllocError>
-    ensures count { IfOk result (λ v. length v.items ≡ rows) }
-    ensures made { IfOk result (λ v. (d : ℕ) → d < rows → slice_index v.items d ≡ made_by d entries.now) }
-{
-    let mut made = vec![in alloc; 0u64; rows]?;
-    for entry in entries {
-        count_one(&mut made, entry.device);
-    }
-    Ok(made)
-}
 
 /// How many entries the device of each row has among the first ones, up to the place.
 pub(crate) fn count_rows(

@@ -22,4 +22,4 @@ pub use performing::{make_step, note_post, start_devices, start_of_row, step_of}
 pub use serial::run_serial;
 pub use trace_file::{Entries, Entry, WriteFault, read_entries, write_entries};
 pub use verdict::Verdict;
-pub use waiting::unfinished;
+pub use waiting::{count_entries, unfinished};

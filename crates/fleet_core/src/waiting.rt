@@ -19,7 +19,7 @@ fn count_one(made: &mut Vec<u64>, device: u16)
 }
 
 /// How many entries each of the first devices has.
-fn count_entries(alloc: Global, rows: usize, entries: &[Entry]) -> Result<Vec<u64>, AllocError>
+pub fn count_entries(alloc: Global, rows: usize, entries: &[Entry]) -> Result<Vec<u64>, AllocError>
     ensures count { IfOk result (λ v. length v.items ≡ rows) }
     ensures made { IfOk result (λ v. (d : ℕ) → d < rows → slice_index v.items d ≡ made_by d entries.now) }
 {
