@@ -1,12 +1,13 @@
 -- A request gets one reply, whose code is that of the first line that applies.
-use Rattle.std.proofs.Common.{◌≡◌, ℕ, Bool, true, false, ◌∷◌, ◌++◌, Option, None, Some, option_map, refl, ap, ◌∙◌}
+use Rattle.std.proofs.Common.{◌≡◌, ℕ, Bool, true, false, ◌∷◌, ◌++◌, Option, None, Some, Err, option_map, refl, ap}
+use Rattle.std.proofs.Common.{◌∙◌}
 use Rattle.std.specs.Bool.{if◌then◌else◌}
 use Rattle.device_requests.specs.Options.{has_unrecognized_critical, segments_of, path_of}
 use Rattle.coap_codec.specs.Message.{Message, spelling}
 use Rattle.coap_codec.specs.declared.kind.Kind.TheVariants.{Con, Non, Ack}
-use Rattle.device_requests.specs.Answer.{Outcome, answered, bare}
+use Rattle.device_requests.specs.Answer.{Outcome}
 use Rattle.device_requests.specs.declared.answer.Code.TheVariants.{BadOption}
-use Rattle.device_requests.specs.Request.{outcome_of, outcome_on}
+use Rattle.device_requests.specs.Request.{outcome_for, outcome_of, request_on}
 use Rattle.device_machine.specs.Observing.{noted}
 use Rattle.device_machine.specs.State.{Machine, with_client}
 use Rattle.device_machine.specs.Reactions.{acted, on_outcome, reply_to, response, sent_to}
@@ -77,5 +78,5 @@ pub rejected_non : NonConfirmableRejects
 rejected_non f server bytes m fresh k h =
     ap (λ r. r.outputs) (first_non f server bytes m fresh k)
     ∙ replied_non f server m (outcome_of f.kept.client server m) true k h
-    ∙ ap (λ b. acted (if b then answered f.kept.client (bare BadOption)
-    else outcome_on f.kept.client server m (path_of (segments_of m.options))).answer.act) h
+    ∙ ap (λ b. acted (outcome_for f.kept.client server m
+    (if b then Err BadOption else request_on m (path_of (segments_of m.options)))).answer.act) h

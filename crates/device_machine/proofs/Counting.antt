@@ -1,6 +1,6 @@
 -- A Read that registers is answered with the Observe number that its observation has then.
 use Rattle.std.proofs.Common.{◌≡◌, ℕ, ◌==◌, true, false, cond, ◌⊎◌, inl, inr, List, [], ◌∷◌, ◌++◌, Option, None, Some}
-use Rattle.std.proofs.Common.{option_map, find, refl, sym, ap, subst, ◌∙◌}
+use Rattle.std.proofs.Common.{option_map, find, Err, refl, sym, ap, subst, ◌∙◌}
 use Rattle.std.specs.Bool.{if◌then◌else◌}
 use Rattle.std.specs.Option.{option_map_or}
 use Rattle.std.specs.Str.{bytes_eq}
@@ -11,15 +11,15 @@ use Rattle.coap_codec.specs.declared.kind.Kind.TheVariants.{Con, Non, Ack}
 use Rattle.notifier.specs.Observed.{cancelled, is_named, next_number, number_for, registered}
 use Rattle.notifier.specs.declared.observation.Observation.{Observation}
 use Rattle.object_defs.specs.declared.path.Path.{Path}
-use Rattle.device_requests.specs.Answer.{Outcome}
-use Rattle.device_requests.specs.Observe.{interest_of, interest_on}
+use Rattle.device_requests.specs.Answer.{Outcome, is_content}
+use Rattle.device_requests.specs.Observe.{interest_for, interest_of}
 use Rattle.device_requests.specs.Options.{has_unrecognized_critical, segments_of, path_of}
-use Rattle.device_requests.specs.Request.{outcome_of}
+use Rattle.device_requests.specs.Request.{outcome_of, request_on}
+use Rattle.device_requests.specs.declared.answer.Code.TheVariants.{BadOption}
 use Rattle.device_requests.specs.declared.answer.Answer.{Answer}
 use Rattle.device_requests.specs.declared.observe.Interest.{Interest}
 use Rattle.device_requests.specs.declared.observe.Interest.TheVariants.{Register}
 use Rattle.device_notifications.specs.Message.{format_option, observe_option}
-use Rattle.device_notifications.specs.Second.{is_content}
 use Rattle.device_machine.specs.Observing.{Noted, begun, entered, lacks_place, noted, noted_by, unobserved}
 use Rattle.device_machine.specs.State.{Machine, Kept, with_client, with_observations}
 use Rattle.device_machine.specs.Reactions.{acted, location_options, on_noted, on_outcome, reply_to, response, sent_to}
@@ -73,7 +73,8 @@ noted_is k server m path accept answer i c l =
 understood : (m : Message) (i : Interest) → interest_of m ≡ Some i → has_unrecognized_critical m.options ≡ false
 understood m i =
     elim (has_unrecognized_critical m.options) as
-    (λ b. (if b then None else interest_on m (path_of (segments_of m.options))) ≡ Some i → b ≡ false) [
+    (λ b. interest_for (if b then Err BadOption else request_on m (path_of (segments_of m.options))) ≡ Some i
+    → b ≡ false) [
       | true ↦ λ h. cc
       | false ↦ λ h. refl
     ]

@@ -1,25 +1,30 @@
 -- What a request leaves that is answered and recorded with what is noted.
-use Rattle.std.proofs.Common.{◌≡◌, ℕ, Option, ◌∙◌}
+use Rattle.std.proofs.Common.{◌≡◌, ℕ, Option, subst, ◌∙◌}
 use Rattle.coap_codec.specs.Message.{Message}
 use Rattle.device_requests.specs.Answer.{Leaves}
 use Rattle.device_requests.specs.Client.{Client}
 use Rattle.device_requests.specs.Request.{outcome_of}
 use Rattle.device_requests.specs.declared.answer.Act.{Act as Deed}
 use Rattle.device_requests.specs.declared.answer.Answer.{Answer}
-use Rattle.device_machine.specs.Observing.{Noted, Notes, noted}
+use Rattle.device_requests.specs.declared.observe.Interest.{Interest}
+use Rattle.device_requests.specs.Observe.{interest_of}
+use Rattle.device_machine.specs.Observing.{Noted, Notes, noted, noted_by}
 use Rattle.device_machine.specs.State.{Machine, with_client, with_observations}
 use Rattle.device_machine.specs.Reactions.{on_fresh, on_noted, on_outcome, reply_to}
 
 -- a request is answered and recorded with what is noted
-pub taken : (f h : Machine) (server : ℕ) (m : Message) (client : Client) (answer : Answer) (number : Option ℕ)
-    (reply : Option Message) (act : Option Deed)
-    → Leaves answer client (outcome_of f.kept.client server m)
-    → Notes number (with_client f.kept client) h.kept (noted (with_client f.kept client) server m answer)
+pub taken : (f h : Machine) (server : ℕ) (m : Message) (client : Client) (answer : Answer)
+    (interest : Option Interest) (number : Option ℕ) (reply : Option Message) (act : Option Deed)
+    → Leaves answer client (outcome_of f.kept.client server m) → interest ≡ interest_of m
+    → Notes number (with_client f.kept client) h.kept (noted_by (with_client f.kept client) server m answer interest)
     → h.recorded ≡ f.recorded
     → reply ≡ reply_to h.kept.next_id m m.kind number answer → act ≡ answer.act
     → on_fresh h server m h.kept reply act ≡ on_outcome f server m (outcome_of f.kept.client server m)
-taken f h server m client answer number reply act leaves notes same replied acts =
+taken f h server m client answer interest number reply act leaves asks noted_so same replied acts =
+    let before = with_client f.kept client in
     let told : Client → Answer → Noted = λ c a. noted (with_client f.kept c) server m a in
+    let notes : Notes number before h.kept (told client answer) =
+    subst (λ o. Notes number before h.kept (noted_by before server m answer o)) asks noted_so in
     let state : h ≡ record {
       kept = with_observations (with_client f.kept client) (told client answer).left;
       recorded =

@@ -1,5 +1,5 @@
 -- A request that is refused is recorded, and changes nothing else.
-use Rattle.std.proofs.Common.{◌≡◌, ℕ, Bool, true, false, not, cond, ◌==◌, ◌⊎◌, inl, inr, List, [], ◌∷◌, Option, None}
+use Rattle.std.proofs.Common.{◌≡◌, ℕ, Bool, true, false, not, cond, ◌⊎◌, inl, inr, List, [], ◌∷◌, Option, None}
 use Rattle.std.proofs.Common.{Some, option_map, is_some, refl, sym, ap, subst, ◌∙◌}
 use Rattle.std.specs.Bool.{if◌then◌else◌}
 use Rattle.std.specs.List.{filter, list_any}
@@ -8,7 +8,7 @@ use Rattle.coap_codec.specs.declared.kind.Kind.{Kind}
 use Rattle.coap_codec.specs.declared.kind.Kind.TheVariants.{Con, Non, Ack, Rst}
 use Rattle.device_machine.specs.declared.event.Event.TheVariants.{Recv}
 use Rattle.notifier.specs.Observed.{cancelled, has_name, is_named, was_sent}
-use Rattle.device_requests.specs.Answer.{Outcome, code_byte}
+use Rattle.device_requests.specs.Answer.{Outcome, is_content_code}
 use Rattle.device_requests.specs.Observe.{interest_of}
 use Rattle.device_requests.specs.declared.answer.Answer.{Answer}
 use Rattle.device_requests.specs.declared.answer.Code.{Code}
@@ -29,7 +29,7 @@ use Rattle.device_requests.specs.Laws.{is_refusal}
 use Rattle.device_machine.proofs.Living.{clock_after}
 use Rattle.device_machine.proofs.Repeating.{first_con, first_non, client_after, reached}
 
-not_content : (code : Code) → is_refusal code ≡ true → (code_byte code == 69) ≡ false
+not_content : (code : Code) → is_refusal code ≡ true → is_content_code code ≡ false
 not_content Created h = refl
 not_content Deleted h = refl
 not_content Changed h = refl

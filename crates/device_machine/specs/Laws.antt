@@ -13,7 +13,7 @@ use Rattle.device_machine.specs.declared.output.Output.{Output}
 use Rattle.device_machine.specs.declared.output.Output.TheVariants.{Send, Act}
 use Rattle.device_requests.specs.declared.answer.Act.{Act as Deed}
 use Rattle.device_machine.specs.declared.recorded.Recorded.{Recorded}
-use Rattle.device_requests.specs.Answer.{code_byte}
+use Rattle.device_requests.specs.Answer.{code_byte, is_content}
 use Rattle.object_defs.specs.Lines.{first_line}
 use Rattle.device_requests.specs.Request.{outcome_of}
 use Rattle.notifier.specs.Observed.{cancelled, has_name, is_named, number_for, was_sent}
@@ -23,7 +23,6 @@ use Rattle.device_notifications.specs.declared.datagram.Datagram.{Datagram}
 use Rattle.device_notifications.specs.Laws.{IsOf, RisesByOne}
 use Rattle.device_notifications.specs.Laws.{IsFresh as IsYoung}
 use Rattle.device_notifications.specs.Message.{observe_option}
-use Rattle.device_notifications.specs.Second.{is_content}
 use Rattle.device_machine.specs.Observing.{lacks_place}
 use Rattle.device_requests.specs.Observe.{interest_of}
 use Rattle.device_requests.specs.declared.observe.Interest.TheVariants.{Cancel, Register}

@@ -8,12 +8,12 @@ use Rattle.coap_codec.specs.declared.kind.Kind.TheVariants.{Con, Non, Ack, Rst}
 use Rattle.object_defs.specs.declared.path.Path.{Path}
 use Rattle.notifier.specs.Observed.{cancelled, has_name, number_for, registered}
 use Rattle.notifier.specs.declared.observation.Observation.{Observation}
+use Rattle.device_requests.specs.Answer.{is_content}
 use Rattle.device_requests.specs.Observe.{interest_of}
 use Rattle.device_requests.specs.declared.answer.Answer.{Answer}
 use Rattle.device_requests.specs.declared.observe.Interest.{Interest}
 use Rattle.device_requests.specs.declared.observe.Interest.TheVariants.{Register, Cancel}
 use Rattle.device_notifications.specs.Report.{report_of}
-use Rattle.device_notifications.specs.Second.{is_content}
 use Rattle.device_machine.specs.State.{Kept, with_observations}
 
 -- the Observe number of a reply, where it has one, and the observations then

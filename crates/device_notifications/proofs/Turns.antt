@@ -17,7 +17,8 @@ use Rattle.device_notifications.specs.Laws.Stays.{as_it_was, told}
 use Rattle.device_notifications.specs.Laws.StayInOrder.{none, stays, goes}
 use Rattle.device_notifications.specs.Message.{datagram_of}
 use Rattle.device_notifications.specs.Period.{pmin_of, pmax_of}
-use Rattle.device_notifications.specs.Second.{age_of, is_content, is_due_now, present, second, seconds, triggers_now}
+use Rattle.device_requests.specs.Answer.{is_content}
+use Rattle.device_notifications.specs.Second.{age_of, is_due_now, present, second, seconds, triggers_now}
 use Rattle.device_notifications.specs.Second.{turn_by, turn_of, verdict_of}
 
 choose : (c d : Bool) (a : Answer) (P : Verdict → Type 0) → (c ≡ true → d ≡ true → P (Sends a))

@@ -11,7 +11,8 @@ use Rattle.device_notifications.specs.declared.datagram.Datagram.{Datagram}
 use Rattle.device_notifications.specs.Message.{datagram_of}
 use Rattle.device_notifications.specs.Period.{pmin_of, pmax_of}
 use Rattle.device_notifications.specs.Report.{report_of}
-use Rattle.device_notifications.specs.Second.{age_of, and_then, is_content, present, second, seconds, turn_of}
+use Rattle.device_requests.specs.Answer.{is_content}
+use Rattle.device_notifications.specs.Second.{age_of, and_then, present, second, seconds, turn_of}
 
 -- a datagram is a notification that keeps the observation: its present answer, which is content, with the next Observe
 -- number; and pmin seconds or more have passed since the observation's last message

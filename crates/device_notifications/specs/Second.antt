@@ -1,11 +1,11 @@
 -- What the observations of a device do in a second.
-use Rattle.std.specs.Prelude.{ℕ, zero, suc, ◌+◌, ◌-◌, ◌==◌, Bool, List, [], ◌∷◌, ◌++◌, None, Some, if◌then◌else◌}
+use Rattle.std.specs.Prelude.{ℕ, zero, suc, ◌+◌, ◌-◌, Bool, List, [], ◌∷◌, ◌++◌, None, Some, if◌then◌else◌}
 use Rattle.notifier.specs.Attributes.{assigned}
 use Rattle.notifier.specs.Observed.{next_number, notified}
 use Rattle.notifier.specs.Trigger.{is_due, is_triggered}
 use Rattle.notifier.specs.declared.attribute.Name.TheVariants as name
 use Rattle.notifier.specs.declared.observation.Observation.{Observation}
-use Rattle.device_requests.specs.Answer.{code_byte}
+use Rattle.device_requests.specs.Answer.{is_content}
 use Rattle.device_requests.specs.Client.{Client}
 use Rattle.device_requests.specs.Read.{read_answer}
 use Rattle.device_requests.specs.declared.answer.Answer.{Answer}
@@ -20,10 +20,6 @@ use Rattle.device_notifications.specs.Report.{number_at, report_of}
 -- the present answer of an observation: that of its GET by its server
 abbrev pub present : Client → Observation → Answer
 present client o = read_answer client o.server o.path o.accept
-
--- an answer is the content of the target: its code is 2.05
-abbrev pub is_content : Answer → Bool
-is_content answer = code_byte answer.code == 69
 
 -- whether the present answer triggers, compared with what the observation last reported
 abbrev pub triggers_now : Client → Observation → List ℕ → Bool

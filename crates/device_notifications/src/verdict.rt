@@ -1,5 +1,5 @@
 ghost use Rattle.std.specs.Prelude.{◌≡◌, IfOk};
-ghost use Rattle.device_notifications.specs.Second.{is_content, is_due_now, triggers_now, verdict_of};
+ghost use Rattle.device_notifications.specs.Second.{is_due_now, triggers_now, verdict_of};
 
 use crate::period::{pmax_of, pmin_of};
 use crate::report::number_at;
@@ -16,16 +16,6 @@ pub enum Verdict {
     Sends(Answer),
     /// It ends with this answer, which is no content.
     Gone(Answer),
-}
-
-/// 2.05 Content.
-const CONTENT: u8 = 0x45;
-
-/// Whether an answer is the content of its target.
-fn is_content(answer: &Answer) -> bool
-    ensures { result ≡ is_content answer.now }
-{
-    answer.code.byte() == CONTENT
 }
 
 /// Whether a payload triggers, compared with what the observation last reported.
@@ -64,7 +54,7 @@ pub(crate) fn judge(
     ensures { IfOk result (λ v. v ≡ verdict_of client.now clock observation.now) }
 {
     let answer = client.read(observation.server, observation.path, observation.accept)?;
-    if !is_content(&answer) {
+    if !answer.is_content() {
         return Ok(Verdict::Gone(answer));
     }
     if is_due_now(client, clock, observation, answer.payload.as_slice()) {

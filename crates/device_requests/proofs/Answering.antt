@@ -1,6 +1,6 @@
 -- A request is answered by the first line that it meets.
 use Rattle.std.proofs.Common.{◌≡◌, ℕ, Bool, true, false, not, cond, ◌==◌, List, [], ◌∷◌, ◌++◌, Option, None, Some}
-use Rattle.std.proofs.Common.{is_some, refl, ap, ◌∙◌}
+use Rattle.std.proofs.Common.{is_some, Result, Err, refl, ap, ◌∙◌}
 use Rattle.std.specs.Bool.{if◌then◌else◌}
 use Rattle.std.specs.Option.{unwrap_or}
 use Rattle.coap_codec.specs.Message.{Message}
@@ -20,9 +20,10 @@ use Rattle.device_requests.specs.declared.operation.Operation.{Operation}
 use Rattle.device_requests.specs.declared.operation.Operation.TheVariants.{Read, Discover, WriteAttributes}
 use Rattle.device_requests.specs.declared.operation.Operation.TheVariants.{WriteReplace, WritePartial, Create, Execute}
 use Rattle.device_requests.specs.declared.operation.Operation.TheVariants.{Delete}
+use Rattle.device_requests.specs.declared.request.Request.{Request}
 use Rattle.notifier.specs.Attributes.{Numbers}
 use Rattle.device_requests.specs.WriteAttributes.{annotate_unless, attributes_given, may_annotate}
-use Rattle.device_requests.specs.Answer.{Outcome, answered, bare, content, refused_or}
+use Rattle.device_requests.specs.Answer.{content, refused_or}
 use Rattle.object_defs.specs.Lines.{first_line}
 use Rattle.device_requests.specs.Create.{Newborn, create_unless, is_tlv, lacks_room, newborn}
 use Rattle.device_requests.specs.Targets.{is_fixed, exists}
@@ -33,7 +34,7 @@ use Rattle.device_requests.specs.Operation.{operation_of}
 use Rattle.device_requests.specs.Options.{accept_of, content_format_of, has_query, has_unrecognized_critical}
 use Rattle.device_requests.specs.Options.{queries_of, segments_of, path_of}
 use Rattle.device_requests.specs.Read.{can_be_read, content_in, format_at, read_payload}
-use Rattle.device_requests.specs.Request.{outcome_at, outcome_by, outcome_on, outcome_of}
+use Rattle.device_requests.specs.Request.{outcome_at, outcome_for, outcome_of, request_by, request_on, request_with}
 use Rattle.device_requests.specs.Access.{may_read, rights_on}
 use Rattle.device_requests.specs.Write.{event_of, left, mode_at, new_values, write_lines, write_outcome, write_unless}
 use Rattle.device_requests.specs.Client.{Client}
@@ -127,7 +128,8 @@ write_says client server mode path number payload =
     (event_of path (new_values client path number payload))))
 
 says_at : (client : Client) (server : ℕ) (m : Message) (path : Path) (operation : Operation)
-    → Says (outcome_at client server m path operation).answer (operation_lines client server m path operation)
+    → Says (outcome_at client server m (request_with m path operation)).answer
+    (operation_lines client server m path operation)
 says_at client server m path Read =
     read_says (object_in path == 0) (not (exists client.catalogue client.store path))
     (not (may_read client server path)) (not (can_be_read client.catalogue path))
@@ -155,25 +157,27 @@ says_at client server m path Delete =
     ∙ ap Some (delete_code (first_line (delete_lines client server path)) client path)
 
 says_by : (client : Client) (server : ℕ) (m : Message) (path : Path) (operation : Option Operation)
-    → Says (outcome_by client server m path operation).answer (lines_by client server m path operation)
+    → Says (outcome_for client server m (request_by m path operation)).answer
+    (lines_by client server m path operation)
 says_by client server m path None = refl
 says_by client server m path (Some operation) = says_at client server m path operation
 
 says_on : (client : Client) (server : ℕ) (m : Message) (path : Option Path)
-    → Says (outcome_on client server m path).answer (lines_on client server m path)
+    → Says (outcome_for client server m (request_on m path)).answer (lines_on client server m path)
 says_on client server m None = refl
 says_on client server m (Some path) =
     says_by client server m path (operation_of m.code (accept_of m.options) (has_query m.options) path)
 
-says_if : (b : Bool) (client : Client) (outcome : Outcome) (lines : List (Bool × Code)) → Says outcome.answer lines
-    → Says (if b then answered client (bare BadOption) else outcome).answer ((b, BadOption) ∷ lines)
-says_if true client outcome lines h = refl
-says_if false client outcome lines h = h
+says_if : (b : Bool) (client : Client) (server : ℕ) (m : Message) (request : Result Request Code)
+    (lines : List (Bool × Code)) → Says (outcome_for client server m request).answer lines
+    → Says (outcome_for client server m (if b then Err BadOption else request)).answer ((b, BadOption) ∷ lines)
+says_if true client server m request lines h = refl
+says_if false client server m request lines h = h
 
 -- the answer's code is that of the first line that the request meets
 pub says : (client : Client) (server : ℕ) (m : Message) → first_line (request_lines client server m)
     ≡ Some (outcome_of client server m).answer.code
 says client server m =
     let path = path_of (segments_of m.options) in
-    says_if (has_unrecognized_critical m.options) client (outcome_on client server m path)
+    says_if (has_unrecognized_critical m.options) client server m (request_on m path)
     (lines_on client server m path) (says_on client server m path)

@@ -1,5 +1,5 @@
 -- No request changes the accounts or the catalogue.
-use Rattle.std.proofs.Common.{ℕ, Bool, true, false, List, Option, None, Some, refl}
+use Rattle.std.proofs.Common.{ℕ, Bool, true, false, List, Option, None, Some, Result, Err, refl}
 use Rattle.std.specs.Bool.{if◌then◌else◌}
 use Rattle.coap_codec.specs.Message.{Message}
 use Rattle.instance_store.specs.Stored.{Stored}
@@ -13,9 +13,9 @@ use Rattle.device_requests.specs.declared.operation.Operation.{Operation}
 use Rattle.device_requests.specs.declared.operation.Operation.TheVariants.{Read, Discover, WriteAttributes}
 use Rattle.device_requests.specs.declared.operation.Operation.TheVariants.{WriteReplace, WritePartial, Create, Execute}
 use Rattle.device_requests.specs.declared.operation.Operation.TheVariants.{Delete}
+use Rattle.device_requests.specs.declared.request.Request.{Request}
 use Rattle.notifier.specs.Attributes.{Numbers}
 use Rattle.device_requests.specs.WriteAttributes.{annotate_unless, attribute_lines, attributes_given}
-use Rattle.device_requests.specs.Answer.{Outcome, answered, bare}
 use Rattle.device_requests.specs.Client.{Client}
 use Rattle.object_defs.specs.Path.{object_in}
 use Rattle.device_requests.specs.Create.{Newborn, create_lines, create_unless, newborn}
@@ -24,7 +24,7 @@ use Rattle.device_requests.specs.Execute.{execute_lines, execute_unless}
 use Rattle.device_requests.specs.Operation.{operation_of}
 use Rattle.device_requests.specs.Options.{accept_of, content_format_of, has_query, has_unrecognized_critical}
 use Rattle.device_requests.specs.Options.{queries_of, segments_of, path_of}
-use Rattle.device_requests.specs.Request.{outcome_at, outcome_by, outcome_on, outcome_of}
+use Rattle.device_requests.specs.Request.{outcome_at, outcome_for, outcome_of, request_by, request_on, request_with}
 use Rattle.device_requests.specs.Write.{event_of, left, mode_at, new_values, write_lines, write_outcome, write_unless}
 use Rattle.device_requests.specs.Laws.{KeepsFrame}
 
@@ -66,7 +66,7 @@ attributes_keep None client (Some m) = record { accounts = refl; catalogue = ref
 attributes_keep (Some code) client given = record { accounts = refl; catalogue = refl }
 
 keeps_at : (client : Client) (server : ℕ) (m : Message) (path : Path) (operation : Operation)
-    → KeepsFrame client (outcome_at client server m path operation).client
+    → KeepsFrame client (outcome_at client server m (request_with m path operation)).client
 keeps_at client server m path Read = same client
 keeps_at client server m path Discover = same client
 keeps_at client server m path WriteAttributes =
@@ -86,22 +86,24 @@ keeps_at client server m path Execute =
 keeps_at client server m path Delete = delete_keeps (first_line (delete_lines client server path)) client path
 
 keeps_by : (client : Client) (server : ℕ) (m : Message) (path : Path) (operation : Option Operation)
-    → KeepsFrame client (outcome_by client server m path operation).client
+    → KeepsFrame client (outcome_for client server m (request_by m path operation)).client
 keeps_by client server m path None = same client
 keeps_by client server m path (Some operation) = keeps_at client server m path operation
 
 keeps_on : (client : Client) (server : ℕ) (m : Message) (path : Option Path)
-    → KeepsFrame client (outcome_on client server m path).client
+    → KeepsFrame client (outcome_for client server m (request_on m path)).client
 keeps_on client server m None = same client
 keeps_on client server m (Some path) =
     keeps_by client server m path (operation_of m.code (accept_of m.options) (has_query m.options) path)
 
-keeps_if : (b : Bool) (client : Client) (outcome : Outcome) → KeepsFrame client outcome.client
-    → KeepsFrame client (if b then answered client (bare BadOption) else outcome).client
-keeps_if true client outcome k = same client
-keeps_if false client outcome k = k
+keeps_if : (b : Bool) (client : Client) (server : ℕ) (m : Message) (request : Result Request Code)
+    → KeepsFrame client (outcome_for client server m request).client
+    → KeepsFrame client (outcome_for client server m (if b then Err BadOption else request)).client
+keeps_if true client server m request k = same client
+keeps_if false client server m request k = k
 
 -- a request leaves the accounts and the catalogue
 pub keeps : (client : Client) (server : ℕ) (m : Message) → KeepsFrame client (outcome_of client server m).client
 keeps client server m =
-    keeps_if (has_unrecognized_critical m.options) client _ (keeps_on client server m (path_of (segments_of m.options)))
+    keeps_if (has_unrecognized_critical m.options) client server m (request_on m (path_of (segments_of m.options)))
+    (keeps_on client server m (path_of (segments_of m.options)))

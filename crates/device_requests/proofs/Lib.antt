@@ -10,4 +10,5 @@ mod Paths
 mod Present
 mod Queries
 mod ReadBack
+pub mod Reading
 pub mod Refusing

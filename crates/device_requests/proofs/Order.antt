@@ -1,6 +1,6 @@
 -- The first rule that holds decides.
 use Rattle.std.proofs.Common.{◌≡◌, ℕ, Bool, true, false, not, cond, ◌||◌, ◌==◌, List, [], ◌∷◌, ◌++◌, Option, None, Some}
-use Rattle.std.proofs.Common.{is_some, inl, inr, refl, sym, ap, ◌∙◌}
+use Rattle.std.proofs.Common.{is_some, Err, inl, inr, refl, sym, ap, ◌∙◌}
 use Rattle.std.specs.Bool.{if◌then◌else◌}
 use Rattle.std.proofs.lemmas.Bool.{ne_eqb}
 use Rattle.coap_codec.specs.Message.{Message}
@@ -23,10 +23,10 @@ use Rattle.device_requests.specs.declared.write.NewValues.{NewValues}
 use Rattle.device_requests.specs.Access.{rights_on}
 use Rattle.device_requests.specs.Client.{Client}
 use Rattle.device_requests.specs.Laws.{IsAmong, lines_by, lines_on, operation_lines, request_lines}
-use Rattle.device_requests.specs.Observe.{interest_in, interest_on, is_read}
+use Rattle.device_requests.specs.Observe.{interest_for}
 use Rattle.device_requests.specs.Operation.{operation_of}
 use Rattle.device_requests.specs.Options.{accept_of, content_format_of, has_query, has_unrecognized_critical}
-use Rattle.device_requests.specs.Options.{observe_of, segments_of, path_of}
+use Rattle.device_requests.specs.Options.{segments_of, path_of}
 use Rattle.device_requests.specs.Order.{Asks, AsksToRead, FormatsPrecedePayloads, MethodsPrecedeObjects, OneTable}
 use Rattle.device_requests.specs.Order.{OnlyReadsObserve, OperationsPrecedeFormats, OptionsComeFirst}
 use Rattle.device_requests.specs.Order.{PathsPrecedeMethods, PayloadsPrecedeStates, RefusalsHaveReasons}
@@ -35,7 +35,7 @@ use Rattle.device_requests.specs.Order.{done_code, format_refusal, given_by, has
 use Rattle.device_requests.specs.Order.{is_refused_now, is_too_much, lacks_format, lacks_operation, lacks_right}
 use Rattle.device_requests.specs.Order.{lacks_target, rules_of, unless_taken}
 use Rattle.device_requests.specs.Read.{format_at}
-use Rattle.device_requests.specs.Request.{outcome_of}
+use Rattle.device_requests.specs.Request.{outcome_of, request_by, request_on}
 use Rattle.device_requests.specs.Write.{can_be_written, event_of, exceeds, is_target, mode_at, turn_lines, write_lines}
 use Rattle.device_requests.proofs.Answering.{says}
 
@@ -337,8 +337,7 @@ reasons client server m path operation asks =
 reading : (m : Message) (path : Path) (interest : Interest) (operation : Option Operation)
     → has_unrecognized_critical m.options ≡ false → path_of (segments_of m.options) ≡ Some path
     → operation_of m.code (accept_of m.options) (has_query m.options) path ≡ operation
-    → (if is_read operation then interest_in (observe_of m.options) path (accept_of m.options) else None)
-    ≡ Some interest
+    → interest_for (request_by m path operation) ≡ Some interest
     → AsksToRead m
 reading m path interest None e f g h = cc
 reading m path interest (Some Read) e f g h =
@@ -347,7 +346,7 @@ reading m path interest (Some operation) e f g h = cc
 
 observing : (m : Message) (interest : Interest) (b : Bool) (path : Option Path)
     → has_unrecognized_critical m.options ≡ b → path_of (segments_of m.options) ≡ path
-    → (if b then None else interest_on m path) ≡ Some interest
+    → interest_for (if b then Err BadOption else request_on m path) ≡ Some interest
     → AsksToRead m
 observing m interest true path e f h = cc
 observing m interest false None e f h = cc

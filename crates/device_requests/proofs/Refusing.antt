@@ -1,5 +1,5 @@
 -- A request that is refused changes nothing, and its answer is a code alone.
-use Rattle.std.proofs.Common.{◌≡◌, ℕ, Bool, true, false, List, Option, None, Some, refl, ap}
+use Rattle.std.proofs.Common.{◌≡◌, ℕ, Bool, true, false, List, Option, None, Some, Result, Err, refl, ap}
 use Rattle.std.specs.Bool.{if◌then◌else◌}
 use Rattle.coap_codec.specs.Message.{Message}
 use Rattle.instance_store.specs.Stored.{Stored}
@@ -11,6 +11,7 @@ use Rattle.device_requests.specs.declared.operation.Operation.{Operation}
 use Rattle.device_requests.specs.declared.operation.Operation.TheVariants.{Read, Discover, WriteAttributes}
 use Rattle.device_requests.specs.declared.operation.Operation.TheVariants.{WriteReplace, WritePartial, Create, Execute}
 use Rattle.device_requests.specs.declared.operation.Operation.TheVariants.{Delete}
+use Rattle.device_requests.specs.declared.request.Request.{Request}
 use Rattle.notifier.specs.Attributes.{Numbers}
 use Rattle.device_requests.specs.WriteAttributes.{annotate_unless, attribute_lines, attributes_given}
 use Rattle.device_requests.specs.Answer.{Outcome, answered, bare, content, refused_or}
@@ -27,7 +28,7 @@ use Rattle.device_requests.specs.Execute.{execute_lines, execute_unless}
 use Rattle.device_requests.specs.Operation.{operation_of}
 use Rattle.device_requests.specs.Options.{accept_of, content_format_of, has_query, has_unrecognized_critical}
 use Rattle.device_requests.specs.Options.{queries_of, segments_of, path_of}
-use Rattle.device_requests.specs.Request.{outcome_at, outcome_by, outcome_on, outcome_of}
+use Rattle.device_requests.specs.Request.{outcome_at, outcome_for, outcome_of, request_by, request_on, request_with}
 use Rattle.device_requests.specs.Write.{event_of, left, mode_at, new_values, write_lines, write_outcome, write_unless}
 use Rattle.device_requests.specs.Client.{Client}
 use Rattle.device_requests.specs.Laws.{RefusalIsCodeAlone, RefusalKeeps, is_refusal}
@@ -81,7 +82,7 @@ refused_discover None client payload h = cc
 refused_discover (Some code) client payload h = refl
 
 refused_at : (client : Client) (server : ℕ) (m : Message) (path : Path) (operation : Operation)
-    → Keeps client (outcome_at client server m path operation)
+    → Keeps client (outcome_at client server m (request_with m path operation))
 refused_at client server m path Read h =
     refused_read (first_line (read_lines client server path (accept_of m.options))) client
     (format_at client.catalogue path (accept_of m.options)) (read_payload client server path (accept_of m.options)) h
@@ -105,24 +106,25 @@ refused_at client server m path Execute h =
 refused_at client server m path Delete h = refused_delete (first_line (delete_lines client server path)) client path h
 
 refused_by : (client : Client) (server : ℕ) (m : Message) (path : Path) (operation : Option Operation)
-    → Keeps client (outcome_by client server m path operation)
+    → Keeps client (outcome_for client server m (request_by m path operation))
 refused_by client server m path None h = refl
 refused_by client server m path (Some operation) h = refused_at client server m path operation h
 
 refused_on : (client : Client) (server : ℕ) (m : Message) (path : Option Path)
-    → Keeps client (outcome_on client server m path)
+    → Keeps client (outcome_for client server m (request_on m path))
 refused_on client server m None h = refl
 refused_on client server m (Some path) h =
     refused_by client server m path (operation_of m.code (accept_of m.options) (has_query m.options) path) h
 
-refused_if : (b : Bool) (client : Client) (outcome : Outcome) → Keeps client outcome
-    → Keeps client (if b then answered client (bare BadOption) else outcome)
-refused_if true client outcome k h = refl
-refused_if false client outcome k h = k h
+refused_if : (b : Bool) (client : Client) (server : ℕ) (m : Message) (request : Result Request Code)
+    → Keeps client (outcome_for client server m request)
+    → Keeps client (outcome_for client server m (if b then Err BadOption else request))
+refused_if true client server m request k h = refl
+refused_if false client server m request k h = k h
 
 refused_whole : (client : Client) (server : ℕ) (m : Message) → Keeps client (outcome_of client server m)
 refused_whole client server m =
-    refused_if (has_unrecognized_critical m.options) client _
+    refused_if (has_unrecognized_critical m.options) client server m (request_on m (path_of (segments_of m.options)))
     (refused_on client server m (path_of (segments_of m.options)))
 
 -- a request that is refused changes nothing

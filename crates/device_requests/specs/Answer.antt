@@ -25,6 +25,20 @@ code_byte NotAcceptable = 4 * 32 + 6
 code_byte UnsupportedContentFormat = 4 * 32 + 15
 code_byte InternalServerError = 5 * 32
 
+-- the code is 2.05
+abbrev pub is_content_code : Code → Bool
+is_content_code Content = true
+is_content_code _ = false
+
+-- the code is 4.02
+abbrev pub is_bad_option : Code → Bool
+is_bad_option BadOption = true
+is_bad_option _ = false
+
+-- an answer is the content of the target
+abbrev pub is_content : Answer → Bool
+is_content answer = is_content_code answer.code
+
 -- a code alone, with neither option nor payload: so is every refusal
 abbrev pub bare : Code → Answer
 bare code = record { code = code; location = None; format = None; payload = []; act = None }

@@ -1,13 +1,15 @@
--- What a request answers and changes: by its operation, at its path.
-use Rattle.std.specs.Prelude.{ℕ, Bool, Option, None, Some, is_some, option_and_then, if◌then◌else◌}
+-- What a request asks for, as its options say it, and what it answers and changes.
+use Rattle.std.specs.Prelude.{◌≡◌, ◌↔◌, ℕ, false, Option, None, Some, Result, Ok, Err, if◌then◌else◌}
 use Rattle.coap_codec.specs.Message.{Message}
 use Rattle.object_defs.specs.declared.path.Path.{Path}
 use Rattle.lwm2m_payloads.specs.declared.given.Mode.TheVariants.{Replace, Update}
+use Rattle.device_requests.specs.declared.answer.Code.{Code}
 use Rattle.device_requests.specs.declared.answer.Code.TheVariants.{BadOption, NotFound, MethodNotAllowed}
 use Rattle.device_requests.specs.declared.operation.Operation.{Operation}
 use Rattle.device_requests.specs.declared.operation.Operation.TheVariants.{Read, Discover, WriteAttributes}
 use Rattle.device_requests.specs.declared.operation.Operation.TheVariants.{WriteReplace, WritePartial, Create, Execute}
 use Rattle.device_requests.specs.declared.operation.Operation.TheVariants.{Delete}
+use Rattle.device_requests.specs.declared.request.Request.{Request}
 use Rattle.device_requests.specs.WriteAttributes.{attributes_outcome}
 use Rattle.device_requests.specs.Answer.{Outcome, answered, bare}
 use Rattle.device_requests.specs.Create.{create_outcome}
@@ -16,41 +18,72 @@ use Rattle.device_requests.specs.Discover.{discover_answer}
 use Rattle.device_requests.specs.Execute.{execute_outcome}
 use Rattle.device_requests.specs.Operation.{operation_of}
 use Rattle.device_requests.specs.Options.{accept_of, content_format_of, has_query, has_unrecognized_critical}
-use Rattle.device_requests.specs.Options.{queries_of, segments_of, path_of}
+use Rattle.device_requests.specs.Options.{observe_of, queries_of, segments_of, path_of}
 use Rattle.device_requests.specs.Read.{read_answer}
 use Rattle.device_requests.specs.Client.{Client}
 use Rattle.device_requests.specs.Write.{write_outcome}
 
--- what an operation at a path answers and changes
-abbrev pub outcome_at : Client → ℕ → Message → Path → Operation → Outcome
-outcome_at client server m path Read = answered client (read_answer client server path (accept_of m.options))
-outcome_at client server m path Discover = answered client (discover_answer client server path)
-outcome_at client server m path WriteReplace =
-    write_outcome client server Replace path (content_format_of m.options) m.payload
-outcome_at client server m path WritePartial =
-    write_outcome client server Update path (content_format_of m.options) m.payload
-outcome_at client server m path WriteAttributes = attributes_outcome client server path (queries_of m.options)
-outcome_at client server m path Create = create_outcome client server path (content_format_of m.options) m.payload
-outcome_at client server m path Execute = execute_outcome client server path (content_format_of m.options) m.payload
-outcome_at client server m path Delete = delete_outcome client server path
+-- an operation at a path, with the formats and the Observe that the options name (RFC 7252 section 5.10; RFC 7641
+-- section 2)
+abbrev pub request_with : Message → Path → Operation → Request
+request_with m path operation =
+    record {
+      path = path;
+      operation = operation;
+      accept = accept_of m.options;
+      content_format = content_format_of m.options;
+      observe = observe_of m.options;
+    }
 
-abbrev pub outcome_by : Client → ℕ → Message → Path → Option Operation → Outcome
-outcome_by client server m path None = answered client (bare MethodNotAllowed)
-outcome_by client server m path (Some operation) = outcome_at client server m path operation
+-- a method that is no operation at the path is Method Not Allowed
+abbrev pub request_by : Message → Path → Option Operation → Result Request Code
+request_by m path None = Err MethodNotAllowed
+request_by m path (Some operation) = Ok (request_with m path operation)
 
-abbrev pub outcome_on : Client → ℕ → Message → Option Path → Outcome
-outcome_on client server m None = answered client (bare NotFound)
-outcome_on client server m (Some path) =
-    outcome_by client server m path (operation_of m.code (accept_of m.options) (has_query m.options) path)
+-- a Uri-Path that is no path is Not Found
+abbrev pub request_on : Message → Option Path → Result Request Code
+request_on m None = Err NotFound
+request_on m (Some path) =
+    request_by m path (operation_of m.code (accept_of m.options) (has_query m.options) path)
 
--- the segments are a path, and the method is an operation there
-abbrev pub has_operation : Message → Bool
-has_operation m =
-    is_some (option_and_then (operation_of m.code (accept_of m.options) (has_query m.options))
-    (path_of (segments_of m.options)))
+-- what a request asks for, or the code that refuses it; an option that must be understood and isn't is refused first
+-- (RFC 7252 section 5.4.1)
+abbrev pub request_of : Message → Result Request Code
+request_of m =
+    if has_unrecognized_critical m.options then Err BadOption else request_on m (path_of (segments_of m.options))
 
--- what a request answers and changes; an option that must be understood and isn't is refused first
+-- the options of a message are understood, and this request is what they say, with the method
+pub record AsksFor (m : Message) (r : Request) : Type 0 where
+  pub understood : has_unrecognized_critical m.options ≡ false
+  pub path : path_of (segments_of m.options) ≡ Some r.path
+  pub operation : operation_of m.code (accept_of m.options) (has_query m.options) r.path ≡ Some r.operation
+  pub accept : accept_of m.options ≡ r.accept
+  pub content_format : content_format_of m.options ≡ r.content_format
+  pub observe : observe_of m.options ≡ r.observe
+
+-- a request is what the options say
+abbrev pub RequestsAreSaid : Type 0
+RequestsAreSaid = (m : Message) (r : Request) → (request_of m ≡ Ok r) ↔ AsksFor m r
+
+-- what an operation answers and changes, with the queries and the payload of its message
+abbrev pub outcome_by : Client → ℕ → Message → Request → Operation → Outcome
+outcome_by client server m r Read = answered client (read_answer client server r.path r.accept)
+outcome_by client server m r Discover = answered client (discover_answer client server r.path)
+outcome_by client server m r WriteReplace = write_outcome client server Replace r.path r.content_format m.payload
+outcome_by client server m r WritePartial = write_outcome client server Update r.path r.content_format m.payload
+outcome_by client server m r WriteAttributes = attributes_outcome client server r.path (queries_of m.options)
+outcome_by client server m r Create = create_outcome client server r.path r.content_format m.payload
+outcome_by client server m r Execute = execute_outcome client server r.path r.content_format m.payload
+outcome_by client server m r Delete = delete_outcome client server r.path
+
+abbrev pub outcome_at : Client → ℕ → Message → Request → Outcome
+outcome_at client server m r = outcome_by client server m r r.operation
+
+-- a message that is refused as it is read changes nothing
+abbrev pub outcome_for : Client → ℕ → Message → Result Request Code → Outcome
+outcome_for client server m (Err code) = answered client (bare code)
+outcome_for client server m (Ok r) = outcome_at client server m r
+
+-- what a request answers and changes
 abbrev pub outcome_of : Client → ℕ → Message → Outcome
-outcome_of client server m =
-    if has_unrecognized_critical m.options then answered client (bare BadOption)
-    else outcome_on client server m (path_of (segments_of m.options))
+outcome_of client server m = outcome_for client server m (request_of m)

@@ -1,5 +1,6 @@
 ghost use Rattle.std.specs.Prelude.{◌≡◌, [], None, Some};
 ghost use Rattle.device_requests.specs.Answer.{bare, code_byte, content, created, done};
+ghost use Rattle.device_requests.specs.Answer.{is_bad_option, is_content};
 
 use object_defs::InstancePath;
 use octets::Bytes;
@@ -54,6 +55,13 @@ impl Code {
             Code::InternalServerError => 0xA0,
         }
     }
+
+    /// Whether it is 4.02.
+    pub(crate) fn is_bad_option(self) -> bool
+        ensures { result ≡ is_bad_option self }
+    {
+        matches!(self, Code::BadOption)
+    }
 }
 
 /// What a device does beside sending.
@@ -87,6 +95,13 @@ pub struct Answer {
 }
 
 impl Answer {
+    /// Whether the answer is the content of its target: its code is 2.05.
+    pub fn is_content(&self) -> bool
+        ensures { result ≡ is_content self.now }
+    {
+        matches!(self.code, Code::Content)
+    }
+
     /// A code alone, with neither option nor payload.
     pub(crate) fn bare(alloc: Global, code: Code) -> Answer
         ensures { result ≡ bare code }

@@ -5,7 +5,6 @@ ghost use Rattle.device_requests.specs.Answer.{Leaves, takes_memory};
 ghost use Rattle.device_requests.specs.Create.{create_outcome, create_unless, is_tlv, lacks_room, newborn};
 ghost use Rattle.device_requests.specs.Create.{newborn_lines};
 ghost use Rattle.device_requests.specs.Client.{with_stored};
-ghost use Rattle.device_requests.specs.Options.{content_format_of};
 ghost use Rattle.device_requests.specs.Targets.{defined, place_of};
 ghost use Rattle.device_instances.specs.Creations.{with_created};
 ghost use Rattle.instance_store.specs.Stored.{has_instance};
@@ -14,9 +13,7 @@ ghost use Rattle.object_defs.specs.Lines.{first_line};
 use crate::answer::{Answer, Code};
 use crate::client::Client;
 use crate::objects::SECURITY;
-use crate::options::content_format_of;
 use crate::targets::{defined, exists, is_fixed};
-use coap_codec::Message;
 use device_instances::{has_no_room, number_for};
 use instance_store::StoreFault;
 use lwm2m_payloads::{Assignments, creation_given};
@@ -116,19 +113,17 @@ impl Client {
         &mut self,
         server: u16,
         path: Path,
-        message: &Message,
+        number: Option<u16>,
+        payload: &[u8],
     ) -> Result<Answer, AllocError>
         ensures outcome { IfOk result
-            (λ a. Leaves a self.new
-            (create_outcome self.old server path (content_format_of message.now.options) message.now.payload)) }
+            (λ a. Leaves a self.new (create_outcome self.old server path number payload.now)) }
 
         // Only what the payload says takes memory.
         ensures grows { OnErr result
-            (let number = content_format_of message.now.options in
-            takes_memory (create_outcome self.old server path number message.now.payload).answer.code ≡ true) }
+            (takes_memory (create_outcome self.old server path number payload.now).answer.code ≡ true) }
         ensures allowed { OnErr result
-            (let number = content_format_of message.now.options in
-            (create_outcome self.old server path number message.now.payload).answer.code ≢ Code.MethodNotAllowed) }
+            ((create_outcome self.old server path number payload.now).answer.code ≢ Code.MethodNotAllowed) }
         ensures unchanged { OnErr result (self.new ≡ self.old) }
     {
         if path.object() == SECURITY {
@@ -143,9 +138,9 @@ impl Client {
         if is_fixed(path.object()) {
             return Ok(Answer::bare(self.alloc, Code::MethodNotAllowed));
         }
-        if !is_tlv(content_format_of(message.options().as_slice())) {
+        if !is_tlv(number) {
             return Ok(Answer::bare(self.alloc, Code::UnsupportedContentFormat));
         }
-        self.create_in(server, path.object(), message.payload().as_slice())
+        self.create_in(server, path.object(), payload)
     }
 }

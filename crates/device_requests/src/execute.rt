@@ -10,7 +10,6 @@ ghost use Rattle.device_requests.specs.Answer.{Leaves};
 ghost use Rattle.device_requests.specs.Execute.{act_of, argument_lines, execute_lines, execute_outcome, executed};
 ghost use Rattle.device_requests.specs.Execute.{is_executable, is_plain, is_resource, is_untimely, with_no_error};
 ghost use Rattle.device_requests.specs.Client.{with_stored};
-ghost use Rattle.device_requests.specs.Options.{content_format_of};
 ghost use Rattle.device_requests.specs.Inside.{has_place};
 
 use crate::answer::{Act, Answer, Code};
@@ -19,9 +18,7 @@ use crate::objects::{
     DEVICE, DISABLE, ERROR_CODE, FACTORY_RESET, FIRMWARE_UPDATE, REBOOT, REGISTRATION_UPDATE,
     RESET_ERROR_CODE, SECURITY, SERVER, UPDATE,
 };
-use crate::options::content_format_of;
 use crate::targets::{definition_at, exists, resource_place};
-use coap_codec::Message;
 use device_firmware::{FirmwareEvent, take, takes};
 use instance_store::{Store, StoreFault};
 use lwm2m_payloads::are_arguments;
@@ -142,14 +139,13 @@ fn execute_at(alloc: Global, store: &mut Store, path: Path) -> Result<(), AllocE
 
 impl Client {
     /// What refuses the arguments of an Execute, or the Execute as untimely.
-    fn argument_refusal(&self, path: Path, message: &Message) -> Option<Code>
-        ensures { result
-            ≡ first_line (argument_lines self.now path (content_format_of message.now.options) message.now.payload) }
+    fn argument_refusal(&self, path: Path, number: Option<u16>, payload: &[u8]) -> Option<Code>
+        ensures { result ≡ first_line (argument_lines self.now path number payload.now) }
     {
-        if !is_plain(content_format_of(message.options().as_slice())) {
+        if !is_plain(number) {
             return Some(Code::UnsupportedContentFormat);
         }
-        if !are_arguments(message.payload().as_slice()) {
+        if !are_arguments(payload) {
             return Some(Code::BadRequest);
         }
         if is_untimely(&self.store, path) {
@@ -159,9 +155,14 @@ impl Client {
     }
 
     /// What refuses an Execute.
-    fn execute_refusal(&self, server: u16, path: Path, message: &Message) -> Option<Code>
-        ensures { result ≡ first_line
-            (execute_lines self.now server path (content_format_of message.now.options) message.now.payload) }
+    fn execute_refusal(
+        &self,
+        server: u16,
+        path: Path,
+        number: Option<u16>,
+        payload: &[u8],
+    ) -> Option<Code>
+        ensures { result ≡ first_line (execute_lines self.now server path number payload.now) }
     {
         if path.object() == SECURITY {
             return Some(Code::Unauthorized);
@@ -175,7 +176,7 @@ impl Client {
         if !is_executable(definition_at(&self.catalog, path)) {
             return Some(Code::MethodNotAllowed);
         }
-        self.argument_refusal(path, message)
+        self.argument_refusal(path, number, payload)
     }
 
     /// Executes a resource, where no line refuses it.
@@ -184,20 +185,20 @@ impl Client {
         &mut self,
         server: u16,
         path: Path,
-        message: &Message,
+        number: Option<u16>,
+        payload: &[u8],
     ) -> Result<Answer, AllocError>
         ensures outcome { IfOk result
-            (λ a. Leaves a self.new
-            (execute_outcome self.old server path (content_format_of message.now.options) message.now.payload)) }
+            (λ a. Leaves a self.new (execute_outcome self.old server path number payload.now)) }
 
         // Only Update and Reset Error Code take memory, where nothing refuses them. After an error the error codes may
         // be gone.
         ensures grows { OnErr result ((is_resource 5 2 path || is_resource 3 12 path) ≡ true) }
-        ensures unrefused { OnErr result (let number = content_format_of message.now.options in
-            first_line (execute_lines self.old server path number message.now.payload) ≡ None) }
+        ensures unrefused { OnErr result
+            (first_line (execute_lines self.old server path number payload.now) ≡ None) }
         ensures left { OnErr result (self.new ≡ with_stored self.old self.new.store) }
     {
-        match self.execute_refusal(server, path, message) {
+        match self.execute_refusal(server, path, number, payload) {
             Some(code) => Ok(Answer::bare(self.alloc, code)),
             None => {
                 execute_at(self.alloc, &mut self.store, path)?;

@@ -8,6 +8,12 @@ ghost use Rattle.device_requests.specs.Order.{FormatsPrecedePayloads, MethodsPre
 ghost use Rattle.device_requests.specs.Order.{OnlyReadsObserve, OperationsPrecedeFormats, OptionsComeFirst};
 ghost use Rattle.device_requests.specs.Order.{PathsPrecedeMethods, PayloadsPrecedeStates, RefusalsHaveReasons};
 ghost use Rattle.device_requests.specs.Order.{RightsPrecedeOperations, SecurityPrecedesTargets, TargetsPrecedeRights};
+ghost use Rattle.device_requests.specs.Request.{RequestsAreSaid};
+
+/// A message is read as a request exactly where that is what its method and its options say.
+pub fn requests_are_said()
+    ensures { RequestsAreSaid }
+{}
 
 /// A request's answer is that of the first line of the tables that it meets, of which the last is
 /// its success. So each request has exactly one answer.

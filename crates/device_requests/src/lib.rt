@@ -24,8 +24,8 @@ pub use client::Client;
 pub use laws::{
     arguments_are_tested, first_line_answers, links_what_exists, only_reads_observe,
     reads_what_was_written, refusals_change_nothing, refusals_come_in_order, refusals_have_reasons,
-    unreadable_is_hidden,
+    requests_are_said, unreadable_is_hidden,
 };
-pub use observe::{Interest, interest_of};
+pub use observe::Interest;
 pub use operation::Operation;
-pub use options::has_unrecognized_critical;
+pub use request::{Handled, Request};

@@ -1,12 +1,10 @@
 //! What a request asks of an observation (RFC 7641 section 2).
 
 ghost use Rattle.std.specs.Prelude.{◌≡◌};
-ghost use Rattle.device_requests.specs.Observe.{interest_in, interest_of, interest_on, is_read};
-ghost use Rattle.device_requests.specs.Options.{segments_of, path_of};
+ghost use Rattle.device_requests.specs.Observe.{interest_at, interest_in, is_read};
 
-use crate::operation::{Operation, select};
-use crate::options::{accept_of, has_query, has_unrecognized_critical, observe_of, path_of};
-use coap_codec::Message;
+use crate::operation::Operation;
+use crate::request::Request;
 use object_defs::Path;
 
 /// What a Read asks of the observation of its server and token.
@@ -24,21 +22,18 @@ pub enum Interest {
 }
 
 /// Whether an operation is a Read.
-fn is_read(operation: Option<Operation>) -> bool
+fn is_read(operation: Operation) -> bool
     ensures { result ≡ is_read operation }
 {
     match operation {
-        None => false,
-        Some(operation) => match operation {
-            Operation::Read => true,
-            Operation::Discover
-            | Operation::WriteAttributes
-            | Operation::WriteReplace
-            | Operation::WritePartial
-            | Operation::Create
-            | Operation::Execute
-            | Operation::Delete => false,
-        },
+        Operation::Read => true,
+        Operation::Discover
+        | Operation::WriteAttributes
+        | Operation::WriteReplace
+        | Operation::WritePartial
+        | Operation::Create
+        | Operation::Execute
+        | Operation::Delete => false,
     }
 }
 
@@ -60,29 +55,13 @@ fn interest_in(observe: Option<u32>, path: Path, accept: Option<u16>) -> Option<
     }
 }
 
-/// The interest of a request on a path.
-fn interest_on(message: &Message, path: Path) -> Option<Interest>
-    ensures { result ≡ interest_on message.now (Some path) }
+/// What a request asks of the observation of its server and token: something where it is a Read, and
+/// its first Observe is 0 or 1.
+pub(crate) fn interest_at(request: Request) -> Option<Interest>
+    ensures { result ≡ interest_at request }
 {
-    let options = message.options().as_slice();
-    let accept = accept_of(options);
-    if is_read(select(message.code(), accept, has_query(options), path)) {
-        return interest_in(observe_of(options), path, accept);
+    if is_read(request.operation) {
+        return interest_in(request.observe, request.path, request.accept);
     }
     None
-}
-
-/// What a request asks of the observation of its server and token: something where its options are
-/// understood, it is a Read of a path, and its first Observe is 0 or 1.
-pub fn interest_of(message: &Message) -> Option<Interest>
-    ensures { result ≡ interest_of message.now }
-{
-    let options = message.options().as_slice();
-    if has_unrecognized_critical(options) {
-        return None;
-    }
-    match path_of(options) {
-        None => None,
-        Some(path) => interest_on(message, path),
-    }
 }

@@ -50,7 +50,7 @@ fn has_unknown_critical(options: &[Opt]) -> bool
 
 /// Whether a critical option is not recognized: one that is unknown, one of a wrong length, or a
 /// second Uri-Host, Uri-Port or Accept.
-pub fn has_unrecognized_critical(options: &[Opt]) -> bool
+pub(crate) fn has_unrecognized_critical(options: &[Opt]) -> bool
     ensures { result ≡ has_unrecognized_critical options.now }
 {
     has_unknown_critical(options)

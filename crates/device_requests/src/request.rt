@@ -1,81 +1,141 @@
-//! What a request answers and changes, by its operation, at its path.
+//! What a request asks for, read once from its options, and what it answers and changes.
 
-ghost use Rattle.std.specs.Prelude.{◌≡◌, true, false, IfOk, OnErr};
-ghost use Rattle.device_requests.specs.Answer.{Leaves, takes_memory};
+ghost use Rattle.std.specs.Prelude.{◌≡◌, true, false, IfErr, IfOk, IsOk, OnErr, OnOk};
+ghost use Rattle.device_requests.specs.Answer.{Leaves, is_bad_option, takes_memory};
 ghost use Rattle.device_requests.specs.Client.{with_stored};
-ghost use Rattle.device_requests.specs.Options.{has_unrecognized_critical, path_of, segments_of};
-ghost use Rattle.device_requests.specs.Request.{has_operation, outcome_at, outcome_of, outcome_on};
+ghost use Rattle.device_requests.specs.Observe.{interest_of};
+ghost use Rattle.device_requests.specs.Options.{has_unrecognized_critical};
+ghost use Rattle.device_requests.specs.Request.{outcome_at, outcome_of, request_of};
 
 use crate::answer::{Answer, Code};
 use crate::client::Client;
+use crate::observe::{Interest, interest_at};
 use crate::operation::{Operation, select};
-use crate::options::{accept_of, has_query, has_unrecognized_critical, path_of};
+use crate::options::{
+    accept_of, content_format_of, has_query, has_unrecognized_critical, observe_of, path_of,
+};
 use coap_codec::Message;
 use lwm2m_payloads::Mode;
 use object_defs::Path;
 use std::alloc::AllocError;
 
+/// What a request asks for, as its options say it. The queries stay in its message: only a
+/// Write-Attributes reads them.
+#[derive(Clone, Copy, Debug, PartialEq, Eq)]
+pub struct Request {
+    /// What its Uri-Path names.
+    pub path: Path,
+    /// What its method asks for there.
+    pub operation: Operation,
+    /// The number of the format that its first Accept names, if it has one.
+    pub accept: Option<u16>,
+    /// The number of the format that its first Content-Format names; one of a wrong length counts as
+    /// none.
+    pub content_format: Option<u16>,
+    /// The number of its first Observe; one of a wrong length counts as none.
+    pub observe: Option<u32>,
+}
+
+impl Request {
+    /// What a message asks for, or the code that refuses it: 4.02 where an option that must be
+    /// understood is not, 4.04 where its Uri-Path is not a path, 4.05 where its method is not an
+    /// operation there, in this order.
+    pub fn read(message: &Message) -> Result<Request, Code>
+        ensures request { result ≡ request_of message.now }
+        ensures understood { OnOk result (has_unrecognized_critical message.now.options ≡ false) }
+        ensures rejected { IfErr result (λ code. is_bad_option code ≡ has_unrecognized_critical message.now.options) }
+    {
+        let options = message.options().as_slice();
+        if has_unrecognized_critical(options) {
+            return Err(Code::BadOption);
+        }
+        let Some(path) = path_of(options) else {
+            return Err(Code::NotFound);
+        };
+        let accept = accept_of(options);
+        let Some(operation) = select(message.code(), accept, has_query(options), path) else {
+            return Err(Code::MethodNotAllowed);
+        };
+        Ok(Request {
+            path,
+            operation,
+            accept,
+            content_format: content_format_of(options),
+            observe: observe_of(options),
+        })
+    }
+}
+
+/// What a request is answered, and what it asks of the observation of its server and token.
+#[derive(Debug, Drop)]
+pub struct Handled {
+    /// The answer.
+    pub answer: Answer,
+    /// What it asks of the observation, if it asks something.
+    pub interest: Option<Interest>,
+    /// Whether an option that must be understood is not, for which a NON is rejected (RFC 7252
+    /// section 5.4.1).
+    pub is_rejected: bool,
+}
+
 impl Client {
-    /// Does what an operation asks for.
+    /// Does what a request asks for.
     fn perform(
         &mut self,
         server: u16,
         message: &Message,
-        path: Path,
-        operation: Operation,
+        request: Request,
     ) -> Result<Answer, AllocError>
-        ensures outcome { IfOk result (λ a. Leaves a self.new (outcome_at self.old server message.now path operation)) }
+        ensures outcome { IfOk result (λ a. Leaves a self.new (outcome_at self.old server message.now request)) }
         ensures grows { OnErr result
-            (takes_memory (outcome_at self.old server message.now path operation).answer.code ≡ true) }
+            (takes_memory (outcome_at self.old server message.now request).answer.code ≡ true) }
         ensures left { OnErr result (self.new ≡ with_stored self.old self.new.store) }
     {
-        match operation {
-            Operation::Read => self.read(server, path, accept_of(message.options().as_slice())),
+        let path = request.path;
+        let number = request.content_format;
+        let payload = message.payload().as_slice();
+        match request.operation {
+            Operation::Read => self.read(server, path, request.accept),
             Operation::Discover => self.discover(server, path),
-            Operation::WriteReplace => self.write(server, Mode::Replace, path, message),
-            Operation::WritePartial => self.write(server, Mode::Update, path, message),
-            Operation::Execute => self.execute(server, path, message),
+            Operation::WriteReplace => self.write(server, Mode::Replace, path, number, payload),
+            Operation::WritePartial => self.write(server, Mode::Update, path, number, payload),
+            Operation::Execute => self.execute(server, path, number, payload),
             Operation::Delete => self.delete(server, path),
-            Operation::Create => self.create(server, path, message),
-            Operation::WriteAttributes => self.write_attributes(server, path, message),
+            Operation::Create => self.create(server, path, number, payload),
+            Operation::WriteAttributes => {
+                self.write_attributes(server, path, message.options().as_slice())
+            }
         }
     }
 
-    /// Does what a request asks for whose options are all understood.
-    fn serve(&mut self, server: u16, message: &Message) -> Result<Answer, AllocError>
-        ensures outcome { IfOk result (λ a. Leaves a self.new
-            (outcome_on self.old server message.now (path_of (segments_of message.now.options)))) }
-        ensures operation { OnErr result (has_operation message.now ≡ true) }
-        ensures grows { OnErr result (let path = path_of (segments_of message.now.options) in
-            takes_memory (outcome_on self.old server message.now path).answer.code ≡ true) }
-        ensures left { OnErr result (self.new ≡ with_stored self.old self.new.store) }
-    {
-        let options = message.options().as_slice();
-        let Some(path) = path_of(options) else {
-            return Ok(Answer::bare(self.alloc, Code::NotFound));
-        };
-        let accept = accept_of(options);
-        let Some(operation) = select(message.code(), accept, has_query(options), path) else {
-            return Ok(Answer::bare(self.alloc, Code::MethodNotAllowed));
-        };
-        self.perform(server, message, path, operation)
-    }
-
-    /// Does what a request asks for, and answers it.
+    /// Does what a request asks for, and answers it, with what it asks of the observation of its
+    /// server and token.
     ///
     /// After an error some of the values that it asks for may be set; nothing else has changed.
-    pub fn answer(&mut self, server: u16, message: &Message) -> Result<Answer, AllocError>
-        ensures outcome { IfOk result (λ a. Leaves a self.new (outcome_of self.old server message.now)) }
+    pub fn answer(&mut self, server: u16, message: &Message) -> Result<Handled, AllocError>
+        ensures outcome { IfOk result (λ h. Leaves h.answer self.new (outcome_of self.old server message.now)) }
+        ensures interest { IfOk result (λ h. h.interest ≡ interest_of message.now) }
+        ensures rejected { IfOk result (λ h. h.is_rejected ≡ has_unrecognized_critical message.now.options) }
 
         // No refusal of an option, a path, a method, a server or a format takes memory.
-        ensures understood { OnErr result (has_unrecognized_critical message.now.options ≡ false) }
-        ensures operation { OnErr result (has_operation message.now ≡ true) }
+        ensures request { OnErr result (IsOk (request_of message.now)) }
         ensures grows { OnErr result (takes_memory (outcome_of self.old server message.now).answer.code ≡ true) }
         ensures left { OnErr result (self.new ≡ with_stored self.old self.new.store) }
     {
-        if has_unrecognized_critical(message.options().as_slice()) {
-            return Ok(Answer::bare(self.alloc, Code::BadOption));
+        match Request::read(message) {
+            Err(code) => Ok(Handled {
+                answer: Answer::bare(self.alloc, code),
+                interest: None,
+                is_rejected: code.is_bad_option(),
+            }),
+            Ok(request) => {
+                let answer = self.perform(server, message, request)?;
+                Ok(Handled {
+                    answer,
+                    interest: interest_at(request),
+                    is_rejected: false,
+                })
+            }
         }
-        self.serve(server, message)
     }
 }

@@ -8,7 +8,6 @@ ghost use Rattle.lwm2m_payloads.specs.Changes.{has_too_many, instance_written, i
 ghost use Rattle.object_defs.specs.Lines.{first_line};
 ghost use Rattle.device_requests.specs.Answer.{Leaves, takes_memory};
 ghost use Rattle.device_requests.specs.Client.{with_stored};
-ghost use Rattle.device_requests.specs.Options.{content_format_of};
 ghost use Rattle.device_requests.specs.Read.{format_at};
 ghost use Rattle.device_requests.specs.Inside.{has_place};
 ghost use Rattle.device_requests.specs.Write.{can_be_written, event_at, event_in, give, given_to_part};
@@ -20,9 +19,7 @@ ghost use Rattle.device_requests.specs.Write.{write_unless};
 use crate::answer::{Answer, Code};
 use crate::client::Client;
 use crate::objects::{FIRMWARE_UPDATE, PACKAGE, PACKAGE_URI, SECURITY};
-use crate::options::content_format_of;
 use crate::targets::{defined, definition_at, is_multiple, is_readable, resource_place};
-use coap_codec::Message;
 use device_firmware::{FirmwareEvent, take};
 use instance_store::{Store, StoreFault};
 use lwm2m_payloads::{
@@ -402,40 +399,38 @@ impl Client {
         &mut self,
         mode: Mode,
         path: Path,
-        message: &Message,
+        number: Option<u16>,
+        payload: &[u8],
     ) -> Result<Answer, AllocError>
         requires { has_place self.old.store path ≡ true }
-        ensures outcome { IfOk result (λ a. let number = content_format_of message.now.options in
-            Leaves a self.new (give (payload_lines self.old mode path number message.now.payload) self.old mode path
-            (new_values self.old path number message.now.payload))) }
-        ensures grows { OnErr result (let number = content_format_of message.now.options in
-            is_some (format_at self.old.catalogue path number) ≡ true) }
+        ensures outcome { IfOk result (λ a. Leaves a self.new
+            (give (payload_lines self.old mode path number payload.now) self.old mode path
+            (new_values self.old path number payload.now))) }
+        ensures grows { OnErr result (is_some (format_at self.old.catalogue path number) ≡ true) }
         ensures left { OnErr result (self.new ≡ with_stored self.old self.new.store) }
     {
-        let number = content_format_of(message.options().as_slice());
         let Some(format) = format_for(path, definition_at(&self.catalog, path), number) else {
             return Ok(Answer::bare(self.alloc, Code::UnsupportedContentFormat));
         };
-        self.write_in(mode, path, format, message.payload().as_slice())
+        self.write_in(mode, path, format, payload)
     }
 
-    /// Writes what a payload gives, where no line refuses it.
+    /// Writes what a payload gives in the format of this number, where no line refuses it.
     #[tactic(auto, using(crate::proofs::Present::target_has))]
     pub(crate) fn write(
         &mut self,
         server: u16,
         mode: Mode,
         path: Path,
-        message: &Message,
+        number: Option<u16>,
+        payload: &[u8],
     ) -> Result<Answer, AllocError>
         ensures outcome { IfOk result
-            (λ a. Leaves a self.new
-            (write_outcome self.old server mode path (content_format_of message.now.options) message.now.payload)) }
+            (λ a. Leaves a self.new (write_outcome self.old server mode path number payload.now)) }
 
         // Only what the payload says takes memory. After an error some of it may be set.
         ensures grows { OnErr result
-            (let number = content_format_of message.now.options in
-            takes_memory (write_outcome self.old server mode path number message.now.payload).answer.code ≡ true) }
+            (takes_memory (write_outcome self.old server mode path number payload.now).answer.code ≡ true) }
         ensures left { OnErr result (self.new ≡ with_stored self.old self.new.store) }
     {
         if path.object() == SECURITY {
@@ -450,6 +445,6 @@ impl Client {
         if !can_be_written(&self.catalog, path) {
             return Ok(Answer::bare(self.alloc, Code::MethodNotAllowed));
         }
-        self.write_payload(mode, path, message)
+        self.write_payload(mode, path, number, payload)
     }
 }

@@ -15,8 +15,8 @@ use crate::client::Client;
 use crate::objects::{ACCESS_CONTROL, SECURITY};
 use crate::targets::{definition_at, exists};
 use access_control::Rights;
+use coap_codec::Opt;
 use coap_codec::option_number::URI_QUERY;
-use coap_codec::{Message, Opt};
 use lwm2m_values::ValueKind;
 use notifier::{Change, Changes, Level, QueryFault, WriteFault};
 use object_defs::{Catalog, Path, ResourceDef};
@@ -151,19 +151,19 @@ impl Client {
         }
     }
 
-    /// Sets attributes, where no line refuses it.
+    /// Sets attributes by the queries among options, where no line refuses it.
     pub(crate) fn write_attributes(
         &mut self,
         server: u16,
         path: Path,
-        message: &Message,
+        options: &[Opt],
     ) -> Result<Answer, AllocError>
         ensures outcome { IfOk result (λ a. Leaves a self.new
-            (attributes_outcome self.old server path (queries_of message.now.options))) }
+            (attributes_outcome self.old server path (queries_of options.now))) }
 
         // Only what the queries say takes memory.
         ensures grows { OnErr result (takes_memory
-            (attributes_outcome self.old server path (queries_of message.now.options)).answer.code ≡ true) }
+            (attributes_outcome self.old server path (queries_of options.now)).answer.code ≡ true) }
         ensures unchanged { OnErr result (self.new ≡ self.old) }
     {
         if path.object() == SECURITY {
@@ -176,7 +176,6 @@ impl Client {
         if !annotates_at(rights, path) {
             return Ok(Answer::bare(self.alloc, Code::Unauthorized));
         }
-        let options = message.options().as_slice();
         let Some(changes) = changes_given(self.alloc, &self.catalog, path, options)? else {
             return Ok(Answer::bare(self.alloc, Code::BadRequest));
         };

@@ -1,27 +1,19 @@
 //! What a request leaves of the observations.
 
 ghost use Rattle.std.specs.Prelude.{◌≡◌, ◌≤◌, true, false, is_some, length, IfOk, OnErr, OnOk};
-ghost use Rattle.device_machine.specs.Observing.{Notes, begun, entered, lacks_place, noted, noted_read, replies_non};
+ghost use Rattle.device_machine.specs.Observing.{Notes, begun, entered, lacks_place, noted_by, noted_read, replies_non};
 ghost use Rattle.device_machine.specs.Observing.{reply_mid};
-ghost use Rattle.device_notifications.specs.Second.{is_content};
-ghost use Rattle.device_requests.specs.Observe.{interest_of};
+ghost use Rattle.device_requests.specs.Answer.{is_content};
 ghost use Rattle.notifier.specs.Observed.{has_name};
 
 use crate::machine::Machine;
 use coap_codec::{Kind, Message};
 use device_notifications::report_of;
-use device_requests::{Answer, Interest, interest_of};
+use device_requests::{Answer, Interest};
 use notifier::{Observations, ObserveFault, Report};
 use object_defs::Path;
 use octets::Bytes;
 use std::alloc::AllocError;
-
-/// Whether an answer is the content of its target.
-fn is_content(answer: &Answer) -> bool
-    ensures { result ≡ is_content answer.now }
-{
-    answer.code.byte() == 0x45
-}
 
 /// The message ID of the reply to a request.
 fn reply_mid(next_id: u16, message: &Message) -> u16
@@ -158,7 +150,7 @@ impl Machine {
         ensures grows { OnErr result (is_content answer.now ≡ true) }
         ensures unchanged { OnErr result (self.new ≡ self.old) }
     {
-        if is_content(answer) {
+        if answer.is_content() {
             let payload = answer.payload.clone()?;
             return self.enter(server, message, path, accept, payload);
         }
@@ -171,18 +163,19 @@ impl Machine {
         &mut self,
         server: u16,
         message: &Message,
+        interest: Option<Interest>,
         answer: &Answer,
     ) -> Result<Option<u32>, AllocError>
         ensures kept { IfOk result (λ n. Notes n self.old.kept self.new.kept
-            (noted self.old.kept server message.now answer.now)) }
+            (noted_by self.old.kept server message.now answer.now interest)) }
         ensures recorded { OnOk result (self.new.recorded ≡ self.old.recorded) }
 
         // Only the content of a Read that registers takes memory.
         ensures content { OnErr result (is_content answer.now ≡ true) }
-        ensures grows { OnErr result (is_some (interest_of message.now) ≡ true) }
+        ensures grows { OnErr result (is_some interest ≡ true) }
         ensures unchanged { OnErr result (self.new ≡ self.old) }
     {
-        match interest_of(message) {
+        match interest {
             None => Ok(None),
             Some(Interest::Register { path, accept }) => {
                 self.note_read(server, message, path, accept, answer)

@@ -6,6 +6,7 @@ ghost use Rattle.device_machine.specs.Reactions.{Gives, claims_confirmable, is_r
 ghost use Rattle.device_machine.specs.Reactions.{on_outcome, on_request, reaction_to, repeat_of, reply_to};
 ghost use Rattle.device_machine.specs.Memory.{KeepsRecords, message_grows, request_grows};
 ghost use Rattle.device_requests.specs.Client.{has_account};
+ghost use Rattle.device_requests.specs.Options.{has_unrecognized_critical};
 ghost use Rattle.device_requests.specs.Request.{outcome_of};
 
 use super::repeats::again;
@@ -14,7 +15,7 @@ use crate::output::Outputs;
 use crate::recorded::Recorded;
 use crate::reply::{datagram, reset, response, sent, sent_to};
 use coap_codec::{CoapFault, Kind, Message, decode, header};
-use device_requests::{Act, Answer, has_unrecognized_critical};
+use device_requests::{Act, Answer};
 use std::alloc::AllocError;
 
 /// Whether a code is a request's.
@@ -25,23 +26,27 @@ fn is_request(code: u8) -> bool
 }
 
 impl Machine {
-    /// The message that replies to a request with this answer and this Observe number.
+    /// The message that replies to a request with this answer and this Observe number, or none to a NON that is
+    /// rejected.
     fn reply_to(
         &self,
         message: &Message,
+        is_rejected: bool,
         number: Option<u32>,
         answer: Answer,
     ) -> Result<Option<Message>, AllocError>
+        requires { is_rejected ≡ has_unrecognized_critical message.now.options }
         ensures reply { IfOk result (λ r.
             r ≡ reply_to self.now.kept.next_id message.now message.now.kind number answer) }
         ensures grows { OnErr result
             (is_some (reply_to self.now.kept.next_id message.now message.now.kind number answer) ≡ true) }
     {
-        let is_refused = has_unrecognized_critical(message.options().as_slice());
+        // A message whose options are lent is known to be well formed.
+        let _options = message.options();
         let (kind, mid) = match message.kind() {
             Kind::Con => (Kind::Ack, message.mid()),
             Kind::Non => {
-                if is_refused {
+                if is_rejected {
                     return Ok(None);
                 }
                 (Kind::Non, self.next_id)
@@ -94,10 +99,10 @@ impl Machine {
             (outcome_of self.old.kept.client server message.now))) }
         ensures left { OnErr result (KeepsRecords self.old self.new) }
     {
-        let answer = self.client.answer(server, message)?;
-        let number = self.note(server, message, &answer)?;
-        let act = answer.act;
-        let reply = self.reply_to(message, number, answer)?;
+        let handled = self.client.answer(server, message)?;
+        let number = self.note(server, message, handled.interest, &handled.answer)?;
+        let act = handled.answer.act;
+        let reply = self.reply_to(message, handled.is_rejected, number, handled.answer)?;
         self.reply(server, message, reply, act)
     }
 

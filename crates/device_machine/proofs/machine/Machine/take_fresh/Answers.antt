@@ -12,8 +12,10 @@ returns-clause-gives c =
     subst (λ f. IfOk c.reply.result (λ o. Gives o c.reply.new.self
     (on_outcome f server m (outcome_of f.kept.client server m)))) c.self.view_is
     (subst (λ r. IfOk c.reply.result (λ o. Gives o c.reply.new.self r))
-    (taken _ c.note.new.self server m c.answer.new.self c.in_ok-answer.answer c.in_ok-number.number c.in_ok-reply.reply
-    c.in_ok-answer.answer.act
-    c.in_ok-answer.ensures.outcome c.in_ok-number.ensures.kept c.in_ok-number.ensures.recorded
+    (taken _ c.note.new.self server m c.answer.new.self c.in_ok-handled.handled.answer
+    c.in_ok-handled.handled.interest
+    c.in_ok-number.number c.in_ok-reply.reply c.in_ok-handled.handled.answer.act
+    c.in_ok-handled.ensures.outcome c.in_ok-handled.ensures.interest c.in_ok-number.ensures.kept
+    c.in_ok-number.ensures.recorded
     c.in_ok-reply.ensures.reply refl)
     c.reply.ensures.gives)

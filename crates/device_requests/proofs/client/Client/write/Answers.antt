@@ -1,7 +1,6 @@
 use Rattle.std.proofs.Common.{◌≡◌, ◌==◌, true, false, rules}
 use Rattle.object_defs.specs.Path.{object_in}
 use Rattle.device_requests.specs.Access.{rights_on}
-use Rattle.device_requests.specs.Options.{content_format_of}
 use Rattle.device_requests.specs.Write.{can_be_written, is_target}
 use Rattle.device_requests.proofs.Growing.{of_error, write_grows}
 use Rattle.device_requests.proofs.client.Client.write.Goals as goal
@@ -14,6 +13,5 @@ returns-clause-grows c =
     let may : (rights_on client c.args.server c.args.path).write ≡ true = search rules in
     let can : can_be_written client.catalogue c.args.path ≡ true = search rules in
     of_error c.write_payload.result _ _
-    (write_grows client c.args.server c.args.mode c.args.path
-    (content_format_of c.args.message.now.options) c.args.message.now.payload no target may can)
+    (write_grows client c.args.server c.args.mode c.args.path c.args.number c.args.payload.now no target may can)
     c.write_payload.ensures.grows
