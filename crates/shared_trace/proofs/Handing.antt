@@ -15,11 +15,13 @@ use Rattle.ticket_lock.specs.Log.{Adds}
 use Rattle.shared_trace.specs.declared.station.Place.TheVariants.{Parked, Out}
 use Rattle.shared_trace.specs.declared.station.Station.{Station}
 use Rattle.shared_trace.specs.Trace.{Traced, IsPlaced, IsReady, with_out, open_by, trace_log}
-use Rattle.shared_trace.specs.Kept.{IsTrace, IsStation, IsOnWay, IsJob, is_parked, places_of, table_length}
+use Rattle.shared_trace.specs.Kept.{IsTrace, IsStation, AreEnded, IsOnWay, IsJob, is_parked, places_of}
+use Rattle.shared_trace.specs.Kept.{table_length}
 use Rattle.shared_trace.proofs.Lists.{set_gives, get-set_same, get-set_other, at_map, from_map, map-set, same_some}
 use Rattle.shared_trace.proofs.Nexts.{enabled_waits}
 use Rattle.shared_trace.proofs.Open.{open_same, open_has}
 use Rattle.shared_trace.proofs.Stations.{traced}
+use Rattle.shared_trace.proofs.Ended.{ended_set}
 
 -- the station of a device that is ready
 pub record IsHanded (s : Scenario) (es : List Entry) (stations : List Station) (counts : List ℕ) (d : ℕ) (x : Station)
@@ -81,6 +83,12 @@ out_trace s es stations counts d w i x y shown h from out made next =
       posts = h.trace.posts;
       table = h.trace.table;
     })
+
+pub out_ended : (s : Scenario) (es : List Entry) (stations : List Station) (counts : List ℕ) (low d i : ℕ) (x y : Station)
+    (shown : Device) → IsHanded s es stations counts d x shown
+    → i ≡ d → AreEnded stations low → AreEnded (set stations i y) low
+out_ended s es stations counts low d i x y shown h from ended =
+    ended_set s es stations counts low d i x y h.trace h.at (enabled_waits s es d h.enabled) from ended
 
 pub out_view : (v : Traced) (s : Scenario) (es : List Entry) (stations : List Station) (stopped : Bool) (d w i : ℕ)
     (y : Station) → traced s es stations stopped ≡ v

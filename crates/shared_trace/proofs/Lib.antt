@@ -2,6 +2,7 @@ pub mod Lists
 pub mod Nexts
 pub mod Open
 pub mod Stations
+pub mod Ended
 pub mod Handing
 pub mod Stepping
 pub mod Putting

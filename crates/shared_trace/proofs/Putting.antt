@@ -23,10 +23,11 @@ use Rattle.shared_trace.specs.declared.station.Station.{Station}
 use Rattle.shared_trace.specs.Next.{next_of}
 use Rattle.shared_trace.specs.Trace.{Traced, IsPlaced, with_block, trace_log}
 use Rattle.shared_trace.specs.Job.{Task, IsOf, MayPut}
-use Rattle.shared_trace.specs.Kept.{IsTrace, IsStation, IsTask, IsOnWay, IsJob, places_of}
+use Rattle.shared_trace.specs.Kept.{IsTrace, IsStation, AreEnded, IsTask, IsOnWay, IsJob, places_of}
 use Rattle.shared_trace.proofs.Lists.{set_gives, get-set_other, from_map, map-set, all_weaker}
 use Rattle.shared_trace.proofs.Open.{IsOpen, open_same, open_tells}
 use Rattle.shared_trace.proofs.Stations.{traced}
+use Rattle.shared_trace.proofs.Ended.{ended_set}
 use Rattle.shared_trace.proofs.Stepping.{tasked}
 
 -- a job that may be put into a trace
@@ -148,6 +149,12 @@ module _ {s : Scenario} {es : List Entry} {stations : List Station} {counts : Li
         posts = λ g. omega (arith, sums g, f.trace.posts g, f.way.posted g, posts-append s g es block);
         table = count ∙ f.trace.table;
       }))
+
+  pub put_ended : (y : Station) (i low : ℕ) → i ≡ d → AreEnded stations low → AreEnded (set stations i y) low
+  put_ended y i low from ended =
+      let found = from_map (λ z. z.place) stations d (Out w) f.place in
+      ended_set s es stations counts low d i found.0 y f.trace found.1
+      (subst (IsPlaced s es d) found.2 (f.trace.each d found.0 found.1).placed) from ended
 
   pub put_view : (v : Traced) (stopped : Bool) (y : Station) (i : ℕ) (all : List Entry)
       → traced s es stations stopped ≡ v → i ≡ d → all ≡ es ++ block → y.place ≡ Parked x

@@ -13,7 +13,7 @@ use Rattle.shared_trace.specs.declared.next.Next.{Next}
 use Rattle.shared_trace.specs.declared.station.Place.{Place}
 use Rattle.shared_trace.specs.declared.station.Place.TheVariants.{Parked, Out}
 use Rattle.shared_trace.specs.declared.station.Station.{Station}
-use Rattle.shared_trace.specs.Next.{next_of, can_go}
+use Rattle.shared_trace.specs.Next.{next_of, can_go, is_end}
 use Rattle.shared_trace.specs.Trace.{IsPlaced}
 use Rattle.shared_trace.specs.Job.{IsOf}
 
@@ -54,6 +54,11 @@ pub record IsStation (s : Scenario) (es : List Entry) (d : ℕ) (x : Station) : 
 pub record AreParked (s : Scenario) (stations : List Station) : Type 0 where
   pub each : (d : ℕ) (x : Station) → slice_get stations d ≡ Some x → IsStation s [] d x
   pub parked : (d : ℕ) (x : Station) → slice_get stations d ≡ Some x → is_parked x.place ≡ true
+
+-- each device before this one is at the end of its row
+abbrev pub AreEnded : List Station → ℕ → Type 0
+AreEnded stations low =
+    (i : ℕ) (x : Station) → i < low → slice_get stations i ≡ Some x → is_end x.next ≡ true
 
 -- what a trace keeps: a run, a station for each device, and the counts of the posts
 pub record IsTrace (s : Scenario) (es : List Entry) (stations : List Station) (counts : List ℕ) : Type 0 where

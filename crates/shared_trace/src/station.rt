@@ -4,7 +4,7 @@ ghost use Rattle.std.specs.Prelude.{◌≡◌, ℕ, ◌<◌, true, false, [], So
 ghost use Rattle.shared_trace.specs.declared.station.Station.{Station};
 ghost use Rattle.shared_trace.specs.declared.station.Place.TheVariants.{Parked, Out};
 ghost use Rattle.shared_trace.specs.Next.{is_end};
-ghost use Rattle.shared_trace.specs.Kept.{is_parked, is_ready};
+ghost use Rattle.shared_trace.specs.Kept.{AreEnded, is_parked, is_ready};
 
 use crate::next::{Next, can_go};
 use device_machine::Device;
@@ -80,8 +80,9 @@ impl Station {
     }
 }
 
-/// The lowest device that is ready.
-pub(crate) fn lowest_ready(stations: &[Station], posts: &[u32]) -> Option<usize>
+/// The lowest device that is ready. Those before `low` are at the ends of their rows.
+pub(crate) fn lowest_ready(stations: &[Station], low: usize, posts: &[u32]) -> Option<usize>
+    requires { AreEnded stations.now low }
     ensures ready { IfSome result (λ d. (x : Station) × (slice_get stations.now d ≡ Some x)
         × (is_ready (λ g. slice_index posts.now g) x ≡ true)) }
     ensures lowest { IfSome result (λ d. (i : ℕ) (x : Station) → i < d → slice_get stations.now i ≡ Some x
@@ -89,38 +90,52 @@ pub(crate) fn lowest_ready(stations: &[Station], posts: &[u32]) -> Option<usize>
     ensures none { IfNone result ((i : ℕ) (x : Station) → slice_get stations.now i ≡ Some x
         → is_ready (λ g. slice_index posts.now g) x ≡ false) }
 {
-    for (device, station) in stations.iter().enumerate() {
-        if station.is_ready(posts) {
+    for device in low..stations.len() {
+        if stations[device].is_ready(posts) {
             return Some(device);
         }
     }
     None
 }
 
-/// A device that is out, if there is one.
-pub(crate) fn first_out(stations: &[Station]) -> Option<usize>
+/// A device that is out, if there is one. Those before `low` are parked.
+pub(crate) fn first_out(stations: &[Station], low: usize) -> Option<usize>
+    requires { (i : ℕ) (x : Station) → i < low → slice_get stations.now i ≡ Some x → is_parked x.place ≡ true }
     ensures out { IfSome result (λ d. (x : Station) × (worker : ℕ) × (slice_get stations.now d ≡ Some x)
         × (x.place ≡ Out worker)) }
     ensures none { IfNone result ((i : ℕ) (x : Station) → slice_get stations.now i ≡ Some x
         → is_parked x.place ≡ true) }
 {
-    for (device, station) in stations.iter().enumerate() {
-        if station.is_out() {
+    for device in low..stations.len() {
+        if stations[device].is_out() {
             return Some(device);
         }
     }
     None
 }
 
-/// A device that is not at the end of its row, if there is one.
-pub(crate) fn first_left(stations: &[Station]) -> Option<usize>
+/// The lowest device that is not at the end of its row, if there is one. Those before `low` are at the ends of theirs.
+pub(crate) fn first_left(stations: &[Station], low: usize) -> Option<usize>
+    requires { AreEnded stations.now low }
     ensures left { IfSome result (λ d. (x : Station) × (slice_get stations.now d ≡ Some x) × (is_end x.next ≡ false)) }
+    ensures before { IfSome result (λ d. AreEnded stations.now d) }
     ensures none { IfNone result ((i : ℕ) (x : Station) → slice_get stations.now i ≡ Some x → is_end x.next ≡ true) }
 {
-    for (device, station) in stations.iter().enumerate() {
-        if !station.is_at_end() {
+    for device in low..stations.len() {
+        if !stations[device].is_at_end() {
             return Some(device);
         }
     }
     None
+}
+
+/// How many devices from the first on are at the ends of their rows. At least `low` are, if there are so many.
+pub(crate) fn count_ended(stations: &[Station], low: usize) -> usize
+    requires { AreEnded stations.now low }
+    ensures { AreEnded stations.now result }
+{
+    match first_left(stations, low) {
+        Some(device) => device,
+        None => stations.len(),
+    }
 }

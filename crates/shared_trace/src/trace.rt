@@ -18,7 +18,7 @@ use crate::claims::Claim;
 use crate::entries::EntryIter;
 use crate::job::Job;
 use crate::start::start_stations;
-use crate::station::{Place, Station, first_left, first_out, lowest_ready};
+use crate::station::{Place, Station, count_ended, first_left, first_out, lowest_ready};
 use crate::tables::{TABLE, add_posts};
 use scenario_image::Scenario;
 use std::alloc::{AllocError, Global};
@@ -37,6 +37,8 @@ pub struct Trace {
     entries: Vec<Entry>,
     stations: Vec<Station>,
     posts: Vec<u32>,
+    /// Each device before this one is at the end of its row.
+    low: usize,
     stopped: bool,
 }
 
@@ -45,7 +47,7 @@ impl Model for Trace {
     ghost use Rattle.instance_store.specs.Stored.{stored_code};
     ghost use Rattle.device_requests.specs.Client.{attributes_code};
     ghost use Rattle.shared_trace.specs.Trace.{Traced};
-    ghost use Rattle.shared_trace.specs.Kept.{IsTrace, places_of};
+    ghost use Rattle.shared_trace.specs.Kept.{IsTrace, AreEnded, places_of};
 
     ghost Value = { Traced };
 
@@ -58,7 +60,8 @@ impl Model for Trace {
       stopped = t.stopped;
     } };
 
-    ghost invariant = { λ t. IsTrace t.subject.value t.entries.items t.stations.items t.posts.items };
+    ghost invariant = { λ t. IsTrace t.subject.value t.entries.items t.stations.items t.posts.items
+        × AreEnded t.stations.items t.low };
 }
 
 impl Logged for Trace {
@@ -91,6 +94,7 @@ impl Trace {
             entries: Vec::new(alloc),
             stations,
             posts,
+            low: 0,
             stopped: false,
         })
     }
@@ -131,11 +135,19 @@ impl Trace {
         self.stopped = true;
     }
 
+    /// Moves `low` on to the lowest device that is not at the end of its row, or past all devices.
+    fn pass_ended(&mut self)
+        ensures { self.new ≡ self.old }
+    {
+        self.low = count_ended(self.stations.as_slice(), self.low);
+    }
+
+    /// The lowest device that is ready.
     fn lowest(&self) -> Option<u16>
         ensures ready { IfSome result (λ d. IsReady self.now d × ((i : ℕ) → IsReady self.now i → d ≤ i)) }
         ensures none { IfNone result ((i : ℕ) → IsReady self.now i → ⊥) }
     {
-        match lowest_ready(self.stations.as_slice(), self.posts.as_slice()) {
+        match lowest_ready(self.stations.as_slice(), self.low, self.posts.as_slice()) {
             Some(device) => Some(device as u16),
             None => None,
         }
@@ -148,11 +160,11 @@ impl Trace {
         ensures claims { (worker : ℕ) → Claims self.now self.now worker result }
         ensures stands { (worker : ℕ) → ClaimStands self.now worker result }
     {
-        match first_out(self.stations.as_slice()) {
+        match first_out(self.stations.as_slice(), self.low) {
             Some(_) => return Claim::Busy,
             None => {}
         }
-        match first_left(self.stations.as_slice()) {
+        match first_left(self.stations.as_slice(), self.low) {
             Some(_) => Claim::Stalled,
             None => Claim::Done,
         }
@@ -198,6 +210,7 @@ impl Trace {
         if self.stopped {
             return Claim::Stopped;
         }
+        self.pass_ended();
         match self.lowest() {
             Some(device) => Claim::Got(self.hand_out(worker, device)),
             None => self.idle(),

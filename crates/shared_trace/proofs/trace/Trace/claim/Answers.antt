@@ -1,28 +1,34 @@
 use Rattle.std.proofs.Common.{ℕ, ◌≤◌, sym, ap, subst, ◌∙◌}
-use Rattle.shared_trace.specs.Trace.{IsReady}
+use Rattle.shared_trace.specs.Trace.{IsShared, IsReady}
+use Rattle.shared_trace.specs.Claims.{IsTaken, Claims}
 use Rattle.shared_trace.proofs.Stations.{shared_of}
 use Rattle.shared_trace.proofs.trace.Trace.claim.Goals as goal
 
 pub returns-then-self-clause-shared : goal.returns-then-self-clause-shared
 returns-then-self-clause-shared c =
     shared_of c.args.self.now c.self.inside.subject.value c.self.inside.entries.items c.self.inside.stations.items
-    c.self.inside.posts.items c.self.inside.stopped c.self.view_is c.self.invariant
+    c.self.inside.posts.items c.self.inside.stopped c.self.view_is c.self.invariant.0
 
 pub returns-in-Some-clause-claims : goal.returns-in-Some-clause-claims
 returns-in-Some-clause-claims c = record {
   going = sym (ap (λ t. t.stopped) c.self.view_is) ∙ c.if-self.false;
-  taken = c.hand_out.ensures.taken;
+  taken = subst (λ t. IsTaken t c.hand_out.new.self c.args.worker c.hand_out.result) c.pass_ended.ensures
+      c.hand_out.ensures.taken;
   lowest = subst (λ n. (d : ℕ) → IsReady c.args.self.now d → n ≤ d)
-      (sym c.hand_out.ensures.device) c.in-Some.ensures.ready.1;
+      (sym c.hand_out.ensures.device)
+      (λ d ready. c.in-Some.ensures.ready.1 d (subst (λ t. IsReady t d) (sym c.pass_ended.ensures) ready));
 }
 
 pub returns-in-None-clause-claims : goal.returns-in-None-clause-claims
-returns-in-None-clause-claims c = c.idle.ensures.claims c.args.worker
+returns-in-None-clause-claims c =
+    subst (λ t. Claims t c.pass_ended.new.self c.args.worker c.idle.result) c.pass_ended.ensures
+    (c.idle.ensures.claims c.args.worker)
 
 pub returns-in-None-clause-stands : goal.returns-in-None-clause-stands
 returns-in-None-clause-stands c = c.idle.ensures.stands c.args.worker
 
 pub returns-in-None-clause-shared : goal.returns-in-None-clause-shared
 returns-in-None-clause-shared c =
-    shared_of c.args.self.now c.self.inside.subject.value c.self.inside.entries.items c.self.inside.stations.items
-    c.self.inside.posts.items c.self.inside.stopped c.self.view_is c.self.invariant
+    subst IsShared (sym c.pass_ended.ensures)
+    (shared_of c.args.self.now c.self.inside.subject.value c.self.inside.entries.items c.self.inside.stations.items
+    c.self.inside.posts.items c.self.inside.stopped c.self.view_is c.self.invariant.0)

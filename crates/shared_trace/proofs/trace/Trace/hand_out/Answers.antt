@@ -1,6 +1,6 @@
 use Rattle.std.proofs.Common.{ap, refl, ◌∙◌, length, arith}
 use Rattle.shared_trace.proofs.Stations.{shared_is}
-use Rattle.shared_trace.proofs.Handing.{IsHanded, handed, table_is, out_trace, out_view, out_adds, out_stands}
+use Rattle.shared_trace.proofs.Handing.{IsHanded, handed, table_is, out_trace, out_ended, out_view, out_adds, out_stands}
 use Rattle.shared_trace.proofs.Handing.{fresh_job, parked_now, shows_now}
 use Rattle.shared_trace.proofs.trace.Trace.hand_out.Goals as goal
 
@@ -10,7 +10,7 @@ hand : (c : goal.After-as_slice)
 hand c =
     handed c.args.self.now c.self.inside.subject.value c.self.inside.entries.items c.self.inside.stations.items
     c.self.inside.posts.items c.self.inside.stopped
-    c.args.device c.from.result c.index_mut-station.result.now c.self.view_is c.self.invariant c.requires.ready
+    c.args.device c.from.result c.index_mut-station.result.now c.self.view_is c.self.invariant.0 c.requires.ready
     c.from.ensures c.index_mut-station.ensures.value
 
 pub copy_from_slice-requires : goal.copy_from_slice-requires
@@ -32,16 +32,21 @@ then : (c : goal.After-new-2)
 then c =
     handed c.args.self.now c.self.inside.subject.value c.self.inside.entries.items c.self.inside.stations.items
     c.self.inside.posts.items c.self.inside.stopped
-    c.args.device c.from.result c.index_mut-station.result.now c.self.view_is c.self.invariant c.requires.ready
+    c.args.device c.from.result c.index_mut-station.result.now c.self.view_is c.self.invariant.0 c.requires.ready
     c.from.ensures c.index_mut-station.ensures.value
 
 pub invariant_of-self : goal.invariant_of-self
-invariant_of-self c =
-    out_trace c.self.inside.subject.value c.self.inside.entries.items c.self.inside.stations.items
-    c.self.inside.posts.items c.args.device c.args.worker c.from.result
-    c.index_mut-station.result.now c.hand_out-machine.new.self c.requires.ready.shown
-    (then c) c.from.ensures c.hand_out-machine.ensures.place
-    c.hand_out-machine.ensures.kept.0 c.hand_out-machine.ensures.kept.1
+invariant_of-self c = (
+  out_trace c.self.inside.subject.value c.self.inside.entries.items c.self.inside.stations.items
+      c.self.inside.posts.items c.args.device c.args.worker c.from.result
+      c.index_mut-station.result.now c.hand_out-machine.new.self c.requires.ready.shown
+      (then c) c.from.ensures c.hand_out-machine.ensures.place
+      c.hand_out-machine.ensures.kept.0 c.hand_out-machine.ensures.kept.1,
+  out_ended c.self.inside.subject.value c.self.inside.entries.items c.self.inside.stations.items
+      c.self.inside.posts.items c.self.inside.low c.args.device c.from.result
+      c.index_mut-station.result.now c.hand_out-machine.new.self c.requires.ready.shown
+      (then c) c.from.ensures c.self.invariant.1,
+)
 
 pub invariant_of-result : goal.invariant_of-result
 invariant_of-result c =
@@ -75,7 +80,7 @@ returns-clause-taken c = record {
 }
 
 pub returns-clause-shared : goal.returns-clause-shared
-returns-clause-shared c = shared_is _ _ _ _ _ (invariant_of-self c)
+returns-clause-shared c = shared_is _ _ _ _ _ (invariant_of-self c).0
 
 pub returns-clause-adds : goal.returns-clause-adds
 returns-clause-adds c =

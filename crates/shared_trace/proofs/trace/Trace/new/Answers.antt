@@ -1,16 +1,19 @@
 use Rattle.shared_trace.proofs.Starting.{start_trace, all_parked}
 use Rattle.shared_trace.proofs.Stations.{shared_is}
+use Rattle.shared_trace.proofs.Ended.{none_ended}
 use Rattle.shared_trace.proofs.trace.Trace.new.Goals as goal
 
 pub invariant_of-result : goal.invariant_of-result
-invariant_of-result c =
-    start_trace c.args.scenario.now c.of.result.value c.new.result.items c.in_ok-stations.stations.items
-    c.in_ok-posts.posts.items c.rows-rows.ensures.valid
-    c.of.ensures c.new.ensures.items c.in_ok-stations.ensures.count c.in_ok-stations.ensures.parked
-    (c.in_ok-posts.ensures.items_if_clones_equal (λ y e. e))
+invariant_of-result c = (
+  start_trace c.args.scenario.now c.of.result.value c.new.result.items c.in_ok-stations.stations.items
+      c.in_ok-posts.posts.items c.rows-rows.ensures.valid
+      c.of.ensures c.new.ensures.items c.in_ok-stations.ensures.count c.in_ok-stations.ensures.parked
+      (c.in_ok-posts.ensures.items_if_clones_equal (λ y e. e)),
+  none_ended c.in_ok-stations.stations.items,
+)
 
 pub returns-clause-parked : goal.returns-clause-parked
 returns-clause-parked c = all_parked c.args.scenario.now c.in_ok-stations.stations.items c.in_ok-stations.ensures.parked
 
 pub returns-clause-shared : goal.returns-clause-shared
-returns-clause-shared c = shared_is _ _ _ _ _ (invariant_of-result c)
+returns-clause-shared c = shared_is _ _ _ _ _ (invariant_of-result c).0

@@ -5,7 +5,7 @@ use Rattle.shared_trace.specs.declared.station.Place.TheVariants.{Parked}
 use Rattle.shared_trace.specs.Trace.{IsShared, with_block}
 use Rattle.shared_trace.proofs.Stations.{traced, shared_is}
 use Rattle.shared_trace.proofs.Putting.{IsFitting, fitting, put_within, put_room, put_place, put_trace, put_view}
-use Rattle.shared_trace.proofs.Putting.{put_adds}
+use Rattle.shared_trace.proofs.Putting.{put_adds, put_ended}
 use Rattle.shared_trace.proofs.trace.Trace.put.Goals as goal
 
 pub returns-in-Err-clause-shared : goal.returns-in-Err-clause-shared
@@ -13,7 +13,7 @@ returns-in-Err-clause-shared c =
     subst (λ l. IsShared (traced c.self.inside.subject.value l c.self.inside.stations.items c.self.inside.stopped))
     (sym c.in-Err.ensures.items)
     (shared_is c.self.inside.subject.value c.self.inside.entries.items c.self.inside.stations.items
-    c.self.inside.posts.items c.self.inside.stopped c.self.invariant)
+    c.self.inside.posts.items c.self.inside.stopped c.self.invariant.0)
 
 fits : (c : goal.After-as_slice)
     → IsFitting c.self.inside.subject.value c.self.inside.entries.items c.self.inside.stations.items
@@ -26,7 +26,7 @@ fits c =
     c.job.inside.worker c.args.worker c.job.inside.device c.job.inside.claimed.value.entries
     c.job.inside.entries.items c.job.inside.machine c.job.inside.spent c.job.inside.known.items
     c.job.inside.posted.items c.job.inside.place c.job.inside.next
-    c.self.view_is c.job.view_is c.self.invariant c.job.invariant c.requires
+    c.self.view_is c.job.view_is c.self.invariant.0 c.job.invariant c.requires
 
 pub add_posts-requires-clause-within : goal.add_posts-requires-clause-within
 add_posts-requires-clause-within c =
@@ -45,7 +45,7 @@ index_mut-requires c =
     c.job.inside.worker c.args.worker c.job.inside.device c.job.inside.claimed.value.entries
     c.job.inside.entries.items c.job.inside.machine c.job.inside.spent c.job.inside.known.items
     c.job.inside.posted.items c.job.inside.place c.job.inside.next
-    c.self.view_is c.job.view_is c.self.invariant c.job.invariant c.requires) in
+    c.self.view_is c.job.view_is c.self.invariant.0 c.job.invariant c.requires) in
     omega (arith, h, c.from.ensures, c.self.inside.stations.ok.0)
 
 then : (c : goal.After-drop-claimed)
@@ -59,21 +59,28 @@ then c =
     c.job.inside.worker c.args.worker c.job.inside.device c.job.inside.claimed.value.entries
     c.job.inside.entries.items c.job.inside.machine c.job.inside.spent c.job.inside.known.items
     c.job.inside.posted.items c.job.inside.place c.job.inside.next
-    c.self.view_is c.job.view_is c.self.invariant c.job.invariant c.requires
+    c.self.view_is c.job.view_is c.self.invariant.0 c.job.invariant c.requires
 
 pub invariant_of-self-2 : goal.invariant_of-self-2
-invariant_of-self-2 c =
-    put_trace (then c) (record {
-      place = Parked c.job.inside.machine;
-      made = c.job.inside.place;
-      next =
-          c.job.inside.next;
-      known = c.job.inside.known;
-    })
-    c.from.result c.append.new.self.items c.add_posts.new.posts.items c.from.ensures c.in-Ok.ensures.items refl refl
-    refl refl c.add_posts.ensures.count
-    (λ g. c.add_posts.ensures.sums g ∙ ap (λ l. slice_index c.self.inside.posts.items g + count_by (λ h. h == g) l)
-    c.as_slice.ensures.value)
+invariant_of-self-2 c = (
+  put_trace (then c) (record {
+    place = Parked c.job.inside.machine;
+    made = c.job.inside.place;
+    next =
+        c.job.inside.next;
+    known = c.job.inside.known;
+  })
+      c.from.result c.append.new.self.items c.add_posts.new.posts.items c.from.ensures c.in-Ok.ensures.items refl refl
+      refl refl c.add_posts.ensures.count
+      (λ g. c.add_posts.ensures.sums g ∙ ap (λ l. slice_index c.self.inside.posts.items g + count_by (λ h. h == g) l)
+      c.as_slice.ensures.value),
+  put_ended (then c) (record {
+    place = Parked c.job.inside.machine;
+    made = c.job.inside.place;
+    next = c.job.inside.next;
+    known = c.job.inside.known;
+  }) c.from.result c.self.inside.low c.from.ensures c.self.invariant.1,
+)
 
 pub returns-clause-put : goal.returns-clause-put
 returns-clause-put c =
@@ -102,4 +109,4 @@ returns-clause-adds c =
     c.in-Ok.ensures.items refl)
 
 pub returns-clause-shared : goal.returns-clause-shared
-returns-clause-shared c = shared_is _ _ _ _ _ (invariant_of-self-2 c)
+returns-clause-shared c = shared_is _ _ _ _ _ (invariant_of-self-2 c).0

@@ -8,5 +8,5 @@ returns-in-Some c =
     unfinished_is c.args.self.now c.self.inside.subject.value c.self.inside.entries.items c.self.inside.stations.items
     c.self.inside.posts.items c.self.inside.stopped c.args.device c.from.result c.deref.result.now
     c.in-Some.station.now c.is_at_end.result
-    c.deref.ensures.value c.self.view_is c.self.invariant c.from.ensures
+    c.deref.ensures.value c.self.view_is c.self.invariant.0 c.from.ensures
     (ltb-true _ _ (sym c.in-Some.ensures.lookup.0)) c.in-Some.ensures.lookup.1 c.is_at_end.ensures

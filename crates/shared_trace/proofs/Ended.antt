@@ -1,0 +1,65 @@
+-- The devices before which all others are at the ends of their rows.
+use Rattle.std.proofs.Common.{◌≡◌, ℕ, ◌<◌, ◌⊎◌, inl, inr, Bool, true, false, not, List, set, Some, slice_get}
+use Rattle.std.proofs.Common.{refl, sym, ap, subst, ◌∙◌, arith}
+use Rattle.std.proofs.lemmas.Bool.{cases_eq, false≢true}
+use Rattle.scenario_image.specs.Scenario.{Scenario}
+use Rattle.trace_file.specs.declared.entry.Entry.{Entry}
+use Rattle.fleet_core.specs.Waiting.{is_waiting}
+use Rattle.shared_trace.specs.declared.next.Next.{Next}
+use Rattle.shared_trace.specs.declared.next.Next.TheVariants.{End, Free, Waits}
+use Rattle.shared_trace.specs.declared.station.Place.{Place}
+use Rattle.shared_trace.specs.declared.station.Place.TheVariants.{Parked, Out}
+use Rattle.shared_trace.specs.declared.station.Station.{Station}
+use Rattle.shared_trace.specs.Next.{is_end}
+use Rattle.shared_trace.specs.Trace.{IsPlaced}
+use Rattle.shared_trace.specs.Kept.{IsTrace, AreEnded, is_parked, is_ready_in}
+use Rattle.shared_trace.proofs.Lists.{set_gives, get-set_other}
+use Rattle.shared_trace.proofs.Stations.{left_is}
+
+-- a device at its end is not ready
+pub not_ready : (posts : ℕ → ℕ) (p : Place) (n : Next) → is_end n ≡ true → is_ready_in posts p n ≡ false
+not_ready posts (Parked x) End h = refl
+not_ready posts (Parked x) Free h = absurd (false≢true h)
+not_ready posts (Parked x) (Waits group count) h = absurd (false≢true h)
+not_ready posts (Out w) n h = refl
+
+not_out : (s : Scenario) (es : List Entry) (d : ℕ) (p : Place) → IsPlaced s es d p → is_waiting s es d ≡ false
+    → is_parked p ≡ true
+not_out s es d (Parked x) placed ended = refl
+not_out s es d (Out w) placed ended = absurd (false≢true (sym ended ∙ placed))
+
+-- it is parked
+pub ended_parked : (s : Scenario) (es : List Entry) (stations l : List Station) (counts : List ℕ) (low : ℕ)
+    → l ≡ stations → IsTrace s es stations counts → AreEnded stations low
+    → (i : ℕ) (x : Station) → i < low → slice_get l i ≡ Some x → is_parked x.place ≡ true
+ended_parked s es stations l counts low el t ended i x less at =
+    let here : slice_get stations i ≡ Some x = subst (λ k. slice_get k i ≡ Some x) el at in
+    not_out s es i x.place (t.each i x here).placed
+    (left_is s es stations counts i x t here ∙ ap not (ended i x less here))
+
+pub none_ended : (stations : List Station) → AreEnded stations 0
+none_ended stations i x less at = absurd (omega (arith, less))
+
+pub ended_at : (stations l : List Station) (low : ℕ) → l ≡ stations → AreEnded stations low → AreEnded l low
+ended_at stations l low el ended = subst (λ k. AreEnded k low) (sym el) ended
+
+ended_by : (stations : List Station) (low d i : ℕ) (x y z : Station) → AreEnded stations low
+    → slice_get stations d ≡ Some x → is_end x.next ≡ false → i < low → slice_get (set stations d y) i ≡ Some z
+    → (d ≡ i) ⊎ (d ≡ i → ⊥) → is_end z.next ≡ true
+ended_by stations low d i x y z ended at going less here (inl own) =
+    absurd (false≢true (sym going ∙ ended d x (subst (λ j. j < low) (sym own) less) at))
+ended_by stations low d i x y z ended at going less here (inr other) =
+    ended i z less (sym (get-set_other stations d i y other) ∙ here)
+
+going_on : (b : Bool) → not b ≡ true → b ≡ false
+going_on true h = absurd (false≢true h)
+going_on false h = refl
+
+-- a device with a step left is none of those, so its station may change
+pub ended_set : (s : Scenario) (es : List Entry) (stations : List Station) (counts : List ℕ) (low d i : ℕ)
+    (x y : Station) → IsTrace s es stations counts → slice_get stations d ≡ Some x → is_waiting s es d ≡ true
+    → i ≡ d → AreEnded stations low → AreEnded (set stations i y) low
+ended_set s es stations counts low d i x y t at waits from ended =
+    subst (λ j. AreEnded (set stations j y) low) (sym from)
+    (λ j z less here. ended_by stations low d j x y z ended at
+    (going_on (is_end x.next) (sym (left_is s es stations counts d x t at) ∙ waits)) less here (cases_eq d j))
