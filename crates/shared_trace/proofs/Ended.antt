@@ -1,6 +1,6 @@
 -- The devices before which all others are at the ends of their rows.
 use Rattle.std.proofs.Common.{◌≡◌, ℕ, ◌<◌, ◌⊎◌, inl, inr, Bool, true, false, not, List, set, Some, slice_get}
-use Rattle.std.proofs.Common.{refl, sym, ap, subst, ◌∙◌, arith}
+use Rattle.std.proofs.Common.{refl, sym, subst, ◌∙◌, arith}
 use Rattle.std.proofs.lemmas.Bool.{cases_eq, false≢true}
 use Rattle.scenario_image.specs.Scenario.{Scenario}
 use Rattle.trace_file.specs.declared.entry.Entry.{Entry}
@@ -11,9 +11,8 @@ use Rattle.shared_trace.specs.declared.station.Place.{Place}
 use Rattle.shared_trace.specs.declared.station.Place.TheVariants.{Parked, Out}
 use Rattle.shared_trace.specs.declared.station.Station.{Station}
 use Rattle.shared_trace.specs.Next.{is_end}
-use Rattle.shared_trace.specs.Trace.{IsPlaced}
-use Rattle.shared_trace.specs.Kept.{IsTrace, AreEnded, is_parked, is_ready_in}
-use Rattle.shared_trace.proofs.Lists.{set_gives, get-set_other}
+use Rattle.shared_trace.specs.Kept.{IsTrace, AreEnded, is_ready_in}
+use Rattle.shared_trace.proofs.Lists.{get-set_other}
 use Rattle.shared_trace.proofs.Stations.{left_is}
 
 -- a device at its end is not ready
@@ -22,20 +21,6 @@ not_ready posts (Parked x) End h = refl
 not_ready posts (Parked x) Free h = absurd (false≢true h)
 not_ready posts (Parked x) (Waits group count) h = absurd (false≢true h)
 not_ready posts (Out w) n h = refl
-
-not_out : (s : Scenario) (es : List Entry) (d : ℕ) (p : Place) → IsPlaced s es d p → is_waiting s es d ≡ false
-    → is_parked p ≡ true
-not_out s es d (Parked x) placed ended = refl
-not_out s es d (Out w) placed ended = absurd (false≢true (sym ended ∙ placed))
-
--- it is parked
-pub ended_parked : (s : Scenario) (es : List Entry) (stations l : List Station) (counts : List ℕ) (low : ℕ)
-    → l ≡ stations → IsTrace s es stations counts → AreEnded stations low
-    → (i : ℕ) (x : Station) → i < low → slice_get l i ≡ Some x → is_parked x.place ≡ true
-ended_parked s es stations l counts low el t ended i x less at =
-    let here : slice_get stations i ≡ Some x = subst (λ k. slice_get k i ≡ Some x) el at in
-    not_out s es i x.place (t.each i x here).placed
-    (left_is s es stations counts i x t here ∙ ap not (ended i x less here))
 
 pub none_ended : (stations : List Station) → AreEnded stations 0
 none_ended stations i x less at = absurd (omega (arith, less))

@@ -3,6 +3,7 @@ pub mod Nexts
 pub mod Open
 pub mod Stations
 pub mod Ended
+pub mod Idle
 pub mod Handing
 pub mod Stepping
 pub mod Putting

@@ -1,5 +1,5 @@
 -- What a trace and a job keep beside what contracts see.
-use Rattle.std.specs.Prelude.{◌≡◌, ℕ, ◌<◌, ◌==◌, Bool, true, false, List, [], ◌∷◌, ◌++◌, length, map, count_by, Some}
+use Rattle.std.specs.Prelude.{◌≡◌, ℕ, ◌<◌, ◌≤◌, ◌==◌, ◌⊎◌, Bool, true, false, List, [], ◌∷◌, ◌++◌, length, map, count_by, Some}
 use Rattle.std.specs.Prelude.{slice_get, slice_index}
 use Rattle.std.specs.List.{AllByRecursion}
 use Rattle.device_machine.specs.State.{Device}
@@ -59,6 +59,16 @@ pub record AreParked (s : Scenario) (stations : List Station) : Type 0 where
 abbrev pub AreEnded : List Station → ℕ → Type 0
 AreEnded stations low =
     (i : ℕ) (x : Station) → i < low → slice_get stations i ≡ Some x → is_end x.next ≡ true
+
+-- no device before this one is ready
+abbrev pub AreIdle : (ℕ → ℕ) → List Station → ℕ → Type 0
+AreIdle posts stations first =
+    (i : ℕ) (x : Station) → i < first → slice_get stations i ≡ Some x → is_ready posts x ≡ false
+
+-- after posts to these groups a ready device is looked for behind those at the ends of their rows, and without any
+-- behind those that were not ready, and from the device that is parked on
+abbrev pub LooksFrom : ℕ → ℕ → ℕ → List ℕ → ℕ → Type 0
+LooksFrom first low d groups i = (i ≡ low) ⊎ ((groups ≡ []) × (i ≤ first) × (i ≤ d))
 
 -- what a trace keeps: a run, a station for each device, and the counts of the posts
 pub record IsTrace (s : Scenario) (es : List Entry) (stations : List Station) (counts : List ℕ) : Type 0 where

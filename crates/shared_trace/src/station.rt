@@ -4,7 +4,7 @@ ghost use Rattle.std.specs.Prelude.{◌≡◌, ℕ, ◌<◌, true, false, [], So
 ghost use Rattle.shared_trace.specs.declared.station.Station.{Station};
 ghost use Rattle.shared_trace.specs.declared.station.Place.TheVariants.{Parked, Out};
 ghost use Rattle.shared_trace.specs.Next.{is_end};
-ghost use Rattle.shared_trace.specs.Kept.{AreEnded, is_parked, is_ready};
+ghost use Rattle.shared_trace.specs.Kept.{AreEnded, AreIdle, LooksFrom, is_parked, is_ready};
 
 use crate::next::{Next, can_go};
 use device_machine::Device;
@@ -80,17 +80,16 @@ impl Station {
     }
 }
 
-/// The lowest device that is ready. Those before `low` are at the ends of their rows.
-pub(crate) fn lowest_ready(stations: &[Station], low: usize, posts: &[u32]) -> Option<usize>
-    requires { AreEnded stations.now low }
+/// The lowest device that is ready. None before `first` is.
+pub(crate) fn lowest_ready(stations: &[Station], first: usize, posts: &[u32]) -> Option<usize>
+    requires { AreIdle (λ g. slice_index posts.now g) stations.now first }
     ensures ready { IfSome result (λ d. (x : Station) × (slice_get stations.now d ≡ Some x)
         × (is_ready (λ g. slice_index posts.now g) x ≡ true)) }
-    ensures lowest { IfSome result (λ d. (i : ℕ) (x : Station) → i < d → slice_get stations.now i ≡ Some x
-        → is_ready (λ g. slice_index posts.now g) x ≡ false) }
+    ensures lowest { IfSome result (λ d. AreIdle (λ g. slice_index posts.now g) stations.now d) }
     ensures none { IfNone result ((i : ℕ) (x : Station) → slice_get stations.now i ≡ Some x
         → is_ready (λ g. slice_index posts.now g) x ≡ false) }
 {
-    for device in low..stations.len() {
+    for device in first..stations.len() {
         if stations[device].is_ready(posts) {
             return Some(device);
         }
@@ -98,20 +97,34 @@ pub(crate) fn lowest_ready(stations: &[Station], low: usize, posts: &[u32]) -> O
     None
 }
 
-/// A device that is out, if there is one. Those before `low` are parked.
-pub(crate) fn first_out(stations: &[Station], low: usize) -> Option<usize>
-    requires { (i : ℕ) (x : Station) → i < low → slice_get stations.now i ≡ Some x → is_parked x.place ≡ true }
+/// A device that is out, if there is one.
+fn first_out(stations: &[Station]) -> Option<usize>
     ensures out { IfSome result (λ d. (x : Station) × (worker : ℕ) × (slice_get stations.now d ≡ Some x)
         × (x.place ≡ Out worker)) }
     ensures none { IfNone result ((i : ℕ) (x : Station) → slice_get stations.now i ≡ Some x
         → is_parked x.place ≡ true) }
 {
-    for device in low..stations.len() {
-        if stations[device].is_out() {
+    for (device, station) in stations.iter().enumerate() {
+        if station.is_out() {
             return Some(device);
         }
     }
     None
+}
+
+/// A device that is out, if there is one, looked for from `last` on first.
+pub(crate) fn any_out(stations: &[Station], last: usize) -> Option<usize>
+    ensures out { IfSome result (λ d. (x : Station) × (worker : ℕ) × (slice_get stations.now d ≡ Some x)
+        × (x.place ≡ Out worker)) }
+    ensures none { IfNone result ((i : ℕ) (x : Station) → slice_get stations.now i ≡ Some x
+        → is_parked x.place ≡ true) }
+{
+    for device in last..stations.len() {
+        if stations[device].is_out() {
+            return Some(device);
+        }
+    }
+    first_out(stations)
 }
 
 /// The lowest device that is not at the end of its row, if there is one. Those before `low` are at the ends of theirs.
@@ -137,5 +150,16 @@ pub(crate) fn count_ended(stations: &[Station], low: usize) -> usize
     match first_left(stations, low) {
         Some(device) => device,
         None => stations.len(),
+    }
+}
+
+/// From where on a ready device is looked for once this one is parked, after posts to these groups.
+pub(crate) fn look_from(first: usize, low: usize, device: u16, groups: &[u8]) -> usize
+    ensures { LooksFrom first low device groups.now result }
+{
+    if groups.is_empty() {
+        first.min(usize::from(device))
+    } else {
+        low
     }
 }

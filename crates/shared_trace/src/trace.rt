@@ -18,7 +18,7 @@ use crate::claims::Claim;
 use crate::entries::EntryIter;
 use crate::job::Job;
 use crate::start::start_stations;
-use crate::station::{Place, Station, count_ended, first_left, first_out, lowest_ready};
+use crate::station::{Place, Station, any_out, count_ended, first_left, look_from, lowest_ready};
 use crate::tables::{TABLE, add_posts};
 use scenario_image::Scenario;
 use std::alloc::{AllocError, Global};
@@ -39,6 +39,10 @@ pub struct Trace {
     posts: Vec<u32>,
     /// Each device before this one is at the end of its row.
     low: usize,
+    /// No device before this one is ready.
+    first: usize,
+    /// The device that was handed out last.
+    last: usize,
     stopped: bool,
 }
 
@@ -47,7 +51,8 @@ impl Model for Trace {
     ghost use Rattle.instance_store.specs.Stored.{stored_code};
     ghost use Rattle.device_requests.specs.Client.{attributes_code};
     ghost use Rattle.shared_trace.specs.Trace.{Traced};
-    ghost use Rattle.shared_trace.specs.Kept.{IsTrace, AreEnded, places_of};
+    ghost use Rattle.std.specs.Prelude.{slice_index};
+    ghost use Rattle.shared_trace.specs.Kept.{IsTrace, AreEnded, AreIdle, places_of};
 
     ghost Value = { Traced };
 
@@ -61,7 +66,7 @@ impl Model for Trace {
     } };
 
     ghost invariant = { λ t. IsTrace t.subject.value t.entries.items t.stations.items t.posts.items
-        × AreEnded t.stations.items t.low };
+        × AreEnded t.stations.items t.low × AreIdle (λ g. slice_index t.posts.items g) t.stations.items t.first };
 }
 
 impl Logged for Trace {
@@ -95,6 +100,8 @@ impl Trace {
             stations,
             posts,
             low: 0,
+            first: 0,
+            last: 0,
             stopped: false,
         })
     }
@@ -135,21 +142,23 @@ impl Trace {
         self.stopped = true;
     }
 
-    /// Moves `low` on to the lowest device that is not at the end of its row, or past all devices.
-    fn pass_ended(&mut self)
-        ensures { self.new ≡ self.old }
+    /// The lowest device that is ready. `low` moves on to the lowest device that is not at the end of its row, and
+    /// `first` to the one that is ready, each past all devices where there is none.
+    fn lowest(&mut self) -> Option<u16>
+        ensures same { self.new ≡ self.old }
+        ensures ready { IfSome result (λ d. IsReady self.new d × ((i : ℕ) → IsReady self.new i → d ≤ i)) }
+        ensures none { IfNone result ((i : ℕ) → IsReady self.new i → ⊥) }
     {
         self.low = count_ended(self.stations.as_slice(), self.low);
-    }
-
-    /// The lowest device that is ready.
-    fn lowest(&self) -> Option<u16>
-        ensures ready { IfSome result (λ d. IsReady self.now d × ((i : ℕ) → IsReady self.now i → d ≤ i)) }
-        ensures none { IfNone result ((i : ℕ) → IsReady self.now i → ⊥) }
-    {
-        match lowest_ready(self.stations.as_slice(), self.low, self.posts.as_slice()) {
-            Some(device) => Some(device as u16),
-            None => None,
+        match lowest_ready(self.stations.as_slice(), self.first, self.posts.as_slice()) {
+            Some(device) => {
+                self.first = device;
+                Some(device as u16)
+            }
+            None => {
+                self.first = self.stations.len();
+                None
+            }
         }
     }
 
@@ -160,7 +169,7 @@ impl Trace {
         ensures claims { (worker : ℕ) → Claims self.now self.now worker result }
         ensures stands { (worker : ℕ) → ClaimStands self.now worker result }
     {
-        match first_out(self.stations.as_slice(), self.low) {
+        match any_out(self.stations.as_slice(), self.last) {
             Some(_) => return Claim::Busy,
             None => {}
         }
@@ -185,6 +194,7 @@ impl Trace {
         let (place, next) = (station.made, station.next);
         let (machine, mut known) = station.hand_out(alloc, worker);
         known.copy_from_slice(self.posts.as_slice());
+        self.last = usize::from(device);
         Job {
             alloc,
             claimed,
@@ -210,7 +220,6 @@ impl Trace {
         if self.stopped {
             return Claim::Stopped;
         }
-        self.pass_ended();
         match self.lowest() {
             Some(device) => Claim::Got(self.hand_out(worker, device)),
             None => self.idle(),
@@ -259,6 +268,7 @@ impl Trace {
             }
         }
         add_posts(&mut self.posts, posted.as_slice());
+        self.first = look_from(self.first, self.low, device, posted.as_slice());
         self.stations[usize::from(device)] = Station {
             place: Place::Parked(machine),
             made: place,

@@ -2,12 +2,7 @@ use Rattle.std.proofs.Common.{◌≡◌, length, false, refl, sym, ◌∙◌, sl
 use Rattle.std.proofs.lemmas.Option.{slice_get_read}
 use Rattle.shared_trace.specs.Kept.{is_ready}
 use Rattle.shared_trace.proofs.Lists.{scan_more, scan_end}
-use Rattle.shared_trace.proofs.Ended.{not_ready}
 use Rattle.shared_trace.proofs.station.lowest_ready.Goals as goal
-
-pub loop-device-init : goal.loop-device-init
-loop-device-init c = λ i x less at. not_ready (λ g. slice_index c.args.posts.now g) x.place x.next
-    (c.requires i x less at)
 
 pub returns-then-is_ready-clause-ready : goal.returns-then-is_ready-clause-ready
 returns-then-is_ready-clause-ready c = (

@@ -12,16 +12,16 @@ returns-then-self-clause-shared c =
 pub returns-in-Some-clause-claims : goal.returns-in-Some-clause-claims
 returns-in-Some-clause-claims c = record {
   going = sym (ap (λ t. t.stopped) c.self.view_is) ∙ c.if-self.false;
-  taken = subst (λ t. IsTaken t c.hand_out.new.self c.args.worker c.hand_out.result) c.pass_ended.ensures
+  taken = subst (λ t. IsTaken t c.hand_out.new.self c.args.worker c.hand_out.result) c.lowest.ensures.same
       c.hand_out.ensures.taken;
   lowest = subst (λ n. (d : ℕ) → IsReady c.args.self.now d → n ≤ d)
       (sym c.hand_out.ensures.device)
-      (λ d ready. c.in-Some.ensures.ready.1 d (subst (λ t. IsReady t d) (sym c.pass_ended.ensures) ready));
+      (λ d ready. c.in-Some.ensures.ready.1 d (subst (λ t. IsReady t d) (sym c.lowest.ensures.same) ready));
 }
 
 pub returns-in-None-clause-claims : goal.returns-in-None-clause-claims
 returns-in-None-clause-claims c =
-    subst (λ t. Claims t c.pass_ended.new.self c.args.worker c.idle.result) c.pass_ended.ensures
+    subst (λ t. Claims t c.lowest.new.self c.args.worker c.idle.result) c.lowest.ensures.same
     (c.idle.ensures.claims c.args.worker)
 
 pub returns-in-None-clause-stands : goal.returns-in-None-clause-stands
@@ -29,6 +29,6 @@ returns-in-None-clause-stands c = c.idle.ensures.stands c.args.worker
 
 pub returns-in-None-clause-shared : goal.returns-in-None-clause-shared
 returns-in-None-clause-shared c =
-    subst IsShared (sym c.pass_ended.ensures)
+    subst IsShared (sym c.lowest.ensures.same)
     (shared_of c.args.self.now c.self.inside.subject.value c.self.inside.entries.items c.self.inside.stations.items
     c.self.inside.posts.items c.self.inside.stopped c.self.view_is c.self.invariant.0)

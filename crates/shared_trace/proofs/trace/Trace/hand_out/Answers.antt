@@ -1,7 +1,8 @@
-use Rattle.std.proofs.Common.{ap, refl, ◌∙◌, length, arith}
+use Rattle.std.proofs.Common.{ap, refl, ◌∙◌, length, arith, slice_index}
 use Rattle.shared_trace.proofs.Stations.{shared_is}
 use Rattle.shared_trace.proofs.Handing.{IsHanded, handed, table_is, out_trace, out_ended, out_view, out_adds, out_stands}
 use Rattle.shared_trace.proofs.Handing.{fresh_job, parked_now, shows_now}
+use Rattle.shared_trace.proofs.Idle.{out_idle}
 use Rattle.shared_trace.proofs.trace.Trace.hand_out.Goals as goal
 
 hand : (c : goal.After-as_slice)
@@ -46,6 +47,8 @@ invariant_of-self c = (
       c.self.inside.posts.items c.self.inside.low c.args.device c.from.result
       c.index_mut-station.result.now c.hand_out-machine.new.self c.requires.ready.shown
       (then c) c.from.ensures c.self.invariant.1,
+  out_idle (λ g. slice_index c.self.inside.posts.items g) c.self.inside.stations.items c.self.inside.first
+      c.from.result c.args.worker c.hand_out-machine.new.self c.hand_out-machine.ensures.place c.self.invariant.2,
 )
 
 pub invariant_of-result : goal.invariant_of-result

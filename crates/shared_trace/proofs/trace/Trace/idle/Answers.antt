@@ -1,12 +1,6 @@
 use Rattle.shared_trace.proofs.Stations.{any_out, any_left, all_ended, complete_is, idle_now}
-use Rattle.shared_trace.proofs.Ended.{ended_at, ended_parked}
+use Rattle.shared_trace.proofs.Ended.{ended_at}
 use Rattle.shared_trace.proofs.trace.Trace.idle.Goals as goal
-
-pub first_out-requires : goal.first_out-requires
-first_out-requires c =
-    ended_parked c.self.inside.subject.value c.self.inside.entries.items c.self.inside.stations.items
-    c.as_slice.result.now c.self.inside.posts.items c.self.inside.low c.as_slice.ensures.value c.self.invariant.0
-    c.self.invariant.1
 
 pub first_left-requires : goal.first_left-requires
 first_left-requires c =

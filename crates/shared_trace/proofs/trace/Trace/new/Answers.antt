@@ -1,6 +1,8 @@
+use Rattle.std.proofs.Common.{slice_index}
 use Rattle.shared_trace.proofs.Starting.{start_trace, all_parked}
 use Rattle.shared_trace.proofs.Stations.{shared_is}
 use Rattle.shared_trace.proofs.Ended.{none_ended}
+use Rattle.shared_trace.proofs.Idle.{none_idle}
 use Rattle.shared_trace.proofs.trace.Trace.new.Goals as goal
 
 pub invariant_of-result : goal.invariant_of-result
@@ -10,6 +12,7 @@ invariant_of-result c = (
       c.of.ensures c.new.ensures.items c.in_ok-stations.ensures.count c.in_ok-stations.ensures.parked
       (c.in_ok-posts.ensures.items_if_clones_equal (λ y e. e)),
   none_ended c.in_ok-stations.stations.items,
+  none_idle (λ g. slice_index c.in_ok-posts.posts.items g) c.in_ok-stations.stations.items,
 )
 
 pub returns-clause-parked : goal.returns-clause-parked

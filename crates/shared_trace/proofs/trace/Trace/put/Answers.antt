@@ -1,4 +1,4 @@
-use Rattle.std.proofs.Common.{ℕ, ◌+◌, ◌<◌, length, refl, sym, ap, subst, ◌∙◌, arith, slice_index}
+use Rattle.std.proofs.Common.{ℕ, set, ◌+◌, ◌<◌, length, refl, sym, ap, subst, ◌∙◌, arith, slice_index}
 use Rattle.std.specs.Prelude.{◌==◌, count_by}
 use Rattle.std.specs.List.{AllByRecursion}
 use Rattle.shared_trace.specs.declared.station.Place.TheVariants.{Parked}
@@ -6,6 +6,8 @@ use Rattle.shared_trace.specs.Trace.{IsShared, with_block}
 use Rattle.shared_trace.proofs.Stations.{traced, shared_is}
 use Rattle.shared_trace.proofs.Putting.{IsFitting, fitting, put_within, put_room, put_place, put_trace, put_view}
 use Rattle.shared_trace.proofs.Putting.{put_adds, put_ended}
+use Rattle.shared_trace.specs.Kept.{AreEnded, LooksFrom}
+use Rattle.shared_trace.proofs.Idle.{put_idle}
 use Rattle.shared_trace.proofs.trace.Trace.put.Goals as goal
 
 pub returns-in-Err-clause-shared : goal.returns-in-Err-clause-shared
@@ -61,6 +63,21 @@ then c =
     c.job.inside.posted.items c.job.inside.place c.job.inside.next
     c.self.view_is c.job.view_is c.self.invariant.0 c.job.invariant c.requires
 
+ended : (c : goal.After-drop-claimed)
+    → AreEnded (set c.self.inside.stations.items c.from.result (record {
+      place = Parked c.job.inside.machine;
+      made = c.job.inside.place;
+      next = c.job.inside.next;
+      known = c.job.inside.known;
+    })) c.self.inside.low
+ended c =
+    put_ended (then c) (record {
+      place = Parked c.job.inside.machine;
+      made = c.job.inside.place;
+      next = c.job.inside.next;
+      known = c.job.inside.known;
+    }) c.from.result c.self.inside.low c.from.ensures c.self.invariant.1
+
 pub invariant_of-self-2 : goal.invariant_of-self-2
 invariant_of-self-2 c = (
   put_trace (then c) (record {
@@ -74,12 +91,19 @@ invariant_of-self-2 c = (
       refl refl c.add_posts.ensures.count
       (λ g. c.add_posts.ensures.sums g ∙ ap (λ l. slice_index c.self.inside.posts.items g + count_by (λ h. h == g) l)
       c.as_slice.ensures.value),
-  put_ended (then c) (record {
-    place = Parked c.job.inside.machine;
-    made = c.job.inside.place;
-    next = c.job.inside.next;
-    known = c.job.inside.known;
-  }) c.from.result c.self.inside.low c.from.ensures c.self.invariant.1,
+  ended c,
+  put_idle (λ g. slice_index c.self.inside.posts.items g) (λ g. slice_index c.add_posts.new.posts.items g)
+      c.self.inside.stations.items c.self.inside.first c.self.inside.low c.job.inside.device c.from.result
+      c.look_from-self-inside.result c.job.inside.posted.items (record {
+        place = Parked c.job.inside.machine;
+        made = c.job.inside.place;
+        next = c.job.inside.next;
+        known = c.job.inside.known;
+      }) (ended c) c.self.invariant.2 c.from.ensures
+      (λ g. c.add_posts.ensures.sums g ∙ ap (λ l. slice_index c.self.inside.posts.items g + count_by (λ h. h == g) l)
+      c.as_slice.ensures.value)
+      (subst (λ l. LooksFrom c.self.inside.first c.self.inside.low c.job.inside.device l c.look_from-self-inside.result)
+      c.as_slice-2.ensures.value c.look_from-self-inside.ensures),
 )
 
 pub returns-clause-put : goal.returns-clause-put
