@@ -84,7 +84,8 @@ out_trace s es stations counts d w i x y shown h from out made next =
       table = h.trace.table;
     })
 
-pub out_ended : (s : Scenario) (es : List Entry) (stations : List Station) (counts : List ℕ) (low d i : ℕ) (x y : Station)
+pub out_ended : (s : Scenario) (es : List Entry) (stations : List Station) (counts : List ℕ) (low d i : ℕ)
+    (x y : Station)
     (shown : Device) → IsHanded s es stations counts d x shown
     → i ≡ d → AreEnded stations low → AreEnded (set stations i y) low
 out_ended s es stations counts low d i x y shown h from ended =

@@ -1,6 +1,7 @@
 use Rattle.std.proofs.Common.{ap, refl, ◌∙◌, length, arith, slice_index}
 use Rattle.shared_trace.proofs.Stations.{shared_is}
-use Rattle.shared_trace.proofs.Handing.{IsHanded, handed, table_is, out_trace, out_ended, out_view, out_adds, out_stands}
+use Rattle.shared_trace.proofs.Handing.{IsHanded, handed, table_is, out_trace, out_ended, out_view, out_adds}
+use Rattle.shared_trace.proofs.Handing.{out_stands}
 use Rattle.shared_trace.proofs.Handing.{fresh_job, parked_now, shows_now}
 use Rattle.shared_trace.proofs.Idle.{out_idle}
 use Rattle.shared_trace.proofs.trace.Trace.hand_out.Goals as goal
