@@ -18,7 +18,7 @@ quit            the end
 ";
 
 /// `help`: the commands, a line for each.
-pub fn help(alloc: Global) -> Result<String, AllocError>
+pub fn show_help(alloc: Global) -> Result<String, AllocError>
     ensures { IfOk result (λ text. string_bytes text ≡ help_text) }
 {
     String::from_str(alloc, HELP)

@@ -10,7 +10,7 @@ mod replies;
 mod shown;
 
 pub use breaks::{add_break, clear, resume};
-pub use help::help;
+pub use help::show_help;
 pub use moves::{back, forward, place};
 pub use printed::outputs_text;
 pub use replies::{Reply, reply_to};

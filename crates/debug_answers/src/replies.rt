@@ -6,7 +6,7 @@ ghost use Rattle.debug_words.specs.Saying.{IsLineOf};
 ghost use Rattle.debug_answers.specs.Replies.{break_of, IsAnswer, IsReply};
 
 use crate::breaks::{add_break, clear, resume};
-use crate::help::help;
+use crate::help::show_help;
 use crate::lines::bad_command_line;
 use crate::moves::{back, forward, place};
 use crate::shown::{show_observations, show_outputs, show_value};
@@ -50,7 +50,7 @@ fn answer(alloc: Global, debugger: &mut Debugger, command: Command) -> Result<St
         Command::Value(device, path) => show_value(alloc, debugger, device, &path),
         Command::Observations(device) => show_observations(alloc, debugger, device),
         Command::Outputs(device) => show_outputs(alloc, debugger, device),
-        Command::Help => help(alloc),
+        Command::Help => show_help(alloc),
         Command::Quit => Ok(String::new(alloc)),
     }
 }

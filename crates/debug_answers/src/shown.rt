@@ -1,6 +1,7 @@
 //! The answers to `value D PATH`, `obs D` and `out D`.
-ghost use Rattle.std.specs.Prelude.{◌≡◌, Some, IfOk};
-ghost use Rattle.std.specs.Option.{option_copied};
+ghost use Rattle.std.specs.Prelude.{◌≡◌, ◌++◌, Some, IfOk, OnOk};
+ghost use Rattle.std.specs.List.{flat_map};
+ghost use Rattle.std.specs.Option.{option_copied, option_to_list};
 ghost use Rattle.std.specs.String.{string_bytes};
 ghost use Rattle.debugger.specs.Shown.{value_shown, observations_shown, outputs_shown};
 ghost use Rattle.debug_answers.specs.Printed.{printed};
@@ -82,18 +83,33 @@ fn count_line(alloc: Global, count: usize) -> Result<String, AllocError>
     format!(in alloc; "observations {count}\n")
 }
 
+/// Appends the line of an observation, if there is one.
+fn push_line(
+    alloc: Global,
+    text: &mut String,
+    observation: Option<&Observation>,
+) -> Result<(), AllocError>
+    ensures { OnOk result (string_bytes text.new
+        ≡ string_bytes text.old ++ flat_map observation_line (option_to_list (option_copied observation.entry))) }
+{
+    match observation {
+        None => Ok(()),
+        Some(observation) => {
+            let line = observation_line(alloc, observation)?;
+            text.push_str(line.as_str())
+        }
+    }
+}
+
 /// How many observations there are, and a line for each.
+#[tactic(auto, using(crate::proofs::Observed::next_line, crate::proofs::Observed::every_line))]
 fn observation_lines(alloc: Global, observations: &Observations) -> Result<String, AllocError>
     ensures { IfOk result (λ text. string_bytes text ≡ observation_lines observations.now) }
 {
     let count = observations.len();
     let mut text = count_line(alloc, count)?;
     for place in 0..count {
-        let Some(observation) = observations.at(place) else {
-            break;
-        };
-        let line = observation_line(alloc, observation)?;
-        text.push_str(line.as_str())?;
+        push_line(alloc, &mut text, observations.at(place))?;
     }
     Ok(text)
 }
