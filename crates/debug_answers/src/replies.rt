@@ -63,6 +63,7 @@ fn is_quit(command: Command) -> bool
 
 /// The answer to a line of the debugger's input, without the LF that ends it: that to the command that it says, or
 /// `bad command` where it says none. `quit` is answered by nothing, and nothing else asks for the end.
+#[tactic(auto, using(crate::proofs::Replied::reply_of, crate::proofs::Replied::bad_reply))]
 pub fn reply_to(alloc: Global, debugger: &mut Debugger, line: &[u8]) -> Result<Reply, AllocError>
     ensures reply { IfOk result (λ r. IsReply debugger.old line.now debugger.new (string_bytes r.text)) }
     ensures last { IfOk result (λ r. (r.is_last ≡ true) ↔ IsLineOf Quit line.now) }
