@@ -1,21 +1,12 @@
--- What is shown of a device, and the reply to a line, put together from their parts.
-use Rattle.std.proofs.Common.{◌≡◌, ◌↔◌, ◌<◌, ◌≤◌, ℕ, Bool, true, false, List, length, Some, codes, refl, subst}
-use Rattle.std.proofs.Common.{arith}
+-- The reply to a line, put together from its parts.
+use Rattle.std.proofs.Common.{◌≡◌, ◌↔◌, ℕ, Bool, true, false, List, Some, codes, refl, subst}
 use Rattle.std.proofs.lemmas.Bool.{false≢true}
 use Rattle.debug_words.specs.declared.command.Command.{Command}
 use Rattle.debug_words.specs.declared.command.Command.TheVariants.{Quit}
 use Rattle.debug_words.specs.Saying.{IsLineOf}
 use Rattle.debugger.specs.Session.{Session}
 use Rattle.debug_answers.specs.Lines.{line}
-use Rattle.debug_answers.specs.Replies.{IsShown, IsAnswer, IsReply}
-
-pub shown_row : (v : Session) (d : ℕ) (shown text : List ℕ) → d < length v.scenario.rows → text ≡ shown
-    → IsShown v d shown text
-shown_row v d shown text there said = record { row = λ _. said; none = λ past. absurd (omega (arith, there, past)) }
-
-pub shown_none : (v : Session) (d : ℕ) (shown text : List ℕ) → length v.scenario.rows ≤ d
-    → text ≡ line (codes "no device") → IsShown v d shown text
-shown_none v d shown text past said = record { row = λ there. absurd (omega (arith, there, past)); none = λ _. said }
+use Rattle.debug_answers.specs.Replies.{IsAnswer, IsReply}
 
 same_command : (c d : Command) → Some c ≡ Some d → c ≡ d
 same_command c d same = cc

@@ -35,7 +35,6 @@ fn value_line(alloc: Global, value: Option<&Value>) -> Result<String, AllocError
 }
 
 /// `value D PATH`: the value as in scenario text, `none`, or `no device`.
-#[tactic(auto, using(crate::proofs::Replied::shown_row, crate::proofs::Replied::shown_none))]
 pub fn show_value(
     alloc: Global,
     debugger: &Debugger,
@@ -47,7 +46,7 @@ pub fn show_value(
         (string_bytes text)) }
 {
     match debugger.value(device, path) {
-        Ok(value) => Ok(value_line(alloc, value)?),
+        Ok(value) => value_line(alloc, value),
         Err(DeviceFault::NoDevice) => no_device_line(alloc),
     }
 }
@@ -116,7 +115,6 @@ fn observation_lines(alloc: Global, observations: &Observations) -> Result<Strin
 }
 
 /// `obs D`: the observations of a device in the order of registration, or `no device`.
-#[tactic(auto, using(crate::proofs::Replied::shown_row, crate::proofs::Replied::shown_none))]
 pub fn show_observations(
     alloc: Global,
     debugger: &Debugger,
@@ -134,7 +132,6 @@ pub fn show_observations(
 }
 
 /// `out D`: the outputs of the device's latest entry, or `no device`.
-#[tactic(auto, using(crate::proofs::Replied::shown_row, crate::proofs::Replied::shown_none))]
 pub fn show_outputs(alloc: Global, debugger: &Debugger, device: u16) -> Result<String, AllocError>
     ensures { IfOk result (λ text. IsShown debugger.now device
         (printed (outputs_shown debugger.now.scenario debugger.now.entries debugger.now.place device))
