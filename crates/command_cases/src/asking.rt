@@ -1,4 +1,5 @@
 //! What words come to.
+use crate::input::CaseInput;
 use crate::memory::MemoryFiles;
 use crate::table::{Case, GivenFile};
 use bench_commands::command;
@@ -21,7 +22,10 @@ pub fn answer_to<R: Threads + Wait + Sync>(
         given,
         made: String::new(alloc),
     };
-    let mut input = case.input.as_slice();
+    let mut input = CaseInput {
+        bytes: case.input.as_slice(),
+        is_broken: case.is_broken,
+    };
     let mut output: Vec<u8> = Vec::new(alloc);
     let mut errors: Vec<u8> = Vec::new(alloc);
     let status = command(

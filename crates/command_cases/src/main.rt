@@ -4,6 +4,7 @@
 #![tactic(auto)]
 
 mod asking;
+mod input;
 mod memory;
 mod system;
 mod table;

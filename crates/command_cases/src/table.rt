@@ -18,6 +18,8 @@ pub struct Case<'a> {
     pub words: &'a str,
     /// What standard input has for them.
     pub input: Vec<u8>,
+    /// Whether standard input can't be read beyond that.
+    pub is_broken: bool,
     /// Whether what is stated has to come, or must not.
     pub is_same: bool,
     /// What is stated: `out`, `err`, `file` and `status` lines.
@@ -71,6 +73,7 @@ impl<'a> Table<'a> {
             "!lwbench" => self.add_case(number, rest, false),
             "in" => self.add_input(rest, "\n"),
             "in-" => self.add_input(rest, ""),
+            "in!" => Ok(self.break_input()),
             "=>" => self.add_stated(rest),
             _ => Ok(false),
         }
@@ -105,6 +108,7 @@ impl<'a> Table<'a> {
             line,
             words,
             input: Vec::new(self.alloc),
+            is_broken: false,
             is_same,
             stated: String::new(self.alloc),
         })?;
@@ -118,6 +122,14 @@ impl<'a> Table<'a> {
         case.input.extend_from_slice(line.as_bytes())?;
         case.input.extend_from_slice(end.as_bytes())?;
         Ok(true)
+    }
+
+    fn break_input(&mut self) -> bool {
+        let Some(case) = self.cases.last_mut() else {
+            return false;
+        };
+        case.is_broken = true;
+        true
     }
 
     fn add_stated(&mut self, rest: &str) -> Result<bool, AllocError> {
