@@ -1,5 +1,6 @@
 #!/bin/sh
-# Runs the scenario beside it, whole and broken, and compares what the program prints with README.md.
+# Runs the scenario beside it, whole and broken, and compares what the program prints with README.md; and what its
+# debugger answers with the session of docs/use/debugger.md.
 # A word, where there is one, is the program to run; else it is lwbench at the root of the repository.
 # Status 0: all as README.md says. 1: not so, and a line for each difference.
 
@@ -39,6 +40,15 @@ cmp -s "$work/fleet.image" "$work/again.image" || differs "dis: its text has ano
 
 says 0 'done 89' run "$work/fleet.image" --trace "$work/fleet.trace"
 says 0 'run' check "$work/fleet.image" "$work/fleet.trace"
+
+# The first cells of the session's table are the lines, the second ones the answers.
+session='/^## A session/,/^## / s/^| '
+page=$here/../docs/use/debugger.md
+sed -n "$session"'`\([^`]*\)` |.*/\1/p' "$page" >"$work/lines.txt"
+sed -n "$session"'[^|]*| `\([^`]*\)` |.*/\1/p' "$page" >"$work/answers.txt"
+[ -s "$work/answers.txt" ] || differs "debug: no session in $page"
+"$program" debug "$work/fleet.image" "$work/fleet.trace" <"$work/lines.txt" >"$work/printed.txt" || differs "debug: status $?"
+diff "$work/answers.txt" "$work/printed.txt" || differs "debug: not the answers of the session"
 
 broken 's/^tick 10 /tick 0 /'
 says 1 'fault: line 126: range' asm "$work/broken.txt" "$work/broken.image"

@@ -1,25 +1,30 @@
 //! What words come to.
+use crate::input::CaseInput;
 use crate::memory::MemoryFiles;
-use crate::table::GivenFile;
+use crate::table::{Case, GivenFile};
 use bench_commands::command;
 use std::alloc::{AllocError, Global};
 use std::str;
 use std::sync::Wait;
 use std::thread::Threads;
 
-/// What the program does at these words over these files, as a case states it: a line `out` for each line of standard
-/// output, `err` for each of standard error, `file` for each file that is made, and `status`.
+/// What the program does at the words and the input of a case over these files, as a case states it: a line `out` for
+/// each line of standard output, `err` for each of standard error, `file` for each file that is made, and `status`.
 pub fn answer_to<R: Threads + Wait + Sync>(
     rt: &R,
     alloc: Global,
-    line: &str,
+    case: &Case,
     given: &[GivenFile],
 ) -> Result<String, AllocError> {
-    let words = words_of(alloc, line)?;
+    let words = words_of(alloc, case.words)?;
     let mut files = MemoryFiles {
         alloc,
         given,
         made: String::new(alloc),
+    };
+    let mut input = CaseInput {
+        bytes: case.input.as_slice(),
+        is_broken: case.is_broken,
     };
     let mut output: Vec<u8> = Vec::new(alloc);
     let mut errors: Vec<u8> = Vec::new(alloc);
@@ -28,6 +33,7 @@ pub fn answer_to<R: Threads + Wait + Sync>(
         alloc,
         words.as_slice(),
         &mut files,
+        &mut input,
         &mut output,
         &mut errors,
     );

@@ -1,9 +1,10 @@
-//! `command_cases`: reads words of `lwbench` from standard input, each with what they have to print and write, does
-//! what they ask for over files in memory, and prints what differs. docs/inside/command-cases.md says how a case is
-//! written.
+//! `command_cases`: reads words of `lwbench` from standard input, each with what they read there and what they have to
+//! print and write, does what they ask for over files in memory, and prints what differs. docs/inside/command-cases.md
+//! says how a case is written.
 #![tactic(auto)]
 
 mod asking;
+mod input;
 mod memory;
 mod system;
 mod table;
@@ -57,7 +58,7 @@ fn is_right<R: Threads + Wait + Sync>(
     files: &[GivenFile],
     report: &mut String,
 ) -> Result<bool, AllocError> {
-    let came = asking::answer_to(rt, alloc, case.words, files)?;
+    let came = asking::answer_to(rt, alloc, case, files)?;
     if is_stated(case.stated.as_str(), came.as_str()) == case.is_same {
         return Ok(true);
     }

@@ -9,13 +9,17 @@ pub struct GivenFile<'a> {
     pub bytes: Vec<u8>,
 }
 
-/// Words, and what they have to print, write and end with.
+/// Words, what they find on standard input, and what they have to print, write and end with.
 #[derive(Drop)]
 pub struct Case<'a> {
     /// The number of the line with the words.
     pub line: u32,
     /// The words after the program's name.
     pub words: &'a str,
+    /// What standard input has for them.
+    pub input: Vec<u8>,
+    /// Whether standard input can't be read beyond that.
+    pub is_broken: bool,
     /// Whether what is stated has to come, or must not.
     pub is_same: bool,
     /// What is stated: `out`, `err`, `file` and `status` lines.
@@ -67,6 +71,9 @@ impl<'a> Table<'a> {
             "bytes" => self.add_bytes(rest),
             "lwbench" => self.add_case(number, rest, true),
             "!lwbench" => self.add_case(number, rest, false),
+            "in" => self.add_input(rest, "\n"),
+            "in-" => self.add_input(rest, ""),
+            "in!" => Ok(self.break_input()),
             "=>" => self.add_stated(rest),
             _ => Ok(false),
         }
@@ -100,10 +107,29 @@ impl<'a> Table<'a> {
         self.cases.push(Case {
             line,
             words,
+            input: Vec::new(self.alloc),
+            is_broken: false,
             is_same,
             stated: String::new(self.alloc),
         })?;
         Ok(true)
+    }
+
+    fn add_input(&mut self, line: &str, end: &str) -> Result<bool, AllocError> {
+        let Some(case) = self.cases.last_mut() else {
+            return Ok(false);
+        };
+        case.input.extend_from_slice(line.as_bytes())?;
+        case.input.extend_from_slice(end.as_bytes())?;
+        Ok(true)
+    }
+
+    fn break_input(&mut self) -> bool {
+        let Some(case) = self.cases.last_mut() else {
+            return false;
+        };
+        case.is_broken = true;
+        true
     }
 
     fn add_stated(&mut self, rest: &str) -> Result<bool, AllocError> {
