@@ -5,11 +5,11 @@ use Rattle.coap_codec.specs.declared.kind.Kind.{Kind}
 use Rattle.coap_codec.specs.declared.kind.Kind.TheVariants.{Con, Non, Ack, Rst}
 
 -- the type of a message (RFC 7252 section 3)
-abbrev pub kind_name : Kind → List ℕ
-kind_name Con = codes "CON"
-kind_name Non = codes "NON"
-kind_name Ack = codes "ACK"
-kind_name Rst = codes "RST"
+abbrev pub type_name : Kind → List ℕ
+type_name Con = codes "CON"
+type_name Non = codes "NON"
+type_name Ack = codes "ACK"
+type_name Rst = codes "RST"
 
 -- the methods, by the detail of their codes, of class 0 (RFC 7252 section 12.1.1, RFC 8132 section 4)
 abbrev pub methods : List (ℕ × List ℕ)

@@ -9,8 +9,8 @@ use Rattle.coap_codec.specs.Message.{Message}
 use Rattle.coap_codec.specs.Reading.{reading_of}
 use Rattle.scenario_words.specs.HexWord.{hex_word}
 use Rattle.scenario_words.specs.Quoted.{quoted_word}
-use Rattle.message_words.specs.Names.{kind_name, code_text, format_text}
-use Rattle.message_words.specs.Options.{options_text, content_format}
+use Rattle.message_words.specs.Names.{type_name, code_text, format_text}
+use Rattle.message_words.specs.Options.{options_text, format_in}
 
 -- a token, where there is one
 abbrev pub token_text : List ℕ → List ℕ
@@ -18,14 +18,14 @@ token_text [] = []
 token_text (b ∷ bs) = codes ", token " ++ hex_word (b ∷ bs)
 
 -- a payload of a Content-Format: in quotes where that is text/plain or link-format and the bytes are UTF-8, else in hex
-abbrev pub payload_word : ℕ → List ℕ → List ℕ
-payload_word format payload =
+abbrev pub payload_text : ℕ → List ℕ → List ℕ
+payload_text format payload =
     if (format == 0 || format == 40) && is_utf8 payload then quoted_word payload else hex_word payload
 
 -- a Content-Format, and the payload behind it where there is one
 abbrev pub formatted : ℕ → List ℕ → List ℕ
 formatted format [] = format_text format
-formatted format (b ∷ bs) = format_text format ++ codes " " ++ payload_word format (b ∷ bs)
+formatted format (b ∷ bs) = format_text format ++ codes " " ++ payload_text format (b ∷ bs)
 
 -- Content-Format and payload, where there are such
 abbrev pub content_text : Option ℕ → List ℕ → List ℕ
@@ -36,8 +36,8 @@ content_text None (b ∷ bs) = codes ", payload " ++ hex_word (b ∷ bs)
 -- a message: type, code, message ID, token, options, Content-Format and payload
 abbrev pub message_text : Message → List ℕ
 message_text m =
-    kind_name m.kind ++ codes " " ++ code_text m.code ++ codes ", message " ++ decimal m.mid ++ token_text m.token
-    ++ options_text 0 m.options ++ content_text (content_format 0 m.options) m.payload
+    type_name m.kind ++ codes " " ++ code_text m.code ++ codes ", message " ++ decimal m.mid ++ token_text m.token
+    ++ options_text 0 m.options ++ content_text (format_in 0 m.options) m.payload
 
 -- why bytes are not a message
 abbrev pub fault_reason : CoapFault → List ℕ

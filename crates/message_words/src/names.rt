@@ -2,14 +2,14 @@
 ghost use Rattle.std.specs.Prelude.{◌≡◌, ◌++◌, ◌/◌, ◌%◌, option_map, OnOk};
 ghost use Rattle.std.specs.String.{string_bytes};
 ghost use Rattle.message_words.specs.Names.{class_and_detail, client_errors, code_name, code_text, format_text};
-ghost use Rattle.message_words.specs.Names.{formats, kind_name, methods, name_in, server_errors, successes};
+ghost use Rattle.message_words.specs.Names.{formats, type_name, methods, name_in, server_errors, successes};
 
 use coap_codec::Kind;
 use std::alloc::AllocError;
 
 /// The type of a message.
-pub(crate) fn kind_name(kind: Kind) -> &'static str
-    ensures { result.now ≡ kind_name kind }
+pub(crate) fn type_name(kind: Kind) -> &'static str
+    ensures { result.now ≡ type_name kind }
 {
     match kind {
         Kind::Con => "CON",

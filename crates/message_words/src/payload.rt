@@ -1,32 +1,26 @@
 //! Content-Format and payload.
 ghost use Rattle.std.specs.Prelude.{◌≡◌, ◌++◌, true, false, IfOk, MatchOption, OnOk};
 ghost use Rattle.std.specs.String.{string_bytes};
-ghost use Rattle.std.specs.Str.{IsUtf8, is_utf8};
-ghost use Rattle.message_words.specs.Text.{content_text, formatted, payload_word};
+ghost use Rattle.std.specs.Str.{is_utf8};
+ghost use Rattle.message_words.specs.Text.{content_text, formatted, payload_text};
 
 use crate::names::put_format;
 use scenario_words::{hex_word, quoted_word};
 use std::alloc::{AllocError, Global};
 
+/// The text that bytes are, where they are UTF-8.
 fn utf8_of(bytes: &[u8]) -> Option<&str>
-    ensures { MatchOption result (¬ (IsUtf8 bytes.now)) (λ s. (s.now ≡ bytes.now) × IsUtf8 bytes.now) }
+    ensures { MatchOption result (is_utf8 bytes.now ≡ false) (λ s. (s.now ≡ bytes.now) × (is_utf8 bytes.now ≡ true)) }
 {
     str::from_utf8(bytes).ok()
 }
 
-/// The text that bytes are, where they are UTF-8.
-fn checked(bytes: &[u8]) -> Option<&str>
-    ensures { MatchOption result (is_utf8 bytes.now ≡ false) (λ s. (s.now ≡ bytes.now) × (is_utf8 bytes.now ≡ true)) }
-{
-    utf8_of(bytes)
-}
-
 /// A payload of a Content-Format.
-fn payload_word(alloc: Global, format: u32, payload: &[u8]) -> Result<String, AllocError>
-    ensures { IfOk result (λ text. string_bytes text ≡ payload_word format payload.now) }
+fn payload_text(alloc: Global, format: u32, payload: &[u8]) -> Result<String, AllocError>
+    ensures { IfOk result (λ text. string_bytes text ≡ payload_text format payload.now) }
 {
     if format == 0 || format == 40 {
-        match checked(payload) {
+        match utf8_of(payload) {
             Some(text) => quoted_word(alloc, text),
             None => hex_word(alloc, payload),
         }
@@ -49,7 +43,7 @@ fn put_formatted(
         return Ok(());
     }
     out.push(' ')?;
-    let word = payload_word(alloc, format, payload)?;
+    let word = payload_text(alloc, format, payload)?;
     out.push_str(word.as_str())
 }
 

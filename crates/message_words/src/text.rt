@@ -8,8 +8,8 @@ ghost use Rattle.coap_codec.specs.Message.{Message as MessageData, Spells};
 ghost use Rattle.coap_codec.specs.Reading.{reading_of};
 ghost use Rattle.message_words.specs.Text.{fault_reason, message_text, no_message, reading_text, token_text};
 
-use crate::names::{kind_name, put_code};
-use crate::options::{content_format, put_options};
+use crate::names::{put_code, type_name};
+use crate::options::{format_in, put_options};
 use crate::payload::put_content;
 use coap_codec::{CoapFault, Message, decode};
 use scenario_words::hex_word;
@@ -37,14 +37,19 @@ fn put_token(alloc: Global, out: &mut String, token: &[u8]) -> Result<(), AllocE
 pub fn message_text(alloc: Global, message: &Message) -> Result<String, AllocError>
     ensures { IfOk result (λ text. string_bytes text ≡ message_text message.now) }
 {
-    let mut out = String::from_str(alloc, kind_name(message.kind()))?;
+    let mut out = String::from_str(alloc, type_name(message.kind()))?;
     out.push(' ')?;
     put_code(&mut out, message.code())?;
     put_message_id(&mut out, message.mid())?;
     put_token(alloc, &mut out, message.token().as_slice())?;
     let options = message.options().as_slice();
     put_options(alloc, &mut out, options)?;
-    put_content(alloc, &mut out, content_format(options), message.payload().as_slice())?;
+    put_content(
+        alloc,
+        &mut out,
+        format_in(options),
+        message.payload().as_slice(),
+    )?;
     Ok(out)
 }
 
