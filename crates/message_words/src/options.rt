@@ -2,7 +2,7 @@
 ghost use Rattle.std.specs.Prelude.{◌≡◌, ◌≤◌, ◌++◌, true, false, length, codes, MatchOption, OnOk};
 ghost use Rattle.std.specs.String.{string_bytes};
 ghost use Rattle.coap_codec.specs.Number.{big_endian};
-ghost use Rattle.message_words.specs.Options.{format_in, is_recognized, option_text, options_text, segment_text};
+ghost use Rattle.message_words.specs.Options.{is_recognized, option_text, options_text, segment_text};
 ghost use Rattle.message_words.specs.Options.{plain_option, uri_text};
 ghost use Rattle.message_words.specs.Names.{format_text};
 ghost use Rattle.std.specs.Fmt.{decimal};
@@ -24,7 +24,7 @@ fn is_recognized(number: u16, most: usize, before: u16, option: &Opt) -> bool
 }
 
 /// The number that an option says, where it is understood as one.
-fn recognized_value(number: u16, most: usize, before: u16, option: &Opt) -> Option<u32>
+pub(crate) fn recognized_value(number: u16, most: usize, before: u16, option: &Opt) -> Option<u32>
     requires { most ≤ 4 }
     ensures { MatchOption result (is_recognized number most before option.now ≡ false)
         (λ n. (is_recognized number most before option.now ≡ true) × (n ≡ big_endian option.now.value)) }
@@ -120,18 +120,4 @@ pub(crate) fn put_options(
         before = option.number;
     }
     Ok(())
-}
-
-/// The Content-Format.
-pub(crate) fn format_in(options: &[Opt]) -> Option<u32>
-    ensures { result ≡ format_in 0 options.now }
-{
-    let mut before: u16 = 0;
-    for option in options {
-        if let Some(format) = recognized_value(CONTENT_FORMAT, 2, before, option) {
-            return Some(format);
-        }
-        before = option.number;
-    }
-    None
 }

@@ -2,11 +2,29 @@
 ghost use Rattle.std.specs.Prelude.{◌≡◌, ◌++◌, true, false, IfOk, MatchOption, OnOk};
 ghost use Rattle.std.specs.String.{string_bytes};
 ghost use Rattle.std.specs.Str.{is_utf8};
+ghost use Rattle.message_words.specs.Options.{format_in};
 ghost use Rattle.message_words.specs.Text.{content_text, formatted, payload_text};
 
 use crate::names::put_format;
+use crate::options::recognized_value;
+use coap_codec::Opt;
+use coap_codec::option_number::CONTENT_FORMAT;
 use scenario_words::{hex_word, quoted_word};
 use std::alloc::{AllocError, Global};
+
+/// The Content-Format.
+pub(crate) fn format_in(options: &[Opt]) -> Option<u32>
+    ensures { result ≡ format_in 0 options.now }
+{
+    let mut before: u16 = 0;
+    for option in options {
+        if let Some(format) = recognized_value(CONTENT_FORMAT, 2, before, option) {
+            return Some(format);
+        }
+        before = option.number;
+    }
+    None
+}
 
 /// The text that bytes are, where they are UTF-8.
 fn utf8_of(bytes: &[u8]) -> Option<&str>
@@ -56,14 +74,16 @@ pub(crate) fn put_content(
 ) -> Result<(), AllocError>
     ensures { OnOk result (string_bytes out.new ≡ string_bytes out.old ++ content_text format payload.now) }
 {
-    if let Some(format) = format {
-        out.push_str(", ")?;
-        return put_formatted(alloc, out, format, payload);
+    match format {
+        Some(format) => {
+            out.push_str(", ")?;
+            put_formatted(alloc, out, format, payload)
+        }
+        None if payload.is_empty() => Ok(()),
+        None => {
+            let word = hex_word(alloc, payload)?;
+            out.push_str(", payload ")?;
+            out.push_str(word.as_str())
+        }
     }
-    if payload.is_empty() {
-        return Ok(());
-    }
-    out.push_str(", payload ")?;
-    let word = hex_word(alloc, payload)?;
-    out.push_str(word.as_str())
 }

@@ -9,8 +9,8 @@ ghost use Rattle.coap_codec.specs.Reading.{reading_of};
 ghost use Rattle.message_words.specs.Text.{fault_reason, message_text, no_message, reading_text, token_text};
 
 use crate::names::{put_code, type_name};
-use crate::options::{format_in, put_options};
-use crate::payload::put_content;
+use crate::options::put_options;
+use crate::payload::{format_in, put_content};
 use coap_codec::{CoapFault, Message, decode};
 use scenario_words::hex_word;
 use std::alloc::{AllocError, Global};

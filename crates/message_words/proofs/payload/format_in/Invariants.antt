@@ -1,6 +1,6 @@
 use Rattle.std.proofs.Common.{◌≡◌, drop}
 use Rattle.message_words.specs.Options.{format_in}
-use Rattle.message_words.proofs.options.format_in.Given as goal
+use Rattle.message_words.proofs.payload.format_in.Given as goal
 
 -- what is still to come has the same
 abbrev pub invariant-loop-option : goal.invariant-loop-option
