@@ -1,0 +1,90 @@
+//! A message or a datagram in words.
+ghost use Rattle.std.specs.Prelude.{◌≡◌, ◌++◌, codes, IfOk, OnOk};
+ghost use Rattle.std.specs.Fmt.{decimal};
+ghost use Rattle.std.specs.String.{string_bytes};
+ghost use Rattle.coap_codec.specs.declared.fault.CoapFault.{CoapFault as Fault};
+ghost use Rattle.coap_codec.specs.Fault.{HasFault};
+ghost use Rattle.coap_codec.specs.Message.{Message as MessageData, Spells};
+ghost use Rattle.coap_codec.specs.Reading.{reading_of};
+ghost use Rattle.message_words.specs.Text.{fault_reason, message_text, no_message, reading_text, token_text};
+
+use crate::names::{put_code, type_name};
+use crate::options::put_options;
+use crate::payload::{format_in, put_content};
+use coap_codec::{CoapFault, Message, decode};
+use scenario_words::hex_word;
+use std::alloc::{AllocError, Global};
+
+fn put_message_id(out: &mut String, mid: u16) -> Result<(), AllocError>
+    ensures { OnOk result (string_bytes out.new ≡ string_bytes out.old ++ (codes ", message " ++ decimal mid)) }
+{
+    write!(out, ", message {mid}")
+}
+
+/// Writes a token, where there is one.
+fn put_token(alloc: Global, out: &mut String, token: &[u8]) -> Result<(), AllocError>
+    ensures { OnOk result (string_bytes out.new ≡ string_bytes out.old ++ token_text token.now) }
+{
+    if token.is_empty() {
+        return Ok(());
+    }
+    let word = hex_word(alloc, token)?;
+    out.push_str(", token ")?;
+    out.push_str(word.as_str())
+}
+
+/// A message in words: `ACK 2.05 Content, message 1, token AA, text/plain "80"`, with no line feed at its end.
+pub fn message_text(alloc: Global, message: &Message) -> Result<String, AllocError>
+    ensures { IfOk result (λ text. string_bytes text ≡ message_text message.now) }
+{
+    let mut out = String::from_str(alloc, type_name(message.kind()))?;
+    out.push(' ')?;
+    put_code(&mut out, message.code())?;
+    put_message_id(&mut out, message.mid())?;
+    put_token(alloc, &mut out, message.token().as_slice())?;
+    let options = message.options().as_slice();
+    put_options(alloc, &mut out, options)?;
+    put_content(
+        alloc,
+        &mut out,
+        format_in(options),
+        message.payload().as_slice(),
+    )?;
+    Ok(out)
+}
+
+fn fault_reason(fault: CoapFault) -> &'static str
+    ensures { result.now ≡ fault_reason fault }
+{
+    match fault {
+        CoapFault::Short => "fewer than four bytes",
+        CoapFault::Version => "a version other than 1",
+        CoapFault::TokenLength => "a token length above 8",
+        CoapFault::EmptyWithData => "an empty message with bytes behind its header",
+        CoapFault::OptionCut => "the bytes end within a token or an option",
+        CoapFault::OptionReserved => "a reserved nibble",
+        CoapFault::OptionNumber => "an option number above 65535",
+        CoapFault::PayloadEmpty => "a payload marker with no payload",
+        CoapFault::Memory => "out of memory",
+    }
+}
+
+fn no_message(alloc: Global, fault: CoapFault) -> Result<String, AllocError>
+    ensures { IfOk result (λ text. string_bytes text ≡ no_message fault) }
+{
+    let reason = fault_reason(fault);
+    format!(in alloc; "no message: {reason}")
+}
+
+/// A datagram in words: those of its message, or `no message: ` and why its bytes are none.
+pub fn datagram_text(alloc: Global, bytes: &[u8]) -> Result<String, AllocError>
+    ensures text { IfOk result (λ text. string_bytes text ≡ reading_text (reading_of bytes.now)) }
+    ensures message { (m : MessageData) → Spells bytes.now m → IfOk result (λ text. string_bytes text ≡ message_text m) }
+    ensures fault { (f : Fault) → HasFault bytes.now f → IfOk result (λ text. string_bytes text ≡ no_message f) }
+{
+    match decode(alloc, bytes) {
+        Ok(message) => message_text(alloc, &message),
+        Err(CoapFault::Memory) => Err(AllocError),
+        Err(fault) => no_message(alloc, fault),
+    }
+}
