@@ -8,8 +8,8 @@ use Rattle.coap_codec.specs.Number.{big_endian}
 use Rattle.scenario_words.specs.HexWord.{hex_word}
 use Rattle.message_words.specs.Names.{format_text}
 
--- a character that is itself both in a path and in a query of a URI (RFC 7252 section 6.5): a letter, a digit, `:`, `@`,
--- or another one of `unreserved` and, but for `&`, of `sub-delims` (RFC 3986 section 2)
+-- a character that is itself both in a path and in a query of a URI (RFC 7252 section 6.5): a letter, a digit, another
+-- one of `unreserved`, one of `sub-delims` but `&`, or `:` or `@` (RFC 3986 section 2)
 abbrev pub is_unescaped : ℕ → Bool
 is_unescaped b =
     (nat_le 65 b && nat_le b 90) || (nat_le 97 b && nat_le b 122) || (nat_le 48 b && nat_le b 57)

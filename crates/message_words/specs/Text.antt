@@ -1,12 +1,12 @@
 -- What a datagram says, in words.
-use Rattle.std.specs.Prelude.{ℕ, ◌==◌, ◌&&◌, ◌||◌, List, [], ◌∷◌, ◌++◌, Option, None, Some, Result, Ok, Err, codes}
-use Rattle.std.specs.Prelude.{if◌then◌else◌}
+use Rattle.std.specs.Prelude.{◌≡◌, ℕ, ◌==◌, nat_le, true, ◌&&◌, ◌||◌, List, [], ◌∷◌, ◌++◌, Option, None, Some}
+use Rattle.std.specs.Prelude.{Result, Ok, Err, codes, if◌then◌else◌}
 use Rattle.std.specs.Fmt.{decimal}
+use Rattle.std.specs.List.{list_all}
 use Rattle.std.specs.Str.{is_utf8}
 use Rattle.coap_codec.specs.declared.fault.CoapFault.{CoapFault}
 use Rattle.coap_codec.specs.declared.fault.CoapFault.TheVariants as faults
 use Rattle.coap_codec.specs.Message.{Message}
-use Rattle.coap_codec.specs.Reading.{reading_of}
 use Rattle.scenario_words.specs.HexWord.{hex_word}
 use Rattle.scenario_words.specs.Quoted.{quoted_word}
 use Rattle.message_words.specs.Names.{type_name, code_text, format_text}
@@ -23,13 +23,13 @@ payload_text format payload =
     if (format == 0 || format == 40) && is_utf8 payload then quoted_word payload else hex_word payload
 
 -- a Content-Format, and the payload behind it where there is one
-abbrev pub formatted : ℕ → List ℕ → List ℕ
-formatted format [] = format_text format
-formatted format (b ∷ bs) = format_text format ++ codes " " ++ payload_text format (b ∷ bs)
+abbrev pub formatted_payload : ℕ → List ℕ → List ℕ
+formatted_payload format [] = format_text format
+formatted_payload format (b ∷ bs) = format_text format ++ codes " " ++ payload_text format (b ∷ bs)
 
 -- Content-Format and payload, where there are such
 abbrev pub content_text : Option ℕ → List ℕ → List ℕ
-content_text (Some format) payload = codes ", " ++ formatted format payload
+content_text (Some format) payload = codes ", " ++ formatted_payload format payload
 content_text None [] = []
 content_text None (b ∷ bs) = codes ", payload " ++ hex_word (b ∷ bs)
 
@@ -59,3 +59,7 @@ no_message fault = codes "no message: " ++ fault_reason fault
 abbrev pub reading_text : Result Message CoapFault → List ℕ
 reading_text (Ok m) = message_text m
 reading_text (Err fault) = no_message fault
+
+-- a text without control characters below 32, so without a line feed
+abbrev pub IsOneLine : List ℕ → Type 0
+IsOneLine text = list_all (λ b. nat_le 32 b) text ≡ true

@@ -3,7 +3,7 @@ ghost use Rattle.std.specs.Prelude.{◌≡◌, ◌++◌, true, false, IfOk, Matc
 ghost use Rattle.std.specs.String.{string_bytes};
 ghost use Rattle.std.specs.Str.{is_utf8};
 ghost use Rattle.message_words.specs.Options.{format_in};
-ghost use Rattle.message_words.specs.Text.{content_text, formatted, payload_text};
+ghost use Rattle.message_words.specs.Text.{content_text, formatted_payload, payload_text};
 
 use crate::names::put_format;
 use crate::options::recognized_value;
@@ -54,7 +54,7 @@ fn put_formatted(
     format: u32,
     payload: &[u8],
 ) -> Result<(), AllocError>
-    ensures { OnOk result (string_bytes out.new ≡ string_bytes out.old ++ formatted format payload.now) }
+    ensures { OnOk result (string_bytes out.new ≡ string_bytes out.old ++ formatted_payload format payload.now) }
 {
     put_format(out, format)?;
     if payload.is_empty() {

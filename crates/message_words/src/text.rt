@@ -6,7 +6,7 @@ ghost use Rattle.coap_codec.specs.declared.fault.CoapFault.{CoapFault as Fault};
 ghost use Rattle.coap_codec.specs.Fault.{HasFault};
 ghost use Rattle.coap_codec.specs.Message.{Message as MessageData, Spells};
 ghost use Rattle.coap_codec.specs.Reading.{reading_of};
-ghost use Rattle.message_words.specs.Text.{fault_reason, message_text, no_message, reading_text, token_text};
+ghost use Rattle.message_words.specs.Text.{IsOneLine, fault_reason, message_text, no_message, reading_text, token_text};
 
 use crate::names::{put_code, type_name};
 use crate::options::put_options;
@@ -33,8 +33,7 @@ fn put_token(alloc: Global, out: &mut String, token: &[u8]) -> Result<(), AllocE
     out.push_str(word.as_str())
 }
 
-/// A message in words: `ACK 2.05 Content, message 1, token AA, text/plain "80"`, with no line feed at its end.
-pub fn message_text(alloc: Global, message: &Message) -> Result<String, AllocError>
+fn words_of(alloc: Global, message: &Message) -> Result<String, AllocError>
     ensures { IfOk result (λ text. string_bytes text ≡ message_text message.now) }
 {
     let mut out = String::from_str(alloc, type_name(message.kind()))?;
@@ -53,6 +52,15 @@ pub fn message_text(alloc: Global, message: &Message) -> Result<String, AllocErr
     Ok(out)
 }
 
+/// A message in words: `ACK 2.05 Content, message 1, token AA, text/plain "80"`, with no line feed at its end.
+#[tactic(auto, using(crate::proofs::OneLine::message_said))]
+pub fn message_text(alloc: Global, message: &Message) -> Result<String, AllocError>
+    ensures text { IfOk result (λ text. string_bytes text ≡ message_text message.now) }
+    ensures one_line { IfOk result (λ text. IsOneLine (string_bytes text)) }
+{
+    words_of(alloc, message)
+}
+
 fn fault_reason(fault: CoapFault) -> &'static str
     ensures { result.now ≡ fault_reason fault }
 {
@@ -69,8 +77,10 @@ fn fault_reason(fault: CoapFault) -> &'static str
     }
 }
 
+#[tactic(auto, using(crate::proofs::OneLine::fault_said))]
 fn no_message(alloc: Global, fault: CoapFault) -> Result<String, AllocError>
-    ensures { IfOk result (λ text. string_bytes text ≡ no_message fault) }
+    ensures text { IfOk result (λ text. string_bytes text ≡ no_message fault) }
+    ensures one_line { IfOk result (λ text. IsOneLine (string_bytes text)) }
 {
     let reason = fault_reason(fault);
     format!(in alloc; "no message: {reason}")
@@ -81,6 +91,7 @@ pub fn datagram_text(alloc: Global, bytes: &[u8]) -> Result<String, AllocError>
     ensures text { IfOk result (λ text. string_bytes text ≡ reading_text (reading_of bytes.now)) }
     ensures message { (m : MessageData) → Spells bytes.now m → IfOk result (λ text. string_bytes text ≡ message_text m) }
     ensures fault { (f : Fault) → HasFault bytes.now f → IfOk result (λ text. string_bytes text ≡ no_message f) }
+    ensures one_line { IfOk result (λ text. IsOneLine (string_bytes text)) }
 {
     match decode(alloc, bytes) {
         Ok(message) => message_text(alloc, &message),
