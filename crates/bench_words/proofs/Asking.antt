@@ -14,6 +14,7 @@ no_one rows (jobs.Asm input output) none asks = search rules
 no_one rows (jobs.Dis input) none asks = search rules
 no_one rows (jobs.Run image workers batch trace) none asks = search rules
 no_one rows (jobs.Check image trace) none asks = search rules
+no_one rows (jobs.Debug image trace) none asks = search rules
 
 pub no_asm : (rows : List Row) (job : Job) → (first_of (codes "IN") rows ≡ None) ⊎ (first_of (codes "OUT") rows ≡ None)
     → AsksFor (codes "asm", rows) job → ⊥
@@ -23,6 +24,7 @@ no_asm rows (jobs.Asm input output) (inr none) asks = search rules
 no_asm rows (jobs.Dis input) none asks = search rules
 no_asm rows (jobs.Run image workers batch trace) none asks = search rules
 no_asm rows (jobs.Check image trace) none asks = search rules
+no_asm rows (jobs.Debug image trace) none asks = search rules
 
 pub no_dis : (rows : List Row) (job : Job) → first_of (codes "IN") rows ≡ None → AsksFor (codes "dis", rows) job → ⊥
 no_dis rows (jobs.One hex) none asks = search rules
@@ -30,6 +32,7 @@ no_dis rows (jobs.Asm input output) none asks = search rules
 no_dis rows (jobs.Dis input) none asks = search rules
 no_dis rows (jobs.Run image workers batch trace) none asks = search rules
 no_dis rows (jobs.Check image trace) none asks = search rules
+no_dis rows (jobs.Debug image trace) none asks = search rules
 
 pub no_run : (rows : List Row) (job : Job) → LacksRun rows → AsksFor (codes "run", rows) job → ⊥
 no_run rows (jobs.One hex) lacks asks = search rules
@@ -39,6 +42,7 @@ no_run rows (jobs.Run image workers batch trace) (inl none) asks = search rules
 no_run rows (jobs.Run image workers batch trace) (inr (inl none)) asks = none workers asks.2
 no_run rows (jobs.Run image workers batch trace) (inr (inr none)) asks = none batch asks.3
 no_run rows (jobs.Check image trace) lacks asks = search rules
+no_run rows (jobs.Debug image trace) lacks asks = search rules
 
 pub no_check : (rows : List Row) (job : Job) → (first_of (codes "IMAGE") rows ≡ None)
     ⊎ (first_of (codes "TRACE") rows ≡ None) → AsksFor (codes "check", rows) job → ⊥
@@ -48,6 +52,17 @@ no_check rows (jobs.Dis input) none asks = search rules
 no_check rows (jobs.Run image workers batch trace) none asks = search rules
 no_check rows (jobs.Check image trace) (inl none) asks = search rules
 no_check rows (jobs.Check image trace) (inr none) asks = search rules
+no_check rows (jobs.Debug image trace) none asks = search rules
+
+pub no_debug : (rows : List Row) (job : Job) → (first_of (codes "IMAGE") rows ≡ None)
+    ⊎ (first_of (codes "TRACE") rows ≡ None) → AsksFor (codes "debug", rows) job → ⊥
+no_debug rows (jobs.One hex) none asks = search rules
+no_debug rows (jobs.Asm input output) none asks = search rules
+no_debug rows (jobs.Dis input) none asks = search rules
+no_debug rows (jobs.Run image workers batch trace) none asks = search rules
+no_debug rows (jobs.Check image trace) none asks = search rules
+no_debug rows (jobs.Debug image trace) (inl none) asks = search rules
+no_debug rows (jobs.Debug image trace) (inr none) asks = search rules
 
 -- the second of two, where the first is not
 pub second_of : {A B : Type 0} → A ⊎ B → (A → ⊥) → B

@@ -1,10 +1,10 @@
 -- What is read of a word: the number that it spells, if it spells one.
-use Rattle.std.proofs.Common.{◌≡◌, ◌<◌, ◌^◌, ℕ, Option, None, Some, Result, Ok, Err, IfNone, IfSome, List, refl, sym}
+use Rattle.std.proofs.Common.{◌≡◌, ◌<◌, ◌^◌, ℕ, Option, None, Some, Result, Ok, Err, IfNone, IfSome, refl, sym}
 use Rattle.std.proofs.Common.{subst, rules}
 use Rattle.std.specs.Str.Parse.{ExplainsUnsignedError, HasUnsignedDigitsIfOk, ParsesUnsigned}
 use Rattle.std.specs.declared.num.ParseIntError.{ParseIntError}
 use Rattle.clap.specs.Words.{ReadsOne, Text as Word}
-use Rattle.bench_words.specs.Words.{IsNoNumber, IsNumber, SpellsNumber}
+use Rattle.bench_words.specs.Words.{IsNoNumber, IsNumber}
 
 -- how a number of so many bits is read
 abbrev pub reads : ℕ → Word → Result ℕ ParseIntError → Type 0

@@ -61,6 +61,10 @@ run_app =
 abbrev pub check_app : App
 check_app = with_rule (with_rule (new_app (codes "check")) (needed (codes "IMAGE"))) (needed (codes "TRACE"))
 
+-- `debug IMAGE TRACE`
+abbrev pub debug_app : App
+debug_app = with_rule (with_rule (new_app (codes "debug")) (needed (codes "IMAGE"))) (needed (codes "TRACE"))
+
 -- a subcommand has to be there, and there is a version
 abbrev pub with_settings : App → App
 with_settings a = record a { top = record a.top { subcommand_required = true; has_version = true } }
@@ -69,9 +73,9 @@ with_settings a = record a { top = record a.top { subcommand_required = true; ha
 abbrev pub bench_app : App
 bench_app =
     with_subcommand
-    (with_subcommand (with_subcommand (with_subcommand
+    (with_subcommand (with_subcommand (with_subcommand (with_subcommand
     (with_subcommand (with_settings (new_app (codes "lwbench"))) one_app.top) asm_app.top) dis_app.top) run_app.top)
-    check_app.top
+    check_app.top) debug_app.top
 
 -- ---- what is asked for
 
@@ -111,6 +115,9 @@ AsksFor found (jobs.Run image workers batch trace) =
     × (first_of (codes "trace") found.1 ≡ option_map (λ p. p.now) trace)
 AsksFor found (jobs.Check image trace) =
     (found.0 ≡ codes "check") × (first_of (codes "IMAGE") found.1 ≡ Some image.now)
+    × (first_of (codes "TRACE") found.1 ≡ Some trace.now)
+AsksFor found (jobs.Debug image trace) =
+    (found.0 ≡ codes "debug") × (first_of (codes "IMAGE") found.1 ≡ Some image.now)
     × (first_of (codes "TRACE") found.1 ≡ Some trace.now)
 
 -- these words, of which the first is the program's name, ask for this

@@ -63,3 +63,18 @@ Writes no file.
 Example:
   lwbench check reader.image reader.trace
   run";
+
+pub const DEBUG: &str =
+    "Reads IMAGE, and then TRACE. Then reads commands from standard input, a line each, and answers each;
+`help` lists them. `quit` ends it, and so does the end of the input. Where the trace is not a run of the
+scenario, prints the least place, from 0, at which it is not (status 3):
+  not a run at N
+Writes no file.
+
+Example:
+  lwbench debug reader.image reader.trace
+  forward 1
+  at 1
+  out 0
+  send 1 60450001C0FF313030
+  quit";

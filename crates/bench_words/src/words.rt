@@ -5,7 +5,8 @@ ghost use Rattle.clap.specs.Words.{Row, Text as Word, app_of, first_of, found_of
 ghost use Rattle.clap.specs.Words.{rule_of, subcommand_rows_of, with_rule};
 ghost use Rattle.bench_words.specs.declared.words.Job.{Job as JobData};
 ghost use Rattle.bench_words.specs.Words.{AsksFor, IsNoNumber, IsNumber, IsReadAs, LacksRun, asm_app, batch, bench_app};
-ghost use Rattle.bench_words.specs.Words.{check_app, dis_app, file, needed, one_app, run_app, workers};
+ghost use Rattle.bench_words.specs.Words.{check_app, debug_app, dis_app, file, needed, one_app, run_app, with_settings};
+ghost use Rattle.bench_words.specs.Words.{workers};
 
 use crate::help;
 use clap::error::ErrorKind;
@@ -55,6 +56,13 @@ pub enum Job<'a> {
         /// The path of the trace file.
         trace: &'a str,
     },
+    /// What a run shows, at the commands of a session.
+    Debug {
+        /// The path of the scenario's image.
+        image: &'a str,
+        /// The path of the run's trace file.
+        trace: &'a str,
+    },
 }
 
 /// What the words ask for.
@@ -102,7 +110,7 @@ fn job_of<'a>(found: &ArgMatches<'a>) -> Option<Job<'a>>
     }
 }
 
-#[tactic(auto, using(crate::proofs::Asking::no_one, crate::proofs::Asking::no_asm, crate::proofs::Asking::no_dis, crate::proofs::Asking::no_run, crate::proofs::Asking::no_check))]
+#[tactic(auto, using(crate::proofs::Asking::no_one, crate::proofs::Asking::no_asm, crate::proofs::Asking::no_dis, crate::proofs::Asking::no_run, crate::proofs::Asking::no_check, crate::proofs::Asking::no_debug))]
 fn job_in<'a>(name: &str, found: &ArgMatches<'a>) -> Option<Job<'a>>
     ensures some { IfSome result (AsksFor (name.now, rows_of (found_of found.now))) }
     ensures none { IfNone result ((job : JobData) → AsksFor (name.now, rows_of (found_of found.now)) job → ⊥) }
@@ -113,6 +121,7 @@ fn job_in<'a>(name: &str, found: &ArgMatches<'a>) -> Option<Job<'a>>
         "dis" => dis_job(found),
         "run" => run_job(found),
         "check" => check_job(found),
+        "debug" => debug_job(found),
         _ => None,
     }
 }
@@ -183,6 +192,17 @@ fn check_job<'a>(found: &ArgMatches<'a>) -> Option<Job<'a>>
     })
 }
 
+fn debug_job<'a>(found: &ArgMatches<'a>) -> Option<Job<'a>>
+    ensures some { IfSome result (AsksFor (codes "debug", rows_of (found_of found.now))) }
+    ensures none { IfNone result ((first_of (codes "IMAGE") (rows_of (found_of found.now)) ≡ None)
+        ⊎ (first_of (codes "TRACE") (rows_of (found_of found.now)) ≡ None)) }
+{
+    Some(Job::Debug {
+        image: value_of(found, "IMAGE")?,
+        trace: value_of(found, "TRACE")?,
+    })
+}
+
 /// The value of an argument.
 fn value_of<'a>(found: &ArgMatches<'a>, id: &str) -> Option<&'a str>
     ensures { option_map (λ s. s.now) result ≡ first_of id.now (rows_of (found_of found.now)) }
@@ -207,16 +227,24 @@ fn usage(alloc: Global) -> Result<String, AllocError> {
 fn bench<'a>(alloc: Global) -> Result<Command<'a>, AllocError>
     ensures { IfOk result (λ c. app_of c ≡ bench_app) }
 {
+    top(alloc)
+        .subcommand(one_command(alloc)?)?
+        .subcommand(asm_command(alloc)?)?
+        .subcommand(dis_command(alloc)?)?
+        .subcommand(run_command(alloc)?)?
+        .subcommand(check_command(alloc)?)?
+        .subcommand(debug_command(alloc)?)
+}
+
+/// The program, with no subcommand yet.
+fn top<'a>(alloc: Global) -> Command<'a>
+    ensures { app_of result ≡ with_settings (new_app (codes "lwbench")) }
+{
     Command::new(alloc, "lwbench")
         .about("A bench of emulated OMA LwM2M devices over CoAP")
         .version(help::VERSION)
         .after_help(help::BENCH)
         .subcommand_required(true)
-        .subcommand(one_command(alloc)?)?
-        .subcommand(asm_command(alloc)?)?
-        .subcommand(dis_command(alloc)?)?
-        .subcommand(run_command(alloc)?)?
-        .subcommand(check_command(alloc)?)
 }
 
 /// A command with no argument yet, and what its help says above and below them.
@@ -300,6 +328,15 @@ fn check_command<'a>(alloc: Global) -> Result<Command<'a>, AllocError>
     described(alloc, "check", about, help::CHECK)
         .arg(needed(alloc, "IMAGE").help("The scenario, as an image"))?
         .arg(needed(alloc, "TRACE").help("The trace file"))
+}
+
+fn debug_command<'a>(alloc: Global) -> Result<Command<'a>, AllocError>
+    ensures { IfOk result (λ c. app_of c ≡ debug_app) }
+{
+    let about = "Answers commands about a run of a scenario";
+    described(alloc, "debug", about, help::DEBUG)
+        .arg(needed(alloc, "IMAGE").help("The scenario that was run, as an image"))?
+        .arg(needed(alloc, "TRACE").help("The trace file of the run"))
 }
 
 fn file<'a>(alloc: Global, name: &'a str) -> Arg<'a>

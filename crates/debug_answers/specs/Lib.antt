@@ -1,2 +1,6 @@
 pub mod Lines
+pub mod Printed
+pub mod Shown
+pub mod Help
 pub mod Answers
+pub mod Replies

@@ -93,3 +93,24 @@ pub fn no_such_line(alloc: Global) -> Result<String, AllocError>
 {
     String::from_str(alloc, "no such\n")
 }
+
+/// `none`.
+pub fn none_line(alloc: Global) -> Result<String, AllocError>
+    ensures { IfOk result (λ text. string_bytes text ≡ line (codes "none")) }
+{
+    String::from_str(alloc, "none\n")
+}
+
+/// `no device`.
+pub fn no_device_line(alloc: Global) -> Result<String, AllocError>
+    ensures { IfOk result (λ text. string_bytes text ≡ line (codes "no device")) }
+{
+    String::from_str(alloc, "no device\n")
+}
+
+/// `bad command`.
+pub fn bad_command_line(alloc: Global) -> Result<String, AllocError>
+    ensures { IfOk result (λ text. string_bytes text ≡ line (codes "bad command")) }
+{
+    String::from_str(alloc, "bad command\n")
+}

@@ -1,6 +1,6 @@
-use Rattle.std.proofs.Common.{◌≡◌, ◌∙◌, ap, sym, codes, Some, None}
+use Rattle.std.proofs.Common.{◌∙◌, codes}
 use Rattle.clap.proofs.WalkLemmas.{one_text-rows}
-use Rattle.clap.specs.Words.{found_of, one_of, one_text, rows_of}
+use Rattle.clap.specs.Words.{found_of, one_of, rows_of}
 use Rattle.bench_words.proofs.Numbers.{is_number, no_number, reads}
 use Rattle.bench_words.proofs.words.workers_of.Goals as goal
 

@@ -1,0 +1,22 @@
+-- What `help` answers.
+use Rattle.std.specs.Prelude.{ℕ, List, [], ◌∷◌, codes}
+use Rattle.std.specs.List.{flat_map}
+use Rattle.debug_answers.specs.Lines.{line}
+
+-- the commands, and what each answers or does
+abbrev pub help_lines : List (List ℕ)
+help_lines =
+    codes "at              the place: how many entries are before it"
+    ∷ codes "forward N       N entries forward"
+    ∷ codes "back N          N entries back"
+    ∷ codes "break POINT     a breakpoint: at N, step D K, changed D PATH, code D C or notified D"
+    ∷ codes "clear ID        removes a breakpoint"
+    ∷ codes "resume          to the next place at which a breakpoint holds, or to the end"
+    ∷ codes "value D PATH    the value of device D at a path"
+    ∷ codes "obs D           the observations of device D"
+    ∷ codes "out D           the latest outputs of device D"
+    ∷ codes "quit            the end"
+    ∷ []
+
+abbrev pub help_text : List ℕ
+help_text = flat_map line help_lines

@@ -1,0 +1,32 @@
+-- The lines of a value and of observations.
+use Rattle.std.specs.Prelude.{ℕ, List, ◌++◌, length, Option, None, Some, codes}
+use Rattle.std.specs.Fmt.{decimal}
+use Rattle.std.specs.List.{flat_map}
+use Rattle.lwm2m_values.specs.declared.value.Value.{Value}
+use Rattle.object_defs.specs.Path.{path_text}
+use Rattle.notifier.specs.declared.observation.Observation.{Observation}
+use Rattle.scenario_words.specs.HexWord.{hex_word}
+use Rattle.scenario_words.specs.ValueWords.{spelled}
+use Rattle.debug_answers.specs.Lines.{line}
+
+-- a value as scenario text has it, or `none`
+abbrev pub value_line : Option Value → List ℕ
+value_line None = line (codes "none")
+value_line (Some v) = line (spelled v)
+
+-- `S TOKEN PATH NUMBER`, the token and the path as words
+abbrev pub observation_words : ℕ → List ℕ → List ℕ → ℕ → List ℕ
+observation_words server token path number =
+    line (decimal server ++ codes " " ++ token ++ codes " " ++ path ++ codes " " ++ decimal number)
+
+-- an observation: its server, its token in hex (`-` for none), its path, and the Observe number of its last message
+abbrev pub observation_line : Observation → List ℕ
+observation_line o = observation_words o.server (hex_word o.token) (path_text o.path) o.number
+
+-- `observations K`
+abbrev pub count_line : ℕ → List ℕ
+count_line count = line (codes "observations " ++ decimal count)
+
+-- how many observations there are, and the line of each in turn
+abbrev pub observation_lines : List Observation → List ℕ
+observation_lines os = count_line (length os) ++ flat_map observation_line os

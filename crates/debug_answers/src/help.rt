@@ -1,0 +1,25 @@
+//! The answer to `help`.
+ghost use Rattle.std.specs.Prelude.{◌≡◌, IfOk};
+ghost use Rattle.std.specs.String.{string_bytes};
+ghost use Rattle.debug_answers.specs.Help.{help_text};
+
+use std::alloc::{AllocError, Global};
+
+const HELP: &str = "at              the place: how many entries are before it
+forward N       N entries forward
+back N          N entries back
+break POINT     a breakpoint: at N, step D K, changed D PATH, code D C or notified D
+clear ID        removes a breakpoint
+resume          to the next place at which a breakpoint holds, or to the end
+value D PATH    the value of device D at a path
+obs D           the observations of device D
+out D           the latest outputs of device D
+quit            the end
+";
+
+/// `help`: the commands, a line for each.
+pub fn show_help(alloc: Global) -> Result<String, AllocError>
+    ensures { IfOk result (λ text. string_bytes text ≡ help_text) }
+{
+    String::from_str(alloc, HELP)
+}

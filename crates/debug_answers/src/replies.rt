@@ -1,0 +1,81 @@
+//! The answer to a line of the debugger's input.
+ghost use Rattle.std.specs.Prelude.{◌≡◌, ◌↔◌, true, IfOk};
+ghost use Rattle.std.specs.String.{string_bytes};
+ghost use Rattle.debug_words.specs.declared.command.Command.TheVariants.{Quit};
+ghost use Rattle.debug_words.specs.Saying.{IsLineOf};
+ghost use Rattle.debug_answers.specs.Replies.{break_of, IsAnswer, IsReply};
+
+use crate::breaks::{add_break, clear, resume};
+use crate::help::show_help;
+use crate::lines::bad_command_line;
+use crate::moves::{back, forward, place};
+use crate::shown::{show_observations, show_outputs, show_value};
+use debug_words::{Command, Point, read_command};
+use debugger::{Break, Debugger};
+use std::alloc::{AllocError, Global};
+
+/// What is answered to a line.
+#[derive(Debug, Drop)]
+pub struct Reply {
+    /// The lines that are answered, each with the line feed that ends it.
+    pub text: String,
+    /// Whether the line asks for the end.
+    pub is_last: bool,
+}
+
+/// The breakpoint of a point.
+fn break_of(point: Point) -> Break
+    ensures { result ≡ break_of point }
+{
+    match point {
+        Point::At(place) => Break::At(place as usize),
+        Point::Step(device, step) => Break::DeviceStep { device, step },
+        Point::Changed(device, path) => Break::Changed { device, path },
+        Point::Code(device, code) => Break::Code { device, code },
+        Point::Notified(device) => Break::Notified { device },
+    }
+}
+
+/// The answer to a command.
+fn answer(alloc: Global, debugger: &mut Debugger, command: Command) -> Result<String, AllocError>
+    ensures { IfOk result (λ text. IsAnswer debugger.old command debugger.new (string_bytes text)) }
+{
+    match command {
+        Command::At => place(alloc, debugger),
+        Command::Forward(count) => forward(alloc, debugger, count as usize),
+        Command::Back(count) => back(alloc, debugger, count as usize),
+        Command::Break(point) => add_break(alloc, debugger, break_of(point)),
+        Command::Clear(id) => clear(alloc, debugger, id),
+        Command::Resume => resume(alloc, debugger),
+        Command::Value(device, path) => show_value(alloc, debugger, device, &path),
+        Command::Observations(device) => show_observations(alloc, debugger, device),
+        Command::Outputs(device) => show_outputs(alloc, debugger, device),
+        Command::Help => show_help(alloc),
+        Command::Quit => Ok(String::new(alloc)),
+    }
+}
+
+fn is_quit(command: Command) -> bool
+    ensures { (result ≡ true) ↔ (command ≡ Quit) }
+{
+    matches!(command, Command::Quit)
+}
+
+/// The answer to a line of the debugger's input, without the LF that ends it: that to the command that it says, or
+/// `bad command` where it says none. `quit` is answered by nothing, and nothing else asks for the end.
+#[tactic(auto, using(crate::proofs::Replied::reply_of, crate::proofs::Replied::bad_reply))]
+pub fn reply_to(alloc: Global, debugger: &mut Debugger, line: &[u8]) -> Result<Reply, AllocError>
+    ensures reply { IfOk result (λ r. IsReply debugger.old line.now debugger.new (string_bytes r.text)) }
+    ensures last { IfOk result (λ r. (r.is_last ≡ true) ↔ IsLineOf Quit line.now) }
+{
+    match read_command(line) {
+        Some(command) => Ok(Reply {
+            text: answer(alloc, debugger, command)?,
+            is_last: is_quit(command),
+        }),
+        None => Ok(Reply {
+            text: bad_command_line(alloc)?,
+            is_last: false,
+        }),
+    }
+}

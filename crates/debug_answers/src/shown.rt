@@ -1,0 +1,144 @@
+//! The answers to `value D PATH`, `obs D` and `out D`.
+ghost use Rattle.std.specs.Prelude.{◌≡◌, ◌++◌, Some, IfOk, OnOk};
+ghost use Rattle.std.specs.List.{flat_map};
+ghost use Rattle.std.specs.Option.{option_copied, option_to_list};
+ghost use Rattle.std.specs.String.{string_bytes};
+ghost use Rattle.debugger.specs.Shown.{value_shown, observations_shown, outputs_shown};
+ghost use Rattle.debug_answers.specs.Printed.{printed};
+ghost use Rattle.debug_answers.specs.Shown.{count_line, observation_line, observation_lines, observation_words, value_line};
+ghost use Rattle.debug_answers.specs.Replies.{IsShown};
+
+use crate::lines::{no_device_line, none_line};
+use crate::printed::outputs_text;
+use debugger::{Debugger, DeviceFault};
+use lwm2m_values::Value;
+use notifier::{Observation, Observations};
+use object_defs::{Path, path_text};
+use scenario_words::{hex_word, spell};
+use std::alloc::{AllocError, Global};
+
+fn spelled_line(alloc: Global, value: &Value) -> Result<String, AllocError>
+    ensures { IfOk result (λ text. string_bytes text ≡ value_line (Some value.now)) }
+{
+    let mut text = spell(alloc, value)?;
+    text.push('\n')?;
+    Ok(text)
+}
+
+fn value_line(alloc: Global, value: Option<&Value>) -> Result<String, AllocError>
+    ensures { IfOk result (λ text. string_bytes text ≡ value_line (option_copied value.entry)) }
+{
+    match value {
+        None => none_line(alloc),
+        Some(value) => spelled_line(alloc, value),
+    }
+}
+
+/// `value D PATH`: the value as in scenario text, `none`, or `no device`.
+pub fn show_value(
+    alloc: Global,
+    debugger: &Debugger,
+    device: u16,
+    path: &Path,
+) -> Result<String, AllocError>
+    ensures { IfOk result (λ text. IsShown debugger.now device
+        (value_line (value_shown debugger.now.scenario debugger.now.entries debugger.now.place device path.now))
+        (string_bytes text)) }
+{
+    match debugger.value(device, path) {
+        Ok(value) => value_line(alloc, value),
+        Err(DeviceFault::NoDevice) => no_device_line(alloc),
+    }
+}
+
+fn observation_words(
+    alloc: Global,
+    server: u16,
+    token: &str,
+    path: &str,
+    number: u32,
+) -> Result<String, AllocError>
+    ensures { IfOk result (λ text. string_bytes text ≡ observation_words server token.now path.now number) }
+{
+    format!(in alloc; "{server} {token} {path} {number}\n")
+}
+
+fn observation_line(alloc: Global, observation: &Observation) -> Result<String, AllocError>
+    ensures { IfOk result (λ text. string_bytes text ≡ observation_line observation.now) }
+{
+    let token = hex_word(alloc, observation.token.as_slice())?;
+    let path = path_text(alloc, observation.path)?;
+    observation_words(
+        alloc,
+        observation.server,
+        token.as_str(),
+        path.as_str(),
+        observation.number,
+    )
+}
+
+fn count_line(alloc: Global, count: usize) -> Result<String, AllocError>
+    ensures { IfOk result (λ text. string_bytes text ≡ count_line count) }
+{
+    format!(in alloc; "observations {count}\n")
+}
+
+/// Appends the line of an observation, if there is one.
+fn push_line(
+    alloc: Global,
+    text: &mut String,
+    observation: Option<&Observation>,
+) -> Result<(), AllocError>
+    ensures { OnOk result (string_bytes text.new
+        ≡ string_bytes text.old ++ flat_map observation_line (option_to_list (option_copied observation.entry))) }
+{
+    match observation {
+        None => Ok(()),
+        Some(observation) => {
+            let line = observation_line(alloc, observation)?;
+            text.push_str(line.as_str())
+        }
+    }
+}
+
+/// How many observations there are, and a line for each.
+#[tactic(auto, using(crate::proofs::Observed::next_line, crate::proofs::Observed::every_line))]
+fn observation_lines(alloc: Global, observations: &Observations) -> Result<String, AllocError>
+    ensures { IfOk result (λ text. string_bytes text ≡ observation_lines observations.now) }
+{
+    let count = observations.len();
+    let mut text = count_line(alloc, count)?;
+    for place in 0..count {
+        push_line(alloc, &mut text, observations.at(place))?;
+    }
+    Ok(text)
+}
+
+/// `obs D`: the observations of a device in the order of registration, or `no device`.
+pub fn show_observations(
+    alloc: Global,
+    debugger: &Debugger,
+    device: u16,
+) -> Result<String, AllocError>
+    ensures { IfOk result (λ text. IsShown debugger.now device
+        (observation_lines
+        (observations_shown debugger.now.scenario debugger.now.entries debugger.now.place device))
+        (string_bytes text)) }
+{
+    match debugger.observations(device) {
+        Ok(observations) => observation_lines(alloc, observations),
+        Err(DeviceFault::NoDevice) => no_device_line(alloc),
+    }
+}
+
+/// `out D`: the outputs of the device's latest entry, or `no device`.
+pub fn show_outputs(alloc: Global, debugger: &Debugger, device: u16) -> Result<String, AllocError>
+    ensures { IfOk result (λ text. IsShown debugger.now device
+        (printed (outputs_shown debugger.now.scenario debugger.now.entries debugger.now.place device))
+        (string_bytes text)) }
+{
+    match debugger.outputs(device) {
+        Ok(outputs) => outputs_text(alloc, outputs),
+        Err(DeviceFault::NoDevice) => no_device_line(alloc),
+    }
+}
