@@ -15,7 +15,7 @@ use Rattle.fleet_core.specs.Waiting.{waiting}
 use Rattle.fleet_workers.specs.declared.fleet.FleetRun.{FleetRun}
 use Rattle.fleet_workers.specs.Fleet.{IsFleetRun}
 use Rattle.bench_commands.specs.Demo.{demo_outputs}
-use Rattle.bench_commands.specs.Printed.{printed}
+use Rattle.debug_answers.specs.Printed.{printed}
 use Rattle.bench_commands.specs.Runs.{end_line, end_status, verdict_line, verdict_status}
 use Rattle.bench_commands.specs.Files.{Made}
 use Rattle.bench_commands.specs.RunAnswer.{IsSavedAs, IsRunAnswer, IsJudged, IsRunFault}

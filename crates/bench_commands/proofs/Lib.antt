@@ -1,8 +1,12 @@
 pub mod Built
+pub mod Conversing
+pub mod Debugged
 pub mod Delivered
 pub mod Ended
 pub mod Faults
 mod LimitedReading
+pub mod Lines
 pub mod Streams
 pub mod Told
+pub mod Turns
 pub mod Unread

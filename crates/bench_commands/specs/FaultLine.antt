@@ -8,7 +8,7 @@ use Rattle.byte_layout.specs.declared.fault.LayoutFault.TheVariants.{Magic, Vers
 use Rattle.byte_layout.specs.declared.fault.LayoutFault.TheVariants as layout
 use Rattle.device_template.specs.declared.fault.TemplateFault.{TemplateFault}
 use Rattle.device_template.specs.declared.fault.TemplateFault.TheVariants as template
-use Rattle.bench_commands.specs.Printed.{line}
+use Rattle.debug_answers.specs.Lines.{line}
 use Rattle.bench_commands.specs.declared.fault.Fault.{Fault}
 use Rattle.bench_commands.specs.declared.fault.Fault.TheVariants as faults
 

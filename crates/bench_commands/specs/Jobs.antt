@@ -14,13 +14,13 @@ use Rattle.scenario_asm.specs.Canonical as canonical
 use Rattle.trace_file.specs.declared.entry.Entry.{Entry}
 use Rattle.trace_file.specs.Layout.{trace_file, IsTraceFile}
 use Rattle.bench_commands.specs.Demo.{demo_outputs}
-use Rattle.bench_commands.specs.Printed.{printed}
+use Rattle.debug_answers.specs.Printed.{printed}
 use Rattle.bench_commands.specs.Files.{Made}
 use Rattle.bench_commands.specs.RunAnswer.{IsJudged, IsRunFault, IsRunAnswer}
 use Rattle.bench_commands.specs.declared.fault.Fault.{Fault}
 use Rattle.bench_commands.specs.declared.fault.Fault.TheVariants as faults
 use Rattle.bench_commands.specs.declared.status.Status.{Status}
-use Rattle.bench_commands.specs.declared.status.Status.TheVariants.{Done}
+use Rattle.bench_commands.specs.declared.status.Status.TheVariants.{Done, NotRun}
 use Rattle.bench_commands.specs.Texts.{IsTextAt, count_line}
 
 -- ---- files
@@ -102,6 +102,12 @@ pub record IsCheckDone (holds : List ℕ → List ℕ → Type 0) (image trace :
   pub read : IsTraceAt holds trace entries
   pub judged : IsJudged scenario entries status text
   pub made_is : made ≡ []
+
+-- `debug IMAGE TRACE` where the trace is no run: the verdict that it is none
+pub record IsDebugRefused (holds : List ℕ → List ℕ → Type 0) (image trace : List ℕ) (status : Status) (text : List ℕ)
+    (made : List Made) : Type 0 where
+  pub checked : IsCheckDone holds image trace status text made
+  pub no_run : status ≡ NotRun
 
 -- ---- what is refused
 

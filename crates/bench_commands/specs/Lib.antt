@@ -1,11 +1,12 @@
 pub mod Answers
 pub mod Command
+pub mod Conversation
+pub mod Debugging
 pub mod Demo
 pub mod Fault
 pub mod FaultLine
 pub mod Files
 pub mod Jobs
-pub mod Printed
 pub mod Refusals
 pub mod Runs
 pub mod RunAnswer

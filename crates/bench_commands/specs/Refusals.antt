@@ -2,7 +2,7 @@
 use Rattle.std.specs.Prelude.{◌≡◌, ℕ, ◌⊎◌, List, ◌++◌, Option, None, Some, codes}
 use Rattle.std.specs.Io.KnownBytes.{Appends}
 use Rattle.bench_commands.specs.FaultLine.{fault_line}
-use Rattle.bench_commands.specs.Printed.{line}
+use Rattle.debug_answers.specs.Lines.{line}
 use Rattle.bench_commands.specs.declared.fault.Fault.{Fault}
 
 -- `lwbench: ABOUT: WHY`

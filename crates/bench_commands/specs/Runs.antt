@@ -4,7 +4,7 @@ use Rattle.std.specs.Fmt.{decimal}
 use Rattle.std.specs.List.{flat_map}
 use Rattle.fleet_core.specs.declared.verdict.Verdict.{Verdict}
 use Rattle.fleet_core.specs.declared.verdict.Verdict.TheVariants as verdicts
-use Rattle.bench_commands.specs.Printed.{line}
+use Rattle.debug_answers.specs.Lines.{line}
 use Rattle.bench_commands.specs.declared.status.Status.{Status}
 use Rattle.bench_commands.specs.declared.status.Status.TheVariants.{Done, NotRun}
 

@@ -7,7 +7,7 @@ use Rattle.scenario_image.specs.Scenario.{Scenario}
 use Rattle.scenario_asm.specs.Denotes.{Denotes}
 use Rattle.scenario_asm.specs.Text.{assembled}
 use Rattle.scenario_asm.specs.declared.fault.AsmFault.{AsmFault}
-use Rattle.bench_commands.specs.Printed.{line}
+use Rattle.debug_answers.specs.Lines.{line}
 use Rattle.bench_commands.specs.declared.fault.Fault.{Fault}
 use Rattle.bench_commands.specs.declared.fault.Fault.TheVariants.{Memory, Read, Text}
 

@@ -1,5 +1,5 @@
-//! What the program answers to each of its words. Nothing is written or printed here: a file that is only borrowed
-//! cannot be.
+//! What the program answers to each of its words that is answered at once. Nothing is written or printed here: a file
+//! that is only borrowed cannot be.
 ghost use Rattle.std.specs.Prelude.{◌≡◌, IfErr, IfOk, option_map};
 ghost use Rattle.bench_commands.specs.Answers.{files_of};
 ghost use Rattle.bench_commands.specs.Demo.{demo_outputs};
@@ -7,21 +7,20 @@ ghost use Rattle.std.specs.String.{string_bytes};
 ghost use Rattle.bench_commands.specs.Jobs.{IsAsmDone, IsCheckDone, IsCheckRefused, IsDisDone, IsImageFault, IsOneDone};
 ghost use Rattle.bench_commands.specs.Jobs.{IsOneFault, IsRunDone, IsRunRefused};
 ghost use Rattle.bench_commands.specs.Texts.{IsTextFault};
-ghost use Rattle.bench_commands.specs.Printed.{act_line, act_name, line_of, printed, send_line};
 
 use crate::answer::Answer;
 use crate::demo;
 use crate::fault::Fault;
 use crate::files::Files;
-use crate::hex_text::{read_hex, write_hex};
+use crate::hex_text::read_hex;
 use crate::loading::{load_scenario, load_text, load_trace};
 use crate::refusal::{Refusal, Why};
 use crate::runs::{judge, run_scenario};
 use crate::status::Status;
 use crate::texts::{count_line, image_file};
-use device_machine::{Act, Output};
+use debug_answers::outputs_text;
 use scenario_asm::disassemble;
-use std::alloc::{AllocError, Global};
+use std::alloc::Global;
 use std::sync::Wait;
 use std::thread::Threads;
 
@@ -34,7 +33,7 @@ pub fn one<'a>(alloc: Global, hex: &'a str) -> Result<Answer<'a>, Refusal<'a>>
     match read_hex(alloc, hex) {
         Ok(bytes) => {
             let outputs = demo::answer(alloc, bytes)?;
-            let text = text_of(alloc, outputs.as_slice())?;
+            let text = outputs_text(alloc, outputs.as_slice())?;
             Ok(Answer::printed(Status::Done, text))
         }
         Err(Fault::Hex) => Err(Refusal {
@@ -121,55 +120,4 @@ pub fn check<'a, F: Files>(
     let scenario = load_scenario(alloc, image, files)?;
     let entries = load_trace(alloc, trace, files)?;
     Ok(judge(alloc, &scenario, entries.as_slice())?)
-}
-
-/// The outputs, a line for each, or the line `nothing`.
-fn text_of(alloc: Global, outputs: &[Output]) -> Result<String, AllocError>
-    ensures { IfOk result (λ text. string_bytes text ≡ printed outputs.now) }
-{
-    if outputs.is_empty() {
-        return String::from_str(alloc, "nothing\n");
-    }
-    let mut text = String::new(alloc);
-    for output in outputs {
-        let line = line_of(alloc, output)?;
-        text.push_str(line.as_str())?;
-    }
-    Ok(text)
-}
-
-fn line_of(alloc: Global, output: &Output) -> Result<String, AllocError>
-    ensures { IfOk result (λ text. string_bytes text ≡ line_of output.now) }
-{
-    match output {
-        Output::Send { server, bytes } => {
-            let hex = write_hex(alloc, bytes.as_slice())?;
-            send_line(alloc, *server, hex.as_str())
-        }
-        Output::Act(act) => act_line(alloc, act_name(*act)),
-    }
-}
-
-fn send_line(alloc: Global, server: u16, hex: &str) -> Result<String, AllocError>
-    ensures { IfOk result (λ text. string_bytes text ≡ send_line server hex.now) }
-{
-    format!(in alloc; "send {server} {hex}\n")
-}
-
-fn act_line(alloc: Global, name: &str) -> Result<String, AllocError>
-    ensures { IfOk result (λ text. string_bytes text ≡ act_line name.now) }
-{
-    format!(in alloc; "act {name}\n")
-}
-
-fn act_name(act: Act) -> &'static str
-    ensures { result.now ≡ act_name act }
-{
-    match act {
-        Act::Reboot => "reboot",
-        Act::FactoryReset => "factory reset",
-        Act::RegUpdate => "reg update",
-        Act::Disable => "disable",
-        Act::Missed => "missed",
-    }
 }

@@ -1,11 +1,10 @@
 ghost use Rattle.std.specs.Prelude.{◌≡◌, ◌%◌, ◌⊎◌, IfOk, IfErr, IsErr, length};
-ghost use Rattle.std.specs.String.{string_bytes};
-ghost use Rattle.hex.specs.Hex.{decode_of, encode_upper};
+ghost use Rattle.hex.specs.Hex.{decode_of};
 ghost use Rattle.bench_commands.specs.declared.fault.Fault.TheVariants.{Hex, Memory};
 
 use crate::fault::Fault;
 use octets::Bytes;
-use std::alloc::{AllocError, Global};
+use std::alloc::Global;
 
 /// The bytes that hex digits in either case spell, two digits a byte.
 pub fn read_hex(alloc: Global, text: &str) -> Result<Bytes, Fault>
@@ -15,12 +14,4 @@ pub fn read_hex(alloc: Global, text: &str) -> Result<Bytes, Fault>
     ensures odd { length text.now % 2 ≡ 1 → result ≡ Err Hex }
 {
     Ok(Bytes::from_vec(hex::decode(alloc, text)?))
-}
-
-/// The bytes as hex digits in upper case, two digits a byte.
-pub fn write_hex(alloc: Global, bytes: &[u8]) -> Result<String, AllocError>
-    ensures upper { IfOk result (λ text. string_bytes text ≡ encode_upper bytes.now) }
-    ensures read_back { IfOk result (λ text. decode_of (string_bytes text) ≡ Ok bytes.now) }
-{
-    hex::encode_upper(alloc, bytes)
 }

@@ -5,10 +5,13 @@
 mod answer;
 pub mod answers;
 mod blame;
+mod conversation;
+mod debugging;
 pub mod demo;
 mod fault;
 pub mod files;
 pub mod hex_text;
+mod input;
 pub mod loading;
 mod output;
 mod program;
@@ -20,7 +23,9 @@ mod telling;
 pub mod texts;
 
 pub use answer::{Answer, NewFile, deliver};
+pub use conversation::converse;
 pub use fault::{Fault, FaultLine};
+pub use input::Input;
 pub use output::Output;
 pub use program::{answer_to, command};
 pub use refusal::{Refusal, Why, complaint};

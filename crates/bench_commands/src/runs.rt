@@ -165,6 +165,23 @@ pub fn judge<'a>(
     ensures made { IfOk result (λ a. files_of a.file ≡ []) }
 {
     let verdict = check(alloc, scenario, entries)?;
+    told_verdict(alloc, verdict)
+}
+
+/// The answer that entries are not a run, from this one on.
+pub fn no_run<'a>(alloc: Global, place: usize) -> Result<Answer<'a>, AllocError>
+    ensures text { IfOk result (λ a. string_bytes a.text ≡ verdict_line (Verdict.NotRun place)) }
+    ensures status { IfOk result (λ a. a.status ≡ verdict_status (Verdict.NotRun place)) }
+    ensures made { IfOk result (λ a. files_of a.file ≡ []) }
+{
+    told_verdict(alloc, Verdict::NotRun(place))
+}
+
+fn told_verdict<'a>(alloc: Global, verdict: Verdict) -> Result<Answer<'a>, AllocError>
+    ensures text { IfOk result (λ a. string_bytes a.text ≡ verdict_line verdict) }
+    ensures status { IfOk result (λ a. a.status ≡ verdict_status verdict) }
+    ensures made { IfOk result (λ a. files_of a.file ≡ []) }
+{
     let text = verdict_line(alloc, verdict)?;
     Ok(Answer::printed(verdict_status(verdict), text))
 }

@@ -10,6 +10,7 @@ ghost use Rattle.bench_commands.specs.declared.status.Status.{Status as Ending};
 use crate::answer::unwritten;
 use crate::fault::Fault;
 use crate::files::{Files, SystemFiles};
+use crate::input::Input;
 use crate::output::Output;
 use crate::program::command;
 use crate::refusal::Refusal;
@@ -24,18 +25,20 @@ use std::sync::Wait;
 use std::thread::Threads;
 use std::{env, io};
 
-/// Does what the words of the command line ask for, over the system's files and standard output. Complaints go to
-/// `errors`.
-pub fn start<R: Threads + Wait + Sync + Env + std::rt::Files + Print + AllocGlobal, E: Output>(
-    rt: &R,
-    errors: &mut E,
-) -> ExitCode {
+/// Does what the words of the command line ask for, over the system's files and standard output. Lines come from
+/// `input`, and complaints go to `errors`.
+pub fn start<
+    R: Threads + Wait + Sync + Env + std::rt::Files + Print + AllocGlobal,
+    I: Input,
+    E: Output,
+>(rt: &R, input: &mut I, errors: &mut E) -> ExitCode {
     let words = words_of(rt);
     conclude(
         rt,
         rt.alloc(),
         words,
         &mut SystemFiles { rt },
+        input,
         &mut io::writer(rt),
         errors,
     )
@@ -52,25 +55,28 @@ fn words_of<R: Env + AllocGlobal>(rt: &R) -> Result<Vec<String>, ErrorKind> {
 }
 
 /// The whole program: from its words, or why they could not be had, to the status that its process ends with.
-pub fn conclude<R: Threads + Wait + Sync, F: Files, O: Output, E: Output>(
+pub fn conclude<R: Threads + Wait + Sync, F: Files, I: Input, O: Output, E: Output>(
     rt: &R,
     alloc: Global,
     words: Result<Vec<String>, ErrorKind>,
     files: &mut F,
+    input: &mut I,
     output: &mut O,
     errors: &mut E,
 ) -> ExitCode
     ensures ran { IfOk words (λ words. (status : Ending) × (exit_status result ≡ exit_code status)
         × Ends (F.holds files.old) (F.fails files.old) F.refuses (F.made files.old) (F.made files.new)
+        I.fails (I.rest input.old) (I.rest input.new)
         O.refuses (O.taken output.old) (O.taken output.new) E.refuses (E.taken errors.old) (E.taken errors.new)
         (map string_bytes words.items) status) }
     ensures unread { IfErr words (λ why. (status : Ending) × (exit_status result ≡ exit_code status)
         × EndsUnread O.refuses (O.taken output.old) (O.taken output.new) E.refuses (E.taken errors.old)
         (E.taken errors.new)
         NO_TEXT.now why status) }
+    ensures untouched { IfErr words (λ _. I.rest input.new ≡ I.rest input.old) }
 {
     let status = match words {
-        Ok(words) => command(rt, alloc, words.as_slice(), files, output, errors),
+        Ok(words) => command(rt, alloc, words.as_slice(), files, input, output, errors),
         Err(why) => refuse(alloc, why, output, errors),
     };
     ExitCode::from(status.code())

@@ -4,5 +4,5 @@
 use std::process::ExitCode;
 
 fn main(rt: HostRuntime) -> ExitCode {
-    bench_commands::start(&rt, &mut rt.stderr())
+    bench_commands::start(&rt, &mut rt.reader(), &mut rt.stderr())
 }
