@@ -39,15 +39,16 @@ more_answers old [] between new text said more (same, none) other reply = (
   (refl, refl),
   ap (λ t. t ++ more) none ∙ sym (append-nil more),
 )
-more_answers old (first ∷ lines) between new text said more (middle, now, then, plain, answer, rest, split) other reply = (
-  middle,
-  now,
-  then ++ more,
-  plain,
-  answer,
-  more_answers middle lines between new then said more rest other reply,
-  ap (λ t. t ++ more) split ∙ append_assoc now then more,
-)
+more_answers old (first ∷ lines) between new text said more
+    (middle, now, then, plain, answer, rest, split) other reply = (
+      middle,
+      now,
+      then ++ more,
+      plain,
+      answer,
+      more_answers middle lines between new then said more rest other reply,
+      ap (λ t. t ++ more) split ∙ append_assoc now then more,
+    )
 
 more_read : (a b c : Option (List ℕ)) (lines : List (List ℕ)) (said : List ℕ) → WhereKnown (AreNextLines lines) a b
     → WhereKnown (IsNextLine said) b c → WhereKnown (AreNextLines (lines ++ said ∷ [])) a c

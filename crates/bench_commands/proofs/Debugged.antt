@@ -12,7 +12,8 @@ use Rattle.scenario_image.specs.Image.{HasImageFault}
 use Rattle.bench_commands.specs.Conversation.{IsConversation, IsCutShort}
 use Rattle.bench_commands.specs.Debugging.{IsDebugCutAt, IsDebuggedAt, IsOpenedAt}
 use Rattle.bench_commands.specs.Files.{Made}
-use Rattle.bench_commands.specs.Jobs.{IsCheckRefused, IsDebugRefused, IsImageFault, IsScenarioAt, IsTraceAt, IsTraceFault}
+use Rattle.bench_commands.specs.Jobs.{IsCheckRefused, IsDebugRefused, IsImageFault, IsScenarioAt, IsTraceAt}
+use Rattle.bench_commands.specs.Jobs.{IsTraceFault}
 use Rattle.bench_commands.specs.RunAnswer.{IsJudged}
 use Rattle.bench_commands.specs.Runs.{verdict_line, verdict_status}
 use Rattle.bench_commands.specs.declared.fault.Fault.{Fault}

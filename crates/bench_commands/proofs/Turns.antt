@@ -28,7 +28,8 @@ some_bytes line bytes same some none =
     absurd (omega (arith, some, ap length (same ∙ ap (take_through 10) none)))
 
 -- a line that has a byte is the next one
-next_line : (before after : Option (List ℕ)) (line said : List ℕ) → IfSome before (λ bytes. line ≡ take_through 10 bytes)
+next_line : (before after : Option (List ℕ)) (line said : List ℕ)
+    → IfSome before (λ bytes. line ≡ take_through 10 bytes)
     → DropsThrough before after 10 → said ≡ strip_last 10 line → 0 < length line
     → WhereKnown (IsNextLine said) before after
 next_line None after line said is rest bare some = tt

@@ -2,7 +2,8 @@
 ghost use Rattle.std.specs.Prelude.{◌≡◌, ◌⊎◌, IfErr, IfNone, IfOk, IfSome, map};
 ghost use Rattle.std.specs.String.{string_bytes};
 ghost use Rattle.bench_commands.specs.Answers.{files_of};
-ghost use Rattle.bench_commands.specs.Command.{Ends, IsAnswerTo, IsCutJob, IsDebugCut, IsDebugged, IsDebuggedJob, IsDone};
+ghost use Rattle.bench_commands.specs.Command.{Ends, IsAnswerTo, IsCutJob, IsDebugCut, IsDebugged, IsDebuggedJob};
+ghost use Rattle.bench_commands.specs.Command.{IsDone};
 ghost use Rattle.bench_commands.specs.Command.{IsFinished, IsRefused, IsRefusedJob, IsUnfinished};
 
 use crate::answer::{Answer, deliver};

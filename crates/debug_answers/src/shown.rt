@@ -5,7 +5,8 @@ ghost use Rattle.std.specs.Option.{option_copied, option_to_list};
 ghost use Rattle.std.specs.String.{string_bytes};
 ghost use Rattle.debugger.specs.Shown.{value_shown, observations_shown, outputs_shown};
 ghost use Rattle.debug_answers.specs.Printed.{printed};
-ghost use Rattle.debug_answers.specs.Shown.{count_line, observation_line, observation_lines, observation_words, value_line};
+ghost use Rattle.debug_answers.specs.Shown.{count_line, observation_line, observation_lines, observation_words};
+ghost use Rattle.debug_answers.specs.Shown.{value_line};
 ghost use Rattle.debug_answers.specs.Replies.{IsShown};
 
 use crate::lines::{no_device_line, none_line};
