@@ -106,6 +106,7 @@ pub fn value(alloc: Global, line: &[u8]) -> Result<(Value, &[u8]), Cause>
     ensures fixed { (k : ValueKind) (ws : List (List ℕ))
         → word_by kind_named (words line.now) ≡ Ok (k, ws) → holds_bytes k ≡ false
         → Reads (λ x. (x.0, words x.1.now)) result (value_at (words line.now)) }
+    ensures alone { (k : ValueKind) → word_by kind_named (words line.now) ≡ Ok (k, []) → result ≡ Err Missing }
 {
     let (kind, line) = kind(alloc, line)?;
     let (word, line) = first_word(line)?;
