@@ -4,6 +4,7 @@ pub mod EachOnce
 pub mod Growth
 pub mod Held
 pub mod Nesting
+pub mod New
 pub mod Once
 pub mod Reading
 pub mod Room

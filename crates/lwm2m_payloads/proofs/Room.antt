@@ -49,7 +49,7 @@ either false true c = refl
 either false false c = refl
 
 -- the parts that were set are added to those that there were
-all_set : (parts : PartList) (stored : Stored) (p : ResourcePath) (n : ℕ)
+pub all_set : (parts : PartList) (stored : Stored) (p : ResourcePath) (n : ℕ)
     → has_part (with_parts stored p parts) p n ≡ (list_any (λ e. e.0 == n) parts || has_part stored p n)
 all_set [] stored p n = refl
 all_set (e ∷ parts) stored p n =

@@ -1,6 +1,6 @@
 -- What a Write changes (OMA LwM2M 1.1 Core, Write: Replace and Partial Update).
 use Rattle.std.specs.Prelude.{◌≡◌, ℕ, ◌+◌, ◌==◌, nat_lt, Bool, false, not, ◌&&◌, List, [], ◌∷◌, length, Option, None}
-use Rattle.std.specs.Prelude.{Some, if◌then◌else◌}
+use Rattle.std.specs.Prelude.{Some, is_some, if◌then◌else◌}
 use Rattle.std.specs.List.{filter, list_any}
 use Rattle.object_defs.specs.Catalogue.{resource_in}
 use Rattle.object_defs.specs.Operations.{can_read, can_write}
@@ -8,7 +8,7 @@ use Rattle.object_defs.specs.Path.{single_of, part_of}
 use Rattle.object_defs.specs.declared.definition.ResourceDef.{ResourceDef}
 use Rattle.object_defs.specs.declared.path.InstancePath.{InstancePath}
 use Rattle.object_defs.specs.declared.path.ResourcePath.{ResourcePath}
-use Rattle.instance_store.specs.Stored.{Stored, parts_of, resource_path, with_value, without_values}
+use Rattle.instance_store.specs.Stored.{Stored, value_at, parts_of, resource_path, with_value, without_values}
 use Rattle.lwm2m_payloads.specs.declared.given.Assignment.{Assignment}
 use Rattle.lwm2m_payloads.specs.declared.given.Given.{Given}
 use Rattle.lwm2m_payloads.specs.declared.given.Given.TheVariants.{Single, Parts}
@@ -84,3 +84,14 @@ is_too_many mode stored p (Parts parts) = nat_lt 32 (parts_behind mode stored p 
 abbrev pub has_too_many : Mode → List ResourceDef → Stored → InstancePath → List Assignment → Bool
 has_too_many mode resources stored place given =
     list_any (λ a. is_kept resources a && is_too_many mode stored (resource_of place a.resource) a.given) given
+
+-- something that a resource is given has no value there to replace: Replace has removed its parts by then
+abbrev pub gives_new : Mode → Stored → ResourcePath → Given → Bool
+gives_new mode stored p (Single value) = not (is_some (value_at stored (single_of p)))
+gives_new Replace stored p (Parts parts) = nat_lt 0 (length parts)
+gives_new Update stored p (Parts parts) = list_any (λ e. not (is_some (value_at stored (part_of p e.0)))) parts
+
+-- some resource is given something new
+abbrev pub has_new : Mode → List ResourceDef → Stored → InstancePath → List Assignment → Bool
+has_new mode resources stored place given =
+    list_any (λ a. is_kept resources a && gives_new mode stored (resource_of place a.resource) a.given) given

@@ -1,7 +1,8 @@
 ghost use Rattle.std.specs.Prelude.{◌≡◌, ◌≢◌, ◌&&◌, Err, IsErrOf, IsFalse, IsTrue, OnOk, if◌then◌else◌};
 ghost use Rattle.instance_store.specs.Stored.{has_instance, instance_of};
-ghost use Rattle.lwm2m_payloads.specs.Changes.{is_kept, is_lost, is_too_many, has_too_many, resource_of, with_parts};
-ghost use Rattle.lwm2m_payloads.specs.Changes.{with_given, with_assignments, without_lost, instance_written};
+ghost use Rattle.lwm2m_payloads.specs.Changes.{gives_new, is_kept, is_lost, is_too_many, has_too_many, resource_of};
+ghost use Rattle.lwm2m_payloads.specs.Changes.{with_parts, with_given, with_assignments, without_lost};
+ghost use Rattle.lwm2m_payloads.specs.Changes.{instance_written, has_new};
 ghost use Rattle.lwm2m_payloads.specs.declared.given.Given.TheVariants as given;
 ghost use Rattle.lwm2m_payloads.specs.declared.given.Mode.TheVariants.{Update};
 
@@ -15,6 +16,8 @@ fn put_parts(store: &mut Store, path: ResourcePath, parts: Parts) -> Result<(), 
     ensures absent { IsErrOf result StoreFault.Absent → IsFalse (has_instance store.old (instance_of path)) }
     ensures full { IsErrOf result StoreFault.Full → IsTrue (is_too_many Update store.old path (given.Parts parts)) }
     ensures never_exists { result ≢ Err StoreFault.Exists }
+    ensures grows { IsErrOf result StoreFault.Memory → IsTrue (gives_new Update store.old path (given.Parts parts)) }
+    ensures instances { store.new.instances ≡ store.old.instances }
 {
     for (part, value) in parts.into_vec() {
         store.put_part(path, part, value)?;
@@ -33,10 +36,12 @@ pub fn set_given(
     ensures ok { OnOk result (store.new ≡ with_given mode store.old path given) }
 
     // There is no such instance; or else the resource would have more than 32 parts. Otherwise only memory can be
-    // wanting.
+    // wanting, for a value that replaces none.
     ensures absent { IsErrOf result StoreFault.Absent → IsFalse (has_instance store.old (instance_of path)) }
     ensures full { IsErrOf result StoreFault.Full → IsTrue (is_too_many mode store.old path given) }
     ensures never_exists { result ≢ Err StoreFault.Exists }
+    ensures grows { IsErrOf result StoreFault.Memory → IsTrue (gives_new mode store.old path given) }
+    ensures instances { store.new.instances ≡ store.old.instances }
 {
     match given {
         Given::Single(value) => store.put(path, value),
@@ -64,6 +69,10 @@ fn set_assigned(
         → IsTrue (is_kept resources.now assignment
         && is_too_many mode store.old (resource_of place assignment.resource) assignment.given) }
     ensures never_exists { result ≢ Err StoreFault.Exists }
+    ensures grows { IsErrOf result StoreFault.Memory
+        → IsTrue (is_kept resources.now assignment
+        && gives_new mode store.old (resource_of place assignment.resource) assignment.given) }
+    ensures instances { store.new.instances ≡ store.old.instances }
 {
     if !is_kept(resources, assignment.resource) {
         return Ok(());
@@ -83,6 +92,8 @@ fn set_all(
     ensures absent { IsErrOf result StoreFault.Absent → IsFalse (has_instance store.old place) }
     ensures full { IsErrOf result StoreFault.Full → IsTrue (has_too_many mode resources.now store.old place given) }
     ensures never_exists { result ≢ Err StoreFault.Exists }
+    ensures grows { IsErrOf result StoreFault.Memory → IsTrue (has_new mode resources.now store.old place given) }
+    ensures instances { store.new.instances ≡ store.old.instances }
 {
     for assignment in given.into_vec() {
         set_assigned(mode, resources, store, place, assignment)?;
@@ -107,6 +118,8 @@ fn clear_lost(
     ensures absent { IsErrOf result StoreFault.Absent → IsFalse (has_instance store.old place) }
     ensures never_full { result ≢ Err StoreFault.Full }
     ensures never_exists { result ≢ Err StoreFault.Exists }
+    ensures never_memory { result ≢ Err StoreFault.Memory }
+    ensures instances { store.new.instances ≡ store.old.instances }
 {
     for definition in resources {
         if is_lost(given, *definition) {
@@ -129,10 +142,12 @@ pub fn write_instance(
     ensures ok { OnOk result (store.new ≡ instance_written mode resources.now store.old place given) }
 
     // There is no such instance; or else some resource would have more than 32 parts. Otherwise only memory can be
-    // wanting.
+    // wanting, for a value that replaces none.
     ensures absent { IsErrOf result StoreFault.Absent → IsFalse (has_instance store.old place) }
     ensures full { IsErrOf result StoreFault.Full → IsTrue (has_too_many mode resources.now store.old place given) }
     ensures never_exists { result ≢ Err StoreFault.Exists }
+    ensures grows { IsErrOf result StoreFault.Memory → IsTrue (has_new mode resources.now store.old place given) }
+    ensures instances { store.new.instances ≡ store.old.instances }
 {
     match mode {
         Mode::Replace => {

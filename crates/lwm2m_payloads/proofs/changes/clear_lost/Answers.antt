@@ -12,7 +12,7 @@ is_absent false fault other h = refl
 pub returns-in_err-clear_resource-clause-absent : goal.returns-in_err-clear_resource-clause-absent
 returns-in_err-clear_resource-clause-absent c = λ h.
     sym (lost_present c.args.resources.now c.args.store.now c.args.place c.args.given.now c.args.place)
-    ∙ sym (ap (λ s. has_instance s c.args.place) c.loop-definition.invariant)
+    ∙ sym (ap (λ s. has_instance s c.args.place) c.loop-definition.invariant.left)
     ∙ lost_present (drop c.loop-definition.definition-index c.args.resources.now) c.loop-definition.store c.args.place
     c.args.given.now c.args.place
     ∙ sym (ap (λ p. has_instance c.loop-definition.store (instance_of p)) c.path_to.ensures)

@@ -7,4 +7,5 @@ abbrev pub invariant-loop-part : goal.invariant-loop-part
 invariant-loop-part l = record {
   set : l.store ≡ with_parts l.fn.store l.fn.path l.yielded;
   left : l.fn.parts ≡ l.yielded ++ l.part-iterator.rest.items;
+  instances : l.store.instances ≡ l.fn.store.instances;
 }

@@ -7,4 +7,5 @@ abbrev pub invariant-loop-assignment : goal.invariant-loop-assignment
 invariant-loop-assignment l = record {
   set : l.store ≡ with_assignments l.fn.mode l.fn.resources l.fn.store l.fn.place l.yielded;
   left : l.fn.given ≡ l.yielded ++ l.assignment-iterator.rest.items;
+  instances : l.store.instances ≡ l.fn.store.instances;
 }
