@@ -1,8 +1,8 @@
 //! When a value may stand at a path, and how it comes there.
 
-ghost use Rattle.std.specs.Prelude.{◌≡◌, ◌≢◌, ◌↔◌, IsErrOf, IsFalse, IsTrue, Err, OnOk, OnErr, Some};
+ghost use Rattle.std.specs.Prelude.{◌≡◌, ◌≢◌, ◌↔◌, IsErrOf, IsFalse, IsTrue, Err, OnOk, OnErr, None, Some};
 ghost use Rattle.lwm2m_values.specs.Value.{IsGood};
-ghost use Rattle.instance_store.specs.Stored.{has_instance, with_value};
+ghost use Rattle.instance_store.specs.Stored.{has_instance, value_at, with_value};
 ghost use Rattle.device_template.specs.Template.{plain};
 ghost use Rattle.device_template.specs.Values.{fits, fits_resource, has_all_parts, has_kind, has_place, instance_at};
 ghost use Rattle.device_template.specs.Values.{is_one_too_many, is_set_at_start, misses, resource_at};
@@ -122,6 +122,7 @@ pub fn put(store: &mut Store, path: FullPath, value: Value) -> Result<(), StoreF
     ensures full { IsErrOf result StoreFault.Full
         ↔ (IsTrue (has_instance store.old (instance_at path)) × IsTrue (is_one_too_many store.old path)) }
     ensures never_exists { result ≢ Err StoreFault.Exists }
+    ensures grows { IsErrOf result StoreFault.Memory → value_at store.old path ≡ None }
     ensures err { OnErr result (store.new ≡ store.old) }
 {
     match path.part {
