@@ -1,8 +1,8 @@
 //! What of a device the requests of device management look at and change.
 
 ghost use Rattle.std.specs.Prelude.{◌≡◌, ◌≢◌, ◌↔◌, false, length, Err, IfOk, IsErrOf, IsFalse, IsTrue, OnOk, OnErr};
-ghost use Rattle.std.specs.Prelude.{Some};
-ghost use Rattle.instance_store.specs.Stored.{has_instance};
+ghost use Rattle.std.specs.Prelude.{None, Some};
+ghost use Rattle.instance_store.specs.Stored.{has_instance, value_at};
 ghost use Rattle.device_requests.specs.Client.{has_account, with_stored};
 ghost use Rattle.std.specs.FinMap as map;
 ghost use Rattle.std.specs.Option.{is_some, unwrap_or};
@@ -120,6 +120,7 @@ impl Client {
         ensures full { IsErrOf result StoreFault.Full
             ↔ (IsTrue (has_instance self.old.store (instance_at path)) × IsTrue (is_one_too_many self.old.store path)) }
         ensures never_exists { result ≢ Err StoreFault.Exists }
+        ensures grows { IsErrOf result StoreFault.Memory → value_at self.old.store path ≡ None }
         ensures err { OnErr result (self.new ≡ self.old) }
     {
         device_template::put(&mut self.store, path, value)

@@ -5,10 +5,11 @@ ghost use Rattle.device_requests.specs.Answer.{Leaves, takes_memory};
 ghost use Rattle.device_requests.specs.Create.{create_outcome, create_unless, is_tlv, lacks_room, newborn};
 ghost use Rattle.device_requests.specs.Create.{newborn_lines};
 ghost use Rattle.device_requests.specs.Client.{with_stored};
-ghost use Rattle.device_requests.specs.Targets.{defined, place_of};
+ghost use Rattle.device_requests.specs.Targets.{defined, is_fixed, place_of};
 ghost use Rattle.device_instances.specs.Creations.{with_created};
 ghost use Rattle.instance_store.specs.Stored.{has_instance};
 ghost use Rattle.object_defs.specs.Lines.{first_line};
+ghost use Rattle.object_defs.specs.Path.{object_in};
 
 use crate::answer::{Answer, Code};
 use crate::client::Client;
@@ -124,6 +125,7 @@ impl Client {
             (takes_memory (create_outcome self.old server path number payload.now).answer.code ≡ true) }
         ensures allowed { OnErr result
             ((create_outcome self.old server path number payload.now).answer.code ≢ Code.MethodNotAllowed) }
+        ensures makes { OnErr result (is_fixed (object_in path) ≡ false) }
         ensures unchanged { OnErr result (self.new ≡ self.old) }
     {
         if path.object() == SECURITY {

@@ -1,13 +1,14 @@
 //! A Delete: its rules, and what it takes away.
 
-ghost use Rattle.std.specs.Prelude.{◌≡◌, true, filter, not, IfOk, None, OnErr, OnOk};
+ghost use Rattle.std.specs.Prelude.{◌≡◌, true, false, filter, not, IfOk, None, OnErr, OnOk};
 ghost use Rattle.instance_store.specs.Stored.{has_instance};
 ghost use Rattle.notifier.specs.Attributes.{without_under};
 ghost use Rattle.object_defs.specs.Lines.{first_line};
+ghost use Rattle.object_defs.specs.Path.{object_in};
 ghost use Rattle.device_requests.specs.Answer.{Leaves};
 ghost use Rattle.device_requests.specs.Delete.{delete_lines, delete_outcome, deleted, taken_away, without_controls};
 ghost use Rattle.device_requests.specs.Inside.{has_place};
-ghost use Rattle.device_requests.specs.Targets.{place_of};
+ghost use Rattle.device_requests.specs.Targets.{is_fixed, place_of};
 
 use crate::answer::{Answer, Code};
 use crate::client::Client;
@@ -99,6 +100,7 @@ impl Client {
 
         // No refusal takes memory.
         ensures grows { OnErr result (first_line (delete_lines self.old server path) ≡ None) }
+        ensures takes { OnErr result (is_fixed (object_in path) ≡ false) }
         ensures unchanged { OnErr result (self.new ≡ self.old) }
     {
         match self.delete_refusal(server, path) {

@@ -11,6 +11,7 @@ ghost use Rattle.device_requests.specs.Execute.{act_of, argument_lines, execute_
 ghost use Rattle.device_requests.specs.Execute.{is_executable, is_plain, is_resource, is_untimely, with_no_error};
 ghost use Rattle.device_requests.specs.Client.{with_stored};
 ghost use Rattle.device_requests.specs.Inside.{has_place};
+ghost use Rattle.device_requests.specs.Targets.{definition_at};
 
 use crate::answer::{Act, Answer, Code};
 use crate::client::Client;
@@ -196,6 +197,7 @@ impl Client {
         ensures grows { OnErr result ((is_resource 5 2 path || is_resource 3 12 path) ≡ true) }
         ensures unrefused { OnErr result
             (first_line (execute_lines self.old server path number payload.now) ≡ None) }
+        ensures executable { OnErr result (is_executable (definition_at self.old.catalogue path) ≡ true) }
         ensures left { OnErr result (self.new ≡ with_stored self.old self.new.store) }
     {
         match self.execute_refusal(server, path, number, payload) {

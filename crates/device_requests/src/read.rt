@@ -111,6 +111,7 @@ impl Client {
         // Only a payload takes memory.
         ensures grows { OnErr result (takes_memory (read_answer self.now server path accept).code ≡ true) }
         ensures allowed { OnErr result ((read_answer self.now server path accept).code ≢ Code.MethodNotAllowed) }
+        ensures readable { OnErr result (can_be_read self.now.catalogue path ≡ true) }
     {
         if path.object() == SECURITY {
             return Ok(Answer::bare(self.alloc, Code::Unauthorized));

@@ -5,6 +5,7 @@ ghost use Rattle.device_requests.specs.Answer.{Leaves, is_bad_option, takes_memo
 ghost use Rattle.device_requests.specs.Client.{with_stored};
 ghost use Rattle.device_requests.specs.Observe.{interest_of};
 ghost use Rattle.device_requests.specs.Options.{has_unrecognized_critical};
+ghost use Rattle.device_requests.specs.Order.{lacks_operation};
 ghost use Rattle.device_requests.specs.Request.{outcome_at, outcome_of, request_of};
 
 use crate::answer::{Answer, Code};
@@ -89,6 +90,8 @@ impl Client {
         ensures outcome { IfOk result (λ a. Leaves a self.new (outcome_at self.old server message.now request)) }
         ensures grows { OnErr result
             (takes_memory (outcome_at self.old server message.now request).answer.code ≡ true) }
+        ensures has { OnErr result
+            (lacks_operation self.old.catalogue request.path request.operation ≡ false) }
         ensures left { OnErr result (self.new ≡ with_stored self.old self.new.store) }
     {
         let path = request.path;
@@ -117,8 +120,11 @@ impl Client {
         ensures interest { IfOk result (λ h. h.interest ≡ interest_of message.now) }
         ensures rejected { IfOk result (λ h. h.is_rejected ≡ has_unrecognized_critical message.now.options) }
 
-        // No refusal of an option, a path, a method, a server or a format takes memory.
+        // No refusal of an option, a path, a method, a server, an operation that the target does not have or a format
+        // takes memory.
         ensures request { OnErr result (IsOk (request_of message.now)) }
+        ensures has { OnErr result (IfOk (request_of message.now) (λ r.
+            lacks_operation self.old.catalogue r.path r.operation ≡ false)) }
         ensures grows { OnErr result (takes_memory (outcome_of self.old server message.now).answer.code ≡ true) }
         ensures left { OnErr result (self.new ≡ with_stored self.old self.new.store) }
     {

@@ -431,6 +431,7 @@ impl Client {
         // Only what the payload says takes memory. After an error some of it may be set.
         ensures grows { OnErr result
             (takes_memory (write_outcome self.old server mode path number payload.now).answer.code ≡ true) }
+        ensures allowed { OnErr result (can_be_written self.old.catalogue path ≡ true) }
         ensures left { OnErr result (self.new ≡ with_stored self.old self.new.store) }
     {
         if path.object() == SECURITY {

@@ -1,8 +1,8 @@
 //! A Write-Attributes: its rules, who may set attributes where, and what its queries change.
 
-ghost use Rattle.std.specs.Prelude.{◌≡◌, ◌≢◌, ◌∷◌, [], true, not, IfOk, OnErr};
+ghost use Rattle.std.specs.Prelude.{◌≡◌, ◌≢◌, ◌∷◌, [], true, not, IfOk, IsOk, OnErr};
 ghost use Rattle.std.specs.Option.{is_some};
-ghost use Rattle.notifier.specs.Query.{changes_of};
+ghost use Rattle.notifier.specs.Query.{BeginsWithChange, changes_of, reading_of};
 ghost use Rattle.object_defs.specs.Lines.{first_line};
 ghost use Rattle.device_requests.specs.Answer.{Leaves, takes_memory};
 ghost use Rattle.device_requests.specs.Options.{queries_of};
@@ -86,7 +86,11 @@ fn annotates_at(rights: Rights, path: Path) -> bool
 /// These changes with that of an option behind them, where it is a query, or none where it has a
 /// fault.
 fn with_option(changes: Changes, level: Level, option: &Opt) -> Result<Option<Changes>, AllocError>
-    ensures { IfOk result (λ c. c ≡ spelled (changes_of changes level (queries_of (option.now ∷ [])))) }
+    ensures read { IfOk result (λ c. c ≡ spelled (changes_of changes level (queries_of (option.now ∷ [])))) }
+
+    // Only a query that spells a change takes memory.
+    ensures query { OnErr result (option.now.number ≡ 15) }
+    ensures grows { OnErr result (IsOk (reading_of changes level option.now.value)) }
 {
     let mut changes = changes;
     if option.number != URI_QUERY {
@@ -102,7 +106,10 @@ fn with_option(changes: Changes, level: Level, option: &Opt) -> Result<Option<Ch
 /// The changes that the queries among options spell at a level, or none where one of them has a
 /// fault.
 fn changes_at(alloc: Global, level: Level, options: &[Opt]) -> Result<Option<Changes>, AllocError>
-    ensures { IfOk result (λ c. c ≡ spelled (changes_of [] level (queries_of options.now))) }
+    ensures read { IfOk result (λ c. c ≡ spelled (changes_of [] level (queries_of options.now))) }
+
+    // Neither no query nor a first one with a fault takes memory.
+    ensures grows { OnErr result (BeginsWithChange level (queries_of options.now)) }
 {
     let mut changes = Changes::new(alloc);
     for option in options {
@@ -122,7 +129,8 @@ fn changes_given(
     path: Path,
     options: &[Opt],
 ) -> Result<Option<Changes>, AllocError>
-    ensures { IfOk result (λ c. c ≡ changes_given catalog.now path (queries_of options.now)) }
+    ensures read { IfOk result (λ c. c ≡ changes_given catalog.now path (queries_of options.now)) }
+    ensures grows { OnErr result (BeginsWithChange (level_at catalog.now path) (queries_of options.now)) }
 {
     changes_at(alloc, level_at(catalog, path), options)
 }
@@ -164,6 +172,8 @@ impl Client {
         // Only what the queries say takes memory.
         ensures grows { OnErr result (takes_memory
             (attributes_outcome self.old server path (queries_of options.now)).answer.code ≡ true) }
+        ensures begins { OnErr result
+            (BeginsWithChange (level_at self.old.catalogue path) (queries_of options.now)) }
         ensures unchanged { OnErr result (self.new ≡ self.old) }
     {
         if path.object() == SECURITY {
