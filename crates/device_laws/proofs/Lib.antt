@@ -1,0 +1,5 @@
+mod Causes
+mod Senders
+mod Served
+mod Settled
+mod Ticks

@@ -1,0 +1,4 @@
+pub mod Notifying
+pub mod Ticking
+pub mod Serving
+pub mod Sending
