@@ -1,29 +1,25 @@
 -- Each notification has its cause, and what is caused is sent.
 use Rattle.std.proofs.Common.{◌≡◌, ◌≢◌, ℕ, zero, suc, ◌+◌, ◌<◌, ◌≤◌, Bool, true, false, not, cond}
 use Rattle.std.proofs.Common.{◌||◌, ℤ, List, [], ◌∷◌, ◌++◌, Option, None, Some}
-use Rattle.std.proofs.Common.{refl, sym, ap, subst, ◌∙◌, arith, ◌⊎◌, inl, inr}
+use Rattle.std.proofs.Common.{refl, sym, ap, subst, ◌∙◌, arith, inl, inr}
 use Rattle.std.specs.List.{AllByRecursion, Contains}
 use Rattle.std.specs.Str.{bytes_eq}
 use Rattle.std.proofs.lemmas.Bool.Decides.{nat_tests}
-use Rattle.std.proofs.lemmas.List.Elements.{Contains-append_cases, Contains-append_left, Contains-append_right}
+use Rattle.std.proofs.lemmas.List.Elements.{Contains-append_left, Contains-append_right}
 use Rattle.std.proofs.lemmas.Slice.Eq.{bytes_eq-Decides}
-use Rattle.notifier.specs.Trigger.{differ, has_condition, is_above, is_below, is_due, is_over, is_triggered}
+use Rattle.notifier.specs.Trigger.{differ, has_condition, is_above, is_below, is_due, is_triggered}
 use Rattle.notifier.specs.Trigger.{crosses_gt as crossed_gt, crosses_lt as crossed_lt, number_triggers}
 use Rattle.notifier.specs.Trigger.{steps_st as stepped_st}
 use Rattle.notifier.specs.declared.attribute.Name.TheVariants as name
 use Rattle.notifier.specs.declared.observation.Observation.{Observation}
-use Rattle.device_requests.specs.Answer.{is_content}
 use Rattle.device_requests.specs.Client.{Client}
-use Rattle.device_notifications.specs.Laws.{Ends, Notifies}
 use Rattle.device_notifications.specs.Period.{pmin_of, pmax_of}
 use Rattle.device_notifications.specs.Report.{number_at}
 use Rattle.device_notifications.specs.Second.{age_of, is_due_now, present, second, seconds, triggers_now}
 use Rattle.device_notifications.specs.Second.{turn_by, turn_of}
 use Rattle.device_notifications.specs.declared.datagram.Datagram.{Datagram}
-use Rattle.device_notifications.specs.declared.verdict.Verdict.{Verdict}
-use Rattle.device_notifications.specs.declared.verdict.Verdict.TheVariants.{Quiet, Sends, Gone}
 use Rattle.device_notifications.proofs.Turns.{both, by_verdict, first_of, weaker}
-use Rattle.device_laws.specs.Notifying.{CausedIsSent, ComparesNumbers, IsCaused, IsCausedBy, IsCausedInOneOf, IsDue}
+use Rattle.device_laws.specs.Notifying.{CausedIsSent, IsCaused, IsCausedBy, IsCausedInOneOf, IsDue}
 use Rattle.device_laws.specs.Notifying.{IsTold, NotifiesForCause, Passes, SecondsNotifyForCause, SecondsSendCaused}
 use Rattle.device_laws.specs.Notifying.{condition}
 use Rattle.device_laws.specs.Notifying.IsCaused.{elapsed, passed, changed}
@@ -259,8 +255,7 @@ in_later : (client : Client) (clock n next_id : ℕ) (os : List Observation) (d 
     (second client (clock + 1) next_id os).left d
     → IsCausedInOneOf client clock (suc n) next_id os d
 in_later client clock n next_id os d h =
-    let at : clock + 1 + (h.0 + 1) ≡ clock + (suc h.0 + 1) = omega arith in
-    (
+    let at : clock + 1 + (h.0 + 1) ≡ clock + (suc h.0 + 1) = omega arith in (
       suc h.0,
       omega (arith, h.1),
       subst (λ c. IsCausedBy client c (seconds client clock (suc h.0) next_id os).left d) at h.2,

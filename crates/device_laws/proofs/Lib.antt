@@ -2,4 +2,5 @@ mod Causes
 mod Senders
 mod Served
 mod Settled
+mod Spelled
 mod Ticks

@@ -1,6 +1,6 @@
 -- To whom a device sends, and on which events it sends nothing.
-use Rattle.std.proofs.Common.{◌≡◌, ℕ, ◌==◌, Bool, true, false, ◌⊎◌, inl, inr, List, [], ◌∷◌, ◌++◌, Option, None, Some}
-use Rattle.std.proofs.Common.{Result, Ok, Err, option_map, refl, ap}
+use Rattle.std.proofs.Common.{◌≡◌, ℕ, ◌==◌, Bool, true, false, ◌⊎◌, inl, inr, List, [], ◌∷◌, Option, None, Some}
+use Rattle.std.proofs.Common.{Result, Ok, Err, option_map, refl, sym, ap, ◌∙◌}
 use Rattle.std.specs.Bool.{if◌then◌else◌}
 use Rattle.std.specs.List.{AllByRecursion}
 use Rattle.coap_codec.specs.Message.{Message, spelling}
@@ -13,7 +13,8 @@ use Rattle.object_defs.specs.Path.{full_path}
 use Rattle.object_defs.specs.declared.path.FullPath.{FullPath}
 use Rattle.object_defs.specs.declared.path.Path.{Path}
 use Rattle.instance_store.specs.Stored.{Stored}
-use Rattle.device_firmware.specs.Firmware.{firmware_after}
+use Rattle.device_firmware.proofs.Behind.{same_instances, taken}
+use Rattle.device_firmware.specs.Firmware.{firmware_after, uri_of}
 use Rattle.device_firmware.specs.declared.event.FirmwareEvent.TheVariants.{Ended}
 use Rattle.device_requests.specs.Client.{has_account, with_stored}
 use Rattle.device_requests.specs.Request.{outcome_of}
@@ -106,6 +107,11 @@ put_when f place value missed =
       };
     }
 
+instances_stay : (stored : Stored) (place : Option FullPath) (value : Value)
+    → (with_value_at stored place value).instances ≡ stored.instances
+instances_stay stored None value = refl
+instances_stay stored (Some place) value = refl
+
 put_by : (f : Machine) (path : Path) (value : Value) (missed : Bool)
     → misses f.kept.client.catalogue f.kept.client.store (full_path path) value ≡ missed
     → OnlyStores f (Put path value) ⊎ IsMissed f (Put path value)
@@ -116,6 +122,8 @@ put_by f path value false e =
     let reaction = put_when f (full_path path) value in
     inl (record {
       sent = ap (λ b. (reaction b).outputs) e;
+      instances = ap (λ b. (reaction b).flat.kept.client.store.instances) e
+          ∙ instances_stay f.kept.client.store (full_path path) value;
       accounts = ap (λ b. (reaction b).flat.kept.client.accounts) e;
       catalogue = ap (λ b. (reaction b).flat.kept.client.catalogue) e;
       attributes = ap (λ b. (reaction b).flat.kept.client.attributes) e;
@@ -129,6 +137,12 @@ pub puts : PutsSendNothing
 puts f path value =
     put_by f path value (misses f.kept.client.catalogue f.kept.client.store (full_path path) value) refl
 
+firmware_stays : (stored after : Stored) (code : ℕ) → firmware_after stored (Ended code) ≡ Some after
+    → after.instances ≡ stored.instances
+firmware_stays stored after code e =
+    let t = taken stored after (Ended code) e in
+    ap (λ (s : Stored). s.instances) (sym t.1) ∙ same_instances stored (uri_of (Ended code))
+
 firmware_by : (f : Machine) (code : ℕ) (after : Option Stored)
     → firmware_after f.kept.client.store (Ended code) ≡ after
     → OnlyStores f (Firmware code) ⊎ IsMissed f (Firmware code)
@@ -137,6 +151,8 @@ firmware_by f code None e =
 firmware_by f code (Some stored) e =
     inl (record {
       sent = ap (λ o. (on_firmware f o).outputs) e;
+      instances = ap (λ o. (on_firmware f o).flat.kept.client.store.instances) e
+          ∙ firmware_stays f.kept.client.store stored code e;
       accounts = ap (λ o. (on_firmware f o).flat.kept.client.accounts) e;
       catalogue = ap (λ o. (on_firmware f o).flat.kept.client.catalogue) e;
       attributes = ap (λ o. (on_firmware f o).flat.kept.client.attributes) e;

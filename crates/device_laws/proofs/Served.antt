@@ -1,5 +1,5 @@
 -- What a request leaves, answered or refused.
-use Rattle.std.proofs.Common.{◌≡◌, ℕ, ◌+◌, ◌%◌, Bool, true, false, ◌⊎◌, inl, inr, List, [], ◌∷◌, ◌++◌, Option, None}
+use Rattle.std.proofs.Common.{◌≡◌, ℕ, ◌+◌, Bool, true, false, ◌⊎◌, inl, inr, List, [], ◌∷◌, ◌++◌, Option, None}
 use Rattle.std.proofs.Common.{Some, option_map, is_some, Ok, refl, sym, ap, subst, ◌∙◌}
 use Rattle.std.specs.Bool.{if◌then◌else◌}
 use Rattle.coap_codec.specs.Message.{Message, spelling}
@@ -10,14 +10,13 @@ use Rattle.object_defs.specs.Lines.{first_line}
 use Rattle.object_defs.specs.declared.path.Path.{Path}
 use Rattle.notifier.specs.Observed.{cancelled, number_for, registered}
 use Rattle.notifier.specs.declared.observation.Observation.{Observation}
-use Rattle.device_requests.specs.Answer.{Outcome, bare, code_byte, is_content, is_content_code}
+use Rattle.device_requests.specs.Answer.{Outcome, code_byte, is_content, is_content_code}
 use Rattle.device_requests.specs.Client.{has_account}
 use Rattle.std.proofs.lemmas.List.{append-nil}
 use Rattle.device_requests.specs.Laws.{is_refusal, lines_on, request_lines}
 use Rattle.device_requests.specs.Observe.{interest_of}
 use Rattle.device_requests.specs.Options.{has_unrecognized_critical, path_of, segments_of}
 use Rattle.device_requests.specs.Request.{outcome_of}
-use Rattle.device_requests.specs.declared.answer.Act.{Act as Deed}
 use Rattle.device_requests.specs.declared.answer.Answer.{Answer}
 use Rattle.device_requests.specs.declared.answer.Code.{Code}
 use Rattle.device_requests.specs.declared.answer.Code.TheVariants.{Created, Deleted, Changed, Content, BadRequest}
@@ -29,9 +28,9 @@ use Rattle.device_requests.specs.declared.observe.Interest.TheVariants.{Cancel, 
 use Rattle.device_requests.proofs.Answering.{says}
 use Rattle.device_requests.proofs.Refusing.{refused_alone, refused_keeps}
 use Rattle.device_machine.specs.Laws.{IsFresh}
-use Rattle.device_machine.specs.Observing.{Noted, begun, entered, lacks_place, noted, noted_by, unobserved}
+use Rattle.device_machine.specs.Observing.{begun, lacks_place, noted, noted_by, unobserved}
 use Rattle.device_machine.specs.Reactions.{answer_options, flat_after}
-use Rattle.device_machine.specs.Reactions.{acted, kept_after, on_message, on_noted, on_outcome, on_request, reaction_to}
+use Rattle.device_machine.specs.Reactions.{acted, kept_after, on_message, on_outcome, on_request, reaction_to}
 use Rattle.device_machine.specs.Reactions.{Reaction, is_request, record_of, repeat_of, reply_to, response, sent_to}
 use Rattle.device_machine.specs.State.{Kept, Machine, with_client, with_observations}
 use Rattle.device_machine.specs.declared.event.Event.TheVariants.{Recv}
@@ -81,7 +80,7 @@ reached : (f : Machine) (server : ℕ) (bytes : List ℕ) (m : Message) → has_
     → reading_of bytes ≡ Ok m → reaction_to f (Recv server bytes) ≡ on_message f server m m.kind
 reached f server bytes m a r = rw (a, r) refl
 
-first : (f : Machine) (server : ℕ) (bytes : List ℕ) (m : Message) → IsFresh f server bytes m
+pub first : (f : Machine) (server : ℕ) (bytes : List ℕ) (m : Message) → IsFresh f server bytes m
     → (m.kind ≡ Con) ⊎ (m.kind ≡ Non)
     → reaction_to f (Recv server bytes) ≡ on_outcome f server m (outcome_of f.kept.client server m)
 first f server bytes m fresh k =
@@ -173,7 +172,7 @@ pub served : RequestsAreServed
 served f server bytes m fresh k =
     let outcome = outcome_of f.kept.client server m in
     let s = subst (λ r. Serves f server m outcome r) (sym (first f server bytes m fresh k))
-        (serves f server m outcome k) in
+    (serves f server m outcome k) in
     record {
       number = s.number;
       reply = s.reply;
@@ -327,7 +326,7 @@ non_confirmable f server bytes m code fresh k understood line h =
     let c = said f server m code line in
     let r : is_refusal outcome.answer.code ≡ true = ap is_refusal c ∙ h in
     let is = non_answer f m s.number outcome.answer s.reply (flat_after f (Recv server bytes)).kept.next_id k understood
-        s.replies in
+    s.replies in
     refused f server bytes m (Some (bare_reply Non f.kept.next_id m.token code)) (id_after f.kept.next_id) s r
     (is.0 ∙ ap Some (bare_said f server bytes m code Non f.kept.next_id s r c)) is.1
 

@@ -1,7 +1,7 @@
 -- With nothing changed and no pmax nothing is sent.
-use Rattle.std.proofs.Common.{◌≡◌, ℕ, zero, suc, ◌+◌, ◌*◌, nat_le, nat_lt, Bool, true, false, not, cond, ◌&&◌, ◌||◌, ℤ, pos}
-use Rattle.std.proofs.Common.{negsuc, ◌-ℤ◌, nat_abs, int_le, int_lt, List, [], ◌∷◌, ◌++◌, Option, None, Some, refl, sym}
-use Rattle.std.proofs.Common.{ap, subst, ◌∙◌, arith}
+use Rattle.std.proofs.Common.{◌≡◌, ℕ, zero, suc, ◌+◌, ◌*◌, nat_le, nat_lt, Bool, true, false, not, cond, ℤ, pos}
+use Rattle.std.proofs.Common.{negsuc, ◌-ℤ◌, nat_abs, int_le, int_lt, List, [], ◌∷◌, Option, None, Some, refl}
+use Rattle.std.proofs.Common.{ap, ◌∙◌, arith}
 use Rattle.std.specs.List.{AllByRecursion}
 use Rattle.std.specs.Str.{bytes_eq}
 use Rattle.std.proofs.lemmas.Bool.Decides.{nat_tests}
@@ -12,8 +12,8 @@ use Rattle.notifier.specs.Trigger.{is_triggered, number_triggers, steps_st}
 use Rattle.notifier.specs.declared.attribute.Name.TheVariants as name
 use Rattle.notifier.specs.declared.observation.Observation.{Observation}
 use Rattle.device_requests.specs.Client.{Client}
-use Rattle.device_notifications.specs.Period.{pmin_of, pmax_of}
-use Rattle.device_notifications.specs.Report.{number_at, report_of}
+use Rattle.device_notifications.specs.Period.{pmin_of}
+use Rattle.device_notifications.specs.Report.{number_at}
 use Rattle.device_notifications.specs.Second.{age_of, beside, is_due_now, present, quiet, second, seconds, triggers_now}
 use Rattle.device_notifications.specs.Second.{and_then, turn_by, turn_of}
 use Rattle.device_notifications.proofs.Turns.{by_verdict}

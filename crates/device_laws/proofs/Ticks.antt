@@ -1,14 +1,11 @@
 -- What holds of seconds holds of ticks.
-use Rattle.std.proofs.Common.{◌≡◌, ℕ, zero, suc, List, [], ◌∷◌, map, refl, sym, ap, subst, arith}
+use Rattle.std.proofs.Common.{zero, suc, List, [], ◌∷◌, map, refl, ap, arith}
 use Rattle.std.specs.List.{Contains}
-use Rattle.device_notifications.specs.Laws.{Notifies}
 use Rattle.device_notifications.specs.declared.datagram.Datagram.{Datagram}
 use Rattle.device_machine.specs.Reactions.{send_of, turn_in}
-use Rattle.device_machine.specs.declared.output.Output.{Output}
 use Rattle.device_laws.specs.Ticking.{SettledTicksAreQuiet, TicksNotifyForCause, TicksSendCaused}
 use Rattle.device_laws.proofs.Causes.{later_of, seconds_for_cause, seconds_send_caused}
 use Rattle.device_laws.proofs.Settled.{settled_are_quiet}
-use Rattle.device_notifications.proofs.Turns.{first_of}
 
 pub for_cause : TicksNotifyForCause
 for_cause f n =
@@ -28,7 +25,7 @@ among (e ∷ ds) d (suc k, inside, is) =
 pub send_caused : TicksSendCaused
 send_caused f n k o within there due =
     let told =
-        seconds_send_caused f.kept.client f.kept.clock n k f.kept.next_id f.kept.observations o within there due in
+    seconds_send_caused f.kept.client f.kept.clock n k f.kept.next_id f.kept.observations o within there due in
     (told.0, among (turn_in f.kept n).sent told.0 told.1, told.2)
 
 pub quiet : SettledTicksAreQuiet

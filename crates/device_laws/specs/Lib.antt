@@ -1,3 +1,4 @@
+pub mod Messages
 pub mod Notifying
 pub mod Ticking
 pub mod Serving

@@ -1,5 +1,5 @@
 -- Why a device notifies, and when it does not (OMA LwM2M 1.1 Core, attributes; RFC 7641 section 4).
-use Rattle.std.specs.Prelude.{◌≡◌, ◌≢◌, ℕ, ◌+◌, ◌*◌, ◌<◌, ◌≤◌, ℤ, pos, ◌-ℤ◌, nat_abs, int_le, int_lt, true, false}
+use Rattle.std.specs.Prelude.{◌≡◌, ◌≢◌, ℕ, ◌+◌, ◌*◌, ◌<◌, ◌≤◌, ℤ, pos, ◌-ℤ◌, nat_abs, int_le, int_lt, true}
 use Rattle.std.specs.Prelude.{List, Option, None, Some, ◌⊎◌}
 use Rattle.std.specs.List.{AllByRecursion, Contains}
 use Rattle.notifier.specs.Attributes.{assigned}

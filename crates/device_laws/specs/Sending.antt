@@ -28,9 +28,10 @@ abbrev pub OnlyTheAskerIsAnswered : Type 0
 OnlyTheAskerIsAnswered =
     (f : Machine) (server : ℕ) (bytes : List ℕ) → AllByRecursion (IsTo server) (outputs_of f (Recv server bytes))
 
--- an event changes values and nothing else, with no output; or the device only says that it missed
+-- an event changes values and nothing else, with no output
 pub record OnlyStores (f : Machine) (event : Event) : Type 0 where
   pub sent : outputs_of f event ≡ []
+  pub instances : (flat_after f event).kept.client.store.instances ≡ f.kept.client.store.instances
   pub accounts : (flat_after f event).kept.client.accounts ≡ f.kept.client.accounts
   pub catalogue : (flat_after f event).kept.client.catalogue ≡ f.kept.client.catalogue
   pub attributes : (flat_after f event).kept.client.attributes ≡ f.kept.client.attributes
@@ -39,11 +40,12 @@ pub record OnlyStores (f : Machine) (event : Event) : Type 0 where
   pub next_id : (flat_after f event).kept.next_id ≡ f.kept.next_id
   pub recorded : (flat_after f event).recorded ≡ f.recorded
 
+-- it changes nothing, and the device only says that it missed
 pub record IsMissed (f : Machine) (event : Event) : Type 0 where
   pub acted : outputs_of f event ≡ Act Missed ∷ []
   pub unchanged : flat_after f event ≡ f
 
--- so it is of a value that changes, and of the end of a download or an update of the firmware
+-- one of them it is of a value that changes, and of the end of a download or an update of the firmware
 abbrev pub PutsSendNothing : Type 0
 PutsSendNothing = (f : Machine) (path : Path) (value : Value)
     → OnlyStores f (Put path value) ⊎ IsMissed f (Put path value)

@@ -2,11 +2,13 @@
 //! are the laws.
 #![tactic(auto)]
 
+mod messages;
 mod notifying;
 mod sending;
 mod serving;
 mod ticking;
 
+pub use messages::datagrams_are_messages;
 pub use notifying::{notifies_for_cause, settled_are_quiet};
 pub use sending::{changes_send_nothing, only_the_asker_is_answered, strangers_are_ignored};
 pub use serving::{refusals_are_bare, requests_are_served};
