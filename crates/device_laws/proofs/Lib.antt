@@ -1,0 +1,6 @@
+mod Causes
+mod Senders
+mod Served
+mod Settled
+mod Spelled
+mod Ticks

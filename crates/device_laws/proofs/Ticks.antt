@@ -1,0 +1,41 @@
+-- What holds of seconds holds of ticks.
+use Rattle.std.proofs.Common.{zero, suc, List, [], ◌∷◌, map, refl, ap, arith}
+use Rattle.std.specs.List.{Contains}
+use Rattle.device_notifications.specs.declared.datagram.Datagram.{Datagram}
+use Rattle.device_machine.specs.Reactions.{send_of, turn_in}
+use Rattle.device_laws.specs.Ticking.{SettledTicksAreQuiet, TicksNotifyForCause, TicksSendCaused}
+use Rattle.device_laws.proofs.Causes.{later_of, seconds_for_cause, seconds_send_caused}
+use Rattle.device_laws.proofs.Settled.{settled_are_quiet}
+
+pub for_cause : TicksNotifyForCause
+for_cause f n =
+    record {
+      datagrams = (turn_in f.kept n).sent;
+      sent = refl;
+      each = seconds_for_cause f.kept.client f.kept.clock n f.kept.next_id f.kept.observations;
+    }
+
+-- what is among the datagrams is among what is put out
+among : (ds : List Datagram) (d : Datagram) → Contains ds d → Contains (map send_of ds) (send_of d)
+among [] d h = absurd (omega (arith, h.1))
+among (e ∷ ds) d (zero, inside, is) = (0, omega arith, ap send_of is)
+among (e ∷ ds) d (suc k, inside, is) =
+    later_of (send_of e) (send_of d) (map send_of ds) (among ds d (k, omega arith, is))
+
+pub send_caused : TicksSendCaused
+send_caused f n k o within there due =
+    let told =
+    seconds_send_caused f.kept.client f.kept.clock n k f.kept.next_id f.kept.observations o within there due in
+    (told.0, among (turn_in f.kept n).sent told.0 told.1, told.2)
+
+pub quiet : SettledTicksAreQuiet
+quiet f n h =
+    let still = settled_are_quiet f.kept.client f.kept.clock n f.kept.next_id f.kept.observations h in
+    record {
+      sent = ap (λ t. map send_of t.sent) still;
+      client = refl;
+      observations = ap (λ t. t.left) still;
+      clock = refl;
+      next_id = ap (λ t. t.next_id) still;
+      recorded = refl;
+    }

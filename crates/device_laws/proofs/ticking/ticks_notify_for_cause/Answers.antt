@@ -1,0 +1,8 @@
+use Rattle.device_laws.proofs.Ticks.{for_cause, send_caused}
+use Rattle.device_laws.proofs.ticking.ticks_notify_for_cause.Goals as goal
+
+pub returns-clause-cause : goal.returns-clause-cause
+returns-clause-cause c = for_cause
+
+pub returns-clause-sent : goal.returns-clause-sent
+returns-clause-sent c = send_caused

@@ -1,0 +1,5 @@
+pub mod Messages
+pub mod Notifying
+pub mod Ticking
+pub mod Serving
+pub mod Sending

@@ -1,0 +1,47 @@
+-- Why a device notifies in a tick, and when it does not (OMA LwM2M 1.1 Core, attributes; RFC 7641 section 4).
+use Rattle.std.specs.Prelude.{◌≡◌, ℕ, ◌+◌, ◌<◌, List, [], map}
+use Rattle.std.specs.List.{AllByRecursion, Contains}
+use Rattle.notifier.specs.declared.observation.Observation.{Observation}
+use Rattle.device_notifications.specs.Laws.{Notifies}
+use Rattle.device_notifications.specs.declared.datagram.Datagram.{Datagram}
+use Rattle.device_machine.specs.declared.event.Event.TheVariants.{Tick}
+use Rattle.device_machine.specs.Reactions.{flat_after, outputs_of, send_of}
+use Rattle.device_machine.specs.State.{Machine}
+use Rattle.device_laws.specs.Notifying.{IsCausedBy, IsDue, IsSettled}
+
+-- a datagram is sent in a second of a tick by an observation that is there then: it notifies for a cause, or ends the
+-- observation
+abbrev pub IsCausedIn : Machine → ℕ → Datagram → Type 0
+IsCausedIn f n d =
+    (k : ℕ) × (k < n) × IsCausedBy f.kept.client (f.kept.clock + (k + 1)) (flat_after f (Tick k)).kept.observations d
+
+-- so is all that a device puts out in a tick
+pub record SendsForCause (f : Machine) (n : ℕ) : Type 0 where
+  pub datagrams : List Datagram
+  pub sent : outputs_of f (Tick n) ≡ map send_of datagrams
+  pub each : AllByRecursion (IsCausedIn f n) datagrams
+
+abbrev pub TicksNotifyForCause : Type 0
+TicksNotifyForCause = (f : Machine) (n : ℕ) → SendsForCause f n
+
+-- an observation that is to be notified in a second of a tick, is not inside pmin and has content is notified in it
+abbrev pub TicksSendCaused : Type 0
+TicksSendCaused =
+    (f : Machine) (n k : ℕ) (o : Observation) → k < n → Contains (flat_after f (Tick k)).kept.observations o
+    → IsDue f.kept.client (f.kept.clock + (k + 1)) o
+    → (d : Datagram) × Contains (outputs_of f (Tick n)) (send_of d)
+    × Notifies f.kept.client (f.kept.clock + (k + 1)) o d
+
+-- a tick puts out nothing, and only the clock goes on
+pub record IsQuiet (f : Machine) (n : ℕ) : Type 0 where
+  pub sent : outputs_of f (Tick n) ≡ []
+  pub client : (flat_after f (Tick n)).kept.client ≡ f.kept.client
+  pub observations : (flat_after f (Tick n)).kept.observations ≡ f.kept.observations
+  pub clock : (flat_after f (Tick n)).kept.clock ≡ f.kept.clock + n
+  pub next_id : (flat_after f (Tick n)).kept.next_id ≡ f.kept.next_id
+  pub recorded : (flat_after f (Tick n)).recorded ≡ f.recorded
+
+-- with nothing changed and no pmax
+abbrev pub SettledTicksAreQuiet : Type 0
+SettledTicksAreQuiet =
+    (f : Machine) (n : ℕ) → AllByRecursion (IsSettled f.kept.client) f.kept.observations → IsQuiet f n

@@ -1,0 +1,15 @@
+//! What follows from the tables of a device, for those who manage and observe it. The calls do nothing; their contracts
+//! are the laws.
+#![tactic(auto)]
+
+mod messages;
+mod notifying;
+mod sending;
+mod serving;
+mod ticking;
+
+pub use messages::datagrams_are_messages;
+pub use notifying::{notifies_for_cause, settled_are_quiet};
+pub use sending::{changes_send_nothing, only_the_asker_is_answered, strangers_are_ignored};
+pub use serving::{refusals_are_bare, requests_are_served};
+pub use ticking::{settled_ticks_are_quiet, ticks_notify_for_cause};
