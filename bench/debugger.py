@@ -19,12 +19,14 @@ LAST = DEVICES - 1
 
 # What a row shows: the commands before it with their answers, and its own, each so many times.
 TO_END = [(f"forward {TOTAL}", f"at {TOTAL}", 1)]
+NEAR_END = [(f"forward {TOTAL - 10_000}", f"at {TOTAL - 10_000}", 1)]
 ROWS = [
     ("at", [], [("at", "at 0", 10_000)]),
     ("value 0 /3/0/9", [], [("value 0 /3/0/9", "integer 100", 10_000)]),
     ("obs 0", [], [("obs 0", "observations 0", 10_000)]),
     ("out 0", [], [("out 0", "nothing", 10_000)]),
     ("forward 1, from the start", [], [("forward 1", "at {}", 10_000)]),
+    ("forward 1, to the end", NEAR_END, [("forward 1", "at {}", 10_000)]),
     ("forward, over all", [], TO_END),
     ("back 1, from the end", TO_END, [("back 1", "at {}", 100)]),
     ("back, over all", TO_END, [(f"back {TOTAL}", "at 0", 1)]),
@@ -77,8 +79,8 @@ def main():
         for name, before, own in ROWS:
             first, _ = least(program, files, before, times) if before else (opened, 0)
             whole, memory = least(program, files, before + own, times)
-            count = own[-1][2]
-            rows.append([name, f"{count:,}", ms(whole - first), f"{(whole - first) / count * 1e3:.4f}", f"{memory:.0f}"])
+            count, taken = own[-1][2], whole - first
+            rows.append([name, f"{count:,}", ms(taken), f"{taken / count * 1e3:.4f}", f"{memory:.0f}"])
         table(["Command", "Times", "All ms", "Each ms", "MiB"], rows)
 
 

@@ -2,7 +2,7 @@
 
 /// The version, and the line of the toolchain that proved it (`rt version`).
 pub const VERSION: &str = "0.1.0
-rattle-kit-13b logic dac8208d650f15bf";
+rattle-kit-13f logic dac8208d650f15bf";
 
 pub const BENCH: &str =
     "An answer goes to standard output. A fault is the line `fault: NAME` there, and a line on standard

@@ -4,7 +4,7 @@ ghost use Rattle.std.specs.String.{string_bytes};
 ghost use Rattle.debugger.specs.Session.{at_place, with_breaks};
 ghost use Rattle.debug_answers.specs.Answers.{IsBreak, IsCleared, IsResumed};
 
-use crate::lines::{break_line, cleared_line, full_line, no_such_line, stop_line};
+use crate::lines::{break_line, cleared_line, fixed_line, stop_line};
 use debugger::{Break, Debugger};
 use std::alloc::{AllocError, Global};
 
@@ -15,7 +15,7 @@ pub fn add_break(alloc: Global, debugger: &mut Debugger, point: Break) -> Result
 {
     match debugger.add_break(point) {
         Ok(id) => break_line(alloc, id),
-        Err(_) => full_line(alloc),
+        Err(_) => fixed_line(alloc, "full"),
     }
 }
 
@@ -25,7 +25,7 @@ pub fn clear(alloc: Global, debugger: &mut Debugger, id: u8) -> Result<String, A
     ensures unchanged { OnErr result (debugger.new ≡ debugger.old) }
 {
     let cleared = cleared_line(alloc, id)?;
-    let none = no_such_line(alloc)?;
+    let none = fixed_line(alloc, "no such")?;
     match debugger.remove_break(id) {
         Ok(()) => Ok(cleared),
         Err(_) => Ok(none),

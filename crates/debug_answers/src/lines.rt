@@ -1,5 +1,5 @@
 //! The lines that are answered.
-ghost use Rattle.std.specs.Prelude.{◌≡◌, codes, IfOk};
+ghost use Rattle.std.specs.Prelude.{◌≡◌, IfOk};
 ghost use Rattle.std.specs.String.{string_bytes};
 ghost use Rattle.debug_answers.specs.Lines.{at_line, at_word, break_at_line, break_line, break_text, cleared_line};
 ghost use Rattle.debug_answers.specs.Lines.{end_line, line, stop_line};
@@ -66,51 +66,9 @@ pub fn stop_line(alloc: Global, stop: Stop, place: usize) -> Result<String, Allo
     }
 }
 
-/// `past end`.
-pub fn past_end_line(alloc: Global) -> Result<String, AllocError>
-    ensures { IfOk result (λ text. string_bytes text ≡ line (codes "past end")) }
+/// A line of these words.
+pub fn fixed_line(alloc: Global, words: &str) -> Result<String, AllocError>
+    ensures { IfOk result (λ text. string_bytes text ≡ line words.now) }
 {
-    String::from_str(alloc, "past end\n")
-}
-
-/// `past start`.
-pub fn past_start_line(alloc: Global) -> Result<String, AllocError>
-    ensures { IfOk result (λ text. string_bytes text ≡ line (codes "past start")) }
-{
-    String::from_str(alloc, "past start\n")
-}
-
-/// `full`.
-pub fn full_line(alloc: Global) -> Result<String, AllocError>
-    ensures { IfOk result (λ text. string_bytes text ≡ line (codes "full")) }
-{
-    String::from_str(alloc, "full\n")
-}
-
-/// `no such`.
-pub fn no_such_line(alloc: Global) -> Result<String, AllocError>
-    ensures { IfOk result (λ text. string_bytes text ≡ line (codes "no such")) }
-{
-    String::from_str(alloc, "no such\n")
-}
-
-/// `none`.
-pub fn none_line(alloc: Global) -> Result<String, AllocError>
-    ensures { IfOk result (λ text. string_bytes text ≡ line (codes "none")) }
-{
-    String::from_str(alloc, "none\n")
-}
-
-/// `no device`.
-pub fn no_device_line(alloc: Global) -> Result<String, AllocError>
-    ensures { IfOk result (λ text. string_bytes text ≡ line (codes "no device")) }
-{
-    String::from_str(alloc, "no device\n")
-}
-
-/// `bad command`.
-pub fn bad_command_line(alloc: Global) -> Result<String, AllocError>
-    ensures { IfOk result (λ text. string_bytes text ≡ line (codes "bad command")) }
-{
-    String::from_str(alloc, "bad command\n")
+    format!(in alloc; "{words}\n")
 }

@@ -4,7 +4,7 @@ ghost use Rattle.std.specs.String.{string_bytes};
 ghost use Rattle.debug_answers.specs.Lines.{at_line};
 ghost use Rattle.debug_answers.specs.Answers.{IsBack, IsForward};
 
-use crate::lines::{at_line, past_end_line, past_start_line};
+use crate::lines::{at_line, fixed_line};
 use debugger::{BackFault, Debugger, ForwardFault};
 use std::alloc::{AllocError, Global};
 
@@ -21,7 +21,7 @@ pub fn forward(alloc: Global, debugger: &mut Debugger, count: usize) -> Result<S
     ensures unchanged { OnErr result (debugger.new ≡ debugger.old) }
 {
     let there = at_line(alloc, debugger.at().saturating_add(count))?;
-    let past = past_end_line(alloc)?;
+    let past = fixed_line(alloc, "past end")?;
     match debugger.forward(count) {
         Ok(()) => {
             let _place = debugger.at();
@@ -38,7 +38,7 @@ pub fn back(alloc: Global, debugger: &mut Debugger, count: usize) -> Result<Stri
     ensures unchanged { OnErr result (debugger.new ≡ debugger.old) }
 {
     let there = at_line(alloc, debugger.at().saturating_sub(count))?;
-    let past = past_start_line(alloc)?;
+    let past = fixed_line(alloc, "past start")?;
     match debugger.back(count) {
         Ok(()) => Ok(there),
         Err(BackFault::PastStart) => Ok(past),

@@ -7,7 +7,7 @@ ghost use Rattle.debug_answers.specs.Replies.{break_of, IsAnswer, IsReply};
 
 use crate::breaks::{add_break, clear, resume};
 use crate::help::show_help;
-use crate::lines::bad_command_line;
+use crate::lines::fixed_line;
 use crate::moves::{back, forward, place};
 use crate::shown::{show_observations, show_outputs, show_value};
 use debug_words::{Command, Point, read_command};
@@ -74,7 +74,7 @@ pub fn reply_to(alloc: Global, debugger: &mut Debugger, line: &[u8]) -> Result<R
             is_last: is_quit(command),
         }),
         None => Ok(Reply {
-            text: bad_command_line(alloc)?,
+            text: fixed_line(alloc, "bad command")?,
             is_last: false,
         }),
     }

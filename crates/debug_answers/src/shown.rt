@@ -9,7 +9,7 @@ ghost use Rattle.debug_answers.specs.Shown.{count_line, observation_line, observ
 ghost use Rattle.debug_answers.specs.Shown.{value_line};
 ghost use Rattle.debug_answers.specs.Replies.{IsShown};
 
-use crate::lines::{no_device_line, none_line};
+use crate::lines::fixed_line;
 use crate::printed::outputs_text;
 use debugger::{Debugger, DeviceFault};
 use lwm2m_values::Value;
@@ -30,7 +30,7 @@ fn value_line(alloc: Global, value: Option<&Value>) -> Result<String, AllocError
     ensures { IfOk result (λ text. string_bytes text ≡ value_line (option_copied value.entry)) }
 {
     match value {
-        None => none_line(alloc),
+        None => fixed_line(alloc, "none"),
         Some(value) => spelled_line(alloc, value),
     }
 }
@@ -48,7 +48,7 @@ pub fn show_value(
 {
     match debugger.value(device, path) {
         Ok(value) => value_line(alloc, value),
-        Err(DeviceFault::NoDevice) => no_device_line(alloc),
+        Err(DeviceFault::NoDevice) => fixed_line(alloc, "no device"),
     }
 }
 
@@ -128,7 +128,7 @@ pub fn show_observations(
 {
     match debugger.observations(device) {
         Ok(observations) => observation_lines(alloc, observations),
-        Err(DeviceFault::NoDevice) => no_device_line(alloc),
+        Err(DeviceFault::NoDevice) => fixed_line(alloc, "no device"),
     }
 }
 
@@ -140,6 +140,6 @@ pub fn show_outputs(alloc: Global, debugger: &Debugger, device: u16) -> Result<S
 {
     match debugger.outputs(device) {
         Ok(outputs) => outputs_text(alloc, outputs),
-        Err(DeviceFault::NoDevice) => no_device_line(alloc),
+        Err(DeviceFault::NoDevice) => fixed_line(alloc, "no device"),
     }
 }

@@ -1,6 +1,7 @@
 pub mod Runs
 pub mod Rows
 pub mod Moving
+pub mod Counting
 pub mod Numbers
 pub mod Marking
 pub mod Changing

@@ -3,6 +3,7 @@
 ghost use Rattle.std.specs.Prelude.{◌≡◌, ℕ, ◌<◌, ◌≤◌, length, take, slice_get, slice_index, IfOk};
 ghost use Rattle.std.specs.Prelude.{OnOk};
 ghost use Rattle.device_machine.specs.State.{Device};
+ghost use Rattle.fleet_core.specs.Run.{IsRun};
 ghost use Rattle.fleet_core.specs.Board.{ShowsAfter};
 ghost use Rattle.debugger.specs.Session.{AreAt, AreCounted};
 ghost use Rattle.debugger.specs.Moves.{HasSteps, IsMoved, AreMoved, placed};
@@ -27,6 +28,66 @@ pub(crate) fn count_rows(
     let (passed, _) = entries.split_at(place);
     let made = count_entries(alloc, rows, passed)?;
     Ok(made)
+}
+
+/// Takes the counts at a place on to a later one: with an entry, its device has made the step of the entry.
+fn count_on(_scenario: &Scenario, entries: &[Entry], counts: &mut Vec<u64>, from: usize, to: usize)
+    requires run { IsRun _scenario.now entries.now }
+    requires order { from ≤ to }
+    requires within { to ≤ length entries.now }
+    requires counted { AreCounted _scenario.now (take from entries.now) counts.old.items }
+    ensures { AreCounted _scenario.now (take to entries.now) counts.new.items }
+{
+    for index in from..to {
+        let entry = &entries[index];
+        counts[usize::from(entry.device)] = u64::from(entry.step) + 1;
+    }
+}
+
+/// Takes the counts at a place back to an earlier one: before an entry, its device has made the steps before its step.
+fn count_back(
+    _scenario: &Scenario,
+    entries: &[Entry],
+    counts: &mut Vec<u64>,
+    from: usize,
+    to: usize,
+)
+    requires run { IsRun _scenario.now entries.now }
+    requires order { to ≤ from }
+    requires within { from ≤ length entries.now }
+    requires counted { AreCounted _scenario.now (take from entries.now) counts.old.items }
+    ensures { AreCounted _scenario.now (take to entries.now) counts.new.items }
+{
+    let mut index = from;
+    while index > to {
+        index -= 1;
+        let entry = &entries[index];
+        counts[usize::from(entry.device)] = u64::from(entry.step);
+    }
+}
+
+/// The counts at another place, from those at a place. Only the entries between the two are looked at.
+pub(crate) fn counts_at(
+    alloc: Global,
+    scenario: &Scenario,
+    entries: &[Entry],
+    made: &[u64],
+    from: usize,
+    to: usize,
+) -> Result<Vec<u64>, AllocError>
+    requires run { IsRun scenario.now entries.now }
+    requires from { from ≤ length entries.now }
+    requires to { to ≤ length entries.now }
+    requires counted { AreCounted scenario.now (take from entries.now) made.now }
+    ensures { IfOk result (λ v. AreCounted scenario.now (take to entries.now) v.items) }
+{
+    let mut counts = Vec::from_slice(alloc, made)?;
+    if from <= to {
+        count_on(scenario, entries, &mut counts, from, to);
+    } else {
+        count_back(scenario, entries, &mut counts, from, to);
+    }
+    Ok(counts)
 }
 
 /// Lets a device that has made the first steps of its row make those up to the last of these numbers.

@@ -14,7 +14,7 @@ use crate::best::Best;
 use crate::breaks::{Break, Stop};
 use crate::changes::next_change;
 use crate::fault::{AddFault, BackFault, DeviceFault, ForwardFault, OpenFault, RemoveFault};
-use crate::moves::{count_rows, moved_devices, settle};
+use crate::moves::{count_rows, counts_at, moved_devices, settle};
 use crate::search::{change_in, next_mark};
 use crate::slots::{free_slot, is_taken, no_breaks};
 use device_machine::{Device, Output};
@@ -121,7 +121,14 @@ impl<'a> Debugger<'a> {
         ensures moved { OnOk result (self.new ≡ at_place self.old to) }
         ensures unchanged { OnErr result (self.new ≡ self.old) }
     {
-        let counts = count_rows(self.alloc, self.scenario, self.entries.as_slice(), to)?;
+        let counts = counts_at(
+            self.alloc,
+            self.scenario,
+            self.entries.as_slice(),
+            self.made.as_slice(),
+            self.place,
+            to,
+        )?;
         let moved = moved_devices(
             self.alloc,
             self.scenario,
