@@ -9,7 +9,7 @@ use std::alloc::{AllocError, Global};
 use std::io;
 use std::sync::Wait;
 use std::thread::Threads;
-use ticket_lock::TicketLock;
+use ticket_lock::{OneLeft, PassesOut, TicketLock};
 
 /// Two threads add a hundred numbers each to one list: whether all are there. That each thread's are in order is
 /// proved.
@@ -37,6 +37,36 @@ fn is_claimed_once<R: Wait>(rt: &R, alloc: Global) -> Result<bool, AllocError> {
     Ok(first == Some(0) && second.is_none())
 }
 
+/// Splits the pass of a lock, and then a half of it: whether the halves have one number each, and can't be split.
+fn is_split_once(alloc: Global) -> Result<bool, AllocError> {
+    let (lock, pass) = TicketLock::new(Items::new(alloc), alloc)?;
+    let Ok((one, two)) = pass.split(&lock) else {
+        return Ok(false);
+    };
+    let has_numbers = one.number() == 1 && two.number() == 2;
+    match one.split(&lock) {
+        Ok(_) => Ok(false),
+        Err((one, OneLeft)) => Ok(has_numbers && one.number() == 1),
+    }
+}
+
+/// Closes a lock with a half of its pass, and then with all of it: whether the second time alone there is a value.
+fn is_closed_by_all(alloc: Global) -> Result<bool, AllocError> {
+    let (lock, pass) = TicketLock::new(Items::new(alloc), alloc)?;
+    let Ok((one, two)) = pass.split(&lock) else {
+        return Ok(false);
+    };
+    let (lock, one) = match lock.close(one) {
+        Ok(_) => return Ok(false),
+        Err((lock, one, PassesOut)) => (lock, one),
+    };
+    let pass = one.join(&lock, two);
+    match lock.close(pass) {
+        Ok(items) => Ok(items.as_slice().is_empty()),
+        Err(_) => Ok(false),
+    }
+}
+
 fn say<R: Print>(rt: &R, what: &str, is_so: bool) -> io::Result<()> {
     let word = if is_so { "yes" } else { "no" };
     println!(rt; "{what}: {word}")
@@ -56,5 +86,15 @@ pub fn show<R: Threads + Wait + Sync + Print>(rt: &R, alloc: Global) -> io::Resu
         "the last ticket is drawn once",
         is_last_drawn_once(rt, alloc)?,
     )?;
-    say(rt, "a place is claimed once", is_claimed_once(rt, alloc)?)
+    say(rt, "a place is claimed once", is_claimed_once(rt, alloc)?)?;
+    say(
+        rt,
+        "a pass of one number is not split",
+        is_split_once(alloc)?,
+    )?;
+    say(
+        rt,
+        "a lock whose pass is split is not closed by a half",
+        is_closed_by_all(alloc)?,
+    )
 }
