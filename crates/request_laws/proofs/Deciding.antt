@@ -168,16 +168,14 @@ good_clear client server m path operation good =
 
 pub good_is_done : OneTable → GoodIsDone
 good_is_done table client server m path operation asks =
-    let is = order table client server m path operation asks in
-    (
+    let is = order table client server m path operation asks in (
       λ h. (clear_good client server m path operation (is.when_done h).0, (is.when_done h).1),
       λ h. is.is_done (good_clear client server m path operation h.0) h.1,
     )
 
 pub limits_come_last : OneTable → LimitsComeLast
 limits_come_last table client server m path operation asks =
-    let is = order table client server m path operation asks in
-    (
+    let is = order table client server m path operation asks in (
       λ h. (clear_good client server m path operation (is.when_limit h).0, (is.when_limit h).1),
       λ h. is.is_limit (good_clear client server m path operation h.0) h.1,
     )

@@ -1,1 +1,9 @@
+mod Annotating
+mod Asking
+mod Changing
+mod Creating
 mod Deciding
+mod Deleting
+mod Executing
+mod PartBack
+mod Writing
