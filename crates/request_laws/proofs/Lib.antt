@@ -6,4 +6,5 @@ mod Deciding
 mod Deleting
 mod Executing
 mod PartBack
+mod PartWriting
 mod Writing

@@ -67,7 +67,7 @@ nodes_are : (d : ResourceDef) (n : ℕ) (nodes : Option Trees) (g : Given)
 nodes_are d n None g h = cc
 nodes_are d n (Some nodes) g h = record_is d n nodes g h
 
-gives_part : (d : ResourceDef) (n : ℕ) (format : Format) (payload : List ℕ) (g : Given)
+pub gives_part : (d : ResourceDef) (n : ℕ) (format : Format) (payload : List ℕ) (g : Given)
     → part_given d n format payload ≡ Some g → IsOnePart n g
 gives_part d n PlainText payload g h = one_is n (value_of_text d.kind payload) g h
 gives_part d n OctetStream payload g h = one_is n (value_of_bytes d.kind payload) g h
@@ -137,7 +137,7 @@ value_there s o i r n v =
     let p = part_of (resource_place o i r) n in
     behind s p p v ∙ ap (λ (b : Bool). cond b (Some v) (value_at s p)) ((eq_by_cmp_equiv path_total).refl p)
 
-part_good : (client : Client) (o i r n : ℕ) (payload : List ℕ) (f : Format) (given : Option Given)
+pub part_good : (client : Client) (o i r n : ℕ) (payload : List ℕ) (f : Format) (given : Option Given)
     → given_to_part (definition_of client.catalogue o r) n f payload ≡ given
     → not (is_some (values_given client.catalogue (Part o i r n) payload f)) ≡ false
     → (g : Given) × (given ≡ Some g)

@@ -1,8 +1,9 @@
 -- What a Write changes (OMA LwM2M 1.1 Core, Write: Replace and Partial Update).
-use Rattle.std.specs.Prelude.{◌≡◌, ◌≢◌, ℕ, true, false, List, Option, None, Some, if◌then◌else◌}
+use Rattle.std.specs.Prelude.{◌≡◌, ◌≢◌, ℕ, true, false, List, [], ◌∷◌, Option, Some, if◌then◌else◌}
 use Rattle.lwm2m_values.specs.declared.value.Value.{Value}
 use Rattle.object_defs.specs.Catalogue.{definition_of}
 use Rattle.object_defs.specs.Operations.{can_read}
+use Rattle.object_defs.specs.Path.{part_of}
 use Rattle.object_defs.specs.declared.definition.ResourceDef.{ResourceDef}
 use Rattle.object_defs.specs.declared.path.FullPath.{FullPath}
 use Rattle.object_defs.specs.declared.path.Path.TheVariants.{Instance, Resource, Part}
@@ -12,12 +13,12 @@ use Rattle.lwm2m_payloads.specs.Written.{value_behind, value_with}
 use Rattle.lwm2m_payloads.specs.declared.format.Format.{Format}
 use Rattle.lwm2m_payloads.specs.declared.given.Assignment.{Assignment}
 use Rattle.lwm2m_payloads.specs.declared.given.Given.{Given}
+use Rattle.lwm2m_payloads.specs.declared.given.Given.TheVariants.{Parts}
 use Rattle.lwm2m_payloads.specs.declared.given.Mode.{Mode}
-use Rattle.lwm2m_payloads.specs.declared.given.Mode.TheVariants.{Update}
 use Rattle.device_requests.specs.declared.answer.Code.TheVariants.{Changed}
 use Rattle.device_requests.specs.Client.{Client}
 use Rattle.device_requests.specs.Read.{format_at}
-use Rattle.device_requests.specs.Targets.{defined}
+use Rattle.device_requests.specs.Targets.{defined, resource_place}
 use Rattle.device_requests.specs.Write.{write_outcome}
 
 -- the payload gives values to resources of the instance; in it there is then what is given and kept, nothing where
@@ -60,3 +61,26 @@ ResourcesAreWritten =
     → (write_outcome client server mode (Resource o i r) number payload).answer.code ≡ Changed
     → IsResourceWritten client mode o i r number payload
     (write_outcome client server mode (Resource o i r) number payload).client.store
+
+-- the payload gives one value to the part, which is kept where the resource can be read; the other parts and all other
+-- values are as they were, whatever the mode is
+pub record IsPartWritten (client : Client) (o i r n : ℕ) (number : Option ℕ) (payload : List ℕ) (new : Stored)
+    : Type 0 where
+  pub definition : ResourceDef
+  pub is_defined : definition_of client.catalogue o r ≡ Some definition
+  pub format : Format
+  pub served : format_at client.catalogue (Part o i r n) number ≡ Some format
+  pub value : Value
+  pub gives : part_given definition n format payload ≡ Some (Parts ((n, value) ∷ []))
+  pub part : value_at new (part_of (resource_place o i r) n)
+      ≡ (if can_read definition.ops then Some value
+      else value_at client.store (part_of (resource_place o i r) n))
+  pub others : (q : FullPath) → q ≢ part_of (resource_place o i r) n → value_at new q ≡ value_at client.store q
+
+-- a Write of a part that is answered Changed
+abbrev pub PartsAreWritten : Type 0
+PartsAreWritten =
+    (client : Client) (server : ℕ) (mode : Mode) (o i r n : ℕ) (number : Option ℕ) (payload : List ℕ)
+    → (write_outcome client server mode (Part o i r n) number payload).answer.code ≡ Changed
+    → IsPartWritten client o i r n number payload
+    (write_outcome client server mode (Part o i r n) number payload).client.store

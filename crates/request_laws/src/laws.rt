@@ -7,7 +7,7 @@ ghost use Rattle.request_laws.specs.Deletions.{DeletesTake};
 ghost use Rattle.request_laws.specs.Executions.{ErrorsAreReset, ExecutesKeep, UpdatesBegin};
 ghost use Rattle.request_laws.specs.Good.{GoodIsDone, LimitsComeLast};
 ghost use Rattle.request_laws.specs.Readings.{PartIsRead};
-ghost use Rattle.request_laws.specs.Writes.{InstancesAreWritten, ResourcesAreWritten};
+ghost use Rattle.request_laws.specs.Writes.{InstancesAreWritten, PartsAreWritten, ResourcesAreWritten};
 
 use device_requests::refusals_have_reasons;
 
@@ -45,6 +45,7 @@ pub fn deletes_take_what_belongs()
 pub fn writes_are_kept()
     ensures instances { InstancesAreWritten }
     ensures resources { ResourcesAreWritten }
+    ensures parts { PartsAreWritten }
 {}
 
 /// A Create adds one instance that holds what was given and is kept; with two accounts or more also an instance of
