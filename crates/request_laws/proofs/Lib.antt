@@ -1,0 +1,10 @@
+mod Annotating
+mod Asking
+mod Changing
+mod Creating
+mod Deciding
+mod Deleting
+mod Executing
+mod PartBack
+mod PartWriting
+mod Writing

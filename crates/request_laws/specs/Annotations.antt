@@ -1,0 +1,33 @@
+-- What a Write-Attributes changes (OMA LwM2M 1.1 Core, Write-Attributes).
+use Rattle.std.specs.Prelude.{◌≡◌, ◌≢◌, ℕ, ℤ, ◌==◌, List, [], ◌∷◌, Option, Ok, if◌then◌else◌}
+use Rattle.std.specs.FinMap as map
+use Rattle.object_defs.specs.declared.path.Path.{Path}
+use Rattle.notifier.specs.declared.attribute.AttributeKey.{AttributeKey}
+use Rattle.notifier.specs.declared.attribute.Change.{Change}
+use Rattle.notifier.specs.declared.attribute.Name.{Name}
+use Rattle.notifier.specs.Attributes.{assigned, key_of, rank}
+use Rattle.notifier.specs.Query.{changes_of}
+use Rattle.device_requests.specs.declared.answer.Code.TheVariants.{Changed}
+use Rattle.device_requests.specs.Client.{Client}
+use Rattle.device_requests.specs.WriteAttributes.{attributes_outcome, level_at}
+
+-- the number of an attribute behind changes: that of the last change of its name, which may unset it
+abbrev pub changed_by : List Change → Name → Option ℤ → Option ℤ
+changed_by [] n before = before
+changed_by (c ∷ changes) n before = changed_by changes n (if rank c.name == rank n then c.number else before)
+
+-- the queries spell changes; the attributes of the server at the path are changed by them, all others are as they were
+pub record AreAnnotated (old new : Client) (server : ℕ) (path : Path) (queries : List (List ℕ)) : Type 0 where
+  pub changes : List Change
+  pub spells : changes_of [] (level_at old.catalogue path) queries ≡ Ok changes
+  pub own : (n : Name)
+      → assigned new.attributes server path n ≡ changed_by changes n (assigned old.attributes server path n)
+  pub others : (k : AttributeKey) → ((n : Name) → k ≢ key_of server path n)
+      → map.get new.attributes k ≡ map.get old.attributes k
+
+-- a Write-Attributes that is answered Changed
+abbrev pub AttributesAreSet : Type 0
+AttributesAreSet =
+    (client : Client) (server : ℕ) (path : Path) (queries : List (List ℕ))
+    → (attributes_outcome client server path queries).answer.code ≡ Changed
+    → AreAnnotated client (attributes_outcome client server path queries).client server path queries

@@ -1,0 +1,65 @@
+//! What follows from the tables of requests, for their readers. The calls do nothing; their contracts are the laws.
+
+ghost use Rattle.request_laws.specs.Annotations.{AttributesAreSet};
+ghost use Rattle.request_laws.specs.Changes.{OperationsKeepOthers};
+ghost use Rattle.request_laws.specs.Creations.{CreatesAdd};
+ghost use Rattle.request_laws.specs.Deletions.{DeletesTake};
+ghost use Rattle.request_laws.specs.Executions.{ErrorsAreReset, ExecutesKeep, UpdatesBegin};
+ghost use Rattle.request_laws.specs.Good.{GoodIsDone, LimitsComeLast};
+ghost use Rattle.request_laws.specs.Readings.{PartIsRead};
+ghost use Rattle.request_laws.specs.Writes.{InstancesAreWritten, PartsAreWritten, ResourcesAreWritten};
+
+use device_requests::refusals_have_reasons;
+
+/// A request is done exactly where it meets none of the rules and keeps to the limits; it is answered 5.00 exactly
+/// where it meets none of the rules before the limits, and does not keep to these.
+pub fn good_requests_are_done()
+    ensures done { GoodIsDone }
+    ensures limits { LimitsComeLast }
+{
+    refusals_have_reasons();
+}
+
+/// Attributes change by Write-Attributes and Delete alone, instances come and go by Create and Delete alone, and Read,
+/// Discover and Write-Attributes change nothing that is stored.
+pub fn operations_keep_others()
+    ensures { OperationsKeepOthers }
+{}
+
+/// An Execute changes nothing but the State and the Update Result, where it begins an update, and the Error Code, where
+/// it resets it.
+pub fn executes_change_little()
+    ensures nothing { ExecutesKeep }
+    ensures errors { ErrorsAreReset }
+    ensures update { UpdatesBegin }
+{}
+
+/// A Delete takes the instance and the instances of Access Control that refer to it, with their values and the
+/// attributes set at and below them, and nothing else.
+pub fn deletes_take_what_belongs()
+    ensures { DeletesTake }
+{}
+
+/// Behind a Write there is what was given, where it can be read; Replace takes away what was not given, Partial Update
+/// leaves it; nothing else changes.
+pub fn writes_are_kept()
+    ensures instances { InstancesAreWritten }
+    ensures resources { ResourcesAreWritten }
+    ensures parts { PartsAreWritten }
+{}
+
+/// A Create adds one instance that holds what was given and is kept; with two accounts or more also an instance of
+/// Access Control that refers to it and names its owner; nothing else changes.
+pub fn creates_add_one_instance()
+    ensures { CreatesAdd }
+{}
+
+/// A Write-Attributes sets the attributes of its server at its path as its queries say, and no others.
+pub fn attributes_are_set()
+    ensures { AttributesAreSet }
+{}
+
+/// A Read of a resource instance answers what was written there.
+pub fn reads_the_part_that_was_written()
+    ensures { PartIsRead }
+{}

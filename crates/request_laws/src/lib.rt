@@ -1,0 +1,10 @@
+//! What follows from the tables of requests, in the words of OMA LwM2M 1.1. Nothing runs here.
+#![tactic(auto)]
+
+mod laws;
+
+pub use laws::{
+    attributes_are_set, creates_add_one_instance, deletes_take_what_belongs,
+    executes_change_little, good_requests_are_done, operations_keep_others,
+    reads_the_part_that_was_written, writes_are_kept,
+};
