@@ -4,4 +4,7 @@
 
 mod laws;
 
-pub use laws::{decimals_are_read, messages_read_again};
+pub use laws::{
+    decimals_are_read, first_fault_decides, lines_have_words, messages_read_again,
+    queries_are_said, statements_are_said,
+};
