@@ -1,10 +1,10 @@
 -- A line is cut into the words that it has.
-use Rattle.std.proofs.Common.{◌≡◌, ◌≢◌, ◌⊎◌, ◌↔◌, ℕ, Bool, true, false, cond, eqb, List, [], ◌∷◌, ◌++◌, refl, sym}
+use Rattle.std.proofs.Common.{◌≡◌, ◌≢◌, ◌⊎◌, ℕ, cond, eqb, List, [], ◌∷◌, ◌++◌, refl, sym}
 use Rattle.std.proofs.Common.{ap, subst, ◌∙◌}
 use Rattle.std.proofs.Common.{append_assoc, append-nil, inl, inr}
-use Rattle.std.specs.List.{onto_first, AllByRecursion}
+use Rattle.std.specs.List.{onto_first}
 use Rattle.std.proofs.lemmas.Bool.{cases_eq, eq-eqb, ne_eqb}
-use Rattle.scenario_words.specs.Words.{Mode, gap, plain, quoted, scan, words}
+use Rattle.scenario_words.specs.Words.{gap, plain, quoted, scan, words}
 use Rattle.scenario_words.proofs.WordLaws.{plain_byte, gap_byte}
 use Rattle.reading_laws.specs.Line.{AreSpaces, IsWithout, IsComment, IsBare, IsInQuotes, IsUnclosed, AreWords}
 use Rattle.reading_laws.specs.Line.{LinesHaveWords}

@@ -1,9 +1,9 @@
 -- A query is read as what it says, and queries from the left.
-use Rattle.std.proofs.Common.{◌≡◌, ◌≢◌, ◌⊎◌, ◌↔◌, ℕ, ◌+◌, ◌<◌, ℤ, Bool, true, false, cond, ◌||◌, List, [], ◌∷◌}
-use Rattle.std.proofs.Common.{◌++◌, length}
+use Rattle.std.proofs.Common.{◌≡◌, ◌⊎◌, ℕ, ◌+◌, ℤ, Bool, true, false, cond, ◌||◌, List, [], ◌∷◌}
+use Rattle.std.proofs.Common.{◌++◌}
 use Rattle.std.proofs.Common.{take, drop, Option, None, Some, Result, Ok, Err, ◌==◌, refl, sym, ap, subst, ◌∙◌}
 use Rattle.std.proofs.Common.{arith, inl, inr}
-use Rattle.std.proofs.Common.{eqb-true, eq-eqb, ne_eqb, append_assoc, append-nil, if◌then◌else◌}
+use Rattle.std.proofs.Common.{eq-eqb, ne_eqb, append_assoc, append-nil, if◌then◌else◌}
 use Rattle.std.specs.Prelude.{option_map, position}
 use Rattle.std.specs.Str.{bytes_eq}
 use Rattle.std.specs.Map.{lookup}
@@ -18,11 +18,11 @@ use Rattle.notifier.specs.declared.attribute.Level.{Level}
 use Rattle.notifier.specs.declared.fault.QueryFault.{QueryFault}
 use Rattle.notifier.specs.declared.fault.QueryFault.TheVariants as fault
 use Rattle.notifier.specs.Attributes.{rank, name_at, name_at-rank}
-use Rattle.notifier.specs.Query.{spellings, name_of, equals_sign, name_part, number_part, number_of, target_of}
+use Rattle.notifier.specs.Query.{spellings, name_of, name_part, number_part, number_of, target_of}
 use Rattle.notifier.specs.Query.{stands_at}
 use Rattle.notifier.specs.Query.{is_of, change_to, change_of, reading_of, changes_of}
-use Rattle.reading_laws.specs.Queries.{name_text, SaysNumber, SaysTarget, Says, QueriesAreSaid, IsNew, AreSaid}
-use Rattle.reading_laws.specs.Queries.{ChangesAreSaid, Names, IsFault, IsFirstFault, FirstFaultDecides}
+use Rattle.reading_laws.specs.Queries.{name_text, SaysTarget, Says, QueriesAreSaid, IsNew, AreSaid}
+use Rattle.reading_laws.specs.Queries.{ChangesAreSaid, Names, IsFault, FirstFaultDecides}
 use Rattle.reading_laws.proofs.Numbers.{IsWithout, place_with, place_without, cut_at, front, back, said_number}
 use Rattle.reading_laws.proofs.Numbers.{number_said}
 

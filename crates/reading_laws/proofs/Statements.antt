@@ -1,5 +1,5 @@
 -- A statement is read from the words that say it.
-use Rattle.std.proofs.Common.{◌≡◌, ◌≢◌, ◌↔◌, ℕ, ◌<◌, ◌≤◌, ◌^◌, ◌==◌, ℤ, Bool, true, false, cond, List, [], ◌∷◌}
+use Rattle.std.proofs.Common.{◌≡◌, ℕ, ◌<◌, ◌≤◌, ◌^◌, ◌==◌, Bool, true, false, cond, List, [], ◌∷◌}
 use Rattle.std.proofs.Common.{Option, None}
 use Rattle.std.proofs.Common.{Some, Result, Ok, Err, refl, sym, ap, subst, ◌∙◌, arith, inl, inr, lit<}
 use Rattle.std.specs.Prelude.{codes}
@@ -21,7 +21,7 @@ use Rattle.object_defs.specs.Path.{path_text}
 use Rattle.scenario_words.specs.declared.cause.Cause.{Cause}
 use Rattle.scenario_words.specs.Reading.{◌>>=◌, word_by, ended}
 use Rattle.scenario_words.specs.Number.{number_of, integer_of}
-use Rattle.scenario_words.specs.HexWord.{IsHex, bytes_of}
+use Rattle.scenario_words.specs.HexWord.{bytes_of}
 use Rattle.scenario_words.specs.Quoted.{text_of}
 use Rattle.scenario_words.specs.PathWord.{IsPath, path_of, link_of}
 use Rattle.scenario_words.specs.ValueWords.{kind_named, kind_word, value_of, value_at}
@@ -38,10 +38,10 @@ use Rattle.scenario_mnemonics.specs.MnemonicWords.{keyword_word}
 use Rattle.scenario_mnemonics.specs.MnemonicWords.{verb_word, mnemonic_at}
 use Rattle.scenario_statements.specs.declared.statement.Statement.{Statement}
 use Rattle.scenario_statements.specs.declared.statement.Statement.TheVariants as says
-use Rattle.scenario_statements.specs.Grammar.{ops_named, one_of, only_number, definition, instance, value, recv, put}
+use Rattle.scenario_statements.specs.Grammar.{ops_named, one_of, only_number, definition, instance, recv}
 use Rattle.scenario_statements.specs.Grammar.{need, request, of_device, statement_by, some, statement_of}
 use Rattle.scenario_statements.specs.Spelling.{IsWithin, ops_word}
-use Rattle.reading_laws.specs.Statements.{IsValueWord, AreValueWords, multiple_word, mandatory_word, IsAsked}
+use Rattle.reading_laws.specs.Statements.{IsValueWord, AreValueWords, multiple_word, mandatory_word}
 use Rattle.reading_laws.specs.Statements.{IsSaidBy}
 use Rattle.reading_laws.specs.Statements.{StatementsAreSaid}
 

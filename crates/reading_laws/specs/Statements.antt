@@ -1,6 +1,6 @@
 -- Which words of a line of scenario text say which statement, by the grammar of the text. Numbers, paths and integers
 -- have one spelling each; bytes may be in either case of hex, and a text may be escaped.
-use Rattle.std.specs.Prelude.{◌≡◌, ◌↔◌, ◌<◌, ◌≤◌, ℕ, Bool, true, false, List, [], ◌∷◌, Option, Some, Ok, FitsSigned}
+use Rattle.std.specs.Prelude.{◌≡◌, ◌↔◌, ◌<◌, ◌≤◌, ℕ, Bool, true, false, List, [], ◌∷◌, Some, Ok, FitsSigned}
 use Rattle.std.specs.Prelude.{codes}
 use Rattle.std.specs.Int.{w64}
 use Rattle.std.specs.Fmt.{decimal, signed_decimal}
