@@ -1,0 +1,4 @@
+pub mod Line
+pub mod Numbers
+pub mod Saying
+pub mod Statements

@@ -1,0 +1,39 @@
+ghost use Rattle.std.specs.Prelude.{◌≡◌, ◌<◌, ◌↔◌, ℕ, List, Ok, Some};
+ghost use Rattle.std.specs.Fmt.{decimal};
+ghost use Rattle.coap_codec.specs.Message.{IsWellFormed, Message, spelling};
+ghost use Rattle.coap_codec.specs.Reading.{reading_of};
+ghost use Rattle.object_defs.specs.Decimal.{number_of};
+ghost use Rattle.reading_laws.specs.Line.{LinesHaveWords};
+ghost use Rattle.reading_laws.specs.Queries.{ChangesAreSaid, FirstFaultDecides, QueriesAreSaid};
+ghost use Rattle.reading_laws.specs.Statements.{StatementsAreSaid};
+
+/// A well-formed message is read from the bytes that it is spelled with.
+pub fn messages_read_again()
+    ensures { (m : Message) → IsWellFormed m → reading_of (spelling m) ≡ Ok m }
+{}
+
+/// A path segment is read as a number exactly where it is the decimal form of that number, of 16 bits.
+pub fn decimals_are_read()
+    ensures { (segment : List ℕ) (n : ℕ) → (number_of segment ≡ Some n) ↔ ((segment ≡ decimal n) × (n < 65536)) }
+{}
+
+/// A query of a Write-Attributes is read as a change exactly where that is what it says.
+pub fn queries_are_said()
+    ensures { QueriesAreSaid }
+{}
+
+/// Queries are read from the left as what each says, no two of one name; otherwise the first that has a fault decides.
+pub fn first_fault_decides()
+    ensures changes { ChangesAreSaid }
+    ensures fault { FirstFaultDecides }
+{}
+
+/// A line of scenario text is cut into these words exactly where they are the words that it has.
+pub fn lines_have_words()
+    ensures { LinesHaveWords }
+{}
+
+/// A statement of scenario text is read exactly from the words that say it.
+pub fn statements_are_said()
+    ensures { StatementsAreSaid }
+{}
