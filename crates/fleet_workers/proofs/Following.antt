@@ -16,7 +16,8 @@ use Rattle.shared_trace.specs.declared.claims.Claim.TheVariants.{Got, Busy, Done
 use Rattle.shared_trace.specs.Trace.{Traced, IsShared, with_block, open_by, trace_log}
 use Rattle.shared_trace.specs.Job.{Task, StandsIn, MayPut, IsSameJob}
 use Rattle.shared_trace.specs.Claims.{Claims, ClaimStands}
-use Rattle.fleet_workers.specs.Knowing.{Seen, IsByOne, Follows, Knows, IsDone, IsStalled, HasClaimed, IsPut}
+use Rattle.fleet_workers.specs.Blocks.{own_entries, IsPut}
+use Rattle.fleet_workers.specs.Knowing.{Seen, IsByOne, Follows, Knows, IsDone, IsStalled, HasClaimed}
 
 pub some_is : {X : Type 0} (x y : X) → Some x ≡ Some y → x ≡ y
 some_is x y e = cc
@@ -132,14 +133,15 @@ may_put v x job aware knows work ready =
 -- after the job was put
 pub is_put : (v r inside : Seen) (t : ℕ) (x y : Traced) (job : Task) → IsAware trace_log x v
     → inside ≡ arrived trace_log v t x → r ≡ given trace_log inside y
-    → y ≡ with_block x job.device job.shown job.entries → IsPut v.front job.entries r.front
-is_put v r inside t x y job aware entered is put =
+    → own_entries v.low x.entries ≡ own_entries v.low v.front
+    → y ≡ with_block x job.device job.shown job.entries → IsPut v.low v.front job.entries r.front
+is_put v r inside t x y job aware entered is own put =
     let there : r ≡ given trace_log (arrived trace_log v t x) y = is ∙ ap (λ w. given trace_log w y) entered in
     record {
       before = x.entries;
       begins = (aware.after, aware.front);
-      ends =
-          ap (λ w. w.front) there ∙ ap (λ z. z.entries) put;
+      others = own;
+      ends = ap (λ w. w.front) there ∙ ap (λ z. z.entries) put;
     }
 
 -- the job has made steps

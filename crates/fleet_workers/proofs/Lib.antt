@@ -1,3 +1,4 @@
 pub mod Following
+pub mod Blocks
 pub mod Ending
 pub mod Crossing

@@ -1,10 +1,11 @@
 -- The run that workers make together.
-use Rattle.std.specs.Prelude.{◌≡◌, ℕ, ◌≤◌, Bool, true, false, List}
+use Rattle.std.specs.Prelude.{◌≡◌, ℕ, ◌≤◌, Bool, true, false, List, []}
 use Rattle.std.specs.List.{AllByRecursion}
 use Rattle.scenario_image.specs.Scenario.{Scenario}
 use Rattle.trace_file.specs.declared.entry.Entry.{Entry}
 use Rattle.fleet_core.specs.Run.{IsRun, IsComplete, IsSerial, IsSame}
 use Rattle.fleet_core.specs.Waiting.{is_waiting, waiting}
+use Rattle.fleet_workers.specs.Blocks.{HasPut}
 use Rattle.fleet_workers.specs.Knowing.{IsDone, IsStalled}
 use Rattle.fleet_workers.specs.declared.loops.LoopEnd.{LoopEnd}
 use Rattle.fleet_workers.specs.declared.loops.LoopEnd.TheVariants as loops
@@ -37,12 +38,25 @@ pub record IsFleetRun (s : Scenario) (r : FleetRun) : Type 0 where
   pub serial : (es : List Entry) → IsSerial s es → (d : ℕ) → IsSame d r.entries es
   pub end : IsEndOf s r.entries r.end
 
+-- each of the two workers has put its own entries in blocks, once and in its order; the two make all of the run
+pub record AreByBlocks (s : Scenario) (batch : ℕ) (es : List Entry) : Type 0 where
+  pub workers : AllByRecursion IsByWorker es
+  pub first : HasPut s 1 batch [] es
+  pub second : HasPut s 2 batch [] es
+
 -- what the workers made until memory or the tickets ran out is a run
 abbrev pub Leaves : Scenario → RunFault → Type 0
 Leaves s (faults.Memory es) = IsRun s es
 Leaves s (faults.Spent es) = IsRun s es
 Leaves s faults.Workers = Unit {0}
 Leaves s faults.Batch = Unit {0}
+
+-- and it is made of blocks
+abbrev pub LeavesBlocks : Scenario → ℕ → RunFault → Type 0
+LeavesBlocks s batch (faults.Memory es) = AreByBlocks s batch es
+LeavesBlocks s batch (faults.Spent es) = AreByBlocks s batch es
+LeavesBlocks s batch faults.Workers = Unit {0}
+LeavesBlocks s batch faults.Batch = Unit {0}
 
 -- ---- what two workers leave
 

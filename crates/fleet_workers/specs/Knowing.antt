@@ -1,5 +1,5 @@
 -- What a worker knows by its pass, which has seen the log of a trace.
-use Rattle.std.specs.Prelude.{◌≡◌, ℕ, ◌+◌, ◌<◌, ◌≤◌, true, false, List, [], ◌++◌, length, Some}
+use Rattle.std.specs.Prelude.{◌≡◌, ℕ, ◌+◌, ◌<◌, ◌≤◌, true, false, List, [], ◌++◌, Some}
 use Rattle.std.specs.List.{AllByRecursion}
 use Rattle.scenario_image.specs.Scenario.{Scenario}
 use Rattle.trace_file.specs.declared.entry.Entry.{Entry}
@@ -61,19 +61,6 @@ HasClaimed v claims.Busy = Unit {0}
 HasClaimed v claims.Done = (s : Scenario) → v.subject ≡ Some s → IsDone s v.front
 HasClaimed v claims.Stalled = (s : Scenario) → v.subject ≡ Some s → IsStalled s v.front
 HasClaimed v claims.Stopped = Unit {0}
-
--- the block stands at the end of the new log, after all that was in the old one
-pub record IsPut (old block new : List Entry) : Type 0 where
-  pub before : List Entry
-  pub begins : Begins old before
-  pub ends : new ≡ before ++ block
-
--- the log has grown by a block of at least one entry and at most so many, which stands at its end
-pub record HasMade (old new : List Entry) (batch : ℕ) : Type 0 where
-  pub block : List Entry
-  pub put : IsPut old block new
-  pub least : 1 ≤ length block
-  pub most : length block ≤ batch
 
 -- what a pass knows at the end of its worker's loop
 abbrev pub EndsAs : Seen → LoopEnd → Type 0

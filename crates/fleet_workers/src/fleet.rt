@@ -7,9 +7,10 @@ ghost use Rattle.fleet_core.specs.Run.{IsRun, IsComplete};
 ghost use Rattle.ticket_lock.specs.Changes.{whole};
 ghost use Rattle.ticket_lock.specs.Names.{lock_id, opening_value, pass_view, IsPass};
 ghost use Rattle.shared_trace.specs.Trace.{trace_log};
+ghost use Rattle.fleet_workers.specs.Blocks.{HasPut};
 ghost use Rattle.fleet_workers.specs.Knowing.{Follows, EndsAs, IsStalled};
 ghost use Rattle.fleet_workers.specs.Fleet.{IsByWorker, IsFleetRun, IsEndOf, Leaves, IsLeft, HasEnded, Keeps, is_cut};
-ghost use Rattle.fleet_workers.specs.Fleet.{is_spent};
+ghost use Rattle.fleet_workers.specs.Fleet.{is_spent, AreByBlocks, LeavesBlocks};
 
 use crate::gate::Gate;
 use crate::loops::{LoopEnd, worker_loop};
@@ -153,7 +154,8 @@ fn run_two<R: Threads + Wait + Sync, G: Gate + Sync>(
     requires subject { (opening_value lock).subject ≡ scenario.now }
     requires empty { (opening_value lock).entries ≡ [] }
     requires batch { 1 ≤ batch }
-    ensures { IsLeft scenario.now result.0 result.1 result.2 }
+    ensures left { IsLeft scenario.now result.0 result.1 result.2 }
+    ensures blocks { AreByBlocks scenario.now batch result.0 }
 {
     let Ok((one, two)) = pass.split(&lock) else {
         unreachable!()
@@ -165,13 +167,15 @@ fn run_two<R: Threads + Wait + Sync, G: Gate + Sync>(
             requires { IsSync R.row × IsSync G.row × IsPass (lock_id shared.now) one
                 × ((pass_view one).subject ≡ Some scenario.now) × (1 ≤ batch) }
             ensures { IsPass (lock_id shared.entry.now) result.0 × Follows (pass_view one) (pass_view result.0)
-                × EndsAs (pass_view result.0) result.1 }
+                × EndsAs (pass_view result.0) result.1 × HasPut scenario.entry.now (pass_view one).low batch
+                (pass_view one).front (pass_view result.0).front }
         { worker_loop(rt, shared, one, scenario, batch, gate) },
         move || -> (Pass<Trace>, LoopEnd)
             requires { IsSync R.row × IsSync G.row × IsPass (lock_id shared.now) two
                 × ((pass_view two).subject ≡ Some scenario.now) × (1 ≤ batch) }
             ensures { IsPass (lock_id shared.entry.now) result.0 × Follows (pass_view two) (pass_view result.0)
-                × EndsAs (pass_view result.0) result.1 }
+                × EndsAs (pass_view result.0) result.1 × HasPut scenario.entry.now (pass_view two).low batch
+                (pass_view two).front (pass_view result.0).front }
         { worker_loop(rt, shared, two, scenario, batch, gate) },
     );
     let pass = one.join(&lock, two);
@@ -191,7 +195,9 @@ fn run_new<R: Threads + Wait + Sync, G: Gate + Sync>(
 ) -> Result<FleetRun, RunFault>
     requires batch { 1 ≤ batch }
     ensures run { IfOk result (λ r. IsFleetRun scenario.now r) }
+    ensures blocks { IfOk result (λ r. AreByBlocks scenario.now batch r.entries) }
     ensures left { IfErr result (λ e. Leaves scenario.now e) }
+    ensures left_blocks { IfErr result (λ e. LeavesBlocks scenario.now batch e) }
     ensures workers { result ≢ Err RunFault.Workers }
     ensures batch { result ≢ Err RunFault.Batch }
 {
@@ -221,7 +227,9 @@ pub fn run_fleet<R: Threads + Wait + Sync, G: Gate + Sync>(
     ensures workers { (result ≡ Err RunFault.Workers) ↔ (workers ≢ 2) }
     ensures batch { (result ≡ Err RunFault.Batch) ↔ ((workers ≡ 2) × ((1 ≤ batch) × (batch ≤ 64) → ⊥)) }
     ensures run { IfOk result (λ r. IsFleetRun scenario.now r) }
+    ensures blocks { IfOk result (λ r. AreByBlocks scenario.now batch r.entries) }
     ensures left { IfErr result (λ e. Leaves scenario.now e) }
+    ensures left_blocks { IfErr result (λ e. LeavesBlocks scenario.now batch e) }
 {
     if workers != 2 {
         return Err(RunFault::Workers);

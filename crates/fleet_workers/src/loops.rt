@@ -1,8 +1,10 @@
 //! The loop of a worker.
 
-ghost use Rattle.std.specs.Prelude.{◌≡◌, ◌≤◌, [], false, Some, IfSome, IfNone};
+ghost use Rattle.std.specs.Prelude.{◌≡◌, ◌≤◌, [], false, List, Some, IfSome, IfNone};
 ghost use Rattle.ticket_lock.specs.Names.{lock_id, pass_view, IsPass};
-ghost use Rattle.fleet_workers.specs.Knowing.{Follows, Knows, EndsAs, HasMade};
+ghost use Rattle.trace_file.specs.declared.entry.Entry.{Entry};
+ghost use Rattle.fleet_workers.specs.Blocks.{HasMade, HasPut};
+ghost use Rattle.fleet_workers.specs.Knowing.{Follows, Knows, EndsAs};
 
 use crate::gate::Gate;
 use crate::visits::{Put, claim_job, put_job, stop_trace};
@@ -45,7 +47,10 @@ fn make_steps<R: Wait, G: Gate>(
     requires ready { job.spent ≡ false }
     ensures pass { IsPass (lock_id lock.now) result.0 }
     ensures follows { Follows (pass_view pass) (pass_view result.0) }
-    ensures made { IfNone result.1 (HasMade (pass_view pass).front (pass_view result.0).front batch) }
+    ensures made { IfNone result.1 ((block : List Entry) × HasMade scenario.now (pass_view pass).low batch
+        (pass_view pass).front block (pass_view result.0).front) }
+    ensures blocks { HasPut scenario.now (pass_view pass).low batch
+        (pass_view pass).front (pass_view result.0).front }
     ensures end { IfSome result.1 (λ e. EndsAs (pass_view result.0) e) }
 {
     gate.pass(pass.number(), job.device());
@@ -56,6 +61,8 @@ fn make_steps<R: Wait, G: Gate>(
             return (stop_trace(rt, lock, pass), Some(LoopEnd::Memory));
         }
     }
+    // (what is known of a job's entries is told where they are asked for)
+    let _made = job.entries();
     let (pass, put) = put_job(rt, lock, pass, job);
     match put {
         Put::Made => (pass, None),
@@ -79,6 +86,8 @@ fn one_turn<R: Wait, G: Gate>(
     requires batch { 1 ≤ batch }
     ensures pass { IsPass (lock_id lock.now) result.0 }
     ensures follows { Follows (pass_view pass) (pass_view result.0) }
+    ensures blocks { HasPut scenario.now (pass_view pass).low batch
+        (pass_view pass).front (pass_view result.0).front }
     ensures end { IfSome result.1 (λ e. EndsAs (pass_view result.0) e) }
 {
     let (pass, claim) = claim_job(rt, lock, pass);
@@ -113,6 +122,8 @@ pub fn worker_loop<R: Wait, G: Gate>(
     requires batch { 1 ≤ batch }
     ensures pass { IsPass (lock_id lock.now) result.0 }
     ensures follows { Follows (pass_view pass) (pass_view result.0) }
+    ensures blocks { HasPut scenario.now (pass_view pass).low batch
+        (pass_view pass).front (pass_view result.0).front }
     ensures end { EndsAs (pass_view result.0) result.1 }
 {
     let backoff = Backoff::new();

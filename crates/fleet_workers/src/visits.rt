@@ -1,11 +1,13 @@
 //! What a worker does with the trace while it has the lock: it claims, it puts, it stops.
 
-ghost use Rattle.std.specs.Prelude.{◌≡◌, true, false, [], IfSome, IfNone};
+ghost use Rattle.std.specs.Prelude.{◌≡◌, ◌≢◌, ℕ, ◌++◌, true, false, [], IfSome, IfNone};
 ghost use Rattle.ticket_lock.specs.Log.{Adds};
+ghost use Rattle.ticket_lock.specs.Lock.{HasNumber};
 ghost use Rattle.ticket_lock.specs.Names.{lock_id, pass_view, IsPass};
 ghost use Rattle.shared_trace.specs.Trace.{IsShared, with_block, stopped_of, trace_log};
 ghost use Rattle.shared_trace.specs.Job.{MayPut};
-ghost use Rattle.fleet_workers.specs.Knowing.{Follows, Knows, HasClaimed, IsPut};
+ghost use Rattle.fleet_workers.specs.Blocks.{own_entries, IsPut};
+ghost use Rattle.fleet_workers.specs.Knowing.{Follows, Knows, HasClaimed};
 
 use shared_trace::{Claim, Job, Trace};
 use std::sync::Wait;
@@ -20,6 +22,8 @@ pub fn claim_job<R: Wait>(
     requires { IsPass (lock_id lock.now) pass }
     ensures pass { IsPass (lock_id lock.now) result.0 }
     ensures follows { Follows (pass_view pass) (pass_view result.0) }
+    ensures own { (n : ℕ) → HasNumber (pass_view pass) n
+        → own_entries n (pass_view result.0).front ≡ own_entries n (pass_view pass).front }
     ensures claimed { IfSome result.1 (λ claim. HasClaimed (pass_view result.0) claim) }
     ensures spent { IfNone result.1 ((pass_view result.0).end ≡ true) }
 {
@@ -74,7 +78,12 @@ pub fn put_job<R: Wait>(
     requires ready { job.spent ≡ false }
     ensures pass { IsPass (lock_id lock.now) result.0 }
     ensures follows { Follows (pass_view pass) (pass_view result.0) }
-    ensures put { result.1 ≡ Put.Made → IsPut (pass_view pass).front job.entries (pass_view result.0).front }
+    ensures put { result.1 ≡ Put.Made
+        → IsPut (pass_view pass).low (pass_view pass).front job.entries (pass_view result.0).front }
+    ensures own { result.1 ≡ Put.Made → own_entries (pass_view pass).low (pass_view result.0).front
+        ≡ own_entries (pass_view pass).low (pass_view pass).front ++ job.entries }
+    ensures kept { result.1 ≢ Put.Made → own_entries (pass_view pass).low (pass_view result.0).front
+        ≡ own_entries (pass_view pass).low (pass_view pass).front }
     ensures spent { result.1 ≡ Put.Spent → (pass_view result.0).end ≡ true }
 {
     let worker = pass.number();
@@ -95,6 +104,8 @@ pub fn stop_trace<R: Wait>(rt: &R, lock: &TicketLock<Trace>, pass: Pass<Trace>) 
     requires { IsPass (lock_id lock.now) pass }
     ensures pass { IsPass (lock_id lock.now) result }
     ensures follows { Follows (pass_view pass) (pass_view result) }
+    ensures own { (n : ℕ) → HasNumber (pass_view pass) n
+        → own_entries n (pass_view result).front ≡ own_entries n (pass_view pass).front }
 {
     match lock.take(rt, pass) {
         Ok(mut held) => {

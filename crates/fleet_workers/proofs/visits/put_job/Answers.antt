@@ -1,8 +1,9 @@
 use Rattle.std.proofs.Common.{[], sym, ap, subst, ◌∙◌, arith}
 use Rattle.ticket_lock.specs.Log.{Adds}
-use Rattle.shared_trace.specs.Trace.{with_block, trace_log}
+use Rattle.shared_trace.specs.Trace.{with_block, stopped_of, trace_log}
 use Rattle.shared_trace.specs.Job.{MayPut}
 use Rattle.fleet_workers.proofs.Following.{follows, follows_ended, may_put, is_put}
+use Rattle.fleet_workers.proofs.Blocks.{own_left, own_ended, own_block, own_put}
 use Rattle.fleet_workers.proofs.visits.put_job.Goals as goal
 use Rattle.fleet_workers.proofs.visits.put_job.Goals.{then-put, else-put}
 
@@ -32,10 +33,43 @@ returns-after-put-clause-put g c made =
       | then-put w ↦
           is_put v c.give.result.seat.me.0 h.seat.me.0 c.in-Ok.ensures.view.0 h.value new job c.in-Ok.ensures.value
           c.in-Ok.ensures.view.1 c.give.ensures.given
+          (c.in-Ok.ensures.own v.low (omega arith, omega (arith, c.args.pass.within.0, c.args.pass.numbers.1)))
           (c.put_or_stop-put.ensures.put w.if-put.true
           ∙ ap (λ x. with_block x job.device job.shown job.entries) c.value_mut.ensures.value)
       | else-put w ↦ (let e = sym made ∙ w.result-is in absurd cc)
     ]
 
+pub returns-after-put-clause-own : goal.returns-after-put-clause-own
+returns-after-put-clause-own g c made =
+    let v = c.args.pass.seat.me.0 in let h = c.in-Ok.held in let new = c.put_or_stop-put.new.trace in let job =
+    c.args.job in
+    elim c.if-put.branch [
+      | then-put w ↦
+          own_put v.low v.front job.entries c.give.result.seat.me.0.front (returns-after-put-clause-put g c made)
+          (own_block v.low h.value new job
+          (subst (λ x. Adds trace_log v.low x new) c.value_mut.ensures.value
+          (subst (λ n. Adds trace_log n c.value_mut.result.now new) c.number-worker.ensures
+          c.put_or_stop-put.ensures.adds))
+          (c.put_or_stop-put.ensures.put w.if-put.true
+          ∙ ap (λ x. with_block x job.device job.shown job.entries) c.value_mut.ensures.value))
+      | else-put w ↦ (let e = sym made ∙ w.result-is in absurd cc)
+    ]
+
+pub returns-after-put-clause-kept : goal.returns-after-put-clause-kept
+returns-after-put-clause-kept g c not =
+    let v = c.args.pass.seat.me.0 in let h = c.in-Ok.held in let new = c.put_or_stop-put.new.trace in
+    elim c.if-put.branch [
+      | then-put w ↦ absurd (not w.result-is)
+      | else-put w ↦
+          own_left v.low v c.give.result.seat.me.0 h.seat.me.0 h.value new c.give.ensures.given
+          (ap (λ t. t.entries)
+          (c.put_or_stop-put.ensures.stopped w.if-put.false ∙ ap stopped_of c.value_mut.ensures.value))
+          (c.in-Ok.ensures.own v.low (omega arith, omega (arith, c.args.pass.within.0, c.args.pass.numbers.1)))
+    ]
+
 pub returns-in-Err-clause-follows : goal.returns-in-Err-clause-follows
 returns-in-Err-clause-follows g c = follows_ended c.args.pass.seat.me.0 c.in-Err.pass.seat.me.0 c.in-Err.ensures.spent.1
+
+pub returns-in-Err-clause-kept : goal.returns-in-Err-clause-kept
+returns-in-Err-clause-kept g c not =
+    own_ended c.args.pass.seat.me.0.low c.args.pass.seat.me.0 c.in-Err.pass.seat.me.0 c.in-Err.ensures.spent.1

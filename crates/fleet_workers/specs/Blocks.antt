@@ -1,0 +1,48 @@
+-- What each worker puts into the log: blocks of steps, one after another.
+use Rattle.std.specs.Prelude.{◌≡◌, ℕ, ◌<◌, ◌≤◌, ◌==◌, false, List, [], ◌∷◌, ◌++◌, length, filter, flat_map}
+use Rattle.std.specs.List.{AllByRecursion}
+use Rattle.scenario_image.specs.Scenario.{Scenario}
+use Rattle.trace_file.specs.declared.entry.Entry.{Entry}
+use Rattle.fleet_core.specs.Run.{IsRun, is_enabled}
+use Rattle.ticket_lock.specs.Log.{Begins}
+use Rattle.shared_trace.specs.Job.{IsOf}
+
+-- the worker's own entries, in order
+abbrev pub own_entries : ℕ → List Entry → List Entry
+own_entries worker es = filter (λ e. e.worker == worker) es
+
+-- the block was made after these entries, which the worker had seen: with them it is a run. It has at least one entry
+-- and at most so many, all of one device and under the worker's number; and fewer only where the device can't step then
+pub record IsBlock (s : Scenario) (worker batch : ℕ) (seen block : List Entry) : Type 0 where
+  pub run : IsRun s (seen ++ block)
+  pub least : 1 ≤ length block
+  pub most : length block ≤ batch
+  pub device : ℕ
+  pub each : AllByRecursion (IsOf worker device) block
+  pub stops : length block < batch → is_enabled s (seen ++ block) device ≡ false
+
+-- the block stands at the end of the new log, after all that was in the old one; what came before it is of others
+pub record IsPut (worker : ℕ) (old block new : List Entry) : Type 0 where
+  pub before : List Entry
+  pub begins : Begins old before
+  pub others : own_entries worker before ≡ own_entries worker old
+  pub ends : new ≡ before ++ block
+
+-- the log has grown by a block, which the worker made after a beginning of the log
+pub record HasMade (s : Scenario) (worker batch : ℕ) (old block new : List Entry) : Type 0 where
+  pub put : IsPut worker old block new
+  pub seen : List Entry
+  pub begins : Begins seen put.before
+  pub made : IsBlock s worker batch seen block
+
+-- from the old log to the new one the worker has put these blocks, one after another, and no other entry
+abbrev pub AreMade : Scenario → ℕ → ℕ → List Entry → List (List Entry) → List Entry → Type 0
+AreMade s worker batch old [] new = Begins old new × (own_entries worker new ≡ own_entries worker old)
+AreMade s worker batch old (block ∷ blocks) new =
+    (next : List Entry) × HasMade s worker batch old block next × AreMade s worker batch next blocks new
+
+-- the worker's own entries are those of the old log, and then the blocks that it has put, each once and in their order
+pub record HasPut (s : Scenario) (worker batch : ℕ) (old new : List Entry) : Type 0 where
+  pub blocks : List (List Entry)
+  pub own : own_entries worker new ≡ own_entries worker old ++ flat_map (λ block. block) blocks
+  pub made : AreMade s worker batch old blocks new
