@@ -105,6 +105,10 @@ EMPTY = struct.pack(">IBI", 0x4C575452, 1, 0)
 # The runs of workers: one or two, with batches of so many steps.
 RUNS = [f"{workers} {batch}" for workers in ("one", "two") for batch in (1, 16, 64)]
 
+# One worker without threads: one that claims each device once and makes its row in a single batch, and one that claims
+# and puts as often as there are steps, and makes none.
+ALONE = ["one row", "visits"]
+
 
 def serial_scenarios():
     """Name, and the steps of each device, of the scenarios that the serial run makes."""
@@ -134,7 +138,7 @@ def write_apart(path, steps, devices):
     if child == 0:
         with open(path, "wb") as out:
             out.write(image([steps] * devices))
-        for kind in ["start", "serial", *RUNS]:
+        for kind in ["start", "serial", *RUNS, *ALONE]:
             with open(path, "rb") as data, open(f"{path}-{kind.replace(' ', '-')}", "w", encoding="ascii") as out:
                 out.write(f"{kind}\n{data.read().hex()}\n")
         os._exit(0)
@@ -250,7 +254,7 @@ def main():
         table(["Steps", "Devices", "Each", "Start ms", "Run ms", "A step", "A step of check", "Image", "Trace",
                "Start MiB", "Run MiB"], [it.serial_row() for it in serial])
         workers = [Measured(folder, it) for it in worker_scenarios()]
-        kinds = ["serial", *RUNS]
+        kinds = ["serial", *RUNS, *ALONE]
         for _ in range(times):
             for it in workers:
                 for kind in ["start", *kinds]:

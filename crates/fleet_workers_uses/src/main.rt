@@ -3,6 +3,7 @@
 //! shows what no clause says. With lines on standard input it makes a run instead, for bench/ to measure.
 #![tactic(auto)]
 
+mod compared;
 mod gates;
 mod measured;
 mod rows;

@@ -1,8 +1,9 @@
-//! One run, for bench/ to measure.
+//! One run, for bench/ to measure, or the trace of the serial run, for tools/many-runs to compare with.
 ghost use Rattle.std.specs.Prelude.{◌≤◌};
 ghost use Rattle.std.specs.Thread.{IsSync};
 
-use fleet_core::{run_serial, start_devices};
+use crate::turns::{claimed, is_put};
+use fleet_core::{run_serial, start_devices, write_entries};
 use fleet_workers::{OpenGate, run_fleet, worker_loop};
 use scenario_image::{Scenario, load};
 use shared_trace::Trace;
@@ -45,6 +46,29 @@ fn by_one<R: Wait>(rt: &R, alloc: Global, scenario: &Scenario, batch: u32) -> Op
     Some(trace.into_entries().as_slice().len())
 }
 
+/// How often one worker claims a device and puts it again without a step: as often as the rows have steps.
+fn by_visits<R: Wait>(rt: &R, alloc: Global, scenario: &Scenario) -> Option<usize> {
+    let Ok(trace) = Trace::new(alloc, scenario) else {
+        return None;
+    };
+    let Ok((lock, mut pass)) = TicketLock::new(trace, alloc) else {
+        return None;
+    };
+    let total = scenario.steps();
+    for _made in 0..total {
+        let (outside, job) = claimed(rt, &lock, pass);
+        let Some(job) = job else {
+            return None;
+        };
+        let (back, put) = is_put(rt, &lock, outside, job);
+        pass = back;
+        if !put {
+            return None;
+        }
+    }
+    Some(total)
+}
+
 /// How many steps two workers make.
 fn by_two<R: Threads + Wait + Sync>(
     rt: &R,
@@ -61,7 +85,8 @@ fn by_two<R: Threads + Wait + Sync>(
 }
 
 /// How many steps the run of this kind makes: `start` starts the devices alone, `two 16` lets two workers run with
-/// batches of 16.
+/// batches of 16, and `one row` lets one make each row as a single batch. `visits` makes none: it claims and puts as
+/// often as there are steps.
 fn steps<R: Threads + Wait + Sync>(
     rt: &R,
     alloc: Global,
@@ -76,10 +101,26 @@ fn steps<R: Threads + Wait + Sync>(
         "one 1" => by_one(rt, alloc, scenario, 1),
         "one 16" => by_one(rt, alloc, scenario, 16),
         "one 64" => by_one(rt, alloc, scenario, 64),
+        "one row" => by_one(rt, alloc, scenario, u32::MAX),
+        "visits" => by_visits(rt, alloc, scenario),
         "two 1" => by_two(rt, alloc, scenario, 1),
         "two 16" => by_two(rt, alloc, scenario, 16),
         "two 64" => by_two(rt, alloc, scenario, 64),
         _ => None,
+    }
+}
+
+/// The trace file of the serial run, in hexadecimal.
+fn serial_trace(alloc: Global, scenario: &Scenario) -> Option<String> {
+    let Ok(entries) = run_serial(alloc, scenario) else {
+        return None;
+    };
+    let Ok(bytes) = write_entries(alloc, entries.as_slice()) else {
+        return None;
+    };
+    match hex::encode(alloc, bytes.as_slice()) {
+        Ok(text) => Some(text),
+        Err(_) => None,
     }
 }
 
@@ -94,7 +135,7 @@ fn scenario_of(alloc: Global, hex: &str) -> Option<Scenario> {
 }
 
 /// Makes the run whose kind the first line names, of the scenario whose image the second one has in hexadecimal, and
-/// prints how many steps it has.
+/// prints how many steps it has; of the kind `trace` it prints the trace file of the serial run.
 pub fn run<R: Threads + Wait + Sync + Print>(rt: &R, alloc: Global, text: &str) -> io::Result<()>
     requires { IsSync R.row }
 {
@@ -104,6 +145,12 @@ pub fn run<R: Threads + Wait + Sync + Print>(rt: &R, alloc: Global, text: &str) 
     let Some(scenario) = scenario_of(alloc, rest.trim()) else {
         return println!(rt; "no scenario");
     };
+    if kind == "trace" {
+        return match serial_trace(alloc, &scenario) {
+            Some(text) => println!(rt; "{text}"),
+            None => println!(rt; "no run"),
+        };
+    }
     match steps(rt, alloc, kind, &scenario) {
         Some(count) => println!(rt; "steps {count}"),
         None => println!(rt; "no run"),

@@ -1,6 +1,7 @@
 //! What the program prints.
 ghost use Rattle.std.specs.Thread.{IsSync};
 
+use crate::compared::is_as_serial;
 use crate::gates::BothCome;
 use crate::rows::{is_exchanged, is_given_up, is_stopped};
 use crate::scenes::{TWINS, scenario_of};
@@ -62,5 +63,10 @@ pub fn show<R: Threads + Wait + Sync + Print>(rt: &R, alloc: Global) -> io::Resu
         rt,
         "two workers are outside the lock at once, and both make steps",
         do_both_work(rt, alloc),
+    )?;
+    say(
+        rt,
+        "two workers make what one makes, device by device",
+        is_as_serial(rt, alloc)?,
     )
 }
