@@ -2,10 +2,12 @@
 use Rattle.std.specs.Prelude.{ℕ, ◌==◌, nat_le, ℤ, pos, negsuc, bit_and, Bool, true, false, not, ◌&&◌, Option, None}
 use Rattle.std.specs.Prelude.{Some, find, if◌then◌else◌}
 use Rattle.std.specs.Int.{w64, cast_unsigned}
+use Rattle.lwm2m_values.specs.Value.{is_integer}
 use Rattle.lwm2m_values.specs.declared.value.Value.{Value}
 use Rattle.lwm2m_values.specs.declared.value.Value.TheVariants.{Text, Whole, Flag, Opaque, Moment, Link}
 use Rattle.object_defs.specs.declared.path.ResourcePath.{ResourcePath}
 use Rattle.object_defs.specs.Path.{single_of, part_of}
+use Rattle.object_defs.specs.Numbers.{access_control_object, object_id, object_instance_id, acl, access_control_owner}
 use Rattle.instance_store.specs.Stored.{Stored, value_at, instances_of}
 use Rattle.access_control.specs.declared.letters.Rights.{Rights}
 
@@ -41,10 +43,9 @@ letters_in bits =
 abbrev pub letters_of : ℤ → Rights
 letters_of number = letters_in (cast_unsigned w64 number)
 
--- a resource of an instance of object 2 Access Control: 0 Object ID, 1 Object Instance ID, 2 ACL, 3 Access Control
--- Owner
+-- a resource of an instance of Access Control
 abbrev pub control : ℕ → ℕ → ResourcePath
-control instance resource = record { object = 2; instance = instance; resource = resource }
+control instance resource = record { object = access_control_object; instance = instance; resource = resource }
 
 -- the Integer that stands at a path, if there is one
 abbrev pub integer_in : Option Value → Option ℤ
@@ -56,31 +57,27 @@ integer_in (Some (Opaque _)) = None
 integer_in (Some (Moment _)) = None
 integer_in (Some (Link _ _)) = None
 
--- whether an Integer is this number; a negative one is none
-abbrev pub is_number : ℕ → Option ℤ → Bool
-is_number n None = false
-is_number n (Some (pos m)) = m == n
-is_number n (Some (negsuc _)) = false
-
--- whether a single resource of an instance of object 2 holds this number
+-- whether a single resource of an instance of Access Control holds this number
 abbrev pub names : Stored → ℕ → ℕ → ℕ → Bool
-names stored j resource n = is_number n (integer_in (value_at stored (single_of (control j resource))))
+names stored j resource n = is_integer n (integer_in (value_at stored (single_of (control j resource))))
 
--- the entry of a server in the ACL of an instance of object 2; entry 0 is the default
+-- the entry of a server in the ACL of an instance of Access Control; entry 0 is the default
 abbrev pub entry_of : Stored → ℕ → ℕ → Option ℤ
-entry_of stored j server = integer_in (value_at stored (part_of (control j 2) server))
+entry_of stored j server = integer_in (value_at stored (part_of (control j acl) server))
 
 -- whether the server is the Access Control Owner
 abbrev pub owns : Stored → ℕ → ℕ → Bool
-owns stored j server = names stored j 3 server
+owns stored j server = names stored j access_control_owner server
 
--- whether an instance of object 2 speaks of this object and instance
+-- whether an instance of Access Control speaks of this object and instance
 abbrev pub speaks_of : Stored → ℕ → ℕ → ℕ → Bool
-speaks_of stored j object instance = names stored j 0 object && names stored j 1 instance
+speaks_of stored j object instance =
+    names stored j object_id object && names stored j object_instance_id instance
 
--- the lowest instance of object 2 that does
+-- the lowest instance of Access Control that does
 abbrev pub control_of : Stored → ℕ → ℕ → Option ℕ
-control_of stored object instance = find (λ j. speaks_of stored j object instance) (instances_of stored 2)
+control_of stored object instance =
+    find (λ j. speaks_of stored j object instance) (instances_of stored access_control_object)
 
 -- by entry 0, if there is one
 abbrev pub right_by_default : Option ℤ → Rights
@@ -97,7 +94,7 @@ abbrev pub right_by : Stored → ℕ → Option ℕ → Rights
 right_by stored server None = no_right
 right_by stored server (Some j) = right_by_entry stored j server (entry_of stored j server)
 
--- an instance of object 2 itself can be read by all, and written by its owner
+-- an instance of Access Control itself can be read by all, and written by its owner
 abbrev pub right_on_control : Stored → ℕ → ℕ → Rights
 right_on_control stored server j = if owns stored j server then read_and_write else read_alone
 
@@ -105,7 +102,7 @@ right_on_control stored server j = if owns stored j server then read_and_write e
 abbrev pub right_of : Stored → ℕ → ℕ → ℕ → ℕ → Rights
 right_of stored accounts server object instance =
     if nat_le accounts 1 then every_right
-    else (if object == 2 then right_on_control stored server instance
+    else (if object == access_control_object then right_on_control stored server instance
     else right_by stored server (control_of stored object instance))
 
 -- the instance number that no instance has, by which creating is allowed

@@ -1,22 +1,22 @@
 ghost use Rattle.std.specs.Prelude.{◌≡◌};
+ghost use Rattle.lwm2m_values.specs.Value.{is_integer};
 ghost use Rattle.object_defs.specs.Path.{single_of};
 ghost use Rattle.instance_store.specs.Stored.{value_at, instances_of};
-ghost use Rattle.access_control.specs.Rights.{control, integer_in, is_number, names, speaks_of, entry_of, control_of};
+ghost use Rattle.access_control.specs.Rights.{control, integer_in, names, speaks_of, entry_of, control_of};
 ghost use Rattle.access_control.specs.Rights.{right_by, right_on_control, right_of, creation};
 
 use crate::letters::{EVERY, NONE, READ, READ_WRITE, Rights, letters_of};
 use instance_store::Store;
 use lwm2m_values::Value;
+use object_defs::object_number::ACCESS_CONTROL;
+use object_defs::resource_number::{ACCESS_CONTROL_OWNER, ACL, OBJECT_ID, OBJECT_INSTANCE_ID};
 use object_defs::{FullPath, ResourcePath};
-
-/// Object 2 Access Control.
-const ACCESS_CONTROL: u16 = 2;
 
 /// The number that stands for the instances that are not there yet.
 const CREATION: u16 = 65535;
 
-/// A resource of an instance of object 2.
-fn control(instance: u16, resource: u16) -> ResourcePath
+/// Returns the path of a resource of an instance of Access Control.
+pub fn control(instance: u16, resource: u16) -> ResourcePath
     ensures { result ≡ control instance resource }
 {
     ResourcePath {
@@ -37,7 +37,7 @@ fn integer_at(store: &Store, path: FullPath) -> Option<i64>
     }
 }
 
-/// Whether a single resource of an instance of object 2 holds this number.
+/// Whether a single resource of an instance of Access Control holds this number.
 fn names(store: &Store, instance: u16, resource: u16, number: u16) -> bool
     ensures { result ≡ names store.now instance resource number }
 {
@@ -48,22 +48,22 @@ fn names(store: &Store, instance: u16, resource: u16, number: u16) -> bool
     }
 }
 
-/// The entry of a server in the ACL of an instance of object 2.
+/// The entry of a server in the ACL of an instance of Access Control.
 fn entry_of(store: &Store, instance: u16, server: u16) -> Option<i64>
     ensures { result ≡ entry_of store.now instance server }
 {
-    let acl = control(instance, 2);
+    let acl = control(instance, ACL);
     integer_at(store, acl.part(server))
 }
 
-/// Whether an instance of object 2 speaks of this object and instance.
+/// Whether an instance of Access Control speaks of this object and instance.
 fn speaks_of(store: &Store, control: u16, object: u16, instance: u16) -> bool
     ensures { result ≡ speaks_of store.now control object instance }
 {
-    names(store, control, 0, object) && names(store, control, 1, instance)
+    names(store, control, OBJECT_ID, object) && names(store, control, OBJECT_INSTANCE_ID, instance)
 }
 
-/// The lowest instance of object 2 that speaks of this object and instance.
+/// The lowest instance of Access Control that speaks of this object and instance.
 pub fn control_of(store: &Store, object: u16, instance: u16) -> Option<u16>
     ensures { result ≡ control_of store.now object instance }
 {
@@ -71,7 +71,7 @@ pub fn control_of(store: &Store, object: u16, instance: u16) -> Option<u16>
     controls.find(|control| speaks_of(store, *control, object, instance))
 }
 
-/// The right that an instance of object 2 gives a server.
+/// The right that an instance of Access Control gives a server.
 fn right_by(store: &Store, server: u16, instance: Option<u16>) -> Rights
     ensures { result ≡ right_by store.now server instance }
 {
@@ -81,7 +81,7 @@ fn right_by(store: &Store, server: u16, instance: Option<u16>) -> Rights
     if let Some(number) = entry_of(store, instance, server) {
         return letters_of(number);
     }
-    if names(store, instance, 3, server) {
+    if names(store, instance, ACCESS_CONTROL_OWNER, server) {
         return EVERY;
     }
     match entry_of(store, instance, 0) {
@@ -90,11 +90,11 @@ fn right_by(store: &Store, server: u16, instance: Option<u16>) -> Rights
     }
 }
 
-/// The right of a server on an instance of object 2.
+/// The right of a server on an instance of Access Control.
 fn right_on_control(store: &Store, server: u16, instance: u16) -> Rights
     ensures { result ≡ right_on_control store.now server instance }
 {
-    if names(store, instance, 3, server) {
+    if names(store, instance, ACCESS_CONTROL_OWNER, server) {
         READ_WRITE
     } else {
         READ

@@ -5,5 +5,5 @@ mod control;
 pub mod laws;
 mod letters;
 
-pub use control::{control_of, may_create, rights};
+pub use control::{control, control_of, may_create, rights};
 pub use letters::Rights;

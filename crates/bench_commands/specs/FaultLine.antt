@@ -1,8 +1,7 @@
 -- What the program prints for a fault.
 use Rattle.std.specs.Prelude.{ℕ, List, ◌++◌, Option, None, Some, codes}
 use Rattle.std.specs.Fmt.{decimal}
-use Rattle.scenario_words.specs.declared.cause.Cause.{Cause}
-use Rattle.scenario_words.specs.declared.cause.Cause.TheVariants as causes
+use Rattle.scenario_words.specs.CauseWords.{cause_words}
 use Rattle.byte_layout.specs.declared.fault.LayoutFault.{LayoutFault}
 use Rattle.byte_layout.specs.declared.fault.LayoutFault.TheVariants.{Magic, Version, Cut, Trailing, BadField, Limit}
 use Rattle.byte_layout.specs.declared.fault.LayoutFault.TheVariants as layout
@@ -21,16 +20,6 @@ layout_word Trailing = codes "trailing"
 layout_word (BadField place) = codes "bad field"
 layout_word (Limit place) = codes "limit"
 layout_word layout.Memory = codes "memory"
-
--- the words of what a line of a text is refused for
-abbrev pub cause_words : Cause → List ℕ
-cause_words causes.Missing = codes "missing"
-cause_words causes.Token = codes "token"
-cause_words causes.UnknownWord = codes "unknown word"
-cause_words causes.Range = codes "range"
-cause_words causes.Duplicate = codes "duplicate"
-cause_words causes.Limit = codes "limit"
-cause_words causes.Memory = codes "memory"
 
 -- the word of a refusal of a template
 abbrev pub template_word : TemplateFault → List ℕ

@@ -1,9 +1,8 @@
 //! Which word of a refused line of scenario text is to blame.
-use crate::fault::cause_words;
 use crate::refusal::Why;
 use scenario_asm::AsmFault;
 use scenario_statements::read_statement;
-use scenario_words::{Cause, next_line, next_word};
+use scenario_words::{Cause, cause_words, next_line, next_word};
 use std::alloc::{AllocError, Global};
 use std::str;
 

@@ -1,12 +1,12 @@
 ghost use Rattle.std.specs.Prelude.{◌≡◌};
-ghost use Rattle.bench_commands.specs.FaultLine.{cause_words, fault_word, layout_word, template_word};
+ghost use Rattle.bench_commands.specs.FaultLine.{fault_word, layout_word, template_word};
 
 use byte_layout::LayoutFault;
 use device_machine::TemplateFault;
 use fleet_workers::RunFault;
 use hex::FromHexError;
 use scenario_asm::AsmFault;
-use scenario_words::Cause;
+use scenario_words::{Cause, cause_words};
 use std::alloc::{AllocError, AllocFailed};
 use std::fmt;
 use trace_file::WriteFault;
@@ -106,20 +106,6 @@ fn layout_word(fault: LayoutFault) -> &'static str
         LayoutFault::BadField(_) => "bad field",
         LayoutFault::Limit(_) => "limit",
         LayoutFault::Memory => "memory",
-    }
-}
-
-pub(crate) fn cause_words(cause: Cause) -> &'static str
-    ensures { result.now ≡ cause_words cause }
-{
-    match cause {
-        Cause::Missing => "missing",
-        Cause::Token => "token",
-        Cause::UnknownWord => "unknown word",
-        Cause::Range => "range",
-        Cause::Duplicate => "duplicate",
-        Cause::Limit => "limit",
-        Cause::Memory => "memory",
     }
 }
 

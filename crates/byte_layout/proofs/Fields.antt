@@ -7,7 +7,7 @@ use Rattle.std.proofs.lemmas.List.{take_at, drop_at, take-append-drop, length-ap
 use Rattle.std.proofs.lemmas.Nat.{be_bytes_2, be_bytes_4, be_bytes_8, from_be_bytes-to_be_bytes_2}
 use Rattle.std.proofs.lemmas.Nat.{from_be_bytes-to_be_bytes_4, from_be_bytes-to_be_bytes_8}
 use Rattle.byte_layout.specs.declared.fault.Break.TheVariants.{Cut}
-use Rattle.byte_layout.specs.Part.{raw, number}
+use Rattle.byte_layout.specs.Layout.{raw, number}
 use Rattle.byte_layout.specs.Exact.{IsBytes, IsExact}
 use Rattle.byte_layout.proofs.Steps.{barred_ok, barred_err, are_bytes-take}
 

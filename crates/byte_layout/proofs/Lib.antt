@@ -1,6 +1,6 @@
 pub mod Steps
 pub mod Fields
-pub mod Parts
+pub mod Layouts
 pub mod Lists
 pub mod Signed
 pub mod Whole

@@ -5,16 +5,16 @@ use Rattle.std.specs.List.{slice_get, flat_map}
 use Rattle.std.proofs.lemmas.List.{append-nil}
 use Rattle.std.proofs.lemmas.List.Concat.{flat_map-cons}
 use Rattle.byte_layout.specs.declared.fault.Break.{Break}
-use Rattle.byte_layout.specs.Part.{Part, ◌>>=◌, linked, each, counted}
+use Rattle.byte_layout.specs.Layout.{Layout, ◌>>=◌, linked, each, counted}
 use Rattle.byte_layout.specs.Exact.{IsBytes, IsExact, left_of}
 use Rattle.byte_layout.proofs.Steps.{ok_is, went_well, bind_ok, bind_err}
-use Rattle.byte_layout.proofs.Parts.{bytes_behind, le_behind, done_exact, split_exact}
+use Rattle.byte_layout.proofs.Layouts.{bytes_behind, le_behind, done_exact, split_exact}
 
 -- the head is put before the tail that was read
 abbrev joined : {A : Type 0} → A → Result (List A × List ℕ) Break → Result (List A × List ℕ) Break
 joined a r = r >>= λ xs. Ok (a ∷ xs.0, xs.1)
 
-linked_taken : {A : Type 0} (p : Part A) (q : A → Part (List A)) → IsExact p → ((a : A) → p.Good a → IsExact (q a))
+linked_taken : {A : Type 0} (p : Layout A) (q : A → Layout (List A)) → IsExact p → ((a : A) → p.Good a → IsExact (q a))
     → (bytes : List ℕ) → IsBytes bytes → (xs : List A) (rest : List ℕ) → (linked p q).read bytes ≡ Ok (xs, rest)
     → (linked p q).Good xs × (bytes ≡ (linked p q).spell xs ++ rest)
 linked_taken {A = A} p q first second bytes fits xs rest e =
@@ -30,7 +30,7 @@ linked_taken {A = A} p q first second bytes fits xs rest e =
           ∙ sym (append_assoc (p.spell s.0.0) ((q s.0.0).spell t.0.0) t.0.1),
     )
 
-linked_again : {A : Type 0} (p : Part A) (q : A → Part (List A)) → IsExact p → ((a : A) → p.Good a → IsExact (q a))
+linked_again : {A : Type 0} (p : Layout A) (q : A → Layout (List A)) → IsExact p → ((a : A) → p.Good a → IsExact (q a))
     → (xs : List A) (rest : List ℕ) → (linked p q).Good xs
     → (linked p q).read ((linked p q).spell xs ++ rest) ≡ Ok (xs, rest)
 linked_again p q first second [] rest good = absurd good
@@ -40,7 +40,7 @@ linked_again {A = A} p q first second (a ∷ xs) rest good =
     ∙ ap (λ r. r >>= after) (first.again a ((q a).spell xs ++ rest) good.0)
     ∙ ap (joined a) ((second a good.0).again xs rest good.1)
 
-linked_broken : {A : Type 0} (p : Part A) (q : A → Part (List A)) → IsExact p → ((a : A) → p.Good a → IsExact (q a))
+linked_broken : {A : Type 0} (p : Layout A) (q : A → Layout (List A)) → IsExact p → ((a : A) → p.Good a → IsExact (q a))
     → (bytes : List ℕ) → IsBytes bytes → (b : Break) → (linked p q).read bytes ≡ Err b → (linked p q).Breaks bytes b
 linked_broken p q first second bytes fits b e =
     elim (bind_err (p.read bytes) (λ x. joined x.0 ((q x.0).read x.1)) b e) [
@@ -59,7 +59,8 @@ linked_broken p q first second bytes fits b e =
           ]
     ]
 
-linked_refused : {A : Type 0} (p : Part A) (q : A → Part (List A)) → IsExact p → ((a : A) → p.Good a → IsExact (q a))
+linked_refused : {A : Type 0} (p : Layout A) (q : A → Layout (List A)) → IsExact p
+    → ((a : A) → p.Good a → IsExact (q a))
     → (bytes : List ℕ) (b : Break) → (linked p q).Breaks bytes b → (linked p q).read bytes ≡ Err b
 linked_refused {A = A} p q first second bytes b h =
     let after = λ (x : A × List ℕ). joined x.0 ((q x.0).read x.1) in
@@ -69,7 +70,8 @@ linked_refused {A = A} p q first second bytes b h =
           ∙ ap (joined k.0) ((second k.0 k.2).refused k.1 b k.4)
     ]
 
-pub linked_exact : {A : Type 0} (p : Part A) (q : A → Part (List A)) → IsExact p → ((a : A) → p.Good a → IsExact (q a))
+pub linked_exact : {A : Type 0} (p : Layout A) (q : A → Layout (List A)) → IsExact p
+    → ((a : A) → p.Good a → IsExact (q a))
     → IsExact (linked p q)
 linked_exact p q first second = record {
   taken = linked_taken p q first second;
@@ -83,7 +85,7 @@ linked_exact p q first second = record {
       ];
 }
 
-pub each_exact : {A : Type 0} (part : List A → Part A) → ((before : List A) → IsExact (part before))
+pub each_exact : {A : Type 0} (part : List A → Layout A) → ((before : List A) → IsExact (part before))
     → (n : ℕ) (before : List A) → IsExact (each part n before)
 unfolding each
 each_exact part exact zero before = done_exact []
@@ -91,21 +93,21 @@ each_exact part exact (suc n) before =
     linked_exact (part before) (λ a. each part n (before ++ a ∷ [])) (exact before)
     (λ a good. each_exact part exact n (before ++ a ∷ []))
 
-pub each_length : {A : Type 0} (part : List A → Part A) (n : ℕ) (before xs : List A) → (each part n before).Good xs
+pub each_length : {A : Type 0} (part : List A → Layout A) (n : ℕ) (before xs : List A) → (each part n before).Good xs
     → length xs ≡ n
 unfolding each
 each_length part zero before xs good = ap length good
 each_length part (suc n) before [] good = absurd good
 each_length part (suc n) before (x ∷ xs) good = ap suc (each_length part n (before ++ x ∷ []) xs good.1)
 
-pub counted_exact : {A : Type 0} (count : Part ℕ) (part : List A → Part A) → IsExact count
+pub counted_exact : {A : Type 0} (count : Layout ℕ) (part : List A → Layout A) → IsExact count
     → ((before : List A) → IsExact (part before)) → IsExact (counted count part)
 counted_exact count part first exact =
     split_exact length count (λ n. each part n []) first (λ n good. each_exact part exact n [])
     (λ n good xs h. each_length part n [] xs h)
 
 -- items that are spelled alike whatever stands before them are spelled one after another
-pub each_spelled : {A : Type 0} (part : List A → Part A) (f : A → List ℕ)
+pub each_spelled : {A : Type 0} (part : List A → Layout A) (f : A → List ℕ)
     → ((before : List A) (a : A) → (part before).spell a ≡ f a) → (n : ℕ) (before xs : List A)
     → (each part n before).Good xs → (each part n before).spell xs ≡ flat_map f xs
 unfolding each
@@ -117,7 +119,7 @@ each_spelled part f alike (suc n) before (x ∷ xs) good =
     ∙ sym (flat_map-cons f x xs)
 
 -- one more item, which may stand after the others
-pub each_push : {A : Type 0} (part : List A → Part A) (n : ℕ) (before xs : List A) (x : A)
+pub each_push : {A : Type 0} (part : List A → Layout A) (n : ℕ) (before xs : List A) (x : A)
     → (each part n before).Good xs → (part (before ++ xs)).Good x → (each part (suc n) before).Good (xs ++ x ∷ [])
 unfolding each
 each_push {A = A} part zero before xs x good last =
@@ -131,7 +133,7 @@ each_push {A = A} part (suc n) before (y ∷ xs) x good last = (
 )
 
 -- each item may stand after those before it
-pub each_at : {A : Type 0} (part : List A → Part A) (n : ℕ) (before xs : List A) → (each part n before).Good xs
+pub each_at : {A : Type 0} (part : List A → Layout A) (n : ℕ) (before xs : List A) → (each part n before).Good xs
     → (i : ℕ) (x : A) → slice_get xs i ≡ Some x → (part (before ++ take i xs)).Good x
 unfolding each
 each_at part zero before xs good i x at =

@@ -5,7 +5,7 @@ use Rattle.std.proofs.lemmas.List.{append-nil}
 use Rattle.byte_layout.specs.declared.fault.Break.{Break}
 use Rattle.byte_layout.specs.declared.fault.ReadError.{ReadError}
 use Rattle.byte_layout.specs.declared.fault.ReadError.TheVariants as errors
-use Rattle.byte_layout.specs.Part.{Part, ◌>>=◌, each}
+use Rattle.byte_layout.specs.Layout.{Layout, ◌>>=◌, each}
 use Rattle.byte_layout.specs.Outcome.{Fails}
 
 -- what was read before, and what is still read
@@ -13,7 +13,7 @@ abbrev pub with_front : {A : Type 0} → List A → Result (List A × List ℕ) 
 with_front front r = r >>= λ x. Ok (front ++ x.0, x.1)
 
 -- after the items of front, so many are left; the bytes are those of the rest, and total is what all of them give
-abbrev pub IsLeft : {A : Type 0} → (List A → Part A) → List A → ℕ → List ℕ → Result (List A × List ℕ) Break → Type 0
+abbrev pub IsLeft : {A : Type 0} → (List A → Layout A) → List A → ℕ → List ℕ → Result (List A × List ℕ) Break → Type 0
 IsLeft part front left bytes total = with_front front ((each part left front).read bytes) ≡ total
 
 regroup : {A : Type 0} (front : List A) (a : A) (r : Result (List A × List ℕ) Break)
@@ -26,13 +26,13 @@ no_front (Ok x) = refl
 no_front (Err b) = refl
 
 -- at the loop's start
-pub starts : {A : Type 0} (part : List A → Part A) (count : ℕ) (bytes : List ℕ)
+pub starts : {A : Type 0} (part : List A → Layout A) (count : ℕ) (bytes : List ℕ)
     → IsLeft part [] (count - 0) bytes ((each part count []).read bytes)
 starts part count bytes = let k : count - 0 ≡ count =
     omega arith in ap (λ n. with_front [] ((each part n []).read bytes)) k ∙ no_front ((each part count []).read bytes)
 
 -- an item was read
-pub goes_on : {A : Type 0} (part : List A → Part A) (front : List A) (count i : ℕ) (bytes : List ℕ) (a : A)
+pub goes_on : {A : Type 0} (part : List A → Layout A) (front : List A) (count i : ℕ) (bytes : List ℕ) (a : A)
     (after : List ℕ) (total : Result (List A × List ℕ) Break) (before : List A) → before ≡ front → i < count
     → (part before).read bytes ≡ Ok (a, after)
     → IsLeft part front (count - i) bytes total → IsLeft part (front ++ a ∷ []) (count - (i + 1)) after total
@@ -47,7 +47,7 @@ goes_on part front count i bytes a after total before same lt h so_far =
     sym one ∙ so_far
 
 -- an item was not read
-pub ends : {A : Type 0} (part : List A → Part A) (e : ReadError) (front : List A) (count i : ℕ) (bytes : List ℕ)
+pub ends : {A : Type 0} (part : List A → Layout A) (e : ReadError) (front : List A) (count i : ℕ) (bytes : List ℕ)
     (total : Result (List A × List ℕ) Break) (before : List A) → before ≡ front → i < count
     → Fails e ((part before).read bytes)
     → IsLeft part front (count - i) bytes total → Fails e total
@@ -60,7 +60,7 @@ ends part (errors.Fault b) front count i bytes total before same lt h so_far =
     sym so_far ∙ one
 
 -- none is left
-pub is_done : {A : Type 0} (part : List A → Part A) (front : List A) (count i : ℕ) (bytes : List ℕ)
+pub is_done : {A : Type 0} (part : List A → Layout A) (front : List A) (count i : ℕ) (bytes : List ℕ)
     (total : Result (List A × List ℕ) Break) → count ≤ i → IsLeft part front (count - i) bytes total
     → total ≡ Ok (front, bytes)
 unfolding each

@@ -5,10 +5,10 @@ use mir.Val.{bits}
 use Rattle.std.specs.Prelude.{FitsSigned}
 use Rattle.std.proofs.lemmas.Int.{of_z-to_z, to_z-of_z}
 use Rattle.std.proofs.Math.Facts.{Fits-of_z, Fits-of_lt, sfits_to_z}
-use Rattle.byte_layout.specs.Part.{signed, number}
+use Rattle.byte_layout.specs.Layout.{signed, number}
 use Rattle.byte_layout.specs.Exact.{IsExact}
 use Rattle.byte_layout.proofs.Fields.{IsWide, number_exact, number_good, number_below, wide64}
-use Rattle.byte_layout.proofs.Parts.{last_exact}
+use Rattle.byte_layout.proofs.Layouts.{last_exact}
 
 signed_exact : (w : Width) → IsWide w → 256 ^ byte_len w ≡ 2 ^ bits w → IsExact (signed w)
 signed_exact w wide whole =

@@ -4,7 +4,7 @@ use Rattle.std.proofs.Common.{Result, Ok, Err, refl, arith, inl, inr}
 use Rattle.std.proofs.lemmas.Bool.{cases_lt}
 use Rattle.std.proofs.lemmas.List.{get_or-drop, get_or-take, get_or_past, length-take}
 use Rattle.byte_layout.specs.declared.fault.Break.{Break}
-use Rattle.byte_layout.specs.Part.{◌>>=◌}
+use Rattle.byte_layout.specs.Layout.{◌>>=◌}
 use Rattle.byte_layout.specs.Exact.{IsBytes}
 
 -- a reading that went well

@@ -4,14 +4,14 @@ use Rattle.std.proofs.Common.{ap, ◌∙◌, append_assoc}
 use Rattle.std.proofs.lemmas.Option.{slice_get-get_or}
 use Rattle.std.proofs.lemmas.List.{append-nil, take_more, take_all}
 use Rattle.byte_layout.proofs.Lists.{each_at}
-use Rattle.byte_layout.specs.Part.{Part, each}
+use Rattle.byte_layout.specs.Layout.{Layout, each}
 
 -- the bytes of items, each knowing those before it
-abbrev pub spelled : {A : Type 0} → (List A → Part A) → List A → List A → List ℕ
+abbrev pub spelled : {A : Type 0} → (List A → Layout A) → List A → List A → List ℕ
 spelled part before [] = []
 spelled part before (x ∷ xs) = (part before).spell x ++ spelled part (before ++ x ∷ []) xs
 
-pub spelled_push : {A : Type 0} (part : List A → Part A) (before xs : List A) (x : A)
+pub spelled_push : {A : Type 0} (part : List A → Layout A) (before xs : List A) (x : A)
     → spelled part before (xs ++ x ∷ []) ≡ spelled part before xs ++ (part (before ++ xs)).spell x
 spelled_push part before [] x =
     append-nil ((part before).spell x) ∙ ap (λ ys. (part ys).spell x) (sym (append-nil before))
@@ -21,7 +21,7 @@ spelled_push part before (y ∷ xs) x =
     ∙ sym (append_assoc ((part before).spell y) (spelled part (before ++ y ∷ []) xs)
     ((part (before ++ y ∷ xs)).spell x))
 
-pub each_spells : {A : Type 0} (part : List A → Part A) (n : ℕ) (before xs : List A) → (each part n before).Good xs
+pub each_spells : {A : Type 0} (part : List A → Layout A) (n : ℕ) (before xs : List A) → (each part n before).Good xs
     → (each part n before).spell xs ≡ spelled part before xs
 unfolding each
 each_spells part zero before xs good = sym (ap (spelled part before) good)
@@ -30,13 +30,13 @@ each_spells part (suc n) before (x ∷ xs) good =
     ap (λ t. (part before).spell x ++ t) (each_spells part n (before ++ x ∷ []) xs good.1)
 
 -- the item at i may be written after those before it
-pub may_write : {A : Type 0} (part : List A → Part A) (list : List A) (i : ℕ) (x : A)
+pub may_write : {A : Type 0} (part : List A → Layout A) (list : List A) (i : ℕ) (x : A)
     → (each part (length list) []).Good list → i < length list → x ≡ get_or list i x → (part (take i list)).Good x
 may_write part list i x good lt item =
     each_at part (length list) [] list good i x (slice_get-get_or list i x lt ∙ ap (λ y. Some y) (sym item))
 
 -- it was written
-pub writes_on : {A : Type 0} (part : List A → Part A) (list : List A) (i : ℕ) (x : A) (start out new : List ℕ)
+pub writes_on : {A : Type 0} (part : List A → Layout A) (list : List A) (i : ℕ) (x : A) (start out new : List ℕ)
     → i < length list → x ≡ get_or list i x
     → new ≡ out ++ (part (take i list)).spell x → out ≡ start ++ spelled part [] (take i list)
     → new ≡ start ++ spelled part [] (take (i + 1) list)
@@ -49,7 +49,7 @@ writes_on part list i x start out new lt item step so_far =
     ∙ ap (λ t. start ++ t) (sym (spelled_push part [] front x) ∙ ap (spelled part []) (sym more))
 
 -- all were written
-pub all_written : {A : Type 0} (part : List A → Part A) (list : List A) (i : ℕ) (start out : List ℕ)
+pub all_written : {A : Type 0} (part : List A → Layout A) (list : List A) (i : ℕ) (start out : List ℕ)
     → (each part (length list) []).Good list → length list ≤ i
     → out ≡ start ++ spelled part [] (take i list) → out ≡ start ++ (each part (length list) []).spell list
 all_written part list i start out good le so_far =

@@ -2,7 +2,7 @@
 use Rattle.std.specs.Prelude.{◌≡◌, ℕ, ◌<◌, ◌≤◌, List, ◌++◌, length, slice_index, Ok, Err}
 use Rattle.byte_layout.specs.declared.fault.Break.{Break}
 use Rattle.byte_layout.specs.declared.fault.Break.TheVariants.{Magic, Version, Cut, Trailing, BadField, Limit}
-use Rattle.byte_layout.specs.Part.{Part}
+use Rattle.byte_layout.specs.Layout.{Layout}
 
 -- a list of bytes
 abbrev pub IsBytes : List ℕ → Type 0
@@ -20,7 +20,7 @@ left_of (Limit left) = left
 -- what is read is a good value, and the bytes are its spelling with what is left after it; the spelling of a good
 -- value is read again, whatever stands after it; a reading breaks off exactly where the bytes do, and so; and no break
 -- says that more bytes are left than there are
-pub record IsExact {A : Type 0} (p : Part A) : Type 0 where
+pub record IsExact {A : Type 0} (p : Layout A) : Type 0 where
   pub taken : (bytes : List ℕ) → IsBytes bytes → (a : A) (rest : List ℕ) → p.read bytes ≡ Ok (a, rest) → p.Good a
       × (bytes ≡ p.spell a ++ rest)
   pub again : (a : A) (rest : List ℕ) → p.Good a → p.read (p.spell a ++ rest) ≡ Ok (a, rest)

@@ -1,4 +1,4 @@
-pub mod Part
+pub mod Layout
 pub mod Whole
 pub mod Outcome
 pub mod Exact

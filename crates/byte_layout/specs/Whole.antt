@@ -6,21 +6,21 @@ use Rattle.byte_layout.specs.declared.fault.ReadError.{ReadError}
 use Rattle.byte_layout.specs.declared.fault.ReadError.TheVariants as errors
 use Rattle.byte_layout.specs.declared.fault.LayoutFault.{LayoutFault}
 use Rattle.byte_layout.specs.declared.fault.LayoutFault.TheVariants as faults
-use Rattle.byte_layout.specs.Part.{Part, ◌>>=◌}
+use Rattle.byte_layout.specs.Layout.{Layout, ◌>>=◌}
 
 -- the bytes are those of this good value, all of them
-abbrev pub IsAll : {A : Type 0} → Part A → List ℕ → A → Type 0
+abbrev pub IsAll : {A : Type 0} → Layout A → List ℕ → A → Type 0
 IsAll p bytes a = p.Good a × (bytes ≡ p.spell a)
 
 -- the bytes break off within the part, or a good value's stand there and at least one after them
-abbrev pub BreaksOff : {A : Type 0} → Part A → List ℕ → Break → Type 0
+abbrev pub BreaksOff : {A : Type 0} → Layout A → List ℕ → Break → Type 0
 BreaksOff p bytes b =
     p.Breaks bytes b
     ⊎ ((a : _) × (first : ℕ) × (rest : List ℕ) × p.Good a × (bytes ≡ p.spell a ++ first ∷ rest)
     × (b ≡ breaks.Trailing))
 
 -- the value of all of the bytes, or the first break
-abbrev pub read_all : {A : Type 0} → Part A → List ℕ → Result A Break
+abbrev pub read_all : {A : Type 0} → Layout A → List ℕ → Result A Break
 read_all p bytes = p.read bytes >>= λ x. if length x.1 == 0 then Ok x.0 else Err breaks.Trailing
 
 -- the fault of so many bytes that break off so: its place is counted from the first byte
@@ -38,5 +38,5 @@ fault_of total errors.Memory = faults.Memory
 fault_of total (errors.Fault b) = placed total b
 
 -- the bytes have this fault, the first from the left
-abbrev pub HasFault : {A : Type 0} → Part A → List ℕ → LayoutFault → Type 0
+abbrev pub HasFault : {A : Type 0} → Layout A → List ℕ → LayoutFault → Type 0
 HasFault p bytes fault = (b : Break) × BreaksOff p bytes b × (fault ≡ placed (length bytes) b)

@@ -10,7 +10,7 @@ use std::alloc::Global;
 
 /// A format of bytes, and how values are read in it.
 pub trait Format {
-    ghost use Rattle.byte_layout.specs.Part.{Part};
+    ghost use Rattle.byte_layout.specs.Layout.{Layout};
     ghost use Rattle.byte_layout.specs.Outcome.{Gives};
 
     /// What is read.
@@ -22,7 +22,7 @@ pub trait Format {
     ghost view: { Self.Value → Data };
 
     /// How it is laid out.
-    ghost layout: { Part Data };
+    ghost layout: { Layout Data };
 
     /// The value at the front of the bytes, and the bytes after it.
     fn read(alloc: Global, bytes: &[u8]) -> Result<(Self::Value, &[u8]), ReadError>

@@ -1,5 +1,5 @@
 ghost use Rattle.std.specs.Prelude.{◌≡◌, ◌++◌, [], length, OnOk};
-ghost use Rattle.byte_layout.specs.Part.{each};
+ghost use Rattle.byte_layout.specs.Layout.{each};
 ghost use Rattle.byte_layout.specs.Outcome.{Gives};
 
 use crate::fault::ReadError;
@@ -8,14 +8,14 @@ use std::alloc::{AllocError, Global};
 /// How items are read that stand one after another, where each may depend on those before it.
 pub trait Items {
     ghost use Rattle.std.specs.Prelude.{List};
-    ghost use Rattle.byte_layout.specs.Part.{Part};
+    ghost use Rattle.byte_layout.specs.Layout.{Layout};
     ghost use Rattle.byte_layout.specs.Outcome.{Gives};
 
     /// An item.
     type Item: Drop;
 
     /// How an item is laid out after those.
-    ghost part: { Self → List Self.Item → Part Self.Item };
+    ghost part: { Self → List Self.Item → Layout Self.Item };
 
     /// The item at the front of the bytes, after those, and the bytes after it.
     fn item_at<'a>(

@@ -2,7 +2,7 @@ ghost use Rattle.std.specs.Prelude.{◌≡◌, ◌↔◌, ◌≤◌, ◌⊎◌, 
 ghost use Rattle.byte_layout.specs.declared.fault.Break.{Break};
 ghost use Rattle.byte_layout.specs.declared.fault.LayoutFault.{LayoutFault};
 ghost use Rattle.std.specs.Int.{w8, w16, w32, w64};
-ghost use Rattle.byte_layout.specs.Part.{raw, number, signed};
+ghost use Rattle.byte_layout.specs.Layout.{raw, number, signed};
 ghost use Rattle.byte_layout.specs.Whole.{IsAll, BreaksOff, HasFault, read_all};
 ghost use Rattle.byte_layout.specs.Exact.{IsBytes, IsExact, left_of};
 

@@ -3,13 +3,13 @@
 ghost use Rattle.std.specs.Prelude.{◌≡◌, ◌≢◌, ◌≤◌, length, IfOk, IfErr};
 ghost use Rattle.std.specs.Int.{w8, w16, w32, w64};
 ghost use Rattle.byte_layout.specs.declared.fault.ReadError.TheVariants.{Memory};
-ghost use Rattle.byte_layout.specs.Part.{raw, number, signed, at_most};
+ghost use Rattle.byte_layout.specs.Layout.{raw, number, signed, at_most};
 ghost use Rattle.byte_layout.specs.Outcome.{Gives};
 
 use crate::fault::{Break, ReadError};
 
 /// A number of one byte, and the bytes after it.
-#[tactic(auto, unfolding(crate::specs::Part::number, crate::specs::Part::raw))]
+#[tactic(auto, unfolding(crate::specs::Layout::number, crate::specs::Layout::raw))]
 pub fn u8_at(bytes: &[u8]) -> Result<(u8, &[u8]), ReadError>
     ensures read { Gives (λ x. (x.0, x.1.now)) result ((number w8).read bytes.now) }
     ensures no_memory { IfErr result (λ e. e ≢ Memory) }
@@ -21,7 +21,7 @@ pub fn u8_at(bytes: &[u8]) -> Result<(u8, &[u8]), ReadError>
 }
 
 /// A number of two bytes, the high one first, and the bytes after it.
-#[tactic(auto, unfolding(crate::specs::Part::number, crate::specs::Part::raw))]
+#[tactic(auto, unfolding(crate::specs::Layout::number, crate::specs::Layout::raw))]
 pub fn u16_at(bytes: &[u8]) -> Result<(u16, &[u8]), ReadError>
     ensures read { Gives (λ x. (x.0, x.1.now)) result ((number w16).read bytes.now) }
     ensures no_memory { IfErr result (λ e. e ≢ Memory) }
@@ -31,7 +31,7 @@ pub fn u16_at(bytes: &[u8]) -> Result<(u16, &[u8]), ReadError>
 }
 
 /// A number of four bytes, the highest first, and the bytes after it.
-#[tactic(auto, unfolding(crate::specs::Part::number, crate::specs::Part::raw))]
+#[tactic(auto, unfolding(crate::specs::Layout::number, crate::specs::Layout::raw))]
 pub fn u32_at(bytes: &[u8]) -> Result<(u32, &[u8]), ReadError>
     ensures read { Gives (λ x. (x.0, x.1.now)) result ((number w32).read bytes.now) }
     ensures no_memory { IfErr result (λ e. e ≢ Memory) }
@@ -68,7 +68,7 @@ pub fn u16_at_most(limit: u16, bytes: &[u8]) -> Result<(u16, &[u8]), ReadError>
 }
 
 /// A signed number of eight bytes in two's complement, the highest first, and the bytes after it.
-#[tactic(auto, unfolding(crate::specs::Part::number, crate::specs::Part::raw))]
+#[tactic(auto, unfolding(crate::specs::Layout::number, crate::specs::Layout::raw))]
 pub fn i64_at(bytes: &[u8]) -> Result<(i64, &[u8]), ReadError>
     ensures read { Gives (λ x. (x.0, x.1.now)) result ((signed w64).read bytes.now) }
     ensures no_memory { IfErr result (λ e. e ≢ Memory) }
@@ -81,7 +81,7 @@ pub fn i64_at(bytes: &[u8]) -> Result<(i64, &[u8]), ReadError>
 }
 
 /// So many bytes, lent, and the bytes after them.
-#[tactic(auto, unfolding(crate::specs::Part::raw))]
+#[tactic(auto, unfolding(crate::specs::Layout::raw))]
 pub fn bytes_at(count: usize, bytes: &[u8]) -> Result<(&[u8], &[u8]), ReadError>
     ensures read { Gives (λ x. (x.0.now, x.1.now)) result ((raw count).read bytes.now) }
     ensures len { IfOk result (λ x. length x.0.now ≡ count) }

@@ -3,12 +3,12 @@
 
 ghost use Rattle.std.specs.Prelude.{◌≡◌, ◌++◌, length, OnOk, OnErr};
 ghost use Rattle.std.specs.Int.{w8, w16, w32, w64};
-ghost use Rattle.byte_layout.specs.Part.{number, signed, raw};
+ghost use Rattle.byte_layout.specs.Layout.{number, signed, raw};
 
 use std::alloc::AllocError;
 
 /// Writes a number of one byte.
-#[tactic(auto, unfolding(crate::specs::Part::number))]
+#[tactic(auto, unfolding(crate::specs::Layout::number))]
 pub fn put_u8(out: &mut Vec<u8>, n: u8) -> Result<(), AllocError>
     ensures ok { OnOk result (out.new.items ≡ out.old.items ++ (number w8).spell n) }
     ensures err { OnErr result (out.new.items ≡ out.old.items) }
@@ -17,7 +17,7 @@ pub fn put_u8(out: &mut Vec<u8>, n: u8) -> Result<(), AllocError>
 }
 
 /// Writes a number of two bytes, the high one first.
-#[tactic(auto, unfolding(crate::specs::Part::number))]
+#[tactic(auto, unfolding(crate::specs::Layout::number))]
 pub fn put_u16(out: &mut Vec<u8>, n: u16) -> Result<(), AllocError>
     ensures ok { OnOk result (out.new.items ≡ out.old.items ++ (number w16).spell n) }
     ensures err { OnErr result (out.new.items ≡ out.old.items) }
@@ -26,7 +26,7 @@ pub fn put_u16(out: &mut Vec<u8>, n: u16) -> Result<(), AllocError>
 }
 
 /// Writes a number of four bytes, the highest first.
-#[tactic(auto, unfolding(crate::specs::Part::number))]
+#[tactic(auto, unfolding(crate::specs::Layout::number))]
 pub fn put_u32(out: &mut Vec<u8>, n: u32) -> Result<(), AllocError>
     ensures ok { OnOk result (out.new.items ≡ out.old.items ++ (number w32).spell n) }
     ensures err { OnErr result (out.new.items ≡ out.old.items) }
@@ -35,7 +35,7 @@ pub fn put_u32(out: &mut Vec<u8>, n: u32) -> Result<(), AllocError>
 }
 
 /// Writes a signed number of eight bytes in two's complement, the highest first.
-#[tactic(auto, unfolding(crate::specs::Part::number))]
+#[tactic(auto, unfolding(crate::specs::Layout::number))]
 pub fn put_i64(out: &mut Vec<u8>, n: i64) -> Result<(), AllocError>
     ensures ok { OnOk result (out.new.items ≡ out.old.items ++ (signed w64).spell n) }
     ensures err { OnErr result (out.new.items ≡ out.old.items) }
@@ -44,7 +44,7 @@ pub fn put_i64(out: &mut Vec<u8>, n: i64) -> Result<(), AllocError>
 }
 
 /// Writes bytes as they are.
-#[tactic(auto, unfolding(crate::specs::Part::raw))]
+#[tactic(auto, unfolding(crate::specs::Layout::raw))]
 pub fn put_bytes(out: &mut Vec<u8>, bytes: &[u8]) -> Result<(), AllocError>
     ensures ok { OnOk result (out.new.items ≡ out.old.items ++ (raw (length bytes.now)).spell bytes.now) }
     ensures err { OnErr result (out.new.items ≡ out.old.items) }

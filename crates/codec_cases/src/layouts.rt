@@ -274,7 +274,7 @@ impl Items for Ascending {
     ghost use Rattle.std.specs.List.{list_all};
     ghost use Rattle.std.specs.Int.{w16};
     ghost use Rattle.byte_layout.specs.declared.fault.Break.TheVariants.{BadField};
-    ghost use Rattle.byte_layout.specs.Part.{number, judged};
+    ghost use Rattle.byte_layout.specs.Layout.{number, judged};
 
     type Item = u16;
 

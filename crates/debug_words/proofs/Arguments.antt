@@ -91,9 +91,6 @@ pair_read x ws h =
 
 -- ---- a byte of two hex digits
 
-digit_small : (c v : ℕ) → hex_digit_value c ≡ Some v → v < 16
-digit_small c v h = grind (arith)
-
 digits_read : (a c : ℕ) (x y : Option ℕ) (b : ℕ) → hex_digit_value a ≡ x → hex_digit_value c ≡ y → byte_by x y ≡ Ok b
     → IsByte b a c
 digits_read a c None y b e f h = cc

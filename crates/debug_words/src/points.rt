@@ -1,14 +1,13 @@
 //! The points of breakpoints, and the arguments that other commands have too.
 
 ghost use Rattle.std.specs.Prelude.{◌≡◌, ◌≤◌, ◌<◌, IfOk, MatchOption};
-ghost use Rattle.hex.specs.Hex.{hex_digit_value};
 ghost use Rattle.scenario_words.specs.Words.{words};
 ghost use Rattle.scenario_words.specs.Reading.{Reads, word_by};
 ghost use Rattle.debug_words.specs.Reading.{byte_of, code_point, device_and_path, only_number, point_by, step_point};
 
 use crate::command::Point;
 use object_defs::Path;
-use scenario_words::{Cause, end, first_word, is_name, natural, path};
+use scenario_words::{Cause, end, first_word, hex_digit_value, is_name, natural, path};
 
 /// One number from 0 to `high`, and no further word.
 pub(crate) fn only_number(line: &[u8], high: u64) -> Result<u64, Cause>
@@ -39,19 +38,6 @@ fn step_point(line: &[u8]) -> Result<Point, Cause>
     Ok(Point::Step(device as u16, step as u32))
 }
 
-/// The value of a hex digit, in either case.
-fn digit_value(digit: u8) -> Option<u8>
-    ensures value { result ≡ hex_digit_value digit }
-    ensures small { MatchOption result (Unit {0}) (λ v. v < 16) }
-{
-    match digit {
-        b'A'..=b'F' => Some(digit - 55),
-        b'a'..=b'f' => Some(digit - 87),
-        b'0'..=b'9' => Some(digit - 48),
-        _ => None,
-    }
-}
-
 /// The byte of exactly two hex digits.
 fn byte_of(word: &[u8]) -> Result<u8, Cause>
     ensures { Reads (λ b. b) result (byte_of word.now) }
@@ -59,7 +45,7 @@ fn byte_of(word: &[u8]) -> Result<u8, Cause>
     let [high, low] = word else {
         return Err(Cause::Token);
     };
-    match (digit_value(*high), digit_value(*low)) {
+    match (hex_digit_value(*high), hex_digit_value(*low)) {
         (Some(high), Some(low)) => Ok(high * 16 + low),
         _ => Err(Cause::Token),
     }

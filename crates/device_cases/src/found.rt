@@ -2,12 +2,12 @@
 
 use crate::copies::{copy_of_entries, copy_of_scenario};
 use crate::entry_lines::{entries_of, text_of};
-use crate::named::{cause_name, layout_fault};
+use crate::named::layout_fault;
 use crate::words::{decimal, joined, put_words};
 use byte_layout::LayoutFault;
 use scenario_asm::{AsmFault, assemble, disassemble};
 use scenario_image::{Scenario, load, save};
-use scenario_words::Cause;
+use scenario_words::{Cause, cause_words};
 use std::alloc::{AllocError, Global};
 use std::str;
 use trace_file::{Entries, WriteFault, read_entries, write_entries};
@@ -111,7 +111,7 @@ fn of_text(alloc: Global, text: &str) -> Result<Found, AllocError> {
             let line = decimal(alloc, line as u64)?;
             let verdict = joined(
                 alloc,
-                &["fault line ", line.as_str(), " ", cause_name(cause)],
+                &["fault line ", line.as_str(), " ", cause_words(cause)],
             )?;
             Ok(refused(alloc, verdict))
         }

@@ -3,7 +3,6 @@
 use crate::words::numbered;
 use byte_layout::LayoutFault;
 use device_machine::Act;
-use scenario_words::Cause;
 use std::alloc::{AllocError, Global};
 
 /// What a device does, as `lwbench one` prints it.
@@ -14,19 +13,6 @@ pub fn act_name(act: Act) -> &'static str {
         Act::RegUpdate => "reg update",
         Act::Disable => "disable",
         Act::Missed => "missed",
-    }
-}
-
-/// Why a line of a text is refused, as `lwbench asm` prints it.
-pub fn cause_name(cause: Cause) -> &'static str {
-    match cause {
-        Cause::Missing => "missing",
-        Cause::Token => "token",
-        Cause::UnknownWord => "unknown word",
-        Cause::Range => "range",
-        Cause::Duplicate => "duplicate",
-        Cause::Limit => "limit",
-        Cause::Memory => "memory",
     }
 }
 

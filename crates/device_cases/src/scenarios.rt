@@ -1,7 +1,6 @@
 //! Cases whose body is the text of a scenario.
 
 use crate::items::{Item, Part, Script};
-use crate::named::cause_name;
 use crate::outputs::{is_output, judge};
 use crate::pieces::expanded;
 use crate::playing::{Play, event_of};
@@ -13,7 +12,7 @@ use crate::{again, ends};
 use fleet_core::run_serial;
 use scenario_asm::{AsmFault, assemble};
 use scenario_image::Scenario;
-use scenario_words::Cause;
+use scenario_words::{Cause, cause_words};
 use std::alloc::{AllocError, Global};
 use trace_file::Entry;
 
@@ -59,7 +58,7 @@ fn refused(
     }
     let number = script.number_of(fault.line);
     let line = decimal(alloc, u64::from(number))?;
-    let words = ["fault line ", line.as_str(), " ", cause_name(fault.cause)];
+    let words = ["fault line ", line.as_str(), " ", cause_words(fault.cause)];
     let came = joined(alloc, &words)?;
     let mut is_stated = false;
     for item in script.items.iter() {

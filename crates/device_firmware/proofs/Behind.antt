@@ -18,7 +18,8 @@ use Rattle.device_firmware.specs.declared.event.FirmwareEvent.{FirmwareEvent}
 use Rattle.device_firmware.specs.declared.state.State.{State}
 use Rattle.device_firmware.specs.declared.state.State.TheVariants.{Idle, Downloading, Downloaded, Updating}
 use Rattle.device_firmware.specs.declared.state.Outcome.{Outcome}
-use Rattle.device_firmware.specs.Firmware.{firmware_resource, firmware_after, outcome_in, number_of, state_as, state_in}
+use Rattle.device_firmware.specs.Firmware.{firmware_resource, firmware_after, outcome_in, state_number, state_as}
+use Rattle.device_firmware.specs.Firmware.{state_in}
 use Rattle.device_firmware.specs.Firmware.{uri_of, with_uri, with_outcome}
 use Rattle.device_firmware.specs.Firmware.{held, is_ready}
 use Rattle.device_firmware.specs.Laws.{uri_behind}
@@ -47,7 +48,7 @@ at n = single_of (firmware_resource n)
 abbrev number : ℕ → Value
 number n = Whole (pos n)
 
-read_again : (state : State) → state_as (Some (number (number_of state))) ≡ Some state
+read_again : (state : State) → state_as (Some (number (state_number state))) ≡ Some state
 read_again Idle = refl
 read_again Downloading = refl
 read_again Downloaded = refl
@@ -55,17 +56,17 @@ read_again Updating = refl
 
 pub state-outcome : (s : Stored) (o : Outcome) → state_in (with_outcome s o) ≡ Some o.state
 state-outcome s o =
-    let state = number (number_of o.state) in
+    let state = number (state_number o.state) in
     ap state_as (behind (with_value s (at 3) state) (at 5) (at 3) (number o.code) ∙ behind s (at 3) (at 3) state)
     ∙ read_again o.state
 
 pub code-outcome : (s : Stored) (o : Outcome) → held (with_outcome s o) 5 ≡ Some (number o.code)
-code-outcome s o = behind (with_value s (at 3) (number (number_of o.state))) (at 5) (at 5) (number o.code)
+code-outcome s o = behind (with_value s (at 3) (number (state_number o.state))) (at 5) (at 5) (number o.code)
 
 pub uri-outcome : (s : Stored) (o : Outcome) → held (with_outcome s o) 1 ≡ held s 1
 uri-outcome s o =
-    behind (with_value s (at 3) (number (number_of o.state))) (at 5) (at 1) (number o.code)
-    ∙ behind s (at 3) (at 1) (number (number_of o.state))
+    behind (with_value s (at 3) (number (state_number o.state))) (at 5) (at 1) (number o.code)
+    ∙ behind s (at 3) (at 1) (number (state_number o.state))
 
 pub uri-uri : (s : Stored) (uri : Option (List ℕ)) → held (with_uri s uri) 1 ≡ uri_behind (held s 1) uri
 uri-uri s None = refl
@@ -74,8 +75,8 @@ uri-uri s (Some text) = behind s (at 1) (at 1) (Text text)
 pub other-outcome : (s : Stored) (o : Outcome) (q : FullPath) → q ≢ at 3 → q ≢ at 5
     → value_at (with_outcome s o) q ≡ value_at s q
 other-outcome s o q not3 not5 =
-    elsewhere (with_value s (at 3) (number (number_of o.state))) (at 5) q (number o.code) not5
-    ∙ elsewhere s (at 3) q (number (number_of o.state)) not3
+    elsewhere (with_value s (at 3) (number (state_number o.state))) (at 5) q (number o.code) not5
+    ∙ elsewhere s (at 3) q (number (state_number o.state)) not3
 
 pub other-uri : (s : Stored) (uri : Option (List ℕ)) (q : FullPath) → q ≢ at 1
     → value_at (with_uri s uri) q ≡ value_at s q

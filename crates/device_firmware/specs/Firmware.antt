@@ -4,6 +4,7 @@ use Rattle.std.specs.Prelude.{ℕ, ◌==◌, nat_le, pos, negsuc, Bool, not, ◌
 use Rattle.std.specs.Prelude.{option_map, if◌then◌else◌}
 use Rattle.lwm2m_values.specs.declared.value.Value.{Value}
 use Rattle.lwm2m_values.specs.declared.value.Value.TheVariants.{Text, Whole, Flag, Opaque, Moment, Link}
+use Rattle.object_defs.specs.Numbers.{firmware_update_object, package_uri, update_state, update_result}
 use Rattle.object_defs.specs.Path.{single_of}
 use Rattle.object_defs.specs.declared.path.InstancePath.{InstancePath}
 use Rattle.object_defs.specs.declared.path.ResourcePath.{ResourcePath}
@@ -71,19 +72,19 @@ abbrev pub event_of_uri : List ℕ → FirmwareEvent
 event_of_uri [] = Cleared
 event_of_uri (c ∷ text) = Uri (c ∷ text)
 
--- instance 0 of object 5, and a resource of it: 1 Package URI, 3 State, 5 Update Result
+-- instance 0 of Firmware Update, and a resource of it
 abbrev pub firmware : InstancePath
-firmware = record { object = 5; instance = 0 }
+firmware = record { object = firmware_update_object; instance = 0 }
 
 abbrev pub firmware_resource : ℕ → ResourcePath
-firmware_resource resource = record { object = 5; instance = 0; resource = resource }
+firmware_resource resource = record { object = firmware_update_object; instance = 0; resource = resource }
 
 -- the states by their numbers
-abbrev pub number_of : State → ℕ
-number_of Idle = 0
-number_of Downloading = 1
-number_of Downloaded = 2
-number_of Updating = 3
+abbrev pub state_number : State → ℕ
+state_number Idle = 0
+state_number Downloading = 1
+state_number Downloaded = 2
+state_number Updating = 3
 
 abbrev pub state_of : ℕ → Option State
 state_of n =
@@ -102,7 +103,7 @@ state_as (Some (Link _ _)) = None
 
 -- the State that a store holds
 abbrev pub state_in : Stored → Option State
-state_in stored = state_as (value_at stored (single_of (firmware_resource 3)))
+state_in stored = state_as (value_at stored (single_of (firmware_resource update_state)))
 
 -- what an event leads to in a store; without the instance it isn't taken
 abbrev pub outcome_in : Stored → FirmwareEvent → Option Outcome
@@ -118,13 +119,14 @@ uri_of (Ended c) = None
 
 abbrev pub with_uri : Stored → Option (List ℕ) → Stored
 with_uri stored None = stored
-with_uri stored (Some text) = with_value stored (single_of (firmware_resource 1)) (Text text)
+with_uri stored (Some text) = with_value stored (single_of (firmware_resource package_uri)) (Text text)
 
 -- with this State and Update Result
 abbrev pub with_outcome : Stored → Outcome → Stored
 with_outcome stored outcome =
-    with_value (with_value stored (single_of (firmware_resource 3)) (Whole (pos (number_of outcome.state))))
-    (single_of (firmware_resource 5)) (Whole (pos outcome.code))
+    with_value
+    (with_value stored (single_of (firmware_resource update_state)) (Whole (pos (state_number outcome.state))))
+    (single_of (firmware_resource update_result)) (Whole (pos outcome.code))
 
 -- a store behind an event; None where it isn't taken
 abbrev pub firmware_after : Stored → FirmwareEvent → Option Stored
@@ -136,4 +138,5 @@ held stored number = value_at stored (single_of (firmware_resource number))
 
 -- the three resources that change are held, as they are behind each event
 abbrev pub is_ready : Stored → Bool
-is_ready stored = is_some (held stored 1) && (is_some (held stored 3) && is_some (held stored 5))
+is_ready stored =
+    is_some (held stored package_uri) && (is_some (held stored update_state) && is_some (held stored update_result))

@@ -2,6 +2,7 @@
 use Rattle.std.specs.Prelude.{◌≡◌, ◌≢◌, ℕ, pos, true, List, Option, None, Some}
 use Rattle.lwm2m_values.specs.declared.value.Value.{Value}
 use Rattle.lwm2m_values.specs.declared.value.Value.TheVariants.{Text, Whole}
+use Rattle.object_defs.specs.Numbers.{package_uri, update_state, update_result}
 use Rattle.object_defs.specs.Path.{single_of}
 use Rattle.object_defs.specs.declared.path.FullPath.{FullPath}
 use Rattle.instance_store.specs.Stored.{Stored, value_at, has_instance}
@@ -21,7 +22,7 @@ abbrev pub OutcomeIsHeld : Type 0
 OutcomeIsHeld =
     (stored after : Stored) (event : FirmwareEvent) (outcome : Outcome) → outcome_in stored event ≡ Some outcome
     → firmware_after stored event ≡ Some after → (state_in after ≡ Some outcome.state)
-    × (held after 5 ≡ Some (Whole (pos outcome.code)))
+    × (held after update_result ≡ Some (Whole (pos outcome.code)))
 
 -- the Package URI is the new one, where there is one; else it stays
 abbrev pub uri_behind : Option Value → Option (List ℕ) → Option Value
@@ -31,11 +32,12 @@ uri_behind old (Some text) = Some (Text text)
 abbrev pub UriIsHeld : Type 0
 UriIsHeld =
     (stored after : Stored) (event : FirmwareEvent) → firmware_after stored event ≡ Some after
-    → held after 1 ≡ uri_behind (held stored 1) (uri_of event)
+    → held after package_uri ≡ uri_behind (held stored package_uri) (uri_of event)
 
 -- no other value changes, the Package's among them, and no instance
 abbrev pub OthersStay : Type 0
 OthersStay =
     (stored after : Stored) (event : FirmwareEvent) (q : FullPath) → firmware_after stored event ≡ Some after
-    → q ≢ single_of (firmware_resource 1) → q ≢ single_of (firmware_resource 3) → q ≢ single_of (firmware_resource 5)
+    → q ≢ single_of (firmware_resource package_uri) → q ≢ single_of (firmware_resource update_state)
+    → q ≢ single_of (firmware_resource update_result)
     → (value_at after q ≡ value_at stored q) × (after.instances ≡ stored.instances)

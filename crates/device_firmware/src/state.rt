@@ -1,6 +1,6 @@
 ghost use Rattle.std.specs.Prelude.{◌≡◌, pos};
 ghost use Rattle.std.specs.Option.{option_copied};
-ghost use Rattle.device_firmware.specs.Firmware.{number_of, state_as, next, next_from, downloading_ended};
+ghost use Rattle.device_firmware.specs.Firmware.{state_number, state_as, next, next_from, downloading_ended};
 ghost use Rattle.device_firmware.specs.Firmware.{updating_ended, is_failure};
 
 use crate::event::FirmwareEvent;
@@ -27,8 +27,8 @@ pub(crate) struct Outcome {
 }
 
 /// The State's number.
-pub(crate) fn number_of(state: State) -> i64
-    ensures { result ≡ pos (number_of state) }
+pub(crate) fn state_number(state: State) -> i64
+    ensures { result ≡ pos (state_number state) }
 {
     match state {
         State::Idle => 0,

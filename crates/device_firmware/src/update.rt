@@ -1,20 +1,23 @@
 ghost use Rattle.std.specs.Prelude.{◌≡◌, ◌⊎◌, true, false, None, IfOk, OnOk, OnErr};
 ghost use Rattle.std.specs.Option.{is_some, unwrap_or};
+ghost use Rattle.object_defs.specs.Numbers.{package_uri, update_state, update_result};
 ghost use Rattle.object_defs.specs.Path.{single_of};
 ghost use Rattle.instance_store.specs.Stored.{has_instance, with_value};
 ghost use Rattle.device_firmware.specs.Firmware.{firmware, firmware_resource, held, is_ready, outcome_in, uri_of};
 ghost use Rattle.device_firmware.specs.Firmware.{with_uri, with_outcome, firmware_after};
 
 use crate::event::FirmwareEvent;
-use crate::state::{Outcome, next_from, number_of, state_as};
+use crate::state::{Outcome, next_from, state_as, state_number};
 use instance_store::{Store, StoreFault};
 use lwm2m_values::{Text, Value};
+use object_defs::object_number::FIRMWARE_UPDATE;
+use object_defs::resource_number::{PACKAGE_URI, UPDATE_RESULT, UPDATE_STATE};
 use object_defs::{InstancePath, ResourcePath};
 use std::alloc::{AllocError, Global};
 
-/// Object 5 Firmware Update has one instance.
+/// Firmware Update has one instance.
 const FIRMWARE: InstancePath = InstancePath {
-    object: 5,
+    object: FIRMWARE_UPDATE,
     instance: 0,
 };
 
@@ -23,7 +26,7 @@ fn resource(resource: u16) -> ResourcePath
     ensures { result ≡ firmware_resource resource }
 {
     ResourcePath {
-        object: 5,
+        object: FIRMWARE_UPDATE,
         instance: 0,
         resource,
     }
@@ -36,7 +39,7 @@ fn outcome_in(store: &Store, event: &FirmwareEvent) -> Option<Outcome>
     if !store.has_instance(FIRMWARE) {
         return None;
     }
-    let state = resource(3);
+    let state = resource(UPDATE_STATE);
     next_from(event, state_as(store.get(state.single())))
 }
 
@@ -70,10 +73,10 @@ fn put(store: &mut Store, number: u16, value: Value) -> Result<(), AllocError>
 fn set_uri(store: &mut Store, uri: Option<Text>) -> Result<(), AllocError>
     requires { has_instance store.old firmware ≡ true }
     ensures ok { OnOk result (store.new ≡ with_uri store.old uri) }
-    ensures grows { OnErr result (held store.old 1 ≡ None) }
+    ensures grows { OnErr result (held store.old package_uri ≡ None) }
 {
     match uri {
-        Some(text) => put(store, 1, Value::Text(text)),
+        Some(text) => put(store, PACKAGE_URI, Value::Text(text)),
         None => Ok(()),
     }
 }
@@ -82,10 +85,14 @@ fn set_uri(store: &mut Store, uri: Option<Text>) -> Result<(), AllocError>
 fn set_outcome(store: &mut Store, outcome: Outcome) -> Result<(), AllocError>
     requires { has_instance store.old firmware ≡ true }
     ensures ok { OnOk result (store.new ≡ with_outcome store.old outcome) }
-    ensures grows { OnErr result ((held store.old 3 ≡ None) ⊎ (held store.old 5 ≡ None)) }
+    ensures grows { OnErr result ((held store.old update_state ≡ None) ⊎ (held store.old update_result ≡ None)) }
 {
-    put(store, 3, Value::Whole(number_of(outcome.state)))?;
-    put(store, 5, Value::Whole(i64::from(outcome.code)))?;
+    put(
+        store,
+        UPDATE_STATE,
+        Value::Whole(state_number(outcome.state)),
+    )?;
+    put(store, UPDATE_RESULT, Value::Whole(i64::from(outcome.code)))?;
     Ok(())
 }
 
@@ -115,7 +122,7 @@ fn holds(store: &Store, number: u16) -> bool
 fn is_ready(store: &Store) -> bool
     ensures { result ≡ is_ready store.now }
 {
-    holds(store, 1) && holds(store, 3) && holds(store, 5)
+    holds(store, PACKAGE_URI) && holds(store, UPDATE_STATE) && holds(store, UPDATE_RESULT)
 }
 
 /// Whether an event is taken, as `take` does.

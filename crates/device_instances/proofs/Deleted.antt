@@ -13,7 +13,7 @@ use Rattle.instance_store.specs.Stored.{Stored, value_at, has_instance, instance
 use Rattle.access_control.specs.Rights.{speaks_of, control_of}
 use Rattle.access_control.proofs.Lowest.{lowest_decides, none_decides}
 use Rattle.device_instances.specs.Numbers.{instance_at}
-use Rattle.device_instances.specs.Deletions.{instance_in, is_same, is_control_of, is_gone, without_deleted}
+use Rattle.device_instances.specs.Deletions.{instance_in, is_same, is_control_of, goes_with, without_deleted}
 use Rattle.device_instances.proofs.Instances.{itself, differs}
 use Rattle.device_instances.proofs.Controls.{not_same, one_place}
 use Rattle.device_instances.proofs.Within.{is_itself, kept}
@@ -58,14 +58,14 @@ empty_then p t u a b = record { there = b.there ∙ a.there; values = λ q e. b.
 
 -- each instance is as it was, or goes and is away; the deleted one is away
 pub record Progress (place : InstancePath) (old now : Stored) : Type 0 where
-  pub each : (p : InstancePath) → SameAt p old now ⊎ ((is_gone old place p ≡ true) × EmptyAt p now)
+  pub each : (p : InstancePath) → SameAt p old now ⊎ ((goes_with old place p ≡ true) × EmptyAt p now)
   pub first : EmptyAt place now
 
 or_true : (a b : Bool) → b ≡ true → (a || b) ≡ true
 or_true true b h = refl
 or_true false b h = h
 
-goes_itself : (s : Stored) (place : InstancePath) → is_gone s place place ≡ true
+goes_itself : (s : Stored) (place : InstancePath) → goes_with s place place ≡ true
 goes_itself s place = ap (λ b. b || is_control_of s place place) (is_itself place)
 
 by_place : (p o : InstancePath) (A : Type 0) → (p ≡ o → A) → (p ≢ o → A) → A
@@ -78,8 +78,8 @@ by_place p o A f g =
 pub begun : (s : Stored) (place : InstancePath) → Progress place s (without_instance s place)
 begun s place = record {
   each = λ p. by_place p place (SameAt p s (without_instance s place)
-      ⊎ ((is_gone s place p ≡ true) × EmptyAt p (without_instance s place)))
-      (λ e. inr (subst (λ o. (is_gone s place o ≡ true) × EmptyAt o (without_instance s place)) (sym e)
+      ⊎ ((goes_with s place p ≡ true) × EmptyAt p (without_instance s place)))
+      (λ e. inr (subst (λ o. (goes_with s place o ≡ true) × EmptyAt o (without_instance s place)) (sym e)
       (goes_itself s place, emptied s place)))
       (λ other. inl (spared s place p other));
   first = emptied s place;
@@ -88,14 +88,14 @@ begun s place = record {
 -- an instance of object 2 that still speaks of it goes
 control_goes : (place : InstancePath) (old now : Stored) (j : ℕ) → SameAt (instance_at 2 j) old now
     → has_instance now (instance_at 2 j) ≡ true → speaks_of now j place.object place.instance ≡ true
-    → is_gone old place (instance_at 2 j) ≡ true
+    → goes_with old place (instance_at 2 j) ≡ true
 control_goes place old now j same has speaks =
     or_true (is_same (instance_at 2 j) place) (is_control_of old place (instance_at 2 j))
     (ap (λ b. b && speaks_of old j place.object place.instance) (sym (ap is_some same.there) ∙ has)
     ∙ sym (speaks_alike old now j place.object place.instance same.values) ∙ speaks)
 
 found_goes : (place : InstancePath) (old now : Stored) (j : ℕ) → Progress place old now
-    → control_of now place.object place.instance ≡ Some j → is_gone old place (instance_at 2 j) ≡ true
+    → control_of now place.object place.instance ≡ Some j → goes_with old place (instance_at 2 j) ≡ true
 found_goes place old now j h found =
     let low = (lowest_decides now place.object place.instance j).0 found in
     elim (h.each (instance_at 2 j)) [
@@ -112,8 +112,8 @@ pub continued : (place : InstancePath) (old now : Stored) (j : ℕ) → Progress
 continued place old now j h found =
     let next = without_instance now (instance_at 2 j) in
     record {
-      each = λ p. by_place p (instance_at 2 j) (SameAt p old next ⊎ ((is_gone old place p ≡ true) × EmptyAt p next))
-          (λ e. inr (subst (λ o. (is_gone old place o ≡ true) × EmptyAt o next) (sym e)
+      each = λ p. by_place p (instance_at 2 j) (SameAt p old next ⊎ ((goes_with old place p ≡ true) × EmptyAt p next))
+          (λ e. inr (subst (λ o. (goes_with old place o ≡ true) × EmptyAt o next) (sym e)
           (found_goes place old now j h found, emptied now (instance_at 2 j))))
           (λ other. elim (h.each p) [
             | inl same ↦ inl (same_then p old now next same (spared now (instance_at 2 j) p other))
@@ -131,11 +131,12 @@ either true b h = inl refl
 either false b h = inr h
 
 pub record Settled (place : InstancePath) (old now : Stored) (p : InstancePath) : Type 0 where
-  pub there : map.get now.instances p ≡ cond (not (is_gone old place p)) (map.get old.instances p) None
+  pub there : map.get now.instances p ≡ cond (not (goes_with old place p)) (map.get old.instances p) None
   pub values : (q : FullPath) → instance_in q ≡ p
-      → value_at now q ≡ cond (not (is_gone old place p)) (value_at old q) None
+      → value_at now q ≡ cond (not (goes_with old place p)) (value_at old q) None
 
-away_settled : (place : InstancePath) (old now : Stored) (p : InstancePath) → is_gone old place p ≡ true → EmptyAt p now
+away_settled : (place : InstancePath) (old now : Stored) (p : InstancePath) → goes_with old place p ≡ true
+    → EmptyAt p now
     → Settled place old now p
 away_settled place old now p gone away = record {
   there = away.there ∙ ap (λ b. cond (not b) (map.get old.instances p) None) (sym gone);
@@ -160,7 +161,7 @@ settled : (place : InstancePath) (old now : Stored) → Progress place old now
 settled place old now h none p =
     elim (h.each p) [
       | inr away ↦ away_settled place old now p away.0 away.1
-      | inl same ↦ elim (is_gone old place p) as (λ b. is_gone old place p ≡ b → Settled place old now p) [
+      | inl same ↦ elim (goes_with old place p) as (λ b. goes_with old place p ≡ b → Settled place old now p) [
         | false ↦ λ g. record {
           there = same.there ∙ ap (λ b. cond (not b) (map.get old.instances p) None) (sym g);
           values = λ q e. same.values q e ∙ ap (λ b. cond (not b) (value_at old q) None) (sym g);
@@ -174,12 +175,12 @@ settled place old now h none p =
     ]
 
 value_left : (s : Stored) (place : InstancePath) (q : FullPath)
-    → value_at (without_deleted s place) q ≡ cond (not (is_gone s place (instance_in q))) (value_at s q) None
-value_left s place q = get_kept path_total path_exact s.values (λ k. not (is_gone s place (instance_in k))) q
+    → value_at (without_deleted s place) q ≡ cond (not (goes_with s place (instance_in q))) (value_at s q) None
+value_left s place q = get_kept path_total path_exact s.values (λ k. not (goes_with s place (instance_in k))) q
 
 instance_left : (s : Stored) (place p : InstancePath)
-    → map.get (without_deleted s place).instances p ≡ cond (not (is_gone s place p)) (map.get s.instances p) None
-instance_left s place p = get_kept instance_total instance_exact s.instances (λ k. not (is_gone s place k)) p
+    → map.get (without_deleted s place).instances p ≡ cond (not (goes_with s place p)) (map.get s.instances p) None
+instance_left s place p = get_kept instance_total instance_exact s.instances (λ k. not (goes_with s place k)) p
 
 pub ended : (place : InstancePath) (old now : Stored) → Progress place old now
     → control_of now place.object place.instance ≡ None → now ≡ without_deleted old place
@@ -220,7 +221,7 @@ no_value false o h = cc
 pub no_value_left : (s : Stored) (place : InstancePath) (q : FullPath) → instance_in q ≡ place
     → value_at (without_deleted s place) q ≡ None
 no_value_left s place q e =
-    value_left s place q ∙ ap (λ b. cond (not b) (value_at s q) None) (ap (is_gone s place) e ∙ goes_itself s place)
+    value_left s place q ∙ ap (λ b. cond (not b) (value_at s q) None) (ap (goes_with s place) e ∙ goes_itself s place)
 
 is_left : (b : Bool) (o : Option (Unit {0})) → is_some (cond (not b) o None) ≡ true → (b ≡ false) × (is_some o ≡ true)
 is_left true o h = cc
@@ -238,9 +239,9 @@ pub no_control_left : (s : Stored) (place : InstancePath) (j : ℕ)
     → has_instance (without_deleted s place) (instance_at 2 j) ≡ true
     → speaks_of (without_deleted s place) j place.object place.instance ≡ false
 no_control_left s place j has =
-    let stays = is_left (is_gone s place (instance_at 2 j)) (map.get s.instances (instance_at 2 j))
+    let stays = is_left (goes_with s place (instance_at 2 j)) (map.get s.instances (instance_at 2 j))
     (sym (ap is_some (instance_left s place (instance_at 2 j))) ∙ has) in
     speaks_alike s (without_deleted s place) j place.object place.instance
-    (λ q e. value_left s place q ∙ ap (λ b. cond (not b) (value_at s q) None) (ap (is_gone s place) e ∙ stays.0))
+    (λ q e. value_left s place q ∙ ap (λ b. cond (not b) (value_at s q) None) (ap (goes_with s place) e ∙ stays.0))
     ∙ and_false (has_instance s (instance_at 2 j)) (speaks_of s j place.object place.instance) stays.1
     (or_false (is_same (instance_at 2 j) place) (is_control_of s place (instance_at 2 j)) stays.0)

@@ -11,7 +11,8 @@ use Rattle.object_defs.specs.declared.definition.ResourceDef.{ResourceDef}
 use Rattle.object_defs.specs.declared.path.FullPath.{FullPath}
 use Rattle.object_defs.specs.declared.path.InstancePath.{InstancePath}
 use Rattle.instance_store.specs.Stored.{Stored, value_at, has_instance, resource_path, with_instance, without_values}
-use Rattle.access_control.specs.Rights.{control, names, is_number, integer_in, entry_of, owns, speaks_of, control_of}
+use Rattle.lwm2m_values.specs.Value.{is_integer}
+use Rattle.access_control.specs.Rights.{control, names, integer_in, entry_of, owns, speaks_of, control_of}
 use Rattle.access_control.specs.Rights.{right_by, right_by_entry, right_by_default, right_on_control, right_of}
 use Rattle.access_control.specs.Rights.{every_right}
 use Rattle.access_control.proofs.Lowest.{lowest_decides, none_decides}
@@ -76,7 +77,7 @@ at_once j r n h e =
     let same : r ≡ n = ap (λ (q : FullPath). q.resource) e in
     false≢true (sym h ∙ eq-eqb r n same)
 
-is_it : (n : ℕ) → is_number n (integer_in (Some (Whole (pos n)))) ≡ true
+is_it : (n : ℕ) → is_integer n (integer_in (Some (Whole (pos n)))) ≡ true
 is_it n = eq-eqb n n refl
 
 module _ (s : Stored) (j server : ℕ) (place : InstancePath) where
@@ -138,8 +139,8 @@ pub speaks_alike : (s t : Stored) (k o i : ℕ)
     → ((q : FullPath) → instance_in q ≡ instance_at 2 k → value_at t q ≡ value_at s q)
     → speaks_of t k o i ≡ speaks_of s k o i
 speaks_alike s t k o i h =
-    ap (λ v. is_number o (integer_in v) && names t k 1 i) (h (single_of (control k 0)) refl)
-    ∙ ap (λ v. names s k 0 o && is_number i (integer_in v)) (h (single_of (control k 1)) refl)
+    ap (λ v. is_integer o (integer_in v) && names t k 1 i) (h (single_of (control k 0)) refl)
+    ∙ ap (λ v. names s k 0 o && is_integer i (integer_in v)) (h (single_of (control k 1)) refl)
 
 module _ (s : Stored) (accounts server : ℕ) (resources : List ResourceDef) (place : InstancePath)
     (given : List Assignment) (many : 2 ≤ accounts) (other : place.object ≢ 2) (j : ℕ)
@@ -162,9 +163,9 @@ module _ (s : Stored) (accounts server : ℕ) (resources : List ResourceDef) (pl
 
   speaks : speaks_of made j place.object place.instance ≡ true
   speaks = both _ _
-      (ap (λ v. is_number place.object (integer_in v))
+      (ap (λ v. is_integer place.object (integer_in v))
       (value_is (single_of (control j 0)) refl ∙ object_is s j server place) ∙ is_it place.object)
-      (ap (λ v. is_number place.instance (integer_in v))
+      (ap (λ v. is_integer place.instance (integer_in v))
       (value_is (single_of (control j 1)) refl ∙ instance_is s j server place) ∙ is_it place.instance)
 
   is_there : has_instance made (instance_at 2 j) ≡ true
@@ -193,7 +194,7 @@ module _ (s : Stored) (accounts server : ℕ) (resources : List ResourceDef) (pl
   entry = ap integer_in (value_is (part_of (control j 2) server) refl ∙ no_entry s j server place server)
 
   owner : owns made j server ≡ true
-  owner = ap (λ v. is_number server (integer_in v))
+  owner = ap (λ v. is_integer server (integer_in v))
       (value_is (single_of (control j 3)) refl ∙ owner_is s j server place) ∙ is_it server
 
   every : control_of s place.object place.instance ≡ None

@@ -1,6 +1,7 @@
 -- What follows for instances, rights and values.
 use Rattle.std.specs.Prelude.{◌≡◌, ◌≢◌, ℕ, ◌≤◌, true, false, ◌⊎◌, List, None, Some}
 use Rattle.object_defs.specs.declared.definition.ResourceDef.{ResourceDef}
+use Rattle.object_defs.specs.Numbers.{access_control_object}
 use Rattle.object_defs.specs.declared.path.FullPath.{FullPath}
 use Rattle.object_defs.specs.declared.path.InstancePath.{InstancePath}
 use Rattle.instance_store.specs.Stored.{Stored, has_instance, value_at}
@@ -27,20 +28,22 @@ OthersStay =
     × ((q : FullPath) → instance_in q ≡ p
     → value_at (with_created stored accounts server resources place given) q ≡ value_at stored q)
 
--- no third one is new: each that is there was there, or is the created one, or the one of object 2
+-- no third one is new: each that is there was there, or is the created one, or the one of Access Control
 abbrev pub NoneElseIsNew : Type 0
 NoneElseIsNew =
     (stored : Stored) (accounts server : ℕ) (resources : List ResourceDef) (place : InstancePath)
     (given : List Assignment) (p : InstancePath)
     → has_instance (with_created stored accounts server resources place given) p ≡ true
-    → (has_instance stored p ≡ true) ⊎ ((p ≡ place) ⊎ ((p.object ≡ 2) × (smallest_free stored 2 ≡ Some p.instance)))
+    → (has_instance stored p ≡ true) ⊎ ((p ≡ place) ⊎ ((p.object ≡ access_control_object)
+    × (smallest_free stored access_control_object ≡ Some p.instance)))
 
--- with two accounts or more the creator has every right on it, where no older instance of object 2 speaks of it
+-- with two accounts or more the creator has every right on it, where no older instance of Access Control speaks of it
 abbrev pub CreatorHasEveryRight : Type 0
 CreatorHasEveryRight =
     (stored : Stored) (accounts server : ℕ) (resources : List ResourceDef) (place : InstancePath)
     (given : List Assignment)
-    → 2 ≤ accounts → place.object ≢ 2 → is_full stored 2 ≡ false → control_of stored place.object place.instance ≡ None
+    → 2 ≤ accounts → place.object ≢ access_control_object → is_full stored access_control_object ≡ false
+    → control_of stored place.object place.instance ≡ None
     → right_of (with_created stored accounts server resources place given) accounts server place.object place.instance
     ≡ every_right
 
@@ -50,9 +53,9 @@ NoValueIsLeft =
     (stored : Stored) (place : InstancePath) (q : FullPath) → instance_in q ≡ place
     → value_at (without_deleted stored place) q ≡ None
 
--- and no instance of object 2 speaks of it
+-- and no instance of Access Control speaks of it
 abbrev pub NoControlIsLeft : Type 0
 NoControlIsLeft =
     (stored : Stored) (place : InstancePath) (j : ℕ)
-    → has_instance (without_deleted stored place) (instance_at 2 j) ≡ true
+    → has_instance (without_deleted stored place) (instance_at access_control_object j) ≡ true
     → speaks_of (without_deleted stored place) j place.object place.instance ≡ false

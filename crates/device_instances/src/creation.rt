@@ -1,4 +1,5 @@
 ghost use Rattle.std.specs.Prelude.{◌≡◌, ◌≢◌, ◌≤◌, ◌↔◌, true, false, OnOk, OnErr, IsTrue, IsFalse, IsErrOf, Err};
+ghost use Rattle.object_defs.specs.Numbers.{access_control_object};
 ghost use Rattle.object_defs.specs.Path.{single_of};
 ghost use Rattle.instance_store.specs.Stored.{Stored, has_instance, instance_of, resource_path, with_instance};
 ghost use Rattle.instance_store.specs.Stored.{without_values};
@@ -12,14 +13,14 @@ ghost use Rattle.device_instances.specs.Creations.{is_full, has_no_room, with_nu
 ghost use Rattle.device_instances.specs.Creations.{with_created};
 
 use crate::number::free_number;
+use access_control::control;
 use instance_store::{Store, StoreFault};
 use lwm2m_payloads::{Assignments, Given, Mode, is_kept, write_instance};
 use lwm2m_values::Value;
+use object_defs::object_number::ACCESS_CONTROL;
+use object_defs::resource_number::{ACCESS_CONTROL_OWNER, ACL, OBJECT_ID, OBJECT_INSTANCE_ID};
 use object_defs::{InstancePath, ResourceDef, ResourcePath};
 use std::alloc::AllocError;
-
-/// Object 2 Access Control.
-const ACCESS_CONTROL: u16 = 2;
 
 /// Whether an object has 64 instances.
 fn is_full(store: &Store, object: u16) -> bool
@@ -52,7 +53,8 @@ fn has_too_many(resources: &[ResourceDef], given: &Assignments) -> bool
 }
 
 /// Whether a store has no room for a new instance with what it is given (this profile's limits): its object has 64
-/// instances; or, with two accounts or more, object 2 Access Control has; or a resource would have more than 32 parts.
+/// instances; or, with two accounts or more, Access Control Access Control has; or a resource would have more than 32
+/// parts.
 pub fn has_no_room(
     store: &Store,
     accounts: usize,
@@ -103,18 +105,7 @@ fn clear(store: &mut Store, path: ResourcePath)
     }
 }
 
-/// A resource of an instance of object 2.
-fn control(instance: u16, resource: u16) -> ResourcePath
-    ensures { result ≡ control instance resource }
-{
-    ResourcePath {
-        object: ACCESS_CONTROL,
-        instance,
-        resource,
-    }
-}
-
-/// Adds an instance of object 2 that speaks of a place and belongs to a server.
+/// Adds an instance of Access Control that speaks of a place and belongs to a server.
 #[tactic(auto, using(crate::proofs::Instances::added))]
 fn add_control(
     store: &mut Store,
@@ -122,8 +113,8 @@ fn add_control(
     server: u16,
     place: InstancePath,
 ) -> Result<(), AllocError>
-    requires free { has_instance store.old (instance_at 2 instance) ≡ false }
-    requires room { is_full store.old 2 ≡ false }
+    requires free { has_instance store.old (instance_at access_control_object instance) ≡ false }
+    requires room { is_full store.old access_control_object ≡ false }
     ensures { OnOk result (store.new ≡ with_control store.old instance server place) }
 {
     add(
@@ -133,21 +124,21 @@ fn add_control(
             instance,
         },
     )?;
-    clear(store, control(instance, 2));
-    put_number(store, control(instance, 0), place.object)?;
-    put_number(store, control(instance, 1), place.instance)?;
-    put_number(store, control(instance, 3), server)?;
+    clear(store, control(instance, ACL));
+    put_number(store, control(instance, OBJECT_ID), place.object)?;
+    put_number(store, control(instance, OBJECT_INSTANCE_ID), place.instance)?;
+    put_number(store, control(instance, ACCESS_CONTROL_OWNER), server)?;
     Ok(())
 }
 
-/// With two accounts or more, adds the instance of object 2 for a place.
+/// With two accounts or more, adds the instance of Access Control for a place.
 fn add_control_for(
     store: &mut Store,
     accounts: usize,
     server: u16,
     place: InstancePath,
 ) -> Result<(), AllocError>
-    requires room { 2 ≤ accounts → is_full store.old 2 ≡ false }
+    requires room { 2 ≤ accounts → is_full store.old access_control_object ≡ false }
     ensures { OnOk result (store.new ≡ with_control_for store.old accounts server place) }
 {
     if accounts < 2 {
@@ -177,7 +168,7 @@ fn write(
     }
 }
 
-/// Adds an instance for which there is room, with what it is given, and with its instance of object 2.
+/// Adds an instance for which there is room, with what it is given, and with its instance of Access Control.
 fn make(
     store: &mut Store,
     accounts: usize,
@@ -197,8 +188,8 @@ fn make(
 }
 
 /// Creates an instance with what its resources are given, for a server of a device that has this many accounts. With
-/// two accounts or more it also adds an instance of object 2 Access Control, which speaks of it and belongs to the
-/// server.
+/// two accounts or more it also adds an instance of Access Control Access Control, which speaks of it and belongs to
+/// the server.
 pub fn create(
     store: &mut Store,
     accounts: usize,
@@ -207,7 +198,7 @@ pub fn create(
     place: InstancePath,
     given: Assignments,
 ) -> Result<(), StoreFault>
-    // Nobody creates instances of object 2.
+    // Nobody creates instances of Access Control.
     requires { place.object ≢ 2 }
     ensures ok { OnOk result (store.new ≡ with_created store.old accounts server resources.now place given) }
 

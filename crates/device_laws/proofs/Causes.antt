@@ -18,7 +18,7 @@ use Rattle.device_notifications.specs.Report.{number_at}
 use Rattle.device_notifications.specs.Second.{age_of, is_due_now, present, second, seconds, triggers_now}
 use Rattle.device_notifications.specs.Second.{turn_by, turn_of}
 use Rattle.device_notifications.specs.declared.datagram.Datagram.{Datagram}
-use Rattle.device_notifications.proofs.Turns.{both, by_verdict, first_of, weaker}
+use Rattle.device_notifications.proofs.Turns.{both, by_evaluation, first_of, weaker}
 use Rattle.device_laws.specs.Notifying.{CausedIsSent, IsCaused, IsCausedBy, IsCausedInOneOf, IsDue}
 use Rattle.device_laws.specs.Notifying.{IsTold, NotifiesForCause, Passes, SecondsNotifyForCause, SecondsSendCaused}
 use Rattle.device_laws.specs.Notifying.{condition}
@@ -213,7 +213,7 @@ later_of y x xs h = (suc h.0, omega (arith, h.1), h.2)
 sent_by : (client : Client) (clock next_id : ℕ) (o : Observation) (os : List Observation)
     → AllByRecursion (IsCausedBy client clock (o ∷ os)) (turn_of client clock next_id o).sent
 sent_by client clock next_id o os =
-    by_verdict client clock o
+    by_evaluation client clock o
     (λ v. AllByRecursion (IsCausedBy client clock (o ∷ os)) (turn_by client clock next_id o v).sent)
     (λ content due. (
       (
@@ -282,7 +282,7 @@ told_by : (client : Client) (clock next_id : ℕ) (o : Observation) → IsDue cl
     → IsTold client clock o (turn_of client clock next_id o).sent
 told_by client clock next_id o h =
     let due_now : is_due_now client clock o (present client o).payload ≡ true = due_of client clock o h.waited h.cause in
-    by_verdict client clock o (λ v. IsTold client clock o (turn_by client clock next_id o v).sent)
+    by_evaluation client clock o (λ v. IsTold client clock o (turn_by client clock next_id o v).sent)
     (λ content due. (
       _,
       first_of _ [],

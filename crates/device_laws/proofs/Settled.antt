@@ -16,7 +16,7 @@ use Rattle.device_notifications.specs.Period.{pmin_of}
 use Rattle.device_notifications.specs.Report.{number_at}
 use Rattle.device_notifications.specs.Second.{age_of, beside, is_due_now, present, quiet, second, seconds, triggers_now}
 use Rattle.device_notifications.specs.Second.{and_then, turn_by, turn_of}
-use Rattle.device_notifications.proofs.Turns.{by_verdict}
+use Rattle.device_notifications.proofs.Turns.{by_evaluation}
 use Rattle.device_laws.specs.Notifying.{IsSettled, JustReportedIsSettled, SettledAreQuiet, condition}
 
 same_bytes : (p : List ℕ) → not (bytes_eq p p) ≡ false
@@ -86,7 +86,7 @@ differs b h k = cc
 quiet_turn : (client : Client) (clock next_id : ℕ) (o : Observation) → IsSettled client o
     → turn_of client clock next_id o ≡ quiet next_id (o ∷ [])
 quiet_turn client clock next_id o h =
-    by_verdict client clock o (λ v. turn_by client clock next_id o v ≡ quiet next_id (o ∷ []))
+    by_evaluation client clock o (λ v. turn_by client clock next_id o v ≡ quiet next_id (o ∷ []))
     (λ content due. absurd (differs _ due (rests client clock o h)))
     (λ content rest. refl)
     (λ no_content. absurd (differs _ h.content no_content))

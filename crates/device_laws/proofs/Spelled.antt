@@ -26,7 +26,7 @@ use Rattle.device_requests.specs.declared.answer.Code.TheVariants.{InternalServe
 use Rattle.device_notifications.specs.Message.{datagram_of, format_option}
 use Rattle.device_notifications.specs.Second.{Turn, present, second, seconds, turn_by, turn_of}
 use Rattle.device_notifications.specs.declared.datagram.Datagram.{Datagram}
-use Rattle.device_notifications.proofs.Turns.{both, by_verdict}
+use Rattle.device_notifications.proofs.Turns.{both, by_evaluation}
 use Rattle.device_machine.specs.Reactions.{IsShort, answer_options, location_options, response, send_of, turn_in}
 use Rattle.device_machine.specs.State.{Machine}
 use Rattle.coap_codec.specs.Reading.{reading_of}
@@ -159,7 +159,7 @@ record Fits (t : Turn) : Type 0 where
 turn_fits : (client : Client) (clock next_id : ℕ) (o : Observation) → HasToken o → next_id < 65536
     → Fits (turn_of client clock next_id o)
 turn_fits client clock next_id o h k =
-    by_verdict client clock o (λ v. Fits (turn_by client clock next_id o v))
+    by_evaluation client clock o (λ v. Fits (turn_by client clock next_id o v))
     (λ content due. record {
       sent = (told o next_id (Some (next_number o.number)) (present client o) h k, tt);
       left = (h, tt);

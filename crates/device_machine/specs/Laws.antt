@@ -21,7 +21,7 @@ use Rattle.notifier.specs.declared.observation.Observation.{Observation}
 use Rattle.object_defs.specs.declared.path.Path.{Path}
 use Rattle.device_notifications.specs.declared.datagram.Datagram.{Datagram}
 use Rattle.device_notifications.specs.Laws.{IsOf, RisesByOne}
-use Rattle.device_notifications.specs.Laws.{IsFresh as IsYoung}
+use Rattle.device_notifications.specs.Laws.{IsYoung}
 use Rattle.device_notifications.specs.Message.{observe_option}
 use Rattle.device_machine.specs.Observing.{lacks_place}
 use Rattle.device_requests.specs.Observe.{interest_of}

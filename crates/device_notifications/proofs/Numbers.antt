@@ -19,7 +19,7 @@ use Rattle.device_notifications.specs.Message.{datagram_of, format_option, obser
 use Rattle.device_notifications.specs.Outbox.{id_after}
 use Rattle.device_notifications.specs.Report.{report_of}
 use Rattle.device_notifications.specs.Second.{Turn, and_then, beside, present, second, seconds, turn_by, turn_of}
-use Rattle.device_notifications.proofs.Turns.{both, by_verdict, first_of, weaker}
+use Rattle.device_notifications.proofs.Turns.{both, by_evaluation, first_of, weaker}
 
 -- ---- namesakes
 
@@ -88,7 +88,7 @@ message_right (o ∷ more) os d h = inr (message_right more os d h)
 turn_left : (client : Client) (clock next_id : ℕ) (o : Observation) (os : List Observation)
     → AllByRecursion (HasNamesake (o ∷ os)) (turn_of client clock next_id o).left
 turn_left client clock next_id o os =
-    by_verdict client clock o (λ v. AllByRecursion (HasNamesake (o ∷ os)) (turn_by client clock next_id o v).left)
+    by_evaluation client clock o (λ v. AllByRecursion (HasNamesake (o ∷ os)) (turn_by client clock next_id o v).left)
     (λ content due. (inl (refl, refl), tt))
     (λ content rests. (inl (refl, refl), tt))
     (λ no_content. tt)
@@ -113,7 +113,7 @@ seconds_left client clock (suc n) next_id os =
 turn_sent : (client : Client) (clock next_id : ℕ) (o : Observation) (os : List Observation)
     → AllByRecursion (IsOfOneOf (o ∷ os)) (turn_of client clock next_id o).sent
 turn_sent client clock next_id o os =
-    by_verdict client clock o (λ v. AllByRecursion (IsOfOneOf (o ∷ os)) (turn_by client clock next_id o v).sent)
+    by_evaluation client clock o (λ v. AllByRecursion (IsOfOneOf (o ∷ os)) (turn_by client clock next_id o v).sent)
     (λ content due. (inl (next_id, Some (next_number o.number), present client o, refl), tt))
     (λ content rests. tt)
     (λ no_content. (inl (next_id, None, present client o, refl), tt))
@@ -282,7 +282,7 @@ one_more client clock n next_id before after o rise =
     λ i. both (HasNamesake others) b.left (second client clock i after).left front_left
     (weaker (HasNamesake after) (HasNamesake others) (namesake_right before after) (second client clock i after).left
     (second_left client clock i after)) in
-    by_verdict client clock o (λ v. RisesByOne o others
+    by_evaluation client clock o (λ v. RisesByOne o others
     (whole client clock n b (turn_by client clock b.next_id o v) after).sent
     (whole client clock n b (turn_by client clock b.next_id o v) after).left)
     (λ content due.

@@ -1,4 +1,4 @@
--- The turn of the observation at a place, by its verdict.
+-- The turn of the observation at a place, by its evaluation.
 use Rattle.std.proofs.Common.{◌≡◌, ℕ, ◌+◌, List, [], ◌∷◌, ◌++◌, take, drop, slice_get, slice_set, remove, Option, None}
 use Rattle.std.proofs.Common.{Some, refl, sym, ap, subst, ◌∙◌}
 use Rattle.std.proofs.lemmas.List.{append-nil}
@@ -8,16 +8,16 @@ use Rattle.notifier.specs.declared.observation.Observation.{Observation}
 use Rattle.device_requests.specs.Client.{Client}
 use Rattle.device_requests.specs.declared.answer.Answer.{Answer}
 use Rattle.device_notifications.specs.declared.datagram.Datagram.{Datagram}
-use Rattle.device_notifications.specs.declared.verdict.Verdict.TheVariants.{Quiet, Sends, Gone}
+use Rattle.device_notifications.specs.declared.evaluation.Evaluation.TheVariants.{Quiet, Sends, Gone}
 use Rattle.device_notifications.specs.Message.{datagram_of}
 use Rattle.device_notifications.specs.Outbox.{Outbox, posted}
 use Rattle.device_notifications.specs.Progress.{Passes}
 use Rattle.device_notifications.specs.Report.{report_of}
-use Rattle.device_notifications.specs.Second.{turn_by, turn_of, verdict_of}
+use Rattle.device_notifications.specs.Second.{turn_by, turn_of, evaluation_of}
 use Rattle.device_notifications.proofs.Places.{taken, taken_set, dropped_set, taken_removed, dropped_removed}
 
 pub passes_quiet : (client : Client) (clock : ℕ) (os : List Observation) (place : ℕ) (o : Observation) (now : Outbox)
-    → slice_get os place ≡ Some o → Quiet ≡ verdict_of client clock o
+    → slice_get os place ≡ Some o → Quiet ≡ evaluation_of client clock o
     → Passes (turn_of client clock now.next_id o) os os place (place + 1) now now
 passes_quiet client clock os place o now at is =
     subst (λ v. Passes (turn_by client clock now.next_id o v) os os place (place + 1) now now) is
@@ -25,7 +25,7 @@ passes_quiet client clock os place o now at is =
 
 pub passes_sends : (client : Client) (clock : ℕ) (os left : List Observation) (place : ℕ) (o : Observation)
     (now after : Outbox) (answer : Answer) (d : Datagram)
-    → slice_get os place ≡ Some o → Sends answer ≡ verdict_of client clock o
+    → slice_get os place ≡ Some o → Sends answer ≡ evaluation_of client clock o
     → d ≡ datagram_of o now.next_id (Some (next_number o.number)) answer
     → left ≡ with_sent os place clock now.next_id (report_of client o.path answer.payload)
     → after ≡ posted now d
@@ -45,7 +45,7 @@ passes_sends client clock os left place o now after answer d at is message then_
 
 pub passes_gone : (client : Client) (clock : ℕ) (os left : List Observation) (place : ℕ) (o : Observation)
     (now after : Outbox) (answer : Answer) (d : Datagram)
-    → Gone answer ≡ verdict_of client clock o
+    → Gone answer ≡ evaluation_of client clock o
     → d ≡ datagram_of o now.next_id None answer
     → left ≡ remove os place
     → after ≡ posted now d

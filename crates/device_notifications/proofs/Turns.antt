@@ -1,4 +1,4 @@
--- What a turn does, by the three verdicts, and what a second does by its turns.
+-- What a turn does, by the three evaluations, and what a second does by its turns.
 use Rattle.std.proofs.Common.{◌≡◌, ℕ, zero, suc, ◌+◌, ◌-◌, ◌%◌, ◌<◌, ◌≤◌, Bool, true, false, List, [], ◌∷◌, ◌++◌}
 use Rattle.std.proofs.Common.{length, Option, None, Some, refl, sym, ap, subst, ◌∙◌, arith}
 use Rattle.std.specs.Bool.{if◌then◌else◌}
@@ -10,32 +10,32 @@ use Rattle.notifier.specs.Trigger.{is_due}
 use Rattle.notifier.specs.declared.observation.Observation.{Observation}
 use Rattle.device_requests.specs.Client.{Client}
 use Rattle.device_requests.specs.declared.answer.Answer.{Answer}
-use Rattle.device_notifications.specs.declared.verdict.Verdict.{Verdict}
-use Rattle.device_notifications.specs.declared.verdict.Verdict.TheVariants.{Quiet, Sends, Gone}
-use Rattle.device_notifications.specs.Laws.{IsOf, IsFresh, StayInOrder}
+use Rattle.device_notifications.specs.declared.evaluation.Evaluation.{Evaluation}
+use Rattle.device_notifications.specs.declared.evaluation.Evaluation.TheVariants.{Quiet, Sends, Gone}
+use Rattle.device_notifications.specs.Laws.{IsOf, IsYoung, StayInOrder}
 use Rattle.device_notifications.specs.Laws.Stays.{as_it_was, told}
 use Rattle.device_notifications.specs.Laws.StayInOrder.{none, stays, goes}
 use Rattle.device_notifications.specs.Message.{datagram_of}
 use Rattle.device_notifications.specs.Period.{pmin_of, pmax_of}
 use Rattle.device_requests.specs.Answer.{is_content}
 use Rattle.device_notifications.specs.Second.{age_of, is_due_now, present, second, seconds, triggers_now}
-use Rattle.device_notifications.specs.Second.{turn_by, turn_of, verdict_of}
+use Rattle.device_notifications.specs.Second.{turn_by, turn_of, evaluation_of}
 
-choose : (c d : Bool) (a : Answer) (P : Verdict → Type 0) → (c ≡ true → d ≡ true → P (Sends a))
+choose : (c d : Bool) (a : Answer) (P : Evaluation → Type 0) → (c ≡ true → d ≡ true → P (Sends a))
     → (c ≡ true → d ≡ false → P Quiet) → (c ≡ false → P (Gone a))
     → P (if c then (if d then Sends a else Quiet) else Gone a)
 choose true true a P s q g = s refl refl
 choose true false a P s q g = q refl refl
 choose false d a P s q g = g refl
 
--- the verdict on an observation is one of three, each under its conditions
-pub by_verdict : (client : Client) (clock : ℕ) (o : Observation) (P : Verdict → Type 0)
+-- the evaluation of an observation is one of three, each under its conditions
+pub by_evaluation : (client : Client) (clock : ℕ) (o : Observation) (P : Evaluation → Type 0)
     → (is_content (present client o) ≡ true → is_due_now client clock o (present client o).payload ≡ true
     → P (Sends (present client o)))
     → (is_content (present client o) ≡ true → is_due_now client clock o (present client o).payload ≡ false → P Quiet)
     → (is_content (present client o) ≡ false → P (Gone (present client o)))
-    → P (verdict_of client clock o)
-by_verdict client clock o P s q g =
+    → P (evaluation_of client clock o)
+by_evaluation client clock o P s q g =
     choose (is_content (present client o)) (is_due_now client clock o (present client o).payload)
     (present client o) P s q g
 
@@ -75,7 +75,7 @@ later_of y x xs h = (suc h.0, omega (arith, h.1), h.2)
 sent_by : (client : Client) (clock next_id : ℕ) (o : Observation) (os : List Observation)
     → AllByRecursion (IsOf client clock (o ∷ os)) (turn_of client clock next_id o).sent
 sent_by client clock next_id o os =
-    by_verdict client clock o (λ v. AllByRecursion (IsOf client clock (o ∷ os)) (turn_by client clock next_id o v).sent)
+    by_evaluation client clock o (λ v. AllByRecursion (IsOf client clock (o ∷ os)) (turn_by client clock next_id o v).sent)
     (λ content due. (
       (
         o,
@@ -108,9 +108,9 @@ none_old : (clock pmax : ℕ) → 0 < pmax → clock - clock < pmax
 none_old clock pmax above = omega (arith, above)
 
 fresh_by : (client : Client) (clock next_id : ℕ) (o : Observation)
-    → AllByRecursion (IsFresh client clock) (turn_of client clock next_id o).left
+    → AllByRecursion (IsYoung client clock) (turn_of client clock next_id o).left
 fresh_by client clock next_id o =
-    by_verdict client clock o (λ v. AllByRecursion (IsFresh client clock) (turn_by client clock next_id o v).left)
+    by_evaluation client clock o (λ v. AllByRecursion (IsYoung client clock) (turn_by client clock next_id o v).left)
     (λ content due. ((λ pmax is above follows. none_old clock pmax above), tt))
     (λ content rests. (
       (λ pmax is above follows. not_due (age_of clock o) (pmin_of client o.server o.path)
@@ -121,26 +121,26 @@ fresh_by client clock next_id o =
     (λ no_content. tt)
 
 pub sends_before_pmax : (client : Client) (clock next_id : ℕ) (os : List Observation)
-    → AllByRecursion (IsFresh client clock) (second client clock next_id os).left
+    → AllByRecursion (IsYoung client clock) (second client clock next_id os).left
 sends_before_pmax client clock next_id [] = tt
 sends_before_pmax client clock next_id (o ∷ os) =
     both _ (turn_of client clock next_id o).left _ (fresh_by client clock next_id o)
     (sends_before_pmax client clock (turn_of client clock next_id o).next_id os)
 
 later : (client : Client) (clock n next_id : ℕ) (os : List Observation)
-    → AllByRecursion (IsFresh client (clock + suc n)) (seconds client clock (suc n) next_id os).left
+    → AllByRecursion (IsYoung client (clock + suc n)) (seconds client clock (suc n) next_id os).left
 later client clock zero next_id os = sends_before_pmax client (clock + 1) next_id os
 later client clock (suc n) next_id os =
     let at : clock + 1 + suc n ≡ clock + suc (suc n) = omega arith in
     let t = second client (clock + 1) next_id os in
-    subst (λ c. AllByRecursion (IsFresh client c) (seconds client (clock + 1) (suc n) t.next_id t.left).left) at
+    subst (λ c. AllByRecursion (IsYoung client c) (seconds client (clock + 1) (suc n) t.next_id t.left).left) at
     (later client (clock + 1) n t.next_id t.left)
 
 pub seconds_send_before_pmax : (client : Client) (clock n next_id : ℕ) (os : List Observation)
-    → AllByRecursion (IsFresh client (clock + (n + 1))) (seconds client clock (n + 1) next_id os).left
+    → AllByRecursion (IsYoung client (clock + (n + 1))) (seconds client clock (n + 1) next_id os).left
 seconds_send_before_pmax client clock n next_id os =
     let same : suc n ≡ n + 1 = omega arith in
-    subst (λ m. AllByRecursion (IsFresh client (clock + m)) (seconds client clock m next_id os).left) same
+    subst (λ m. AllByRecursion (IsYoung client (clock + m)) (seconds client clock m next_id os).left) same
     (later client clock n next_id os)
 
 -- ---- order
@@ -148,7 +148,7 @@ seconds_send_before_pmax client clock n next_id os =
 order_by : (client : Client) (clock next_id : ℕ) (o : Observation) (os ps : List Observation)
     → StayInOrder client clock os ps → StayInOrder client clock (o ∷ os) ((turn_of client clock next_id o).left ++ ps)
 order_by client clock next_id o os ps rest =
-    by_verdict client clock o (λ v. StayInOrder client clock (o ∷ os) ((turn_by client clock next_id o v).left ++ ps))
+    by_evaluation client clock o (λ v. StayInOrder client clock (o ∷ os) ((turn_by client clock next_id o v).left ++ ps))
     (λ content due. stays o _ os ps (told next_id
     (due_waits (age_of clock o) (pmin_of client o.server o.path) (pmax_of client o.server o.path)
     (triggers_now client o (present client o).payload) due)) rest)
@@ -175,7 +175,7 @@ pub counts_observe_numbers : (client : Client) (clock next_id : ℕ) (o p : Obse
     ⊎ (((turn_of client clock next_id o).sent ≡ datagram_of o next_id (Some p.number) (present client o) ∷ [])
     × (p.number ≡ (o.number + 1) % 16777216))
 counts_observe_numbers client clock next_id o p =
-    by_verdict client clock o (λ v. (turn_by client clock next_id o v).left ≡ p ∷ []
+    by_evaluation client clock o (λ v. (turn_by client clock next_id o v).left ≡ p ∷ []
     → (((turn_by client clock next_id o v).sent ≡ []) × (p ≡ o))
     ⊎ (((turn_by client clock next_id o v).sent ≡ datagram_of o next_id (Some p.number) (present client o) ∷ [])
     × (p.number ≡ (o.number + 1) % 16777216)))
@@ -194,7 +194,7 @@ id_by : (client : Client) (clock next_id : ℕ) (o : Observation) → next_id < 
     → ((turn_of client clock next_id o).next_id ≡ (next_id + length (turn_of client clock next_id o).sent) % 65536)
     × ((turn_of client clock next_id o).next_id < 65536)
 id_by client clock next_id o h =
-    by_verdict client clock o (λ v. ((turn_by client clock next_id o v).next_id
+    by_evaluation client clock o (λ v. ((turn_by client clock next_id o v).next_id
     ≡ (next_id + length (turn_by client clock next_id o v).sent) % 65536)
     × ((turn_by client clock next_id o v).next_id < 65536))
     (λ content due. (refl, id_fits next_id))

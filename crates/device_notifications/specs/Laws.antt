@@ -49,8 +49,8 @@ SecondsSendAfterPmin =
 
 -- where pmax has effect, which is where it is above 0 and not below pmin, the last message is less than pmax seconds
 -- old
-abbrev pub IsFresh : Client → ℕ → Observation → Type 0
-IsFresh client clock o =
+abbrev pub IsYoung : Client → ℕ → Observation → Type 0
+IsYoung client clock o =
     (pmax : ℕ) → pmax_of client o.server o.path ≡ Some pmax → 0 < pmax → pmin_of client o.server o.path ≤ pmax
     → age_of clock o < pmax
 
@@ -58,13 +58,13 @@ IsFresh client clock o =
 abbrev pub SendsBeforePmax : Type 0
 SendsBeforePmax =
     (client : Client) (clock next_id : ℕ) (os : List Observation)
-    → AllByRecursion (IsFresh client clock) (second client clock next_id os).left
+    → AllByRecursion (IsYoung client clock) (second client clock next_id os).left
 
 -- and so it is after the last of one second or more
 abbrev pub SecondsSendBeforePmax : Type 0
 SecondsSendBeforePmax =
     (client : Client) (clock n next_id : ℕ) (os : List Observation)
-    → AllByRecursion (IsFresh client (clock + (n + 1))) (seconds client clock (n + 1) next_id os).left
+    → AllByRecursion (IsYoung client (clock + (n + 1))) (seconds client clock (n + 1) next_id os).left
 
 -- an observation keeps all that it was, its last report among them, or its server has been notified, pmin seconds or
 -- more after its last message

@@ -1,8 +1,10 @@
 -- The minimum and the maximum period of an observation, in seconds (OMA LwM2M 1.1 Core, attributes, and object 1 LwM2M
 -- Server).
-use Rattle.std.specs.Prelude.{ℕ, ◌==◌, nat_lt, ℤ, pos, negsuc, Bool, false, find, cond, Option, None, Some}
+use Rattle.std.specs.Prelude.{ℕ, nat_lt, ℤ, pos, negsuc, Bool, find, cond, Option, None, Some}
 use Rattle.std.specs.Prelude.{option_and_then}
 use Rattle.std.specs.Option.{option_or, unwrap_or}
+use Rattle.lwm2m_values.specs.Value.{is_integer}
+use Rattle.object_defs.specs.Numbers.{server_object, short_server_id, default_minimum_period, default_maximum_period}
 use Rattle.object_defs.specs.Path.{single_of}
 use Rattle.object_defs.specs.declared.path.FullPath.{FullPath}
 use Rattle.object_defs.specs.declared.path.Path.{Path}
@@ -19,23 +21,18 @@ abbrev pub seconds_in : ℤ → Option ℕ
 seconds_in (pos n) = cond (nat_lt n 2147483648) (Some n) None
 seconds_in (negsuc n) = None
 
--- a single resource of an instance of object 1: 0 Short Server ID, 2 Default Minimum Period, 3 Default Maximum Period
+-- a single resource of an instance of Server
 abbrev pub account_path : ℕ → ℕ → FullPath
-account_path instance resource = single_of (resource_place 1 instance resource)
+account_path instance resource = single_of (resource_place server_object instance resource)
 
--- whether a number is this one; a negative one is none
-abbrev pub is_number : ℕ → Option ℤ → Bool
-is_number n None = false
-is_number n (Some (pos m)) = m == n
-is_number n (Some (negsuc _)) = false
-
--- whether an instance of object 1 is of this server
+-- whether an instance of Server is of this server
 abbrev pub is_account : Stored → ℕ → ℕ → Bool
-is_account stored server instance = is_number server (number_in (value_at stored (account_path instance 0)))
+is_account stored server instance =
+    is_integer server (number_in (value_at stored (account_path instance short_server_id)))
 
--- the lowest instance of object 1 that is of this server
+-- the lowest instance of Server that is of this server
 abbrev pub account_of : Stored → ℕ → Option ℕ
-account_of stored server = find (λ instance. is_account stored server instance) (instances_of stored 1)
+account_of stored server = find (λ instance. is_account stored server instance) (instances_of stored server_object)
 
 -- the seconds that this resource of it says; where that one says none, a higher instance is not asked
 abbrev pub default_period : Stored → ℕ → ℕ → Option ℕ
@@ -51,8 +48,8 @@ period_of client server path n resource =
 
 -- the minimum period that has effect, 0 where none is set
 abbrev pub pmin_of : Client → ℕ → Path → ℕ
-pmin_of client server path = unwrap_or (period_of client server path name.Pmin 2) 0
+pmin_of client server path = unwrap_or (period_of client server path name.Pmin default_minimum_period) 0
 
 -- the maximum period
 abbrev pub pmax_of : Client → ℕ → Path → Option ℕ
-pmax_of client server path = period_of client server path name.Pmax 3
+pmax_of client server path = period_of client server path name.Pmax default_maximum_period

@@ -10,8 +10,8 @@ use Rattle.device_requests.specs.Client.{Client}
 use Rattle.device_requests.specs.Read.{read_answer}
 use Rattle.device_requests.specs.declared.answer.Answer.{Answer}
 use Rattle.device_notifications.specs.declared.datagram.Datagram.{Datagram}
-use Rattle.device_notifications.specs.declared.verdict.Verdict.{Verdict}
-use Rattle.device_notifications.specs.declared.verdict.Verdict.TheVariants.{Quiet, Sends, Gone}
+use Rattle.device_notifications.specs.declared.evaluation.Evaluation.{Evaluation}
+use Rattle.device_notifications.specs.declared.evaluation.Evaluation.TheVariants.{Quiet, Sends, Gone}
 use Rattle.device_notifications.specs.Message.{datagram_of}
 use Rattle.device_notifications.specs.Period.{pmin_of, pmax_of}
 use Rattle.device_notifications.specs.Outbox.{id_after}
@@ -42,13 +42,13 @@ is_due_now client clock o payload =
     (triggers_now client o payload)
 
 -- content is sent when it is due; any other answer is sent at once, and the observation goes
-abbrev pub verdict_on : Client → ℕ → Observation → Answer → Verdict
-verdict_on client clock o answer =
+abbrev pub evaluation_on : Client → ℕ → Observation → Answer → Evaluation
+evaluation_on client clock o answer =
     if is_content answer then (if is_due_now client clock o answer.payload then Sends answer else Quiet)
     else Gone answer
 
-abbrev pub verdict_of : Client → ℕ → Observation → Verdict
-verdict_of client clock o = verdict_on client clock o (present client o)
+abbrev pub evaluation_of : Client → ℕ → Observation → Evaluation
+evaluation_of client clock o = evaluation_on client clock o (present client o)
 
 -- what is sent, the observations that are left, and the device's next message ID then
 pub record Turn : Type 0 where
@@ -61,7 +61,7 @@ abbrev pub quiet : ℕ → List Observation → Turn
 quiet next_id os = record { sent = []; left = os; next_id = next_id }
 
 -- a notification has the next Observe number, and an answer that ends the observation none
-abbrev pub turn_by : Client → ℕ → ℕ → Observation → Verdict → Turn
+abbrev pub turn_by : Client → ℕ → ℕ → Observation → Evaluation → Turn
 turn_by client clock next_id o Quiet = quiet next_id (o ∷ [])
 turn_by client clock next_id o (Sends answer) =
     record {
@@ -74,7 +74,7 @@ turn_by client clock next_id o (Gone answer) =
 
 -- what one observation does in the second that the clock shows
 abbrev pub turn_of : Client → ℕ → ℕ → Observation → Turn
-turn_of client clock next_id o = turn_by client clock next_id o (verdict_of client clock o)
+turn_of client clock next_id o = turn_by client clock next_id o (evaluation_of client clock o)
 
 -- one after the other: what both send, and leave
 abbrev pub beside : Turn → Turn → Turn

@@ -2,15 +2,16 @@
 #![tactic(auto)]
 
 mod datagram;
+mod evaluation;
 mod laws;
 mod notification;
 mod outbox;
 mod period;
 mod report;
 mod sweep;
-mod verdict;
 
 pub use datagram::Datagram;
+pub use evaluation::Evaluation;
 pub use laws::{
     counts_message_ids, counts_observe_numbers, keeps_order, seconds_add, sends_after_pmin,
     sends_before_pmax,
@@ -19,4 +20,3 @@ pub use outbox::Outbox;
 pub use period::{pmax_of, pmin_of};
 pub use report::report_of;
 pub use sweep::{second, seconds};
-pub use verdict::Verdict;

@@ -1,7 +1,8 @@
 ghost use Rattle.std.specs.Prelude.{◌≡◌, option_and_then};
+ghost use Rattle.lwm2m_values.specs.Value.{is_integer};
 ghost use Rattle.notifier.specs.Attributes.{effective};
 ghost use Rattle.instance_store.specs.Stored.{value_at};
-ghost use Rattle.device_notifications.specs.Period.{account_of, account_path, default_period, is_account, is_number};
+ghost use Rattle.device_notifications.specs.Period.{account_of, account_path, default_period, is_account};
 ghost use Rattle.device_notifications.specs.Period.{period_of, pmax_of, pmin_of, seconds_in};
 ghost use Rattle.device_notifications.specs.Report.{number_in};
 
@@ -9,14 +10,11 @@ use crate::report::number_in;
 use device_requests::Client;
 use instance_store::Store;
 use notifier::Name;
+use object_defs::object_number::SERVER;
+use object_defs::resource_number::{
+    DEFAULT_MAXIMUM_PERIOD, DEFAULT_MINIMUM_PERIOD, SHORT_SERVER_ID,
+};
 use object_defs::{FullPath, Path, ResourcePath};
-
-/// Object 1 LwM2M Server, and its resources Default Minimum Period and Default Maximum Period.
-const SERVER: u16 = 1;
-
-const DEFAULT_PMIN: u16 = 2;
-
-const DEFAULT_PMAX: u16 = 3;
 
 /// The greatest number of seconds of a period.
 const LONGEST: u64 = 2_147_483_647;
@@ -35,7 +33,7 @@ fn seconds_in(number: i64) -> Option<u64>
     Some(seconds)
 }
 
-/// A single resource of an instance of object 1.
+/// A single resource of an instance of Server.
 fn account_path(instance: u16, resource: u16) -> FullPath
     ensures { result ≡ account_path instance resource }
 {
@@ -47,17 +45,17 @@ fn account_path(instance: u16, resource: u16) -> FullPath
     place.single()
 }
 
-/// Whether an instance of object 1 is of this server.
+/// Whether an instance of Server is of this server.
 fn is_account(store: &Store, server: u16, instance: u16) -> bool
     ensures { result ≡ is_account store.now server instance }
 {
-    match number_in(store, account_path(instance, 0)) {
+    match number_in(store, account_path(instance, SHORT_SERVER_ID)) {
         Some(number) => number == i64::from(server),
         None => false,
     }
 }
 
-/// The lowest instance of object 1 that is of this server.
+/// The lowest instance of Server that is of this server.
 fn account_of(store: &Store, server: u16) -> Option<u16>
     ensures { result ≡ account_of store.now server }
 {
@@ -65,7 +63,7 @@ fn account_of(store: &Store, server: u16) -> Option<u16>
     accounts.find(|instance| is_account(store, server, *instance))
 }
 
-/// The seconds that a resource of the server's instance of object 1 says.
+/// The seconds that a resource of the server's instance of Server says.
 fn default_period(store: &Store, server: u16, resource: u16) -> Option<u64>
     ensures { result ≡ default_period store.now server resource }
 {
@@ -93,12 +91,12 @@ fn period_of(client: &Client, server: u16, path: Path, name: Name, resource: u16
 }
 
 /// The minimum period of a server's observation of a path, in seconds: the attribute pmin of the
-/// lowest level that has one, else the Default Minimum Period of the lowest instance of object 1
+/// lowest level that has one, else the Default Minimum Period of the lowest instance of Server
 /// that is of this server, else 0. Numbers over 2,147,483,647 are none.
 pub fn pmin_of(client: &Client, server: u16, path: Path) -> u64
     ensures { result ≡ pmin_of client.now server path }
 {
-    period_of(client, server, path, Name::Pmin, DEFAULT_PMIN).unwrap_or(0)
+    period_of(client, server, path, Name::Pmin, DEFAULT_MINIMUM_PERIOD).unwrap_or(0)
 }
 
 /// The maximum period of a server's observation of a path, in seconds, if there is one: the
@@ -107,5 +105,5 @@ pub fn pmin_of(client: &Client, server: u16, path: Path) -> u64
 pub fn pmax_of(client: &Client, server: u16, path: Path) -> Option<u64>
     ensures { result ≡ pmax_of client.now server path }
 {
-    period_of(client, server, path, Name::Pmax, DEFAULT_PMAX)
+    period_of(client, server, path, Name::Pmax, DEFAULT_MAXIMUM_PERIOD)
 }

@@ -5,10 +5,10 @@ ghost use Rattle.notifier.specs.declared.observation.Observation.{Observation};
 ghost use Rattle.device_notifications.specs.Progress.{Leaves, Passes, Stops, StopsIn};
 ghost use Rattle.device_notifications.specs.Second.{second, seconds, turn_of};
 
+use crate::evaluation::{Evaluation, judge};
 use crate::notification::datagram_of;
 use crate::outbox::Outbox;
 use crate::report::report_of;
-use crate::verdict::{Verdict, judge};
 use device_requests::Client;
 use notifier::Observations;
 use std::alloc::{AllocError, Global};
@@ -35,15 +35,15 @@ fn take_turn(
     };
     let mid = outbox.next_id();
     match judge(client, clock, observation)? {
-        Verdict::Quiet => Ok(place + 1),
-        Verdict::Sends(answer) => {
+        Evaluation::Quiet => Ok(place + 1),
+        Evaluation::Sends(answer) => {
             let number = Some(observation.next_number());
             outbox.post(datagram_of(alloc, observation, mid, number, &answer)?)?;
             let report = report_of(client, observation.path, answer.payload);
             observations.sent(place, clock, mid, report);
             Ok(place + 1)
         }
-        Verdict::Gone(answer) => {
+        Evaluation::Gone(answer) => {
             outbox.post(datagram_of(alloc, observation, mid, None, &answer)?)?;
             observations.remove(place);
             Ok(place)

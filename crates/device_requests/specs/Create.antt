@@ -1,12 +1,15 @@
 -- What a Create answers and changes (OMA LwM2M 1.1 Core, Create).
 use Rattle.std.specs.Prelude.{ℕ, ◌==◌, Bool, true, false, not, List, [], ◌∷◌, length, Option, None, Some, option_map}
 use Rattle.std.specs.Prelude.{is_some}
+use Rattle.object_defs.specs.Numbers.{security_object}
 use Rattle.object_defs.specs.Lines.{first_line}
 use Rattle.object_defs.specs.Path.{object_in}
 use Rattle.object_defs.specs.declared.path.Path.{Path}
 use Rattle.instance_store.specs.Stored.{Stored}
 use Rattle.device_instances.specs.Creations.{has_no_room, with_created}
 use Rattle.device_instances.specs.Numbers.{number_for}
+use Rattle.lwm2m_payloads.specs.Formats.{format_number}
+use Rattle.lwm2m_payloads.specs.declared.format.Format.TheVariants.{Tlv}
 use Rattle.lwm2m_payloads.specs.Given.{creation_given}
 use Rattle.lwm2m_payloads.specs.declared.given.Assignment.{Assignment}
 use Rattle.lwm2m_payloads.specs.declared.given.Creation.{Creation}
@@ -18,10 +21,10 @@ use Rattle.device_requests.specs.Answer.{Outcome, answered, bare, created}
 use Rattle.device_requests.specs.Client.{Client, with_stored}
 use Rattle.device_requests.specs.Targets.{defined, exists, is_fixed, place_of}
 
--- the values of an instance are TLV, of which the number is 11542; no Content-Format says the same
+-- the values of an instance are TLV; no Content-Format says the same
 abbrev pub is_tlv : Option ℕ → Bool
 is_tlv None = true
-is_tlv (Some number) = number == 11542
+is_tlv (Some number) = number == format_number Tlv
 
 -- the number of a new instance, and what its resources are given
 pub record Newborn : Type 0 where
@@ -48,7 +51,7 @@ newborn_lines client o new = (not (is_some new), BadRequest) ∷ (lacks_room cli
 -- what refuses a Create, in this order
 abbrev pub create_lines : Client → ℕ → Path → Option ℕ → List ℕ → List (Bool × Code)
 create_lines client server path number payload =
-    (object_in path == 0, Unauthorized)
+    (object_in path == security_object, Unauthorized)
     ∷ (not (exists client.catalogue client.store path), NotFound)
     ∷ (not (rights_on client server path).create, Unauthorized)
     ∷ (is_fixed (object_in path), MethodNotAllowed)

@@ -1,5 +1,6 @@
 -- What a Delete answers and changes (OMA LwM2M 1.1 Core, Delete).
 use Rattle.std.specs.Prelude.{ℕ, ◌==◌, Bool, not, filter, List, [], ◌∷◌, Option, None, Some}
+use Rattle.object_defs.specs.Numbers.{security_object, access_control_object}
 use Rattle.object_defs.specs.Lines.{first_line}
 use Rattle.object_defs.specs.Path.{object_in}
 use Rattle.object_defs.specs.declared.path.Path.{Path}
@@ -17,7 +18,7 @@ use Rattle.device_requests.specs.Targets.{exists, is_fixed, place_of}
 -- what refuses a Delete, in this order
 abbrev pub delete_lines : Client → ℕ → Path → List (Bool × Code)
 delete_lines client server path =
-    (object_in path == 0, Unauthorized)
+    (object_in path == security_object, Unauthorized)
     ∷ (not (exists client.catalogue client.store path), NotFound)
     ∷ (not (rights_on client server path).delete, Unauthorized)
     ∷ (is_fixed (object_in path), MethodNotAllowed)
@@ -32,12 +33,14 @@ deleted stored (Part o i r n) = stored
 
 -- the instances of Access Control that were there and are not any more
 abbrev pub taken_away : Stored → Stored → List ℕ
-taken_away old new = filter (λ j. not (has_instance new (place_of 2 j))) (instances_of old 2)
+taken_away old new =
+    filter (λ j. not (has_instance new (place_of access_control_object j)))
+    (instances_of old access_control_object)
 
 -- without the attributes of all servers at or below these instances of Access Control
 abbrev pub without_controls : Numbers → List ℕ → Numbers
 without_controls m [] = m
-without_controls m (j ∷ js) = without_controls (without_under m (Instance 2 j)) js
+without_controls m (j ∷ js) = without_controls (without_under m (Instance access_control_object j)) js
 
 -- attributes go with what they are set for
 abbrev pub forgotten : Client → Path → Numbers

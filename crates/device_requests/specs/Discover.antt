@@ -9,6 +9,7 @@ use Rattle.notifier.specs.declared.attribute.Name.{Name}
 use Rattle.notifier.specs.declared.attribute.Name.TheVariants.{Pmin, Pmax, Gt, Lt, St}
 use Rattle.notifier.specs.declared.attribute.Name.TheVariants as name
 use Rattle.notifier.specs.Attributes.{Numbers, assigned, effective}
+use Rattle.object_defs.specs.Numbers.{security_object}
 use Rattle.object_defs.specs.Catalogue.{definition_of}
 use Rattle.object_defs.specs.declared.definition.ObjectDef.{ObjectDef}
 use Rattle.object_defs.specs.declared.definition.ResourceDef.{ResourceDef}
@@ -16,6 +17,7 @@ use Rattle.object_defs.specs.declared.path.Path.{Path}
 use Rattle.object_defs.specs.declared.path.Path.TheVariants.{Object, Instance, Resource, Part}
 use Rattle.instance_store.specs.Stored.{Stored, instances_of, parts_of}
 use Rattle.device_requests.specs.Client.{Client}
+use Rattle.device_requests.specs.Operation.{link_format}
 use Rattle.device_requests.specs.Targets.{defined, exists, is_multiple, resource_place}
 use Rattle.object_defs.specs.Path.{object_in, path_text}
 use Rattle.device_requests.specs.declared.answer.Answer.{Answer}
@@ -148,12 +150,12 @@ discover_payload client server path = links_text client server (linked client.ca
 -- what refuses a Discover, in this order; it asks for no right
 abbrev pub discover_lines : Client → ℕ → Path → List (Bool × Code)
 discover_lines client server path =
-    (object_in path == 0, Unauthorized)
+    (object_in path == security_object, Unauthorized)
     ∷ (not (exists client.catalogue client.store path), NotFound)
     ∷ (nat_lt 1024 (length (discover_payload client server path)), InternalServerError)
     ∷ []
 
--- application/link-format is 40
 abbrev pub discover_answer : Client → ℕ → Path → Answer
 discover_answer client server path =
-    refused_or (first_line (discover_lines client server path)) (content 40 (discover_payload client server path))
+    refused_or (first_line (discover_lines client server path))
+    (content link_format (discover_payload client server path))

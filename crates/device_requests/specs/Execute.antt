@@ -3,6 +3,9 @@ use Rattle.std.specs.Prelude.{◌≡◌, ◌↔◌, ℕ, ◌==◌, Bool, true, f
 use Rattle.std.specs.Prelude.{is_some, if◌then◌else◌}
 use Rattle.std.specs.Option.{unwrap_or}
 use Rattle.lwm2m_values.specs.declared.value.Value.TheVariants.{Whole}
+use Rattle.object_defs.specs.Numbers.{security_object, server_object, device_object}
+use Rattle.object_defs.specs.Numbers.{firmware_update_object, disable, registration_update_trigger}
+use Rattle.object_defs.specs.Numbers.{reboot, factory_reset, error_code, reset_error_code, update}
 use Rattle.object_defs.specs.Lines.{first_line}
 use Rattle.object_defs.specs.Operations.{can_execute}
 use Rattle.object_defs.specs.Path.{object_in, part_of}
@@ -12,6 +15,8 @@ use Rattle.object_defs.specs.declared.path.Path.TheVariants.{Object, Instance, R
 use Rattle.instance_store.specs.Stored.{Stored, resource_path, with_value, without_values}
 use Rattle.device_firmware.specs.Firmware.{firmware_after}
 use Rattle.device_firmware.specs.declared.event.FirmwareEvent.TheVariants.{Update}
+use Rattle.lwm2m_payloads.specs.Formats.{format_number}
+use Rattle.lwm2m_payloads.specs.declared.format.Format.TheVariants.{PlainText}
 use Rattle.lwm2m_payloads.specs.Arguments.{AreArguments}
 use Rattle.lwm2m_payloads.specs.Scanning.{are_arguments}
 use Rattle.device_requests.specs.declared.answer.Act.{Act}
@@ -28,10 +33,10 @@ abbrev pub is_executable : Option ResourceDef → Bool
 is_executable None = false
 is_executable (Some d) = can_execute d.ops
 
--- arguments are plain text, of which the number is 0; no Content-Format says the same
+-- arguments are plain text; no Content-Format says the same
 abbrev pub is_plain : Option ℕ → Bool
 is_plain None = true
-is_plain (Some number) = number == 0
+is_plain (Some number) = number == format_number PlainText
 
 -- a payload passes the test of arguments exactly where it is arguments
 abbrev pub ArgumentsAreTested : Type 0
@@ -46,7 +51,7 @@ is_resource object resource (Part o i r n) = false
 
 -- Update of Firmware Update is taken in some states only
 abbrev pub is_untimely : Stored → Path → Bool
-is_untimely stored path = is_resource 5 2 path && not (is_some (firmware_after stored Update))
+is_untimely stored path = is_resource firmware_update_object update path && not (is_some (firmware_after stored Update))
 
 -- what refuses the arguments of an Execute, and the Execute where it is untimely, in this order
 abbrev pub argument_lines : Client → Path → Option ℕ → List ℕ → List (Bool × Code)
@@ -59,35 +64,35 @@ argument_lines client path number payload =
 -- what refuses an Execute, in this order
 abbrev pub execute_lines : Client → ℕ → Path → Option ℕ → List ℕ → List (Bool × Code)
 execute_lines client server path number payload =
-    (object_in path == 0, Unauthorized)
+    (object_in path == security_object, Unauthorized)
     ∷ (not (exists client.catalogue client.store path), NotFound)
     ∷ (not (rights_on client server path).execute, Unauthorized)
     ∷ (not (is_executable (definition_at client.catalogue path)), MethodNotAllowed)
     ∷ argument_lines client path number payload
 
--- what the device does then: /3/0/4 Reboot, /3/0/5 Factory Reset, /1/x/4 Disable, /1/x/8 Registration Update Trigger
+-- what the device does then
 abbrev pub act_of : Path → Option Act
 act_of path =
-    if is_resource 3 4 path then Some Reboot
-    else if is_resource 3 5 path then Some FactoryReset
-    else if is_resource 1 4 path then Some Disable
-    else if is_resource 1 8 path then Some RegUpdate
+    if is_resource device_object reboot path then Some Reboot
+    else if is_resource device_object factory_reset path then Some FactoryReset
+    else if is_resource server_object disable path then Some Disable
+    else if is_resource server_object registration_update_trigger path then Some RegUpdate
     else None
 
--- Error Code /3/x/11 says 0, no error, alone
+-- Error Code says 0, no error, alone
 abbrev pub with_no_error : Stored → Path → Stored
 with_no_error stored (Object o) = stored
 with_no_error stored (Instance o i) = stored
 with_no_error stored (Resource o i r) =
-    with_value (without_values stored (resource_path (resource_place o i 11))) (part_of (resource_place o i 11) 0)
-    (Whole (pos 0))
+    with_value (without_values stored (resource_path (resource_place o i error_code)))
+    (part_of (resource_place o i error_code) 0) (Whole (pos 0))
 with_no_error stored (Part o i r n) = stored
 
--- Update begins the update, Reset Error Code /3/0/12 resets the error codes, the others change nothing
+-- Update begins the update, Reset Error Code resets the error codes, the others change nothing
 abbrev pub executed : Stored → Path → Stored
 executed stored path =
-    if is_resource 5 2 path then unwrap_or (firmware_after stored Update) stored
-    else if is_resource 3 12 path then with_no_error stored path
+    if is_resource firmware_update_object update path then unwrap_or (firmware_after stored Update) stored
+    else if is_resource device_object reset_error_code path then with_no_error stored path
     else stored
 
 -- a refusal changes nothing; else it is done, and the device acts

@@ -3,8 +3,10 @@ use Rattle.std.specs.Prelude.{ℕ, ◌%◌, ◌==◌, nat_lt, nat_le, Bool, ◌&
 use Rattle.std.specs.Prelude.{find, count_by, Option, None, Some, option_and_then, if◌then◌else◌, option_map}
 use Rattle.std.specs.List.{list_any}
 use Rattle.coap_codec.specs.Number.{big_endian}
+use Rattle.coap_codec.specs.OptionNumber.{uri_host_option, observe_option, uri_port_option, uri_path_option}
+use Rattle.coap_codec.specs.OptionNumber.{content_format_option, uri_query_option, accept_option}
 use Rattle.coap_codec.specs.declared.option.Opt.{Opt}
-use Rattle.object_defs.specs.Decimal.{number_of}
+use Rattle.object_defs.specs.Decimal.{decimal_number}
 use Rattle.object_defs.specs.declared.path.Path.{Path}
 use Rattle.object_defs.specs.declared.path.Path.TheVariants.{Object, Instance, Resource, Part}
 
@@ -17,16 +19,16 @@ pub record Known : Type 0 where
 abbrev pub known : ℕ → ℕ → ℕ → Known
 known number least most = record { number = number; least = least; most = most }
 
--- Uri-Host, Observe, Uri-Port, Uri-Path, Content-Format, Uri-Query, Accept
+-- the recognized options
 abbrev pub known_options : List Known
 known_options =
-    known 3 1 255
-    ∷ known 6 0 3
-    ∷ known 7 0 2
-    ∷ known 11 0 255
-    ∷ known 12 0 2
-    ∷ known 15 0 255
-    ∷ known 17 0 2
+    known uri_host_option 1 255
+    ∷ known observe_option 0 3
+    ∷ known uri_port_option 0 2
+    ∷ known uri_path_option 0 255
+    ∷ known content_format_option 0 2
+    ∷ known uri_query_option 0 255
+    ∷ known accept_option 0 2
     ∷ []
 
 -- the option is a recognized one, and its value has a length that this one may have
@@ -51,7 +53,8 @@ has_unknown_critical options = list_any (λ o. is_critical o && not (has_known_f
 -- 5.4.5)
 abbrev pub has_unrecognized_critical : List Opt → Bool
 has_unrecognized_critical options =
-    ((has_unknown_critical options || repeats 3 options) || repeats 7 options) || repeats 17 options
+    ((has_unknown_critical options || repeats uri_host_option options) || repeats uri_port_option options)
+    || repeats accept_option options
 
 -- the number in an option of at most two bytes, leading zeros included
 abbrev pub short_number : Opt → Option ℕ
@@ -59,23 +62,23 @@ short_number o = (if nat_le (length o.value) 2 then Some (big_endian o.value) el
 
 -- the format that the first Accept names
 abbrev pub accept_of : List Opt → Option ℕ
-accept_of options = option_and_then short_number (find (λ o. o.number == 17) options)
+accept_of options = option_and_then short_number (find (λ o. o.number == accept_option) options)
 
 -- the format that the first Content-Format names; where that one has a wrong length, it is as if there were none
 abbrev pub content_format_of : List Opt → Option ℕ
-content_format_of options = option_and_then short_number (find (λ o. o.number == 12) options)
+content_format_of options = option_and_then short_number (find (λ o. o.number == content_format_option) options)
 
 -- the segments of the path, in order
 abbrev pub segments_of : List Opt → List (List ℕ)
-segments_of options = map (λ o. o.value) (filter (λ o. o.number == 11) options)
+segments_of options = map (λ o. o.value) (filter (λ o. o.number == uri_path_option) options)
 
 -- whether there is a Uri-Query
 abbrev pub has_query : List Opt → Bool
-has_query options = list_any (λ o. o.number == 15) options
+has_query options = list_any (λ o. o.number == uri_query_option) options
 
 -- the queries, in order
 abbrev pub queries_of : List Opt → List (List ℕ)
-queries_of options = map (λ o. o.value) (filter (λ o. o.number == 15) options)
+queries_of options = map (λ o. o.value) (filter (λ o. o.number == uri_query_option) options)
 
 -- the number in an Observe, which has three bytes at most, leading zeros included
 abbrev pub observe_number : Opt → Option ℕ
@@ -83,12 +86,12 @@ observe_number o = (if nat_le (length o.value) 3 then Some (big_endian o.value) 
 
 -- the number of the first Observe (RFC 7641 section 2); where that one has a wrong length, it is as if there were none
 abbrev pub observe_of : List Opt → Option ℕ
-observe_of options = option_and_then observe_number (find (λ o. o.number == 6) options)
+observe_of options = option_and_then observe_number (find (λ o. o.number == observe_option) options)
 
 -- the numbers that all the segments are, if each is one
 abbrev pub numbers_of : List (List ℕ) → Option (List ℕ)
 numbers_of [] = Some []
-numbers_of (s ∷ ss) = option_and_then (λ n. option_map (λ ns. n ∷ ns) (numbers_of ss)) (number_of s)
+numbers_of (s ∷ ss) = option_and_then (λ n. option_map (λ ns. n ∷ ns) (numbers_of ss)) (decimal_number s)
 
 -- the path of one to four numbers
 abbrev pub path_from : List ℕ → Option Path

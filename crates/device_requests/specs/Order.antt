@@ -3,6 +3,7 @@
 use Rattle.std.specs.Prelude.{◌≡◌, ◌≢◌, ℕ, ◌==◌, nat_lt, Bool, true, false, not, ◌||◌, List, [], ◌∷◌, length, Option}
 use Rattle.std.specs.Prelude.{None, Some, is_some}
 use Rattle.coap_codec.specs.Message.{Message}
+use Rattle.object_defs.specs.Numbers.{security_object}
 use Rattle.object_defs.specs.Lines.{first_line}
 use Rattle.object_defs.specs.Path.{object_in}
 use Rattle.object_defs.specs.declared.definition.ObjectDef.{ObjectDef}
@@ -139,11 +140,11 @@ done_code Create = Created
 done_code Delete = Deleted
 done_code operation = Changed
 
--- the rules for all operations, in their order: object 0, the target, the right, the operation, the format, the
+-- the rules for all operations, in their order: Security, the target, the right, the operation, the format, the
 -- payload, the firmware, the limits
 abbrev pub rules_of : Client → ℕ → Message → Path → Operation → List (Bool × Code)
 rules_of client server m path operation =
-    (object_in path == 0, Unauthorized)
+    (object_in path == security_object, Unauthorized)
     ∷ (lacks_target client path operation, NotFound)
     ∷ (lacks_right client server path operation, Unauthorized)
     ∷ (lacks_operation client.catalogue path operation, MethodNotAllowed)
@@ -173,7 +174,7 @@ PathsPrecedeMethods =
     → path_of (segments_of m.options) ≡ None
     → (outcome_of client server m).answer.code ≡ NotFound
 
--- a method that is no operation at this kind of path: 4.05, also at object 0 and where nothing is
+-- a method that is no operation at this kind of path: 4.05, also at Security and where nothing is
 abbrev pub MethodsPrecedeObjects : Type 0
 MethodsPrecedeObjects =
     (client : Client) (server : ℕ) (m : Message) (path : Path) → has_unrecognized_critical m.options ≡ false
@@ -181,18 +182,18 @@ MethodsPrecedeObjects =
     → operation_of m.code (accept_of m.options) (has_query m.options) path ≡ None
     → (outcome_of client server m).answer.code ≡ MethodNotAllowed
 
--- object 0: 4.01, whether or not the target is there
+-- Security: 4.01, whether or not the target is there
 abbrev pub SecurityPrecedesTargets : Type 0
 SecurityPrecedesTargets =
     (client : Client) (server : ℕ) (m : Message) (path : Path) (operation : Operation) → Asks m path operation
-    → object_in path ≡ 0
+    → object_in path ≡ security_object
     → (outcome_of client server m).answer.code ≡ Unauthorized
 
 -- no target: 4.04, whatever the server's rights are
 abbrev pub TargetsPrecedeRights : Type 0
 TargetsPrecedeRights =
     (client : Client) (server : ℕ) (m : Message) (path : Path) (operation : Operation) → Asks m path operation
-    → object_in path ≢ 0 → lacks_target client path operation ≡ true
+    → object_in path ≢ security_object → lacks_target client path operation ≡ true
     → (outcome_of client server m).answer.code ≡ NotFound
 
 -- no right to a target that is there: 4.01, whether or not the target has the operation
@@ -230,7 +231,7 @@ PayloadsPrecedeStates =
 -- what each code says of a request that asks for an operation; those of success say nothing
 abbrev pub has_reason : Client → ℕ → Message → Path → Operation → Code → Bool
 has_reason client server m path operation Unauthorized =
-    object_in path == 0 || lacks_right client server path operation
+    object_in path == security_object || lacks_right client server path operation
 has_reason client server m path operation NotFound = lacks_target client path operation
 has_reason client server m path operation MethodNotAllowed =
     lacks_operation client.catalogue path operation || is_out_of_turn client m path operation

@@ -4,6 +4,7 @@ use Rattle.std.specs.Prelude.{if◌then◌else◌}
 use Rattle.lwm2m_values.specs.Tlv.{shortest_tlv}
 use Rattle.lwm2m_values.specs.Tree.{Tree, part, single}
 use Rattle.lwm2m_values.specs.declared.value.Value.{Value}
+use Rattle.object_defs.specs.Numbers.{security_object}
 use Rattle.object_defs.specs.Path.{object_in, single_of, part_of}
 use Rattle.object_defs.specs.declared.definition.ObjectDef.{ObjectDef}
 use Rattle.object_defs.specs.declared.definition.ResourceDef.{ResourceDef}
@@ -11,7 +12,7 @@ use Rattle.object_defs.specs.declared.path.Path.{Path}
 use Rattle.object_defs.specs.declared.path.Path.TheVariants.{Object, Instance, Resource, Part}
 use Rattle.instance_store.specs.Stored.{Stored, value_at}
 use Rattle.lwm2m_payloads.specs.declared.format.Format.{Format}
-use Rattle.lwm2m_payloads.specs.Formats.{number_of, extent_of, format_for}
+use Rattle.lwm2m_payloads.specs.Formats.{format_number, extent_of, format_for}
 use Rattle.lwm2m_payloads.specs.Nodes.{shown_in, nodes_of, object_nodes, value_payload, within_limit}
 use Rattle.device_requests.specs.declared.answer.Answer.{Answer}
 use Rattle.device_requests.specs.declared.answer.Code.{Code}
@@ -71,7 +72,7 @@ read_payload client server path accept =
 -- what refuses a Read, in this order
 abbrev pub read_lines : Client → ℕ → Path → Option ℕ → List (Bool × Code)
 read_lines client server path accept =
-    (object_in path == 0, Unauthorized)
+    (object_in path == security_object, Unauthorized)
     ∷ (not (exists client.catalogue client.store path), NotFound)
     ∷ (not (may_read client server path), Unauthorized)
     ∷ (not (can_be_read client.catalogue path), MethodNotAllowed)
@@ -81,7 +82,7 @@ read_lines client server path accept =
 
 -- a payload with its format
 abbrev pub content_in : Option Format → Option (List ℕ) → Answer
-content_in (Some format) (Some payload) = content (number_of format) payload
+content_in (Some format) (Some payload) = content (format_number format) payload
 content_in format payload = bare InternalServerError
 
 -- the answer to a Read at a path, with the format that Accept names

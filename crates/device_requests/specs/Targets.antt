@@ -1,5 +1,7 @@
 -- The targets of operations: what the catalogue says of a path, and which paths exist.
 use Rattle.std.specs.Prelude.{ℕ, ◌==◌, Bool, false, ◌&&◌, ◌||◌, List, [], Option, None, Some, is_some}
+use Rattle.object_defs.specs.Numbers.{server_object, access_control_object, device_object}
+use Rattle.object_defs.specs.Numbers.{firmware_update_object}
 use Rattle.object_defs.specs.Catalogue.{object_of, definition_of}
 use Rattle.object_defs.specs.Operations.{can_read}
 use Rattle.object_defs.specs.Path.{part_of}
@@ -53,4 +55,6 @@ exists catalogue stored (Part o i r n) =
 
 -- servers create and delete no instances of Server, Access Control, Device and Firmware Update
 abbrev pub is_fixed : ℕ → Bool
-is_fixed object = object == 1 || (object == 2 || (object == 3 || object == 5))
+is_fixed object =
+    object == server_object || (object == access_control_object
+    || (object == device_object || object == firmware_update_object))

@@ -1,6 +1,7 @@
 -- What a Write answers and changes (OMA LwM2M 1.1 Core, Write: Replace and Partial Update).
 use Rattle.std.specs.Prelude.{ℕ, ◌==◌, Bool, false, not, ◌&&◌, List, [], ◌∷◌, Option, None, Some, option_map}
 use Rattle.std.specs.Prelude.{option_and_then, is_some, if◌then◌else◌}
+use Rattle.object_defs.specs.Numbers.{security_object, firmware_update_object, update_package, package_uri}
 use Rattle.object_defs.specs.Catalogue.{object_of, definition_of}
 use Rattle.object_defs.specs.Operations.{can_write}
 use Rattle.object_defs.specs.Path.{object_in}
@@ -51,7 +52,7 @@ is_writable (Some d) = can_write d.ops
 -- an instance can be written but one of Firmware Update, a resource and its parts where the resource has that operation
 abbrev pub can_be_written : List ObjectDef → Path → Bool
 can_be_written catalogue (Object o) = false
-can_be_written catalogue (Instance o i) = not (o == 5)
+can_be_written catalogue (Instance o i) = not (o == firmware_update_object)
 can_be_written catalogue (Resource o i r) = is_writable (definition_of catalogue o r)
 can_be_written catalogue (Part o i r n) = is_writable (definition_of catalogue o r)
 
@@ -129,9 +130,12 @@ abbrev pub uri_in : Given → Option FirmwareEvent
 uri_in (Single (Text text)) = Some (event_of_uri text)
 uri_in given = None
 
--- /5/x/0 is the Package, /5/x/1 the Package URI
+-- the Package and the Package URI of Firmware Update
 abbrev pub event_at : ℕ → ℕ → Given → Option FirmwareEvent
-event_at o r given = if o == 5 && r == 0 then package_in given else if o == 5 && r == 1 then uri_in given else None
+event_at o r given =
+    if o == firmware_update_object && r == update_package then package_in given
+    else if o == firmware_update_object && r == package_uri then uri_in given
+    else None
 
 abbrev pub event_in : Path → NewValues → Option FirmwareEvent
 event_in (Resource o i r) (One given) = event_at o r given
@@ -162,7 +166,7 @@ payload_lines client mode path number payload =
 -- what refuses a Write, in this order
 abbrev pub write_lines : Client → ℕ → Mode → Path → Option ℕ → List ℕ → List (Bool × Code)
 write_lines client server mode path number payload =
-    (object_in path == 0, Unauthorized)
+    (object_in path == security_object, Unauthorized)
     ∷ (not (is_target client.catalogue client.store path), NotFound)
     ∷ (not (rights_on client server path).write, Unauthorized)
     ∷ (not (can_be_written client.catalogue path), MethodNotAllowed)

@@ -10,6 +10,7 @@ use Rattle.notifier.specs.declared.attribute.Level.TheVariants as level
 use Rattle.notifier.specs.declared.fault.QueryFault.{QueryFault}
 use Rattle.notifier.specs.Attributes.{Numbers, is_consistent, written}
 use Rattle.notifier.specs.Query.{changes_of}
+use Rattle.object_defs.specs.Numbers.{security_object, access_control_object}
 use Rattle.object_defs.specs.Catalogue.{definition_of}
 use Rattle.object_defs.specs.Lines.{first_line}
 use Rattle.object_defs.specs.Path.{object_in}
@@ -25,29 +26,29 @@ use Rattle.device_requests.specs.Client.{Client, with_attributes}
 use Rattle.device_requests.specs.Targets.{exists}
 
 -- Integers and Times are numbers
-abbrev pub is_number_kind : ValueKind → Bool
-is_number_kind Text = false
-is_number_kind Whole = true
-is_number_kind Flag = false
-is_number_kind Opaque = false
-is_number_kind Moment = true
-is_number_kind Link = false
+abbrev pub is_numeric_kind : ValueKind → Bool
+is_numeric_kind Text = false
+is_numeric_kind Whole = true
+is_numeric_kind Flag = false
+is_numeric_kind Opaque = false
+is_numeric_kind Moment = true
+is_numeric_kind Link = false
 
 -- a single resource of a number
-abbrev pub is_number : Option ResourceDef → Bool
-is_number None = false
-is_number (Some d) = not d.multiple && is_number_kind d.kind
+abbrev pub is_numeric : Option ResourceDef → Bool
+is_numeric None = false
+is_numeric (Some d) = not d.multiple && is_numeric_kind d.kind
 
 -- what a path is to attributes
 abbrev pub level_at : List ObjectDef → Path → Level
 level_at catalogue (Object o) = level.Object
 level_at catalogue (Instance o i) = level.Instance
-level_at catalogue (Resource o i r) = if is_number (definition_of catalogue o r) then level.Number else level.Resource
+level_at catalogue (Resource o i r) = if is_numeric (definition_of catalogue o r) then level.Number else level.Resource
 level_at catalogue (Part o i r n) = level.Resource
 
 -- the right that attributes ask for: to read; on instances of Access Control to write
 abbrev pub annotates : Rights → ℕ → Bool
-annotates rights object = if object == 2 then rights.write else rights.read
+annotates rights object = if object == access_control_object then rights.write else rights.read
 
 -- on an object they ask for none
 abbrev pub annotates_at : Rights → Path → Bool
@@ -80,7 +81,7 @@ attributes_given client server path queries =
 -- what refuses a Write-Attributes, in this order
 abbrev pub attribute_lines : Client → ℕ → Path → Option Numbers → List (Bool × Code)
 attribute_lines client server path given =
-    (object_in path == 0, Unauthorized)
+    (object_in path == security_object, Unauthorized)
     ∷ (not (exists client.catalogue client.store path), NotFound)
     ∷ (not (may_annotate client server path), Unauthorized)
     ∷ (not (is_some given), BadRequest)

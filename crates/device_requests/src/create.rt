@@ -8,16 +8,17 @@ ghost use Rattle.device_requests.specs.Client.{with_stored};
 ghost use Rattle.device_requests.specs.Targets.{defined, is_fixed, place_of};
 ghost use Rattle.device_instances.specs.Creations.{with_created};
 ghost use Rattle.instance_store.specs.Stored.{has_instance};
+ghost use Rattle.object_defs.specs.Numbers.{access_control_object};
 ghost use Rattle.object_defs.specs.Lines.{first_line};
 ghost use Rattle.object_defs.specs.Path.{object_in};
 
 use crate::answer::{Answer, Code};
 use crate::client::Client;
-use crate::objects::SECURITY;
 use crate::targets::{defined, exists, is_fixed};
 use device_instances::{has_no_room, number_for};
 use instance_store::StoreFault;
-use lwm2m_payloads::{Assignments, creation_given};
+use lwm2m_payloads::{Assignments, Format, creation_given};
+use object_defs::object_number::SECURITY;
 use object_defs::{InstancePath, Path};
 use std::alloc::AllocError;
 
@@ -27,7 +28,7 @@ fn is_tlv(number: Option<u16>) -> bool
 {
     match number {
         None => true,
-        Some(number) => number == 11542,
+        Some(number) => number == Format::Tlv.number(),
     }
 }
 
@@ -48,7 +49,7 @@ impl Client {
         place: InstancePath,
         given: Assignments,
     ) -> Result<(), AllocError>
-        requires other { place.object ≢ 2 }
+        requires other { place.object ≢ access_control_object }
         requires free { has_instance self.old.store place ≡ false }
         requires room { lacks_room self.old place.object (Some (record { number = place.instance; given = given }))
             ≡ false }
@@ -73,7 +74,7 @@ impl Client {
         place: InstancePath,
         given: Assignments,
     ) -> Result<Answer, AllocError>
-        requires other { place.object ≢ 2 }
+        requires other { place.object ≢ access_control_object }
         requires free { has_instance self.old.store place ≡ false }
         ensures outcome { IfOk result (λ a. let new = Some (record { number = place.instance; given = given }) in
             Leaves a self.new (create_unless (first_line
@@ -93,7 +94,7 @@ impl Client {
     /// Makes an instance of what a payload gives, where that is good.
     #[tactic(auto, using(crate::proofs::Present::number_free))]
     fn create_in(&mut self, server: u16, object: u16, payload: &[u8]) -> Result<Answer, AllocError>
-        requires { object ≢ 2 }
+        requires { object ≢ access_control_object }
         ensures outcome { IfOk result (λ a. let new = newborn self.old object payload.now in
             Leaves a self.new
             (create_unless (first_line (newborn_lines self.old object new)) self.old server object new)) }

@@ -1,6 +1,7 @@
 //! A Delete: its rules, and what it takes away.
 
 ghost use Rattle.std.specs.Prelude.{◌≡◌, true, false, filter, not, IfOk, None, OnErr, OnOk};
+ghost use Rattle.object_defs.specs.Numbers.{access_control_object};
 ghost use Rattle.instance_store.specs.Stored.{has_instance};
 ghost use Rattle.notifier.specs.Attributes.{without_under};
 ghost use Rattle.object_defs.specs.Lines.{first_line};
@@ -12,10 +13,10 @@ ghost use Rattle.device_requests.specs.Targets.{is_fixed, place_of};
 
 use crate::answer::{Answer, Code};
 use crate::client::Client;
-use crate::objects::{ACCESS_CONTROL, SECURITY};
 use crate::targets::{exists, is_fixed};
 use instance_store::Store;
 use notifier::Attributes;
+use object_defs::object_number::{ACCESS_CONTROL, SECURITY};
 use object_defs::{InstancePath, Path};
 use std::alloc::{AllocError, Global};
 
@@ -38,7 +39,7 @@ fn take_away(store: &mut Store, path: Path)
 /// Removes the attributes at or below those of these instances of Access Control that are not there.
 fn forget(attributes: &mut Attributes, store: &Store, instances: &[u16])
     ensures { attributes.new ≡ without_controls attributes.old
-        (filter (λ j. not (has_instance store.now (place_of 2 j))) instances.now) }
+        (filter (λ j. not (has_instance store.now (place_of access_control_object j))) instances.now) }
 {
     for instance in instances {
         let place = InstancePath {

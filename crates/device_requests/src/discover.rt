@@ -12,11 +12,11 @@ ghost use Rattle.device_requests.specs.Targets.{exists};
 
 use crate::answer::{Answer, Code};
 use crate::client::Client;
-use crate::objects::SECURITY;
 use crate::operation::LINK_FORMAT;
 use crate::targets::{defined, definition_at, exists, is_multiple, resource_place};
 use instance_store::Store;
 use notifier::{Attributes, Name};
+use object_defs::object_number::SECURITY;
 use object_defs::{Catalog, InstancePath, Path, ResourceDef, path_text};
 use octets::Bytes;
 use std::alloc::{AllocError, Global};

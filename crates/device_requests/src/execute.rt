@@ -2,6 +2,7 @@
 
 ghost use Rattle.std.specs.Prelude.{◌≡◌, ◌||◌, true, false, pos, IfOk, None, OnErr, OnOk};
 ghost use Rattle.lwm2m_values.specs.declared.value.Value.TheVariants.{Whole};
+ghost use Rattle.object_defs.specs.Numbers.{firmware_update_object, device_object, update, reset_error_code};
 ghost use Rattle.object_defs.specs.Lines.{first_line};
 ghost use Rattle.object_defs.specs.Path.{part_of};
 ghost use Rattle.instance_store.specs.Stored.{has_instance, instance_of, is_full, resource_path, with_value};
@@ -15,15 +16,16 @@ ghost use Rattle.device_requests.specs.Targets.{definition_at};
 
 use crate::answer::{Act, Answer, Code};
 use crate::client::Client;
-use crate::objects::{
-    DEVICE, DISABLE, ERROR_CODE, FACTORY_RESET, FIRMWARE_UPDATE, REBOOT, REGISTRATION_UPDATE,
-    RESET_ERROR_CODE, SECURITY, SERVER, UPDATE,
-};
 use crate::targets::{definition_at, exists, resource_place};
 use device_firmware::{FirmwareEvent, take, takes};
 use instance_store::{Store, StoreFault};
-use lwm2m_payloads::are_arguments;
+use lwm2m_payloads::{Format, are_arguments};
 use lwm2m_values::Value;
+use object_defs::object_number::{DEVICE, FIRMWARE_UPDATE, SECURITY, SERVER};
+use object_defs::resource_number::{
+    DISABLE, ERROR_CODE, FACTORY_RESET, REBOOT, REGISTRATION_UPDATE_TRIGGER, RESET_ERROR_CODE,
+    UPDATE,
+};
 use object_defs::{Path, ResourceDef, ResourcePath};
 use std::alloc::{AllocError, Global};
 
@@ -43,7 +45,7 @@ fn is_plain(number: Option<u16>) -> bool
 {
     match number {
         None => true,
-        Some(number) => number == 0,
+        Some(number) => number == Format::PlainText.number(),
     }
 }
 
@@ -77,7 +79,7 @@ fn act_of(path: Path) -> Option<Act>
     if is_resource(SERVER, DISABLE, path) {
         return Some(Act::Disable);
     }
-    if is_resource(SERVER, REGISTRATION_UPDATE, path) {
+    if is_resource(SERVER, REGISTRATION_UPDATE_TRIGGER, path) {
         return Some(Act::RegUpdate);
     }
     None
@@ -126,7 +128,8 @@ fn reset_errors(store: &mut Store, path: Path) -> Result<(), AllocError>
 fn execute_at(alloc: Global, store: &mut Store, path: Path) -> Result<(), AllocError>
     requires { has_place store.old path ≡ true }
     ensures done { OnOk result (store.new ≡ executed store.old path) }
-    ensures grows { OnErr result ((is_resource 5 2 path || is_resource 3 12 path) ≡ true) }
+    ensures grows { OnErr result ((is_resource firmware_update_object update path
+        || is_resource device_object reset_error_code path) ≡ true) }
 {
     if is_resource(FIRMWARE_UPDATE, UPDATE, path) {
         take(alloc, store, FirmwareEvent::Update)?;
@@ -194,7 +197,8 @@ impl Client {
 
         // Only Update and Reset Error Code take memory, where nothing refuses them. After an error the error codes may
         // be gone.
-        ensures grows { OnErr result ((is_resource 5 2 path || is_resource 3 12 path) ≡ true) }
+        ensures grows { OnErr result ((is_resource firmware_update_object update path
+            || is_resource device_object reset_error_code path) ≡ true) }
         ensures unrefused { OnErr result
             (first_line (execute_lines self.old server path number payload.now) ≡ None) }
         ensures executable { OnErr result (is_executable (definition_at self.old.catalogue path) ≡ true) }

@@ -9,7 +9,6 @@ mod delete;
 mod discover;
 mod execute;
 mod laws;
-mod objects;
 mod observe;
 mod operation;
 mod options;

@@ -1,7 +1,7 @@
 //! The operation that a request asks for, by its method and the kind of its path.
 
 ghost use Rattle.std.specs.Prelude.{◌≡◌};
-ghost use Rattle.device_requests.specs.Operation.{asks_for_links, operation_of};
+ghost use Rattle.device_requests.specs.Operation.{asks_for_links, operation_of, put};
 
 use object_defs::Path;
 
@@ -82,7 +82,7 @@ pub(crate) fn select(
 
 /// The operation of a PUT.
 fn select_write(has_query: bool, path: Path) -> Option<Operation>
-    ensures { result ≡ operation_of 3 None has_query path }
+    ensures { result ≡ operation_of put None has_query path }
 {
     match path {
         Path::Object(_) => {

@@ -10,10 +10,10 @@ ghost use Rattle.device_requests.specs.Read.{can_be_read, one_payload, payload_i
 use crate::access::shown_instances;
 use crate::answer::{Answer, Code};
 use crate::client::Client;
-use crate::objects::SECURITY;
 use crate::targets::{defined, definition_at, exists, is_multiple, is_readable, resource_place};
 use instance_store::Store;
 use lwm2m_payloads::{Format, format_for, object_tlv, values_tlv, write_part, write_single};
+use object_defs::object_number::SECURITY;
 use object_defs::{Catalog, Path, ResourcePath};
 use octets::Bytes;
 use std::alloc::{AllocError, Global};

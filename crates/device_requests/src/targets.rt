@@ -4,8 +4,8 @@ ghost use Rattle.std.specs.Prelude.{◌≡◌};
 ghost use Rattle.device_requests.specs.Targets.{defined, definition_at, exists, is_fixed, is_multiple, is_readable};
 ghost use Rattle.device_requests.specs.Targets.{resource_place};
 
-use crate::objects::{ACCESS_CONTROL, DEVICE, FIRMWARE_UPDATE, SERVER};
 use instance_store::Store;
+use object_defs::object_number::{ACCESS_CONTROL, DEVICE, FIRMWARE_UPDATE, SERVER};
 use object_defs::{Catalog, InstancePath, Path, ResourceDef, ResourcePath};
 
 /// The path of a resource.

@@ -18,7 +18,6 @@ ghost use Rattle.device_requests.specs.Write.{write_unless};
 
 use crate::answer::{Answer, Code};
 use crate::client::Client;
-use crate::objects::{FIRMWARE_UPDATE, PACKAGE, PACKAGE_URI, SECURITY};
 use crate::targets::{defined, definition_at, is_multiple, is_readable, resource_place};
 use device_firmware::{FirmwareEvent, take};
 use instance_store::{Store, StoreFault};
@@ -27,6 +26,8 @@ use lwm2m_payloads::{
     part_given, resource_given, set_given, write_instance,
 };
 use lwm2m_values::Value;
+use object_defs::object_number::{FIRMWARE_UPDATE, SECURITY};
+use object_defs::resource_number::{PACKAGE, PACKAGE_URI};
 use object_defs::{Catalog, InstancePath, Path, ResourceDef, ResourcePath};
 use std::alloc::{AllocError, Global};
 

@@ -7,24 +7,24 @@ ghost use Rattle.object_defs.specs.Lines.{first_line};
 ghost use Rattle.device_requests.specs.Answer.{Leaves, takes_memory};
 ghost use Rattle.device_requests.specs.Options.{queries_of};
 ghost use Rattle.device_requests.specs.WriteAttributes.{agreed, annotate_unless, annotates, annotates_at};
-ghost use Rattle.device_requests.specs.WriteAttributes.{attributes_outcome, changes_given, is_number, is_number_kind};
+ghost use Rattle.device_requests.specs.WriteAttributes.{attributes_outcome, changes_given, is_numeric, is_numeric_kind};
 ghost use Rattle.device_requests.specs.WriteAttributes.{level_at, spelled};
 
 use crate::answer::{Answer, Code};
 use crate::client::Client;
-use crate::objects::{ACCESS_CONTROL, SECURITY};
 use crate::targets::{definition_at, exists};
 use access_control::Rights;
 use coap_codec::Opt;
 use coap_codec::option_number::URI_QUERY;
 use lwm2m_values::ValueKind;
 use notifier::{Change, Changes, Level, QueryFault, WriteFault};
+use object_defs::object_number::{ACCESS_CONTROL, SECURITY};
 use object_defs::{Catalog, Path, ResourceDef};
 use std::alloc::{AllocError, Global};
 
 /// Whether values of a kind are numbers.
-fn is_number_kind(kind: ValueKind) -> bool
-    ensures { result ≡ is_number_kind kind }
+fn is_numeric_kind(kind: ValueKind) -> bool
+    ensures { result ≡ is_numeric_kind kind }
 {
     match kind {
         ValueKind::Whole | ValueKind::Moment => true,
@@ -33,12 +33,12 @@ fn is_number_kind(kind: ValueKind) -> bool
 }
 
 /// Whether a resource is a single one of a number.
-fn is_number(definition: Option<ResourceDef>) -> bool
-    ensures { result ≡ is_number definition }
+fn is_numeric(definition: Option<ResourceDef>) -> bool
+    ensures { result ≡ is_numeric definition }
 {
     match definition {
         None => false,
-        Some(definition) => !definition.multiple && is_number_kind(definition.kind),
+        Some(definition) => !definition.multiple && is_numeric_kind(definition.kind),
     }
 }
 
@@ -50,7 +50,7 @@ fn level_at(catalog: &Catalog, path: Path) -> Level
         Path::Object(_) => Level::Object,
         Path::Instance(_, _) => Level::Instance,
         Path::Resource(_, _, _) => {
-            if is_number(definition_at(catalog, path)) {
+            if is_numeric(definition_at(catalog, path)) {
                 Level::Number
             } else {
                 Level::Resource

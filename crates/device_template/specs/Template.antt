@@ -8,6 +8,8 @@ use Rattle.lwm2m_values.specs.declared.kind.ValueKind.{ValueKind}
 use Rattle.lwm2m_values.specs.declared.kind.ValueKind.TheVariants as kind
 use Rattle.object_defs.specs.Base.{base}
 use Rattle.object_defs.specs.Catalogue.{object_of, definition_of}
+use Rattle.object_defs.specs.Numbers.{security_object, device_object, firmware_update_object}
+use Rattle.object_defs.specs.Numbers.{package_uri, update_state, update_result}
 use Rattle.object_defs.specs.Vendor.{inserted, resource_fault, vendor_fault}
 use Rattle.object_defs.specs.declared.definition.ResourceDef.{ResourceDef}
 use Rattle.object_defs.specs.declared.fault.CatalogFault.{CatalogFault}
@@ -74,8 +76,8 @@ definition_fault class object definition = option_map fault_of (resource_fault c
 -- instances have the numbers 0 to 65534; Device and Firmware Update have instance 0 alone, Security has none
 abbrev pub may_stand : InstancePath → Bool
 may_stand place =
-    not (place.object == 0) && (nat_le place.instance 65534
-    && (not (place.object == 3 || place.object == 5) || place.instance == 0))
+    not (place.object == security_object) && (nat_le place.instance 65534
+    && (not (place.object == device_object || place.object == firmware_update_object) || place.instance == 0))
 
 -- an instance is of an object that is there, is not there yet, and one of 64 at most
 abbrev pub instance_fault : Template → InstancePath → Option TemplateFault
@@ -124,13 +126,14 @@ value_fault class None value = Some Range
 value_fault class (Some p) value = value_fault_at class p value
 
 -- a resource of the firmware instance
-abbrev pub firmware : ℕ → FullPath
-firmware resource = record { object = 5; instance = 0; resource = resource; part = None }
+abbrev pub firmware_path : ℕ → FullPath
+firmware_path resource = record { object = firmware_update_object; instance = 0; resource = resource; part = None }
 
 -- at its start a device with Firmware Update has an empty Package URI, State Idle and no Update Result
 abbrev pub with_idle_firmware : Stored → Stored
 with_idle_firmware stored =
-    if has_instance stored (record { object = 5; instance = 0 })
-    then with_value (with_value (with_value stored (firmware 1) (Text [])) (firmware 3) (Whole (pos 0))) (firmware 5)
-    (Whole (pos 0))
+    if has_instance stored (record { object = firmware_update_object; instance = 0 })
+    then with_value
+    (with_value (with_value stored (firmware_path package_uri) (Text [])) (firmware_path update_state) (Whole (pos 0)))
+    (firmware_path update_result) (Whole (pos 0))
     else stored

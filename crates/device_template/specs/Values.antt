@@ -7,6 +7,7 @@ use Rattle.lwm2m_values.specs.declared.value.Value.{Value}
 use Rattle.lwm2m_values.specs.declared.value.Value.TheVariants.{Text, Whole, Flag, Opaque, Moment, Link}
 use Rattle.lwm2m_values.specs.Value.{has_good_length}
 use Rattle.object_defs.specs.Catalogue.{object_of, resource_in}
+use Rattle.object_defs.specs.Numbers.{firmware_update_object, package_uri, update_state, update_result}
 use Rattle.object_defs.specs.Operations.{can_read}
 use Rattle.object_defs.specs.declared.definition.ObjectDef.{ObjectDef}
 use Rattle.object_defs.specs.declared.definition.ResourceDef.{ResourceDef}
@@ -27,7 +28,9 @@ has_kind value kind = false
 
 -- Package URI, State and Update Result, which the device itself sets at its start
 abbrev pub is_set_at_start : FullPath → Bool
-is_set_at_start p = p.object == 5 && (p.instance == 0 && (p.resource == 1 || (p.resource == 3 || p.resource == 5)))
+is_set_at_start p =
+    p.object == firmware_update_object && (p.instance == 0
+    && (p.resource == package_uri || (p.resource == update_state || p.resource == update_result)))
 
 -- a resource that can be read, of the value's kind, which has parts exactly where the path names one
 abbrev pub fits_resource : FullPath → Value → Option ResourceDef → Bool

@@ -19,6 +19,7 @@ use crate::firmware::set_firmware_idle;
 use crate::values::{fits, has_all_parts, has_place, plain, put};
 use instance_store::{Store, StoreFault};
 use lwm2m_values::{Value, ValueKind};
+use object_defs::object_number::{DEVICE, FIRMWARE_UPDATE, SECURITY};
 use object_defs::{Catalog, FullPath, InstancePath, Path, ResourceDef};
 use std::alloc::{AllocError, Global};
 use std::marker::Model;
@@ -60,10 +61,10 @@ impl Model for Template {
 fn may_stand(place: InstancePath) -> bool
     ensures { result ≡ may_stand place }
 {
-    if place.object == 0 || place.instance > 65534 {
+    if place.object == SECURITY || place.instance > 65534 {
         return false;
     }
-    if place.object == 3 || place.object == 5 {
+    if place.object == DEVICE || place.object == FIRMWARE_UPDATE {
         return place.instance == 0;
     }
     true
@@ -178,7 +179,7 @@ impl Template {
 
     /// Adds an instance of an object.
     ///
-    /// `Range` (object 0, number 65535, or another number than 0 of objects 3 and 5), then
+    /// `Range` (Security, number 65535, or another number than 0 of Device and Firmware Update), then
     /// `Missing` (no such object), `Duplicate`, `Full` (64 instances of the object).
     pub fn add_instance(&mut self, object: u16, instance: u16) -> Result<(), TemplateFault>
         ensures added { OnOk result

@@ -9,6 +9,8 @@ ghost use Rattle.device_template.specs.Values.{is_one_too_many, is_set_at_start,
 
 use instance_store::{Store, StoreFault};
 use lwm2m_values::{Text, Value, ValueKind};
+use object_defs::object_number::FIRMWARE_UPDATE;
+use object_defs::resource_number::{PACKAGE_URI, UPDATE_RESULT, UPDATE_STATE};
 use object_defs::{Catalog, FullPath, InstancePath, ResourceDef, ResourcePath};
 use octets::Bytes;
 use std::alloc::Global;
@@ -45,9 +47,11 @@ fn has_kind(value: &Value, kind: ValueKind) -> bool
 fn is_set_at_start(path: FullPath) -> bool
     ensures { result ≡ is_set_at_start path }
 {
-    path.object == 5
+    path.object == FIRMWARE_UPDATE
         && path.instance == 0
-        && (path.resource == 1 || path.resource == 3 || path.resource == 5)
+        && (path.resource == PACKAGE_URI
+            || path.resource == UPDATE_STATE
+            || path.resource == UPDATE_RESULT)
 }
 
 /// Whether the resource can be read, is of the value's kind, and has parts exactly where the path

@@ -28,7 +28,7 @@ use Rattle.lwm2m_payloads.specs.Changes.{resource_of, with_parts, with_given, wi
 use Rattle.lwm2m_payloads.specs.Changes.{is_too_many, has_too_many, is_lost, without_lost, gives_new, has_new}
 use Rattle.lwm2m_payloads.specs.Once.{ResourcesOnce}
 use Rattle.lwm2m_payloads.specs.PartList.{PartList}
-use Rattle.lwm2m_payloads.specs.Written.{is_gone}
+use Rattle.lwm2m_payloads.specs.Written.{is_taken_away}
 use Rattle.lwm2m_payloads.proofs.Distinct.{none_of_both}
 use Rattle.lwm2m_payloads.proofs.Held.{held_distinct, held_at}
 use Rattle.lwm2m_payloads.proofs.New.{later}
@@ -221,10 +221,10 @@ lost_other given d r true e h =
 lost_other given d r false e h = refl
 
 stays : (resources : List ResourceDef) (given : List Assignment) (r : ℕ)
-    → list_any (λ a. a.resource == r) given ≡ true → is_gone resources given r ≡ false
+    → list_any (λ a. a.resource == r) given ≡ true → is_taken_away resources given r ≡ false
 stays [] given r h = refl
 stays (d ∷ resources) given r h =
-    ap (λ b. b || is_gone resources given r) (lost_other given d r (d.id == r) refl h) ∙ stays resources given r h
+    ap (λ b. b || is_taken_away resources given r) (lost_other given d r (d.id == r) refl h) ∙ stays resources given r h
 
 lost_value : (resources : List ResourceDef) (given : List Assignment) (stored : Stored) (place : InstancePath) (r : ℕ)
     (n : Option ℕ) → list_any (λ a. a.resource == r) given ≡ true

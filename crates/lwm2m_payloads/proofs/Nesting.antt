@@ -3,8 +3,8 @@ use Rattle.std.proofs.Common.{◌≡◌, ℕ, ◌<◌, nat_lt, length, List, [],
 use Rattle.std.proofs.Common.{Bool, true, false, ◌==◌, if◌then◌else◌}
 use Rattle.std.proofs.lemmas.Bool.Decides.{nat_tests}
 use Rattle.std.proofs.Common.{length-append}
-use Rattle.lwm2m_values.specs.declared.level.Level.{Level}
-use Rattle.lwm2m_values.specs.declared.level.Level.TheVariants.{Top, InInstance}
+use Rattle.lwm2m_values.specs.declared.level.Around.{Around}
+use Rattle.lwm2m_values.specs.declared.level.Around.TheVariants.{Top, InInstance}
 use Rattle.lwm2m_values.specs.declared.level.RecordType.TheVariants.{Instance, Multi, Part, Single}
 use Rattle.lwm2m_values.specs.declared.value.Value.{Value}
 use Rattle.lwm2m_values.specs.Value.{bytes_of}
@@ -46,7 +46,7 @@ pub too_long : (nodes : Trees) → AreNested Top nodes → (IsWritable nodes →
 too_long nodes nested h =
     within_or_short nodes (nat_lt 1024 (length (shortest_tlv nodes))) refl (λ short. h (nested, short))
 
-nested_part : (level : Level) → is_allowed level Multi ≡ true → (r n : ℕ) (bytes : List ℕ) (nodes : Trees)
+nested_part : (level : Around) → is_allowed level Multi ≡ true → (r n : ℕ) (bytes : List ℕ) (nodes : Trees)
     → AreNested level nodes → AreNested level (before_part r (part n bytes) nodes)
 nested_part level allowed r n bytes none h = ((allowed, (refl, tt)), tt)
 nested_part level allowed r n bytes (more (instance i inner) nodes) h = ((allowed, (refl, tt)), h)
@@ -59,13 +59,13 @@ nested_part level allowed r n bytes (more (multi q parts) nodes) h =
       | false ↦ ((allowed, (refl, tt)), h)
     ]
 
-nested_value : (level : Level) → is_allowed level Multi ≡ true → is_allowed level Single ≡ true
+nested_value : (level : Around) → is_allowed level Multi ≡ true → is_allowed level Single ≡ true
     → (r : ℕ) (n : Option ℕ) (v : Value) (nodes : Trees) → AreNested level nodes
     → AreNested level (before_value r n v nodes)
 nested_value level multis singles r None v nodes h = (singles, h)
 nested_value level multis singles r (Some n) v nodes h = nested_part level multis r n (bytes_of v) nodes h
 
-nested_values : (level : Level) → is_allowed level Multi ≡ true → is_allowed level Single ≡ true → (es : Pairs)
+nested_values : (level : Around) → is_allowed level Multi ≡ true → is_allowed level Single ≡ true → (es : Pairs)
     → AreNested level (nodes_of es)
 nested_values level multis singles [] = tt
 nested_values level multis singles (e ∷ es) =

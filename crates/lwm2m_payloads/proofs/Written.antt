@@ -20,7 +20,7 @@ use Rattle.lwm2m_payloads.specs.declared.given.Mode.TheVariants.{Replace, Update
 use Rattle.lwm2m_payloads.specs.Changes.{resource_of, with_parts, with_given, is_kept, with_assignments, is_lost}
 use Rattle.lwm2m_payloads.specs.Changes.{without_lost, instance_written}
 use Rattle.lwm2m_payloads.specs.PartList.{PartList}
-use Rattle.lwm2m_payloads.specs.Written.{part_value, value_given, value_with, is_gone, value_by, value_behind}
+use Rattle.lwm2m_payloads.specs.Written.{part_value, value_given, value_with, is_taken_away, value_by, value_behind}
 use Rattle.lwm2m_payloads.specs.Written.{PartsOnce, GivenOnce, EachOnce}
 use Rattle.lwm2m_payloads.proofs.Distinct.{none_of_both}
 use Rattle.lwm2m_payloads.proofs.Places.{at_part, at_single, at_without}
@@ -198,7 +198,7 @@ lost_cases false false false x = refl
 -- behind what Replace takes away
 pub at_lost : (resources : List ResourceDef) (given : List Assignment) (stored : Stored) (place : InstancePath)
     (q : FullPath) → value_at (without_lost resources stored place given) q
-    ≡ (if lies_in (instance_path place) q then (if is_gone resources given q.resource then None
+    ≡ (if lies_in (instance_path place) q then (if is_taken_away resources given q.resource then None
     else value_at stored q) else value_at stored q)
 at_lost [] given stored place q =
     let x = value_at stored q in elim (lies_in (instance_path place) q) as
@@ -206,7 +206,7 @@ at_lost [] given stored place q =
 at_lost (d ∷ resources) given stored place q =
     let x = value_at stored q in
     let here = lies_in (instance_path place) q in
-    let gone = is_gone resources given q.resource in
+    let gone = is_taken_away resources given q.resource in
     let lost = is_lost given d in
     at_lost resources given (if lost then without_values stored (resource_path (resource_of place d.id)) else stored)
     place q
@@ -238,7 +238,7 @@ at_written Update resources stored place given q once = at_assignments Update re
 at_written Replace resources stored place given q once =
     let x = value_at stored q in
     let by = λ (o : Option Value). value_by Replace resources (find (λ a. a.resource == q.resource) given) q.part o in
-    let left = if is_gone resources given q.resource then None else x in
+    let left = if is_taken_away resources given q.resource then None else x in
     at_assignments Replace resources given (without_lost resources stored place given) place q once
     ∙ ap (λ o. if lies_in (instance_path place) q then by o else o) (at_lost resources given stored place q)
     ∙ (elim (lies_in (instance_path place) q) as

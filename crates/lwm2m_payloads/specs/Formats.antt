@@ -9,10 +9,10 @@ use Rattle.lwm2m_payloads.specs.declared.format.Format.{Format}
 use Rattle.lwm2m_payloads.specs.declared.format.Format.TheVariants.{PlainText, OctetStream, Tlv}
 
 -- the number of a format, by which Accept and Content-Format name it
-abbrev pub number_of : Format → ℕ
-number_of PlainText = 0
-number_of OctetStream = 42
-number_of Tlv = 11542
+abbrev pub format_number : Format → ℕ
+format_number PlainText = 0
+format_number OctetStream = 42
+format_number Tlv = 11542
 
 -- what a path stands for: one value of a kind, or more than one
 pub data Extent : Type 0 where

@@ -41,11 +41,11 @@ abbrev pub value_with : Mode → Given → Option ℕ → Option Value → Optio
 value_with mode given number before = option_or (value_given given number) (left_of mode given before)
 
 -- Replace takes an optional writable resource away where it is not named
-abbrev pub is_gone : List ResourceDef → List Assignment → ℕ → Bool
-is_gone resources given r = list_any (λ d. d.id == r && is_lost given d) resources
+abbrev pub is_taken_away : List ResourceDef → List Assignment → ℕ → Bool
+is_taken_away resources given r = list_any (λ d. d.id == r && is_lost given d) resources
 
 abbrev pub unnamed : Mode → List ResourceDef → List Assignment → ℕ → Option Value → Option Value
-unnamed Replace resources given r before = if is_gone resources given r then None else before
+unnamed Replace resources given r before = if is_taken_away resources given r then None else before
 unnamed Update resources given r before = before
 
 -- a value behind a Write of its instance, by what its resource is given

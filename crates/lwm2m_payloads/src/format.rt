@@ -1,5 +1,6 @@
 ghost use Rattle.std.specs.Prelude.{◌≡◌};
-ghost use Rattle.lwm2m_payloads.specs.Formats.{number_of, extent_of, extent_with, default_format, served, format_for};
+ghost use Rattle.lwm2m_payloads.specs.Formats.{format_number, extent_of, extent_with, default_format, served};
+ghost use Rattle.lwm2m_payloads.specs.Formats.{format_for};
 
 use lwm2m_values::ValueKind;
 use object_defs::{Path, ResourceDef};
@@ -18,7 +19,7 @@ pub enum Format {
 impl Format {
     /// The number by which Accept and Content-Format name the format.
     pub fn number(self) -> u16
-        ensures { result ≡ number_of self }
+        ensures { result ≡ format_number self }
     {
         match self {
             Format::PlainText => 0,

@@ -1,13 +1,15 @@
 ghost use Rattle.std.specs.Prelude.{◌≡◌, IfOk};
-ghost use Rattle.lwm2m_values.specs.declared.level.Level.TheVariants.{Top};
+ghost use Rattle.lwm2m_values.specs.declared.level.Around.TheVariants.{Top};
 ghost use Rattle.lwm2m_values.specs.Tree.{trees_of, single, part};
 ghost use Rattle.lwm2m_values.specs.Tlv.{AreNested, shortest_tlv};
 ghost use Rattle.lwm2m_payloads.specs.Nodes.{shown_in, nodes_of, object_nodes, value_payload, within_limit};
 
 use crate::format::Format;
-use crate::records::{instance_records, part_node, records_at, single_node};
+use crate::records::{instance_records, records_at};
 use instance_store::Store;
-use lwm2m_values::{Node, Value, bytes_of, tlv_fits, write_text, write_tlv};
+use lwm2m_values::{
+    Node, Value, bytes_of, part_node, single_node, tlv_fits, write_text, write_tlv,
+};
 use object_defs::{Path, ResourceDef};
 use octets::Bytes;
 use std::alloc::{AllocError, Global};

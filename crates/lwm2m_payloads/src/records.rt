@@ -8,36 +8,10 @@ ghost use Rattle.lwm2m_payloads.specs.Nodes.{Pairs, is_shown, shown_in, nodes_of
 
 use crate::definitions::definition_in;
 use instance_store::Store;
-use lwm2m_values::{Node, Value, bytes_of};
+use lwm2m_values::{Node, Value, bytes_of, instance_node, multi_node, part_node, single_node};
 use object_defs::{FullPath, Path, ResourceDef};
 use octets::Bytes;
 use std::alloc::{AllocError, Global};
-
-fn instance_node(id: u16, children: Vec<Node>) -> Node
-    ensures { tree_of result ≡ instance id (trees_of children.items) }
-{
-    Node::Instance { id, children }
-}
-
-fn multi_node(id: u16, parts: Vec<Node>) -> Node
-    ensures { tree_of result ≡ multi id (trees_of parts.items) }
-{
-    Node::Multi { id, parts }
-}
-
-/// The record of a part with these bytes.
-pub(crate) fn part_node(id: u16, bytes: Bytes) -> Node
-    ensures { tree_of result ≡ part id bytes }
-{
-    Node::Part { id, bytes }
-}
-
-/// The record of a single resource with these bytes.
-pub(crate) fn single_node(id: u16, bytes: Bytes) -> Node
-    ensures { tree_of result ≡ single id bytes }
-{
-    Node::Single { id, bytes }
-}
 
 /// The parts of a Multiple Resource of this number; another record is given back.
 fn into_parts(node: Node, resource: u16) -> Result<Vec<Node>, Node>

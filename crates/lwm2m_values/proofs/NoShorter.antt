@@ -5,8 +5,8 @@ use Rattle.std.specs.Int.Digits.{number_from_digits, AllBelowBase}
 use Rattle.std.proofs.lemmas.Bool.Decides.{nat_tests}
 use Rattle.lwm2m_values.specs.declared.level.RecordType.{RecordType}
 use Rattle.lwm2m_values.specs.declared.level.RecordType.TheVariants.{Instance, Part, Multi, Single}
-use Rattle.lwm2m_values.specs.declared.level.Level.{Level}
-use Rattle.lwm2m_values.specs.declared.level.Level.TheVariants.{InInstance, InMulti}
+use Rattle.lwm2m_values.specs.declared.level.Around.{Around}
+use Rattle.lwm2m_values.specs.declared.level.Around.TheVariants.{InInstance, InMulti}
 use Rattle.lwm2m_values.specs.Tree.{Tree, Trees, instance, multi, part, single, none, more}
 use Rattle.lwm2m_values.specs.Tlv.{IsHead, Holds, IsNodes, id_field, size_field, shortest_head, shortest_node}
 use Rattle.lwm2m_values.specs.Tlv.{shortest_tlv}
@@ -104,7 +104,7 @@ mutual
         same_length Single kind i id (length bytes) p.1,
       )
 
-  pub no_shorter_nodes : (f : Trees) (level : Level) (bytes : List ℕ) → IsNodes f level bytes → AllBelowBase 256 bytes
+  pub no_shorter_nodes : (f : Trees) (level : Around) (bytes : List ℕ) → IsNodes f level bytes → AllBelowBase 256 bytes
       → length (shortest_tlv f) ≤ length bytes
   no_shorter_nodes none level bytes p below = omega arith
   no_shorter_nodes (more n ns) level bytes p below =

@@ -5,13 +5,13 @@ use Rattle.lwm2m_values.specs.declared.node.Node.{Node}
 use Rattle.lwm2m_values.specs.declared.fault.TlvFault.{TlvFault}
 use Rattle.lwm2m_values.specs.declared.fault.TlvFault.TheVariants.{Cut, Nesting}
 use Rattle.lwm2m_values.specs.declared.level.RecordType.{RecordType}
-use Rattle.lwm2m_values.specs.declared.level.Level.{Level}
+use Rattle.lwm2m_values.specs.declared.level.Around.{Around}
 use Rattle.lwm2m_values.specs.Tree.{Trees, tree_of, trees_of}
 use Rattle.lwm2m_values.specs.Tlv.{IsHead, IsCut, IsNodes, IsFront, Holds, HasFault, is_allowed, inside, cut, nesting}
 use Rattle.lwm2m_values.specs.Tlv.{within}
 
 -- one more record behind those that were read
-IsNodes-push : (nodes : List Node) (node : Node) (level : Level) (front head content : List ℕ) (kind : RecordType)
+IsNodes-push : (nodes : List Node) (node : Node) (level : Around) (front head content : List ℕ) (kind : RecordType)
     (id : ℕ) → IsNodes (trees_of nodes) level front → IsHead head kind id (length content)
     → is_allowed level kind ≡ true → Holds (tree_of node) kind id content
     → IsNodes (trees_of (nodes ++ node ∷ [])) level (front ++ (head ++ content))
@@ -26,7 +26,7 @@ IsNodes-push (n ∷ nodes) node level front head content kind id p is_head allow
     ∙ ap (λ x. p.2 ++ x) (append_assoc p.3 p.4 (head ++ content)) in
     (p.0, p.1, p.2, p.3, p.4 ++ (head ++ content), p.5, bytes, p.7, p.8, later)
 
-pub front_grows : (nodes : List Node) (node : Node) (level : Level) (bytes at head content rest : List ℕ)
+pub front_grows : (nodes : List Node) (node : Node) (level : Around) (bytes at head content rest : List ℕ)
     (kind : RecordType) (id : ℕ) → IsFront level bytes (trees_of nodes) at → IsHead head kind id (length content)
     → at ≡ head ++ (content ++ rest) → is_allowed level kind ≡ true → Holds (tree_of node) kind id content
     → IsFront level bytes (trees_of (nodes ++ node ∷ [])) rest
@@ -37,24 +37,24 @@ front_grows nodes node level bytes at head content rest kind id p is_head at_is 
       ∙ sym (append_assoc p.0 (head ++ content) rest),
 )
 
-pub cut_here : (level : Level) (bytes : List ℕ) (nodes : Trees) (rest : List ℕ) → IsFront level bytes nodes rest
+pub cut_here : (level : Around) (bytes : List ℕ) (nodes : Trees) (rest : List ℕ) → IsFront level bytes nodes rest
     → 0 < length rest → IsCut rest → HasFault level bytes Cut
 cut_here = cut
 
-front_at : (level : Level) (bytes at here : List ℕ) (nodes : Trees) → IsFront level bytes nodes at → at ≡ here
+front_at : (level : Around) (bytes at here : List ℕ) (nodes : Trees) → IsFront level bytes nodes at → at ≡ here
     → IsFront level bytes nodes here
 front_at level bytes at here nodes p e = subst (IsFront level bytes nodes) e p
 
-pub nesting_here : (level : Level) (bytes at : List ℕ) (nodes : Trees) (kind : RecordType) (id : ℕ)
+pub nesting_here : (level : Around) (bytes at : List ℕ) (nodes : Trees) (kind : RecordType) (id : ℕ)
     (head content rest : List ℕ) → IsFront level bytes nodes at → IsHead head kind id (length content)
     → at ≡ head ++ (content ++ rest) → is_allowed level kind ≡ false → HasFault level bytes Nesting
 nesting_here level bytes at nodes kind id head content rest p is_head e allowed =
     nesting level bytes nodes kind id head content rest (front_at level bytes at _ nodes p e) is_head allowed
 
-pub within_here : (level : Level) (bytes at : List ℕ) (nodes : Trees) (kind : RecordType) (id : ℕ)
+pub within_here : (level : Around) (bytes at : List ℕ) (nodes : Trees) (kind : RecordType) (id : ℕ)
     (head content rest : List ℕ) (fault : TlvFault) → IsFront level bytes nodes at
     → IsHead head kind id (length content) → at ≡ head ++ (content ++ rest) → is_allowed level kind ≡ true
-    → (inner : Level) × (inside kind ≡ Some inner) × HasFault inner content fault → HasFault level bytes fault
+    → (inner : Around) × (inside kind ≡ Some inner) × HasFault inner content fault → HasFault level bytes fault
 within_here level bytes at nodes kind id head content rest fault p is_head e allowed w =
     within level w.0 bytes nodes kind id head content rest fault
     (front_at level bytes at _ nodes p e) is_head allowed w.1 w.2

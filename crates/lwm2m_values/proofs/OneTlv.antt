@@ -4,51 +4,52 @@ use Rattle.std.proofs.Common.{◌∙◌, arith}
 use mathlib.Core.List.{append_assoc, append-nil}
 use Rattle.lwm2m_values.specs.declared.fault.TlvFault.{TlvFault}
 use Rattle.lwm2m_values.specs.declared.level.RecordType.{RecordType}
-use Rattle.lwm2m_values.specs.declared.level.Level.{Level}
-use Rattle.lwm2m_values.specs.declared.level.Level.TheVariants.{InInstance, InMulti}
+use Rattle.lwm2m_values.specs.declared.level.Around.{Around}
+use Rattle.lwm2m_values.specs.declared.level.Around.TheVariants.{InInstance, InMulti}
 use Rattle.lwm2m_values.specs.Tree.{Tree, Trees, instance, multi, part, single, none, more}
 use Rattle.lwm2m_values.specs.Tlv.{IsHead, IsCut, IsNodes, IsFront, Holds, HasFault, is_allowed, inside, cut, nesting}
 use Rattle.lwm2m_values.specs.Tlv.{within}
 use Rattle.lwm2m_values.proofs.OneRecord.{one_record}
 
 -- no record that may stand there begins here
-abbrev IsEnd : Level → List ℕ → Type 0
+abbrev IsEnd : Around → List ℕ → Type 0
 IsEnd level at =
     (tree : Tree) (kind : RecordType) (id : ℕ) (head content rest : List ℕ) → IsHead head kind id (length content)
     → at ≡ head ++ (content ++ rest) → is_allowed level kind ≡ true → Holds tree kind id content → ⊥
 
-end_nil : (level : Level) → IsEnd level []
+end_nil : (level : Around) → IsEnd level []
 end_nil level = λ tree kind id head content rest h e a w.
     let bytes : [] ≡ (h.first ∷ (h.id_bytes ++ h.size_bytes)) ++ (content ++ rest) =
     e ∙ ap (λ x. x ++ (content ++ rest)) h.parts in
     absurd (omega (arith, ap length bytes))
 
-end_cut : (level : Level) (at : List ℕ) → IsCut at → IsEnd level at
+end_cut : (level : Around) (at : List ℕ) → IsCut at → IsEnd level at
 end_cut level at cut_off = λ tree kind id head content rest h e a w. cut_off head content rest kind id h e
 
-end_nesting : (level : Level) (kind : RecordType) (id : ℕ) (head content rest : List ℕ)
+end_nesting : (level : Around) (kind : RecordType) (id : ℕ) (head content rest : List ℕ)
     → IsHead head kind id (length content) → is_allowed level kind ≡ false → IsEnd level (head ++ (content ++ rest))
 end_nesting level kind id head content rest is_head allowed = λ tree k i h c r w e a holds.
     let same = one_record head h kind k id i content c rest r is_head w e in
     let both : false ≡ true = sym allowed ∙ ap (is_allowed level) same.kind ∙ a in
     cc
 
-inner_nodes : (tree : Tree) (kind : RecordType) (id : ℕ) (content : List ℕ) (inner : Level) → Holds tree kind id content
+inner_nodes : (tree : Tree) (kind : RecordType) (id : ℕ) (content : List ℕ) (inner : Around)
+    → Holds tree kind id content
     → inside kind ≡ Some inner → (nodes : Trees) × IsNodes nodes inner content
 inner_nodes (instance i nodes) kind id content inner p e =
     let same : Some InInstance ≡ Some inner = sym (ap inside p.0) ∙ e in
     let level : InInstance ≡ inner = cc in
-    (nodes, subst (λ (l : Level). IsNodes nodes l content) level p.2)
+    (nodes, subst (λ (l : Around). IsNodes nodes l content) level p.2)
 inner_nodes (multi i nodes) kind id content inner p e =
     let same : Some InMulti ≡ Some inner = sym (ap inside p.0) ∙ e in
     let level : InMulti ≡ inner = cc in
-    (nodes, subst (λ (l : Level). IsNodes nodes l content) level p.2)
+    (nodes, subst (λ (l : Around). IsNodes nodes l content) level p.2)
 inner_nodes (part i bytes) kind id content inner p e = let same : None ≡ Some inner =
     sym (ap inside p.0) ∙ e in absurd cc
 inner_nodes (single i bytes) kind id content inner p e = let same : None ≡ Some inner =
     sym (ap inside p.0) ∙ e in absurd cc
 
-end_within : (level inner : Level) (kind : RecordType) (id : ℕ) (head content rest : List ℕ)
+end_within : (level inner : Around) (kind : RecordType) (id : ℕ) (head content rest : List ℕ)
     → IsHead head kind id (length content) → inside kind ≡ Some inner
     → ((nodes : Trees) → IsNodes nodes inner content → ⊥) → IsEnd level (head ++ (content ++ rest))
 end_within level inner kind id head content rest is_head e unread = λ tree k i h c r w at a holds.
@@ -71,7 +72,8 @@ mutual
       ap (λ x. single x a) (p.1 ∙ sym q.1) ∙ ap (single j) (p.2 ∙ sym q.2)
   one_tree t u kind id content p q = let differ = sym p.0 ∙ q.0 in cc differ
 
-  one_front : (f g : Trees) (level : Level) (a b r s : List ℕ) → IsNodes f level a → IsNodes g level b → a ++ r ≡ b ++ s
+  one_front : (f g : Trees) (level : Around) (a b r s : List ℕ) → IsNodes f level a → IsNodes g level b
+      → a ++ r ≡ b ++ s
       → IsEnd level r → IsEnd level s → (f ≡ g) × (r ≡ s)
   one_front none none level a b r s p q e u v = (refl, ap (λ x. x ++ r) (sym p) ∙ e ∙ ap (λ x. x ++ s) q)
   one_front none (more n ns) level a b r s p q e u v =
@@ -97,11 +99,12 @@ mutual
       let later = one_front ms ns level p.4 q.4 r s p.9 q.9 same.rest u v in
       (ap (λ x. more x ms) nodes ∙ ap (more n) later.0, later.1)
 
-pub one_reading : (f g : Trees) (level : Level) (bytes : List ℕ) → IsNodes f level bytes → IsNodes g level bytes → f ≡ g
+pub one_reading : (f g : Trees) (level : Around) (bytes : List ℕ) → IsNodes f level bytes → IsNodes g level bytes
+    → f ≡ g
 one_reading f g level bytes p q = (one_front f g level bytes bytes [] [] p q refl (end_nil level) (end_nil level)).0
 
 -- whole records up to an end that is not the end of the bytes
-stops : (f g : Trees) (level : Level) (bytes rest : List ℕ) → IsNodes f level bytes → IsFront level bytes g rest
+stops : (f g : Trees) (level : Around) (bytes rest : List ℕ) → IsNodes f level bytes → IsFront level bytes g rest
     → IsEnd level rest → 0 < length rest → ⊥
 stops f g level bytes rest p q ends long =
     let same = one_front f g level bytes q.0 [] rest p q.1 (append-nil bytes ∙ q.2) (end_nil level) ends in
@@ -112,7 +115,7 @@ record_long : (head content rest : List ℕ) (kind : RecordType) (id : ℕ) → 
 record_long head content rest kind id h =
     subst (λ (x : List ℕ). 0 < length (x ++ (content ++ rest))) (sym h.parts) (omega arith)
 
-pub not_both : (level : Level) (bytes : List ℕ) (e : TlvFault) → HasFault level bytes e → (f : Trees)
+pub not_both : (level : Around) (bytes : List ℕ) (e : TlvFault) → HasFault level bytes e → (f : Trees)
     → IsNodes f level bytes → ⊥
 not_both _ _ _ (cut level bytes nodes rest p long cut_off) f q =
     stops f nodes level bytes rest q p (end_cut level rest cut_off) long
@@ -124,11 +127,11 @@ not_both _ _ _ (within level inner bytes nodes kind id head content rest e p h a
     (not_both inner content e w)) (record_long head content rest kind id h)
 
 -- two ends behind whole records are one place
-one_place : (f g : Trees) (level : Level) (bytes r s : List ℕ) → IsFront level bytes f r → IsFront level bytes g s
+one_place : (f g : Trees) (level : Around) (bytes r s : List ℕ) → IsFront level bytes f r → IsFront level bytes g s
     → IsEnd level r → IsEnd level s → r ≡ s
 one_place f g level bytes r s p q u v = (one_front f g level p.0 q.0 r s p.1 q.1 (sym p.2 ∙ q.2) u v).1
 
-pub one_fault : (level : Level) (bytes : List ℕ) (d e : TlvFault) → HasFault level bytes d → HasFault level bytes e
+pub one_fault : (level : Around) (bytes : List ℕ) (d e : TlvFault) → HasFault level bytes d → HasFault level bytes e
     → d ≡ e
 one_fault _ _ _ _ (cut level bytes f r p long off) (cut _ _ g s q wide out) = refl
 one_fault _ _ _ _ (cut level bytes f r p long off) (nesting _ _ g kind id head content rest q h allowed) =
@@ -174,5 +177,5 @@ one_fault _ _ _ _ (within level inner bytes f kind id head content rest d p h al
     let same = one_record head hd kind k id i content c rest r h v place in
     let levels : Some deep ≡ Some inner = sym is_deep ∙ ap inside (sym same.kind) ∙ is_inner in
     let level_same : deep ≡ inner = cc in
-    let there : HasFault inner c e = subst (λ (l : Level). HasFault l c e) level_same x in
+    let there : HasFault inner c e = subst (λ (l : Around). HasFault l c e) level_same x in
     one_fault inner content d e w (subst (λ (y : List ℕ). HasFault inner y e) (sym same.content) there)

@@ -3,7 +3,7 @@ use Rattle.std.proofs.Common.{◌≡◌, ◌≢◌, ℕ, List, Result, Ok, Err, 
 use Rattle.std.specs.Result.{IfOk, IfErr, IsErrAnd, MatchResult}
 use Rattle.lwm2m_values.specs.declared.fault.TlvFault.{TlvFault}
 use Rattle.lwm2m_values.specs.declared.fault.TlvFault.TheVariants.{Cut, Nesting, Memory}
-use Rattle.lwm2m_values.specs.declared.level.Level.TheVariants.{Top}
+use Rattle.lwm2m_values.specs.declared.level.Around.TheVariants.{Top}
 use Rattle.lwm2m_values.specs.Tree.{Trees}
 use Rattle.lwm2m_values.specs.Tlv.{IsTlv, HasFault}
 use Rattle.lwm2m_values.proofs.OneTlv.{one_reading, one_fault, not_both}

@@ -6,8 +6,8 @@ use Rattle.std.specs.Int.Digits.{number_from_digits}
 use Rattle.std.proofs.lemmas.Bool.Decides.{nat_tests}
 use Rattle.lwm2m_values.specs.declared.level.RecordType.{RecordType}
 use Rattle.lwm2m_values.specs.declared.level.RecordType.TheVariants.{Instance, Part, Multi, Single}
-use Rattle.lwm2m_values.specs.declared.level.Level.{Level}
-use Rattle.lwm2m_values.specs.declared.level.Level.TheVariants.{InInstance, InMulti}
+use Rattle.lwm2m_values.specs.declared.level.Around.{Around}
+use Rattle.lwm2m_values.specs.declared.level.Around.TheVariants.{InInstance, InMulti}
 use Rattle.lwm2m_values.specs.Tree.{Tree, Trees, instance, multi, part, single, none, more}
 use Rattle.lwm2m_values.specs.Tlv.{type_bits, is_allowed, IsHead, Holds, IsNodes, id_field, size_field, shortest_head}
 use Rattle.lwm2m_values.specs.Tlv.{shortest_node, shortest_tlv, IsNested, AreNested}
@@ -71,13 +71,13 @@ head_written kind id size =
       size_is = size_read size (type_bits kind) i w s refl refl width low;
     }
 
-abbrev IsTree : Tree → Level → List ℕ → Type 0
+abbrev IsTree : Tree → Around → List ℕ → Type 0
 IsTree t level bytes =
     (kind : RecordType) × (id : ℕ) × (content : List ℕ) × (bytes ≡ shortest_head kind id (length content) ++ content)
     × (is_allowed level kind ≡ true) × Holds t kind id content
 
 mutual
-  tree_written : (t : Tree) (level : Level) → IsNested level t → IsTree t level (shortest_node t)
+  tree_written : (t : Tree) (level : Around) → IsNested level t → IsTree t level (shortest_node t)
   tree_written (instance id inner) level p =
       (Instance, id, shortest_tlv inner, refl, p.0, (refl, refl, nodes_written inner InInstance p.1))
   tree_written (multi id inner) level p =
@@ -85,7 +85,7 @@ mutual
   tree_written (part id bytes) level p = (Part, id, bytes, refl, p, (refl, refl, refl))
   tree_written (single id bytes) level p = (Single, id, bytes, refl, p, (refl, refl, refl))
 
-  pub nodes_written : (f : Trees) (level : Level) → AreNested level f → IsNodes f level (shortest_tlv f)
+  pub nodes_written : (f : Trees) (level : Around) → AreNested level f → IsNodes f level (shortest_tlv f)
   nodes_written none level p = refl
   nodes_written (more n ns) level p =
       let h = tree_written n level p.0 in

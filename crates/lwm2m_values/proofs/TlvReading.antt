@@ -11,8 +11,8 @@ use Rattle.lwm2m_values.specs.declared.fault.TlvFault.{TlvFault}
 use Rattle.lwm2m_values.specs.declared.fault.TlvFault.TheVariants.{Memory}
 use Rattle.lwm2m_values.specs.declared.level.RecordType.{RecordType}
 use Rattle.lwm2m_values.specs.declared.level.RecordType.TheVariants.{Instance, Part, Multi, Single}
-use Rattle.lwm2m_values.specs.declared.level.Level.{Level}
-use Rattle.lwm2m_values.specs.declared.level.Level.TheVariants.{Top, InInstance, InMulti}
+use Rattle.lwm2m_values.specs.declared.level.Around.{Around}
+use Rattle.lwm2m_values.specs.declared.level.Around.TheVariants.{Top, InInstance, InMulti}
 use Rattle.lwm2m_values.specs.Tree.{Tree, Trees, instance, multi, part, single, none, more}
 use Rattle.lwm2m_values.specs.Tlv.{type_bits, is_allowed, IsHead, Holds, IsNodes, IsTlv, HasFault, IsWritable}
 use Rattle.lwm2m_values.specs.Tlv.{shortest_tlv}
@@ -138,10 +138,10 @@ record_to bytes head content rest kind id h e =
 
 -- a tree, by readings of what it holds
 
-abbrev IsSound : (Level → List ℕ → Option Trees) → Type 0
-IsSound within = (level : Level) (bytes : List ℕ) (f : Trees) → within level bytes ≡ Some f → IsNodes f level bytes
+abbrev IsSound : (Around → List ℕ → Option Trees) → Type 0
+IsSound within = (level : Around) (bytes : List ℕ) (f : Trees) → within level bytes ≡ Some f → IsNodes f level bytes
 
-tree_from : (within : Level → List ℕ → Option Trees) → IsSound within
+tree_from : (within : Around → List ℕ → Option Trees) → IsSound within
     → (kind : RecordType) (id : ℕ) (content : List ℕ) (t : Tree) → tree_of_record within kind id content ≡ Some t
     → Holds t kind id content
 tree_from within sound Instance id content t e =
@@ -157,8 +157,8 @@ tree_from within sound Single id content t e =
     let same : single id content ≡ t = cc e in
     subst (λ (x : Tree). Holds x Single id content) same (refl, refl, refl)
 
-tree_to : (within : Level → List ℕ → Option Trees) (kind : RecordType) (id : ℕ) (content : List ℕ) (t : Tree)
-    → ((level : Level) (f : Trees) → IsNodes f level content → within level content ≡ Some f) → Holds t kind id content
+tree_to : (within : Around → List ℕ → Option Trees) (kind : RecordType) (id : ℕ) (content : List ℕ) (t : Tree)
+    → ((level : Around) (f : Trees) → IsNodes f level content → within level content ≡ Some f) → Holds t kind id content
     → tree_of_record within kind id content ≡ Some t
 tree_to within kind id content (instance i inner) complete p =
     ap (λ k. tree_of_record within k id content) p.0 ∙ ap (option_map (instance id)) (complete InInstance inner p.2)
@@ -181,8 +181,8 @@ joined (Some t) (Some nodes) f e = (t, nodes, refl, refl, cc e)
 joined (Some t) None f e = cc e
 joined None p f e = cc e
 
-nodes_case : (within : Level → List ℕ → Option Trees) → IsSound within
-    → (level : Level) (bytes : List ℕ) (o : Option Record) → record_at bytes ≡ o → (f : Trees)
+nodes_case : (within : Around → List ℕ → Option Trees) → IsSound within
+    → (level : Around) (bytes : List ℕ) (o : Option Record) → record_at bytes ≡ o → (f : Trees)
     → nodes_from within level o ≡ Some f → IsNodes f level bytes
 nodes_case within sound level bytes None q f e = cc e
 nodes_case within sound level bytes (Some r) q f e =
@@ -203,12 +203,12 @@ nodes_sound (suc steps) level [] f e = let same : none ≡ f = cc e in subst (λ
 nodes_sound (suc steps) level (b ∷ bytes) f e =
     nodes_case (read_nodes steps) (nodes_sound steps) level (b ∷ bytes) (record_at (b ∷ bytes)) refl f e
 
-read_nil : (steps : ℕ) (level : Level) → read_nodes steps level [] ≡ Some none
+read_nil : (steps : ℕ) (level : Around) → read_nodes steps level [] ≡ Some none
 unfolding read_nodes
 read_nil zero level = refl
 read_nil (suc steps) level = refl
 
-read_step : (steps : ℕ) (level : Level) (bytes : List ℕ) → 0 < length bytes
+read_step : (steps : ℕ) (level : Around) (bytes : List ℕ) → 0 < length bytes
     → read_nodes (suc steps) level bytes ≡ nodes_from (read_nodes steps) level (record_at bytes)
 unfolding read_nodes
 read_step steps level [] long = absurd (omega arith)
@@ -217,18 +217,19 @@ read_step steps level (b ∷ bytes) long = refl
 head_long : (head : List ℕ) (kind : RecordType) (id size : ℕ) → IsHead head kind id size → 0 < length head
 head_long head kind id size h = subst (λ (x : List ℕ). 0 < length x) (sym h.parts) (omega arith)
 
-nodes_complete : (steps : ℕ) (level : Level) (bytes : List ℕ) (f : Trees) → length bytes ≤ steps → IsNodes f level bytes
+nodes_complete : (steps : ℕ) (level : Around) (bytes : List ℕ) (f : Trees) → length bytes ≤ steps
+    → IsNodes f level bytes
     → read_nodes steps level bytes ≡ Some f
 nodes_complete steps level bytes none enough p = ap (read_nodes steps level) p ∙ read_nil steps level
 nodes_complete zero level bytes (more t nodes) enough p =
     let long = head_long p.2 p.0 p.1 (length p.3) p.5 in
     absurd (omega (arith, long, enough, ap length p.6, length-append p.2 (p.3 ++ p.4)))
 nodes_complete (suc steps) level bytes (more t nodes) enough p =
-    let within : Level → List ℕ → Option Trees = read_nodes steps in
+    let within : Around → List ℕ → Option Trees = read_nodes steps in
     let long : 0 < length p.2 = head_long p.2 p.0 p.1 (length p.3) p.5 in
     let size : length bytes ≡ length p.2 + (length p.3 + length p.4) =
     ap length p.6 ∙ length-append p.2 (p.3 ++ p.4) ∙ ap (λ n. length p.2 + n) (length-append p.3 p.4) in
-    let inner : (l : Level) (g : Trees) → IsNodes g l p.3 → within l p.3 ≡ Some g =
+    let inner : (l : Around) (g : Trees) → IsNodes g l p.3 → within l p.3 ≡ Some g =
     λ l g. nodes_complete steps l p.3 g (omega arith) in
     let tree : tree_of_record within p.0 p.1 p.3 ≡ Some t = tree_to within p.0 p.1 p.3 t inner p.8 in
     let later : within level p.4 ≡ Some nodes = nodes_complete steps level p.4 nodes (omega arith) p.9 in

@@ -17,8 +17,8 @@ use Rattle.lwm2m_values.specs.declared.kind.ValueKind.{ValueKind}
 use Rattle.lwm2m_values.specs.declared.kind.ValueKind.TheVariants as kind
 use Rattle.lwm2m_values.specs.declared.level.RecordType.{RecordType}
 use Rattle.lwm2m_values.specs.declared.level.RecordType.TheVariants.{Instance, Part, Multi, Single}
-use Rattle.lwm2m_values.specs.declared.level.Level.{Level}
-use Rattle.lwm2m_values.specs.declared.level.Level.TheVariants.{Top, InInstance, InMulti}
+use Rattle.lwm2m_values.specs.declared.level.Around.{Around}
+use Rattle.lwm2m_values.specs.declared.level.Around.TheVariants.{Top, InInstance, InMulti}
 use Rattle.lwm2m_values.specs.Tree.{Tree, Trees, instance, multi, part, single, none, more}
 use Rattle.lwm2m_values.specs.Tlv.{is_allowed}
 use Rattle.lwm2m_values.specs.Value.{is_within}
@@ -161,7 +161,7 @@ record_at (first ∷ rest) =
     if is_whole first rest then option_map (record_of first rest) (type_of_bits (first / 64)) else None
 
 -- the tree of a record of this type, with what it holds read by its level
-abbrev pub tree_of_record : (Level → List ℕ → Option Trees) → RecordType → ℕ → List ℕ → Option Tree
+abbrev pub tree_of_record : (Around → List ℕ → Option Trees) → RecordType → ℕ → List ℕ → Option Tree
 tree_of_record within Instance id content = option_map (instance id) (within InInstance content)
 tree_of_record within Multi id content = option_map (multi id) (within InMulti content)
 tree_of_record within Part id content = Some (part id content)
@@ -174,7 +174,7 @@ with_tree (Some t) None = None
 with_tree (Some t) (Some nodes) = Some (more t nodes)
 
 -- the trees of a record, where it may stand there, and of what stands behind it
-abbrev pub nodes_from : (Level → List ℕ → Option Trees) → Level → Option Record → Option Trees
+abbrev pub nodes_from : (Around → List ℕ → Option Trees) → Around → Option Record → Option Trees
 nodes_from within level None = None
 nodes_from within level (Some r) =
     if is_allowed level r.kind then with_tree (tree_of_record within r.kind r.id r.content) (within level r.rest)
@@ -182,7 +182,7 @@ nodes_from within level (Some r) =
 
 -- the trees whose records the bytes are, at this level; the first number bounds the steps, of which each takes two
 -- bytes or more
-unfoldable pub read_nodes : ℕ → Level → List ℕ → Option Trees
+unfoldable pub read_nodes : ℕ → Around → List ℕ → Option Trees
 read_nodes steps level [] = Some none
 read_nodes zero level (b ∷ bytes) = None
 read_nodes (suc steps) level (b ∷ bytes) = nodes_from (read_nodes steps) level (record_at (b ∷ bytes))

@@ -5,8 +5,8 @@ use Rattle.std.specs.Prelude.{false, if◌then◌else◌, ◌==◌, Option, Some
 use Rattle.std.specs.Int.Digits.{number_from_digits}
 use Rattle.lwm2m_values.specs.declared.level.RecordType.{RecordType}
 use Rattle.lwm2m_values.specs.declared.level.RecordType.TheVariants.{Instance, Part, Multi, Single}
-use Rattle.lwm2m_values.specs.declared.level.Level.{Level}
-use Rattle.lwm2m_values.specs.declared.level.Level.TheVariants.{Top, InInstance, InMulti}
+use Rattle.lwm2m_values.specs.declared.level.Around.{Around}
+use Rattle.lwm2m_values.specs.declared.level.Around.TheVariants.{Top, InInstance, InMulti}
 use Rattle.lwm2m_values.specs.declared.fault.TlvFault.{TlvFault}
 use Rattle.lwm2m_values.specs.declared.fault.TlvFault.TheVariants.{Cut, Nesting}
 use Rattle.lwm2m_values.specs.Tree.{Tree, Trees, instance, multi, part, single, none, more}
@@ -20,7 +20,7 @@ type_bits Single = 3
 
 -- an Instance holds Multiple Resources and Resources, a Multiple Resource holds Resource Instances, and all may stand
 -- at the top
-abbrev pub is_allowed : Level → RecordType → Bool
+abbrev pub is_allowed : Around → RecordType → Bool
 is_allowed Top _ = true
 is_allowed InInstance Multi = true
 is_allowed InInstance Single = true
@@ -32,7 +32,7 @@ is_allowed InMulti Multi = false
 is_allowed InMulti Single = false
 
 -- what holds records is the level of those within
-abbrev pub inside : RecordType → Option Level
+abbrev pub inside : RecordType → Option Around
 inside Instance = Some InInstance
 inside Multi = Some InMulti
 inside Part = None
@@ -65,7 +65,7 @@ abbrev mutual
   Holds (single i bytes) kind id content = (kind ≡ Single) × (i ≡ id) × (bytes ≡ content)
 
   -- the bytes are the records of these trees, each in any spelling, one behind the other, and each may stand there
-  pub IsNodes : Trees → Level → List ℕ → Type 0
+  pub IsNodes : Trees → Around → List ℕ → Type 0
   IsNodes none level bytes = bytes ≡ []
   IsNodes (more node nodes) level bytes =
       (kind : RecordType) × (id : ℕ) × (head : List ℕ) × (content : List ℕ) × (rest : List ℕ)
@@ -78,18 +78,18 @@ abbrev pub IsTlv : Trees → List ℕ → Type 0
 IsTlv nodes bytes = IsNodes nodes Top bytes
 
 -- the bytes begin with the records of these trees, and this is behind them
-abbrev pub IsFront : Level → List ℕ → Trees → List ℕ → Type 0
+abbrev pub IsFront : Around → List ℕ → Trees → List ℕ → Type 0
 IsFront level bytes nodes rest = (front : List ℕ) × IsNodes nodes level front × (bytes ≡ front ++ rest)
 
 -- Behind whole records stands the first fault from the left: a record that is cut, one that may not stand there, or one
 -- with a fault in its content.
-pub data HasFault : Level → List ℕ → TlvFault → Type 0 where
-  cut : (level : Level) (bytes : List ℕ) (nodes : Trees) (rest : List ℕ) → IsFront level bytes nodes rest
+pub data HasFault : Around → List ℕ → TlvFault → Type 0 where
+  cut : (level : Around) (bytes : List ℕ) (nodes : Trees) (rest : List ℕ) → IsFront level bytes nodes rest
       → 0 < length rest → IsCut rest → HasFault level bytes Cut
-  nesting : (level : Level) (bytes : List ℕ) (nodes : Trees) (kind : RecordType) (id : ℕ) (head content rest : List ℕ)
+  nesting : (level : Around) (bytes : List ℕ) (nodes : Trees) (kind : RecordType) (id : ℕ) (head content rest : List ℕ)
       → IsFront level bytes nodes (head ++ (content ++ rest))
       → IsHead head kind id (length content) → is_allowed level kind ≡ false → HasFault level bytes Nesting
-  within : (level inner : Level) (bytes : List ℕ) (nodes : Trees) (kind : RecordType) (id : ℕ)
+  within : (level inner : Around) (bytes : List ℕ) (nodes : Trees) (kind : RecordType) (id : ℕ)
       (head content rest : List ℕ) (fault : TlvFault) → IsFront level bytes nodes (head ++ (content ++ rest))
       → IsHead head kind id (length content) → is_allowed level kind ≡ true → inside kind ≡ Some inner
       → HasFault inner content fault → HasFault level bytes fault
@@ -135,13 +135,13 @@ IsContent content = length content < 16777216
 
 abbrev mutual
   -- the tree may stand there, and what it holds may stand within
-  pub IsNested : Level → Tree → Type 0
+  pub IsNested : Around → Tree → Type 0
   IsNested level (instance id inner) = (is_allowed level Instance ≡ true) × AreNested InInstance inner
   IsNested level (multi id inner) = (is_allowed level Multi ≡ true) × AreNested InMulti inner
   IsNested level (part id bytes) = is_allowed level Part ≡ true
   IsNested level (single id bytes) = is_allowed level Single ≡ true
 
-  pub AreNested : Level → Trees → Type 0
+  pub AreNested : Around → Trees → Type 0
   AreNested level none = Unit {0}
   AreNested level (more node nodes) = IsNested level node × AreNested level nodes
 

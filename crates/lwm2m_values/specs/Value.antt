@@ -1,7 +1,7 @@
 -- Values: their kinds, which are good, their plain text, their bytes, and their code, by which a finite map can hold
 -- them.
 use Rattle.std.specs.Prelude.{◌≡◌, ℕ, ◌<◌, ◌≤◌, ℤ, pos, negsuc, nat_le, nat_lt, List, [], ◌∷◌, ◌++◌, length, Bool, true}
-use Rattle.std.specs.Prelude.{false}
+use Rattle.std.specs.Prelude.{false, ◌==◌, Option, None, Some}
 use Rattle.std.specs.Prelude.{if◌then◌else◌, ◌⊎◌, refl}
 use Rattle.std.specs.Prelude.{neg_ℤ, FitsSigned}
 use Rattle.std.specs.Int.{Width, w8, w16, w32, w64, to_be_bytes, cast_unsigned}
@@ -53,6 +53,12 @@ IsGood (Flag _) = Unit {0}
 IsGood (Opaque b) = IsBytes b × (length b ≤ 1024)
 IsGood (Moment z) = FitsSigned w64 z
 IsGood (Link o i) = (o < 65536) × (i < 65536)
+
+-- whether there is an Integer, and it is this number; a negative one is none
+abbrev pub is_integer : ℕ → Option ℤ → Bool
+is_integer n None = false
+is_integer n (Some (pos m)) = m == n
+is_integer n (Some (negsuc _)) = false
 
 -- one decimal digit or more, which write this number; the first may be 0
 abbrev pub IsDecimal : ℕ → List ℕ → Type 0

@@ -3,7 +3,7 @@ ghost use Rattle.std.specs.Int.Digits.{AllBelowBase};
 ghost use Rattle.lwm2m_values.specs.declared.value.Value.{Value};
 ghost use Rattle.lwm2m_values.specs.declared.kind.ValueKind.{ValueKind};
 ghost use Rattle.lwm2m_values.specs.declared.fault.TlvFault.{TlvFault};
-ghost use Rattle.lwm2m_values.specs.declared.level.Level.TheVariants.{Top};
+ghost use Rattle.lwm2m_values.specs.declared.level.Around.TheVariants.{Top};
 ghost use Rattle.lwm2m_values.specs.Tree.{Trees};
 ghost use Rattle.lwm2m_values.specs.Tlv.{IsTlv, HasFault, IsWritable, shortest_tlv};
 ghost use Rattle.lwm2m_values.specs.Value.{kind_of, IsGood, IsText, text_of, IsBytesOf, bytes_of};

@@ -16,7 +16,7 @@ pub enum RecordType {
 
 /// What is around a record.
 #[derive(Clone, Copy, Debug, PartialEq, Eq)]
-pub enum Level {
+pub enum Around {
     /// Nothing: the records of a payload.
     Top,
     /// An Object Instance.
@@ -38,13 +38,13 @@ pub(crate) fn type_of(first: u8) -> RecordType
 }
 
 /// Whether a record of this type may stand there.
-pub(crate) fn may_stand(level: Level, kind: RecordType) -> bool
+pub(crate) fn may_stand(level: Around, kind: RecordType) -> bool
     ensures { result ≡ is_allowed level kind }
 {
     match (level, kind) {
-        (Level::Top, _) => true,
-        (Level::InInstance, RecordType::Multi | RecordType::Single) => true,
-        (Level::InMulti, RecordType::Part) => true,
+        (Around::Top, _) => true,
+        (Around::InInstance, RecordType::Multi | RecordType::Single) => true,
+        (Around::InMulti, RecordType::Part) => true,
         _ => false,
     }
 }

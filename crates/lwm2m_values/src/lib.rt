@@ -19,7 +19,7 @@ mod value;
 pub use fault::{TlvFault, ValueFault};
 pub use kind::ValueKind;
 pub use laws::{one_text_value, one_tlv, one_value_of_bytes};
-pub use node::Node;
+pub use node::{Node, instance_node, multi_node, part_node, single_node};
 pub use plain::{read_text, write_text};
 pub use text::Text;
 pub use tlv::read_tlv;

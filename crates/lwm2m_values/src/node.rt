@@ -17,25 +17,29 @@ pub enum Node {
     Single { id: u16, bytes: Bytes },
 }
 
-pub(crate) fn instance_node(id: u16, children: Vec<Node>) -> Node
+/// Returns the record of an Object Instance.
+pub fn instance_node(id: u16, children: Vec<Node>) -> Node
     ensures { tree_of result ≡ instance id (trees_of children.items) }
 {
     Node::Instance { id, children }
 }
 
-pub(crate) fn multi_node(id: u16, parts: Vec<Node>) -> Node
+/// Returns the record of a Multiple Resource.
+pub fn multi_node(id: u16, parts: Vec<Node>) -> Node
     ensures { tree_of result ≡ multi id (trees_of parts.items) }
 {
     Node::Multi { id, parts }
 }
 
-pub(crate) fn part_node(id: u16, bytes: Bytes) -> Node
+/// Returns the record of a Resource Instance whose value has these bytes.
+pub fn part_node(id: u16, bytes: Bytes) -> Node
     ensures { tree_of result ≡ part id bytes }
 {
     Node::Part { id, bytes }
 }
 
-pub(crate) fn single_node(id: u16, bytes: Bytes) -> Node
+/// Returns the record of a Resource whose value has these bytes.
+pub fn single_node(id: u16, bytes: Bytes) -> Node
     ensures { tree_of result ≡ single id bytes }
 {
     Node::Single { id, bytes }

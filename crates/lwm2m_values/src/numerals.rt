@@ -23,7 +23,7 @@ pub(crate) fn utf8_of(bytes: &[u8]) -> Option<&str>
 }
 
 /// The number of 64 bits that a text writes: decimal digits, with a minus sign in front or none.
-pub(crate) fn number_of(text: &[u8]) -> Option<i64>
+pub(crate) fn signed_of(text: &[u8]) -> Option<i64>
     ensures found { IfSome result (λ z. IsSigned z text.now) }
     ensures only { (z : ℤ) → FitsSigned w64 z → IsSigned z text.now → result ≡ Some z }
 {

@@ -11,7 +11,7 @@ ghost use Rattle.lwm2m_values.specs.Reading.{value_of_text};
 
 use crate::fault::ValueFault;
 use crate::kind::ValueKind;
-use crate::numerals::{number_of, pair_of};
+use crate::numerals::{pair_of, signed_of};
 use crate::text::Text;
 use crate::value::Value;
 use base64::DecodeAllocError;
@@ -75,12 +75,12 @@ fn good_of(alloc: Global, kind: ValueKind, text: &[u8]) -> Result<Value, ValueFa
 {
     match kind {
         ValueKind::Text => Ok(Value::Text(string_of(alloc, text)?)),
-        ValueKind::Whole => number_of(text)
+        ValueKind::Whole => signed_of(text)
             .map(Value::Whole)
             .ok_or(ValueFault::BadValue),
         ValueKind::Flag => flag_of(text).map(Value::Flag).ok_or(ValueFault::BadValue),
         ValueKind::Opaque => Ok(Value::Opaque(opaque_of(alloc, text)?)),
-        ValueKind::Moment => number_of(text)
+        ValueKind::Moment => signed_of(text)
             .map(Value::Moment)
             .ok_or(ValueFault::BadValue),
         ValueKind::Link => match pair_of(text) {

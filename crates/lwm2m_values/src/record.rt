@@ -16,7 +16,7 @@ pub(crate) struct Record<'a> {
 }
 
 /// The number that at most three bytes write, the highest first.
-fn number_of(bytes: &[u8]) -> u32
+fn unsigned_of(bytes: &[u8]) -> u32
     requires { length bytes.now ≤ 3 }
     ensures value { result ≡ number_from_digits 256 bytes.now }
     ensures short { length bytes.now ≤ 2 → result < 65536 }
@@ -38,7 +38,7 @@ fn size_of(first: u8, field: &[u8]) -> u32
     if field.is_empty() {
         u32::from(first % 8)
     } else {
-        number_of(field)
+        unsigned_of(field)
     }
 }
 
@@ -62,7 +62,7 @@ fn head_at(bytes: &[u8]) -> Option<Head<'_>>
     let (size, rest) = rest.split_at_checked(usize::from(first / 8 % 4))?;
     Some(Head {
         kind: type_of(*first),
-        id: number_of(id) as u16,
+        id: unsigned_of(id) as u16,
         size: size_of(*first, size),
         rest,
     })

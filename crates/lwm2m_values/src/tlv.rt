@@ -1,14 +1,14 @@
 ghost use Rattle.std.specs.Prelude.{◌≡◌, ◌≢◌, List, ℕ, length, Some, None, IfOk, IfErr, IsErrAnd, MatchResult};
 ghost use Rattle.lwm2m_values.specs.declared.fault.TlvFault.{TlvFault};
 ghost use Rattle.lwm2m_values.specs.declared.fault.TlvFault.TheVariants.{Memory};
-ghost use Rattle.lwm2m_values.specs.declared.level.Level.{Level};
-ghost use Rattle.lwm2m_values.specs.declared.level.Level.TheVariants.{Top};
+ghost use Rattle.lwm2m_values.specs.declared.level.Around.{Around};
+ghost use Rattle.lwm2m_values.specs.declared.level.Around.TheVariants.{Top};
 ghost use Rattle.lwm2m_values.specs.Tree.{Trees, tree_of, trees_of};
 ghost use Rattle.lwm2m_values.specs.Tlv.{IsNodes, IsTlv, Holds, HasFault, inside};
 ghost use Rattle.lwm2m_values.specs.Reading.{nodes_of_bytes};
 
 use crate::fault::TlvFault;
-use crate::level::{Level, RecordType, may_stand};
+use crate::level::{Around, RecordType, may_stand};
 use crate::node::{Node, instance_node, multi_node, part_node, single_node};
 use crate::record::record_at;
 use octets::Bytes;
@@ -18,7 +18,7 @@ use std::alloc::Global;
 // Each call within goes to records that hold less, and no record may stand below the third level, so no input runs
 // the stack out.
 #[cycle(reading)]
-fn nodes_of(alloc: Global, level: Level, bytes: &[u8]) -> Result<Vec<Node>, TlvFault>
+fn nodes_of(alloc: Global, level: Around, bytes: &[u8]) -> Result<Vec<Node>, TlvFault>
     ensures found { IfOk result (λ v. IsNodes (trees_of v.items) level bytes.now) }
     ensures fault { IfErr result (λ f. f ≢ Memory → HasFault level bytes.now f) }
 {
@@ -42,16 +42,16 @@ fn nodes_of(alloc: Global, level: Level, bytes: &[u8]) -> Result<Vec<Node>, TlvF
 #[cycle(reading)]
 fn node_of(alloc: Global, kind: RecordType, id: u16, content: &[u8]) -> Result<Node, TlvFault>
     ensures found { IfOk result (λ n. Holds (tree_of n) kind id content.now) }
-    ensures fault { IfErr result (λ f. f ≢ Memory → (inner : Level) × (inside kind ≡ Some inner)
+    ensures fault { IfErr result (λ f. f ≢ Memory → (inner : Around) × (inside kind ≡ Some inner)
         × HasFault inner content.now f) }
 {
     match kind {
         RecordType::Instance => {
-            let children = nodes_of(alloc, Level::InInstance, content)?;
+            let children = nodes_of(alloc, Around::InInstance, content)?;
             Ok(instance_node(id, children))
         }
         RecordType::Multi => {
-            let parts = nodes_of(alloc, Level::InMulti, content)?;
+            let parts = nodes_of(alloc, Around::InMulti, content)?;
             Ok(multi_node(id, parts))
         }
         RecordType::Part => Ok(part_node(id, Bytes::from_slice(alloc, content)?)),
@@ -70,5 +70,5 @@ pub fn read_tlv(alloc: Global, bytes: &[u8]) -> Result<Vec<Node>, TlvFault>
     ensures reading { MatchResult result (λ v. nodes_of_bytes bytes.now ≡ Some (trees_of v.items))
         (λ f. f ≢ Memory → nodes_of_bytes bytes.now ≡ None) }
 {
-    nodes_of(alloc, Level::Top, bytes)
+    nodes_of(alloc, Around::Top, bytes)
 }

@@ -1,13 +1,13 @@
 ghost use Rattle.std.specs.Prelude.{◌≡◌, ◌+◌, ◌-◌, ◌*◌, ◌^◌, ◌<◌, ◌++◌, ◌↔◌, length, IfOk, OnOk, IsTrue, min, nat_lt};
 ghost use Rattle.std.specs.Prelude.{if◌then◌else◌};
 ghost use Rattle.lwm2m_values.specs.declared.level.RecordType.TheVariants.{Instance};
-ghost use Rattle.lwm2m_values.specs.declared.level.Level.TheVariants.{Top};
+ghost use Rattle.lwm2m_values.specs.declared.level.Around.TheVariants.{Top};
 ghost use Rattle.lwm2m_values.specs.Tree.{tree_of, trees_of};
 ghost use Rattle.lwm2m_values.specs.Tlv.{type_bits, id_field, size_field, shortest_head, shortest_record};
 ghost use Rattle.lwm2m_values.specs.Tlv.{shortest_node, shortest_tlv, IsContent, IsNested, AreNested, IsShort};
 ghost use Rattle.lwm2m_values.specs.Tlv.{AreShort, IsWritable, IsTlv};
 
-use crate::level::{Level, RecordType, may_stand};
+use crate::level::{Around, RecordType, may_stand};
 use crate::node::Node;
 use octets::Bytes;
 use std::alloc::{AllocError, Global};
@@ -180,7 +180,7 @@ fn size_of(node: &Node) -> u64
 }
 
 #[cycle(fitting)]
-fn all_fit(level: Level, nodes: &[Node]) -> bool
+fn all_fit(level: Around, nodes: &[Node]) -> bool
     ensures { IsTrue result ↔ (AreNested level (trees_of nodes.now) × AreShort (trees_of nodes.now)) }
 {
     for node in nodes {
@@ -193,18 +193,18 @@ fn all_fit(level: Level, nodes: &[Node]) -> bool
 
 // A record that may not stand there ends the walk, so no tree runs the stack out.
 #[cycle(fitting)]
-fn fits(level: Level, node: &Node) -> bool
+fn fits(level: Around, node: &Node) -> bool
     ensures { IsTrue result ↔ (IsNested level (tree_of node.now) × IsShort (tree_of node.now)) }
 {
     match node {
         Node::Instance { children, .. } => {
             may_stand(level, RecordType::Instance)
-                && all_fit(Level::InInstance, children)
+                && all_fit(Around::InInstance, children)
                 && size_of_all(children) < LIMIT
         }
         Node::Multi { parts, .. } => {
             may_stand(level, RecordType::Multi)
-                && all_fit(Level::InMulti, parts)
+                && all_fit(Around::InMulti, parts)
                 && size_of_all(parts) < LIMIT
         }
         Node::Part { bytes, .. } => {
@@ -220,5 +220,5 @@ fn fits(level: Level, node: &Node) -> bool
 pub fn tlv_fits(nodes: &[Node]) -> bool
     ensures { IsTrue result ↔ IsWritable (trees_of nodes.now) }
 {
-    all_fit(Level::Top, nodes)
+    all_fit(Around::Top, nodes)
 }

@@ -5,6 +5,8 @@ use Rattle.std.specs.Fmt.{decimal}
 use Rattle.std.specs.List.{flat_map, list_any}
 use Rattle.coap_codec.specs.declared.option.Opt.{Opt}
 use Rattle.coap_codec.specs.Number.{big_endian}
+use Rattle.coap_codec.specs.OptionNumber.{observe_option, location_path_option, uri_path_option, uri_query_option}
+use Rattle.coap_codec.specs.OptionNumber.{accept_option, content_format_option}
 use Rattle.scenario_words.specs.HexWord.{hex_word}
 use Rattle.message_words.specs.Names.{format_text}
 
@@ -36,16 +38,15 @@ segment_text lead before o = (if before == o.number then [] else lead) ++ codes 
 abbrev pub plain_option : Opt → List ℕ
 plain_option o = codes ", option " ++ decimal o.number ++ codes " " ++ hex_word o.value
 
--- an option behind one of the number `before`: Uri-Path 11, Location-Path 8, Uri-Query 15, Observe 6, Accept 17, and
--- Content-Format 12, which stands before the payload
+-- an option behind one of the number `before`; the Content-Format stands before the payload
 abbrev pub option_text : ℕ → Opt → List ℕ
 option_text before o =
-    if o.number == 11 then segment_text (codes ", ") before o
-    else (if o.number == 8 then segment_text (codes ", location ") before o
-    else (if o.number == 15 then codes ", ?" ++ uri_text o.value
-    else (if is_recognized 6 3 before o then codes ", observe " ++ decimal (big_endian o.value)
-    else (if is_recognized 17 2 before o then codes ", accept " ++ format_text (big_endian o.value)
-    else (if is_recognized 12 2 before o then []
+    if o.number == uri_path_option then segment_text (codes ", ") before o
+    else (if o.number == location_path_option then segment_text (codes ", location ") before o
+    else (if o.number == uri_query_option then codes ", ?" ++ uri_text o.value
+    else (if is_recognized observe_option 3 before o then codes ", observe " ++ decimal (big_endian o.value)
+    else (if is_recognized accept_option 2 before o then codes ", accept " ++ format_text (big_endian o.value)
+    else (if is_recognized content_format_option 2 before o then []
     else plain_option o)))))
 
 -- options in their order, the first of them behind one of the number `before`
@@ -57,4 +58,4 @@ options_text before (o ∷ os) = option_text before o ++ options_text o.number o
 abbrev pub format_in : ℕ → List Opt → Option ℕ
 format_in before [] = None
 format_in before (o ∷ os) =
-    if is_recognized 12 2 before o then Some (big_endian o.value) else format_in o.number os
+    if is_recognized content_format_option 2 before o then Some (big_endian o.value) else format_in o.number os

@@ -133,17 +133,17 @@ is_consistent m server place =
     agree (assigned m server place name.Gt) (assigned m server place name.Lt) (assigned m server place name.St)
 
 -- whether a number of a path is this one
-abbrev pub is_number : ℕ → Option ℕ → Bool
-is_number n None = false
-is_number n (Some m) = m == n
+abbrev pub has_number : ℕ → Option ℕ → Bool
+has_number n None = false
+has_number n (Some m) = m == n
 
 -- whether the path of a key is a path or lies below it
 abbrev pub lies_under : Path → AttributeKey → Bool
 lies_under (Object o) k = k.object == o
-lies_under (Instance o i) k = k.object == o && is_number i k.instance
-lies_under (Resource o i r) k = k.object == o && (is_number i k.instance && is_number r k.resource)
+lies_under (Instance o i) k = k.object == o && has_number i k.instance
+lies_under (Resource o i r) k = k.object == o && (has_number i k.instance && has_number r k.resource)
 lies_under (Part o i r p) k =
-    k.object == o && (is_number i k.instance && (is_number r k.resource && is_number p k.part))
+    k.object == o && (has_number i k.instance && (has_number r k.resource && has_number p k.part))
 
 -- without the attributes of all servers at or below a path
 abbrev pub without_under : Numbers → Path → Numbers

@@ -78,17 +78,17 @@ abbrev pub above_zero : ℤ → Option ℤ
 above_zero z = cond (int_lt (pos 0) z) (Some z) None
 
 -- the number of an attribute that a text spells
-abbrev pub number_of : Name → List ℕ → Option ℤ
-number_of Pmin text = option_map pos (seconds_of text)
-number_of Pmax text = option_map pos (seconds_of text)
-number_of Gt text = thousandths_of text
-number_of Lt text = thousandths_of text
-number_of St text = option_and_then above_zero (thousandths_of text)
+abbrev pub attribute_number : Name → List ℕ → Option ℤ
+attribute_number Pmin text = option_map pos (seconds_of text)
+attribute_number Pmax text = option_map pos (seconds_of text)
+attribute_number Gt text = thousandths_of text
+attribute_number Lt text = thousandths_of text
+attribute_number St text = option_and_then above_zero (thousandths_of text)
 
 -- what an attribute is changed to, if that is spelled: a number, or none where there is no text
 abbrev pub target_of : Name → Option (List ℕ) → Option (Option ℤ)
 target_of n None = Some None
-target_of n (Some text) = option_map Some (number_of n text)
+target_of n (Some text) = option_map Some (attribute_number n text)
 
 -- whether a level is that of a number
 abbrev pub is_number_level : Level → Bool

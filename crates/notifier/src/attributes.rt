@@ -3,7 +3,7 @@ ghost use Rattle.std.specs.Prelude.{Err, IfOk, OnOk, OnErr, IsErrOf, IsFalse};
 ghost use Rattle.std.specs.FinMap as map;
 ghost use Rattle.object_defs.specs.declared.path.Path.TheVariants as paths;
 ghost use Rattle.notifier.specs.Attributes.{key_cmp, key_of, path_of, assigned, effective, with_number, written, agree};
-ghost use Rattle.notifier.specs.Attributes.{is_consistent, is_number, lies_under, without_under, listed};
+ghost use Rattle.notifier.specs.Attributes.{is_consistent, has_number, lies_under, without_under, listed};
 
 use crate::attribute::{AttributeKey, Change, Name};
 use crate::fault::WriteFault;
@@ -148,8 +148,8 @@ fn agree(gt: Option<i64>, lt: Option<i64>, st: Option<i64>) -> bool
 }
 
 /// Whether a number of a path is this one.
-fn is_number(number: u16, found: Option<u16>) -> bool
-    ensures { result ≡ is_number number found }
+fn has_number(number: u16, found: Option<u16>) -> bool
+    ensures { result ≡ has_number number found }
 {
     match found {
         Some(found) => found == number,
@@ -164,18 +164,18 @@ fn lies_under(path: Path, key: AttributeKey) -> bool
     match path {
         Path::Object(object) => key.object == object,
         Path::Instance(object, instance) => {
-            key.object == object && is_number(instance, key.instance)
+            key.object == object && has_number(instance, key.instance)
         }
         Path::Resource(object, instance, resource) => {
             key.object == object
-                && is_number(instance, key.instance)
-                && is_number(resource, key.resource)
+                && has_number(instance, key.instance)
+                && has_number(resource, key.resource)
         }
         Path::Part(object, instance, resource, part) => {
             key.object == object
-                && is_number(instance, key.instance)
-                && is_number(resource, key.resource)
-                && is_number(part, key.part)
+                && has_number(instance, key.instance)
+                && has_number(resource, key.resource)
+                && has_number(part, key.part)
         }
     }
 }

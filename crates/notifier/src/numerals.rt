@@ -1,6 +1,6 @@
 ghost use Rattle.std.specs.Prelude.{◌≡◌, ◌==◌, length, position, ◌<◌, ◌≤◌, ◌^◌, pos, neg_ℤ, option_map, IfSome};
 ghost use Rattle.notifier.specs.Query.{digits_of, seconds_of, fraction_of, unsigned_of, thousandths_of, above_zero};
-ghost use Rattle.notifier.specs.Query.{number_of};
+ghost use Rattle.notifier.specs.Query.{attribute_number};
 
 use crate::attribute::Name;
 
@@ -121,8 +121,8 @@ fn above_zero(number: i64) -> Option<i64>
 
 /// The number of an attribute that a text spells: seconds of pmin and pmax, thousandths of the
 /// others.
-pub(crate) fn number_of(name: Name, text: &[u8]) -> Option<i64>
-    ensures { result ≡ number_of name text.now }
+pub(crate) fn attribute_number(name: Name, text: &[u8]) -> Option<i64>
+    ensures { result ≡ attribute_number name text.now }
 {
     match name {
         Name::Pmin => seconds_of(text),

@@ -1,12 +1,12 @@
 ghost use Rattle.std.specs.Prelude.{◌≡◌, ◌≢◌, ◌∷◌, [], map, OnOk, OnErr, IfErr, IfOk, IsErrOf, IsOk, Ok, Err, Some};
 ghost use Rattle.std.specs.Option.{option_copied};
 ghost use Rattle.std.specs.List.{list_any};
-ghost use Rattle.notifier.specs.Query.{name_of, name_part, number_part, number_of, target_of, stands_at, is_of};
+ghost use Rattle.notifier.specs.Query.{name_of, name_part, number_part, attribute_number, target_of, stands_at, is_of};
 ghost use Rattle.notifier.specs.Query.{change_to, change_of, reading_of, changes_of, is_number_level, BeginsWithChange};
 
 use crate::attribute::{Change, Level, Name};
 use crate::fault::QueryFault;
-use crate::numerals::{number_of, place_of};
+use crate::numerals::{attribute_number, place_of};
 use std::alloc::Global;
 use std::marker::Model;
 
@@ -96,7 +96,7 @@ fn change_of(
     }
     match text {
         None => change_to(level, name, None),
-        Some(text) => match number_of(name, text) {
+        Some(text) => match attribute_number(name, text) {
             Some(number) => change_to(level, name, Some(number)),
             None => Err(QueryFault::BadNumber),
         },

@@ -15,7 +15,7 @@ use Rattle.std.proofs.lemmas.Slice.Eq.{bytes_eq-Decides, text_from_reads}
 use Rattle.std.proofs.Common.{take, length-take, get_or-take, Result, Ok, Err, le-ltb, take_all}
 use Rattle.std.proofs.lemmas.Bool.Decides.{nat_tests}
 use Rattle.std.proofs.lemmas.Bool.{and_parts, cases_eq}
-use Rattle.object_defs.specs.Decimal.{number_of}
+use Rattle.object_defs.specs.Decimal.{decimal_number}
 
 abbrev pub AreDigits : List ℕ → Type 0
 AreDigits ds = (i : ℕ) → i < length ds → IsInRange 48 57 (get_or ds i 0)
@@ -28,8 +28,8 @@ checked true n m h = (refl, cc)
 checked false n m h = cc
 
 -- the number that a decimal form gives is that number
-pub number_of-law : (s : List ℕ) (n : ℕ) → (number_of s ≡ Some n) ↔ ((n < 65536) × (s ≡ decimal n))
-number_of-law s n = (
+pub decimal_number-law : (s : List ℕ) (n : ℕ) → (decimal_number s ≡ Some n) ↔ ((n < 65536) × (s ≡ decimal n))
+decimal_number-law s n = (
   (λ h.
       let parts = checked _ _ _ h in
       let tests = and_parts _ _ parts.0 in (
@@ -50,19 +50,19 @@ missing None h = refl
 missing (Some n) h = absurd (h n refl)
 
 -- bytes that are no decimal form
-pub number_of-none : (s : List ℕ) → ((n : ℕ) → n < 65536 → s ≡ decimal n → ⊥) → None ≡ number_of s
-number_of-none s h = missing (number_of s) (λ n e. let p = (number_of-law s n).0 e in h n p.0 p.1)
+pub decimal_number-none : (s : List ℕ) → ((n : ℕ) → n < 65536 → s ≡ decimal n → ⊥) → None ≡ decimal_number s
+decimal_number-none s h = missing (decimal_number s) (λ n e. let p = (decimal_number-law s n).0 e in h n p.0 p.1)
 
-pub none-empty : (s : List ℕ) → length s ≡ 0 → None ≡ number_of s
-none-empty s h = number_of-none s (λ n small e. omega (arith, ap length e, decimal_nonempty n (omega arith)))
+pub none-empty : (s : List ℕ) → length s ≡ 0 → None ≡ decimal_number s
+none-empty s h = decimal_number-none s (λ n small e. omega (arith, ap length e, decimal_nonempty n (omega arith)))
 
-pub none-long : (s : List ℕ) → 5 < length s → None ≡ number_of s
-none-long s h = number_of-none s (λ n small e. omega
+pub none-long : (s : List ℕ) → 5 < length s → None ≡ decimal_number s
+none-long s h = decimal_number-none s (λ n small e. omega
     (arith, ap length e, length-decimal-le 5 n (omega arith) (omega arith) (omega arith)))
 
-pub zero_alone : (s : List ℕ) → get_or s 0 0 ≡ 48 → length s ≡ 1 → Some 0 ≡ number_of s
+pub zero_alone : (s : List ℕ) → get_or s 0 0 ≡ 48 → length s ≡ 1 → Some 0 ≡ decimal_number s
 zero_alone s h one =
-    sym ((number_of-law s 0).1 (lit< tt, text_from_reads s (48 ∷ []) one (h, tt) ∙ sym (decimal_digit 0 (lit< tt))))
+    sym ((decimal_number-law s 0).1 (lit< tt, text_from_reads s (48 ∷ []) one (h, tt) ∙ sym (decimal_digit 0 (lit< tt))))
 
 zero_first : (s : List ℕ) (n : ℕ) → n < 65536 → get_or s 0 0 ≡ 48 → s ≡ decimal n → length s ≡ 1
 zero_first s n small h e =
@@ -77,21 +77,21 @@ zero_first s n small h e =
       ))
     ]
 
-pub none-zero : (s : List ℕ) → get_or s 0 0 ≡ 48 → (length s ≡ 1 → ⊥) → None ≡ number_of s
-none-zero s h long = number_of-none s (λ n small e. long (zero_first s n small h e))
+pub none-zero : (s : List ℕ) → get_or s 0 0 ≡ 48 → (length s ≡ 1 → ⊥) → None ≡ decimal_number s
+none-zero s h long = decimal_number-none s (λ n small e. long (zero_first s n small h e))
 
-pub none-other : (s : List ℕ) (i : ℕ) → i < length s → (IsInRange 48 57 (get_or s i 0) → ⊥) → None ≡ number_of s
+pub none-other : (s : List ℕ) (i : ℕ) → i < length s → (IsInRange 48 57 (get_or s i 0) → ⊥) → None ≡ decimal_number s
 none-other s i inside other =
-    number_of-none s (λ n small e. other (subst (λ t. (i : ℕ) → i < length t → IsInRange 48 57 (get_or t i 0)) (sym e)
+    decimal_number-none s (λ n small e. other (subst (λ t. (i : ℕ) → i < length t → IsInRange 48 57 (get_or t i 0)) (sym e)
     (digits_decimal own n (omega arith)) i inside))
 
 and_true : {A : Type 0} (b : Bool) (x y : A) → cond (b && true) x y ≡ cond b x y
 and_true true x y = refl
 and_true false x y = refl
 
-pub number_of-digits : (s : List ℕ) → AreDigits s → 0 < length s → (get_or s 0 0 ≡ 48 → ⊥) → length s ≤ 5
-    → number_of s ≡ cond (ltb (digits_value 10 s) 65536) (Some (digits_value 10 s)) None
-number_of-digits s digits some first short =
+pub decimal_number-digits : (s : List ℕ) → AreDigits s → 0 < length s → (get_or s 0 0 ≡ 48 → ⊥) → length s ≤ 5
+    → decimal_number s ≡ cond (ltb (digits_value 10 s) 65536) (Some (digits_value 10 s)) None
+decimal_number-digits s digits some first short =
     let small : digits_value 10 s < 10 ^ 5 = digits_value_short own s 5 digits short in
     let again : decimal (digits_value 10 s) ≡ s =
     decimal-digits_value own s digits some (λ z. absurd (first z)) (omega arith) in

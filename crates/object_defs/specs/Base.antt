@@ -6,6 +6,8 @@ use Rattle.object_defs.specs.declared.definition.Ops.{Ops}
 use Rattle.object_defs.specs.declared.definition.Ops.TheVariants.{R, W, RW, E}
 use Rattle.object_defs.specs.declared.definition.ResourceDef.{ResourceDef}
 use Rattle.object_defs.specs.declared.definition.ObjectDef.{ObjectDef}
+use Rattle.object_defs.specs.Numbers.{security_object, server_object, access_control_object, device_object}
+use Rattle.object_defs.specs.Numbers.{firmware_update_object}
 
 abbrev pub single : Bool
 single = false
@@ -84,12 +86,12 @@ firmware_update =
     ∷ row 9 R single mandatory Whole  -- Firmware Update Delivery Method
     ∷ []
 
--- 0 Security (no resource is reached), 1 Server, 2 Access Control, 3 Device, 5 Firmware Update
+-- no resource of Security is reached
 abbrev pub base : List ObjectDef
 base =
-    record { id = 0; resources = [] }
-    ∷ record { id = 1; resources = server }
-    ∷ record { id = 2; resources = access_control }
-    ∷ record { id = 3; resources = device }
-    ∷ record { id = 5; resources = firmware_update }
+    record { id = security_object; resources = [] }
+    ∷ record { id = server_object; resources = server }
+    ∷ record { id = access_control_object; resources = access_control }
+    ∷ record { id = device_object; resources = device }
+    ∷ record { id = firmware_update_object; resources = firmware_update }
     ∷ []

@@ -5,5 +5,5 @@ use Rattle.std.specs.Str.Parse.{digits_value}
 use Rattle.std.specs.Fmt.{decimal}
 
 -- the number from 0 to 65535 whose decimal form these bytes are
-abbrev pub number_of : List ℕ → Option ℕ
-number_of s = let n = digits_value 10 s in cond (nat_lt n 65536 && bytes_eq (decimal n) s) (Some n) None
+abbrev pub decimal_number : List ℕ → Option ℕ
+decimal_number s = let n = digits_value 10 s in cond (nat_lt n 65536 && bytes_eq (decimal n) s) (Some n) None

@@ -2,6 +2,7 @@ pub mod Base
 pub mod Catalogue
 pub mod Decimal
 pub mod Lines
+pub mod Numbers
 pub mod Operations
 pub mod Order
 pub mod Path

@@ -5,6 +5,7 @@ ghost use Rattle.std.specs.Prelude.{◌≡◌, IfOk};
 ghost use Rattle.object_defs.specs.Base.{base};
 
 use crate::definition::{ObjectDef, Ops, ResourceDef, Resources};
+use crate::object_number;
 use lwm2m_values::ValueKind;
 use std::alloc::{AllocError, Global};
 
@@ -109,10 +110,10 @@ pub(crate) fn objects(alloc: Global) -> Result<Vec<ObjectDef>, AllocError>
     ensures { IfOk result (λ v. v.items ≡ base) }
 {
     let mut objects = Vec::with_capacity(alloc, 5)?;
-    objects.push(object(alloc, 0, &[])?)?;
-    objects.push(object(alloc, 1, &SERVER)?)?;
-    objects.push(object(alloc, 2, &ACCESS_CONTROL)?)?;
-    objects.push(object(alloc, 3, &DEVICE)?)?;
-    objects.push(object(alloc, 5, &FIRMWARE_UPDATE)?)?;
+    objects.push(object(alloc, object_number::SECURITY, &[])?)?;
+    objects.push(object(alloc, object_number::SERVER, &SERVER)?)?;
+    objects.push(object(alloc, object_number::ACCESS_CONTROL, &ACCESS_CONTROL)?)?;
+    objects.push(object(alloc, object_number::DEVICE, &DEVICE)?)?;
+    objects.push(object(alloc, object_number::FIRMWARE_UPDATE, &FIRMWARE_UPDATE)?)?;
     Ok(objects)
 }

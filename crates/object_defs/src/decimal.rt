@@ -1,18 +1,18 @@
 ghost use Rattle.std.specs.Prelude.{◌≡◌, ◌<◌, ◌≤◌, ◌↔◌, ℕ, length, Some};
 ghost use Rattle.std.specs.Fmt.{decimal};
-ghost use Rattle.object_defs.specs.Decimal.{number_of};
+ghost use Rattle.object_defs.specs.Decimal.{decimal_number};
 
 /// The number from 0 to 65535 whose decimal form these bytes are, as a Uri-Path segment spells it:
 /// digits alone, with no leading zero (OMA LwM2M 1.1 Core).
 pub fn decimal_number(segment: &[u8]) -> Option<u16>
-    ensures value { result ≡ number_of segment.now }
+    ensures value { result ≡ decimal_number segment.now }
     ensures number { (n : ℕ) → (result ≡ Some n) ↔ ((n < 65536) × (segment.now ≡ decimal n)) }
 {
     read(segment)
 }
 
 fn read(segment: &[u8]) -> Option<u16>
-    ensures { result ≡ number_of segment.now }
+    ensures { result ≡ decimal_number segment.now }
 {
     if segment.is_empty() {
         return None;

@@ -6,7 +6,9 @@ mod catalog;
 mod decimal;
 mod definition;
 mod fault;
+pub mod object_number;
 mod path;
+pub mod resource_number;
 
 pub use catalog::Catalog;
 pub use decimal::decimal_number;

@@ -19,7 +19,7 @@ use Rattle.lwm2m_values.specs.Value.{IsDecimal}
 use Rattle.notifier.specs.declared.attribute.Name.{Name}
 use Rattle.notifier.specs.declared.attribute.Name.TheVariants.{Pmin, Pmax, Gt, Lt, St}
 use Rattle.notifier.specs.Query.{is_digit, are_digits, digits_of, seconds_of, fraction_of, unsigned_from, unsigned_of}
-use Rattle.notifier.specs.Query.{thousandths_of, above_zero, number_of}
+use Rattle.notifier.specs.Query.{thousandths_of, above_zero, attribute_number}
 use Rattle.reading_laws.specs.Queries.{IsThousandths, IsSignedThousandths, SaysNumber}
 
 -- digits
@@ -260,7 +260,7 @@ step_by y z t (inr p) h = absurd (never_below p.0 z (sym (ap above_zero p.4) ∙
 signed_from : (z : ℤ) (t : List ℕ) → thousandths_of t ≡ Some z → IsSignedThousandths z t
 signed_from z t h = signed_by z t (slice_index t 0 == 45) refl h
 
-pub said_number : (n : Name) (t : List ℕ) (z : ℤ) → number_of n t ≡ Some z → SaysNumber n t z
+pub said_number : (n : Name) (t : List ℕ) (z : ℤ) → attribute_number n t ≡ Some z → SaysNumber n t z
 said_number Pmin t z h =
     let p = mapped pos (seconds_of t) z h in let q = seconds_from p.0 t p.1 in (p.0, q.0, q.1, sym p.2)
 said_number Pmax t z h =
@@ -270,7 +270,7 @@ said_number Lt t z h = signed_from z t h
 said_number St t z h =
     let p = chained above_zero (thousandths_of t) z h in step_by p.0 z t (signed_from p.0 t p.1) p.2
 
-pub number_said : (n : Name) (t : List ℕ) (z : ℤ) → SaysNumber n t z → number_of n t ≡ Some z
+pub number_said : (n : Name) (t : List ℕ) (z : ℤ) → SaysNumber n t z → attribute_number n t ≡ Some z
 number_said Pmin t z p = ap (option_map pos) (seconds_to p.0 t p.1 p.2) ∙ ap Some (sym p.3)
 number_said Pmax t z p = ap (option_map pos) (seconds_to p.0 t p.1 p.2) ∙ ap Some (sym p.3)
 number_said Gt t z p = signed_back z t p

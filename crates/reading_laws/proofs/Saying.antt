@@ -18,7 +18,7 @@ use Rattle.notifier.specs.declared.attribute.Level.{Level}
 use Rattle.notifier.specs.declared.fault.QueryFault.{QueryFault}
 use Rattle.notifier.specs.declared.fault.QueryFault.TheVariants as fault
 use Rattle.notifier.specs.Attributes.{rank, name_at, name_at-rank}
-use Rattle.notifier.specs.Query.{spellings, name_of, name_part, number_part, number_of, target_of}
+use Rattle.notifier.specs.Query.{spellings, name_of, name_part, number_part, attribute_number, target_of}
 use Rattle.notifier.specs.Query.{stands_at}
 use Rattle.notifier.specs.Query.{is_of, change_to, change_of, reading_of, changes_of}
 use Rattle.reading_laws.specs.Queries.{name_text, SaysTarget, Says, QueriesAreSaid, IsNew, AreSaid}
@@ -122,7 +122,7 @@ target_from n q z h e = by z (parted n q h) e
     by None (inl p) e = p.0
     by (Some x) (inl p) e = let k : Some None ≡ Some (Some x) = sym (ap (target_of n) p.1) ∙ e in cc k
     by z (inr p) e =
-        let m = mapped Some (number_of n p.0) z (sym (ap (target_of n) p.2) ∙ e) in
+        let m = mapped Some (attribute_number n p.0) z (sym (ap (target_of n) p.2) ∙ e) in
         subst (SaysTarget n q) m.2 (p.0, p.1, said_number n p.0 m.0 m.1)
 
 target_to : (n : Name) (q : List ℕ) (z : Option ℤ) → SaysTarget n q z → target_of n (number_part q) ≡ Some z
@@ -278,9 +278,9 @@ fault_read level q before fault.Repeated p =
 fault_read level q before fault.BadNumber p =
     behind_name level q before p.0 (inr (p.1, p.2)) p.3
     ∙ ap (λ t. change_to level p.0 (target_of p.0 (number_part t))) p.2
-    ∙ ap (λ t. change_to level p.0 (target_of p.0 t)) (with_number p.0 p.1) ∙ by (number_of p.0 p.1) refl
+    ∙ ap (λ t. change_to level p.0 (target_of p.0 t)) (with_number p.0 p.1) ∙ by (attribute_number p.0 p.1) refl
   where
-    by : (o : Option ℤ) → number_of p.0 p.1 ≡ o → change_to level p.0 (option_map Some o) ≡ Err fault.BadNumber
+    by : (o : Option ℤ) → attribute_number p.0 p.1 ≡ o → change_to level p.0 (option_map Some o) ≡ Err fault.BadNumber
     by None h = refl
     by (Some z) h = absurd (p.4 z (said_number p.0 p.1 z h))
 fault_read level q before fault.Level p =

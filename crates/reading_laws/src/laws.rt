@@ -2,7 +2,7 @@ ghost use Rattle.std.specs.Prelude.{◌≡◌, ◌<◌, ◌↔◌, ℕ, List, Ok
 ghost use Rattle.std.specs.Fmt.{decimal};
 ghost use Rattle.coap_codec.specs.Message.{IsWellFormed, Message, spelling};
 ghost use Rattle.coap_codec.specs.Reading.{reading_of};
-ghost use Rattle.object_defs.specs.Decimal.{number_of};
+ghost use Rattle.object_defs.specs.Decimal.{decimal_number};
 ghost use Rattle.reading_laws.specs.Line.{LinesHaveWords};
 ghost use Rattle.reading_laws.specs.Queries.{ChangesAreSaid, FirstFaultDecides, QueriesAreSaid};
 ghost use Rattle.reading_laws.specs.Statements.{StatementsAreSaid};
@@ -14,7 +14,7 @@ pub fn messages_read_again()
 
 /// A path segment is read as a number exactly where it is the decimal form of that number, of 16 bits.
 pub fn decimals_are_read()
-    ensures { (segment : List ℕ) (n : ℕ) → (number_of segment ≡ Some n) ↔ ((segment ≡ decimal n) × (n < 65536)) }
+    ensures { (segment : List ℕ) (n : ℕ) → (decimal_number segment ≡ Some n) ↔ ((segment ≡ decimal n) × (n < 65536)) }
 {}
 
 /// A query of a Write-Attributes is read as a change exactly where that is what it says.

@@ -15,9 +15,9 @@ use Rattle.object_defs.specs.declared.path.Path.TheVariants.{Instance}
 use Rattle.instance_store.specs.Stored.{Stored, has_instance, instances_of, value_at}
 use Rattle.access_control.specs.Rights.{speaks_of}
 use Rattle.notifier.specs.declared.attribute.AttributeKey.{AttributeKey}
-use Rattle.notifier.specs.Attributes.{Numbers, is_number, lies_under, without_under}
+use Rattle.notifier.specs.Attributes.{Numbers, has_number, lies_under, without_under}
 use Rattle.notifier.proofs.Keys.{key_exact, key_total}
-use Rattle.device_instances.specs.Deletions.{instance_in, is_control_of, is_gone, is_same, without_deleted}
+use Rattle.device_instances.specs.Deletions.{instance_in, is_control_of, goes_with, is_same, without_deleted}
 use Rattle.device_instances.proofs.Instances.{listed}
 use Rattle.device_requests.specs.declared.answer.Code.{Code}
 use Rattle.device_requests.specs.declared.answer.Code.TheVariants.{Deleted}
@@ -35,20 +35,20 @@ turned true x = refl
 turned false x = refl
 
 value_left : (s : Stored) (place : InstancePath) (q : FullPath)
-    → value_at (without_deleted s place) q ≡ (if is_gone s place (instance_in q) then None else value_at s q)
+    → value_at (without_deleted s place) q ≡ (if goes_with s place (instance_in q) then None else value_at s q)
 value_left s place q =
-    get_kept path_total path_exact s.values (λ (k : FullPath). not (is_gone s place (instance_in k))) q
-    ∙ turned (is_gone s place (instance_in q)) (value_at s q)
+    get_kept path_total path_exact s.values (λ (k : FullPath). not (goes_with s place (instance_in k))) q
+    ∙ turned (goes_with s place (instance_in q)) (value_at s q)
 
 is_left : {X : Type 0} (b : Bool) (x : Option X) → is_some (cond (not b) x None) ≡ (not b && is_some x)
 is_left true x = refl
 is_left false x = refl
 
 instance_left : (s : Stored) (place p : InstancePath)
-    → has_instance (without_deleted s place) p ≡ (not (is_gone s place p) && has_instance s p)
+    → has_instance (without_deleted s place) p ≡ (not (goes_with s place p) && has_instance s p)
 instance_left s place p =
-    ap is_some (get_kept instance_total instance_exact s.instances (λ (k : InstancePath). not (is_gone s place k)) p)
-    ∙ is_left (is_gone s place p) (map.get s.instances p)
+    ap is_some (get_kept instance_total instance_exact s.instances (λ (k : InstancePath). not (goes_with s place k)) p)
+    ∙ is_left (goes_with s place p) (map.get s.instances p)
 
 -- ---- attributes
 
@@ -123,7 +123,7 @@ settled false false s = refl
 control_goes : (s : Stored) (o i object n : ℕ)
     → ((object == o && n == i) || (object == 2
     && (not (has_instance (without_deleted s (place_of o i)) (place_of 2 n)) && has_instance s (place_of 2 n))))
-    ≡ is_gone s (place_of o i) (place_of object n)
+    ≡ goes_with s (place_of o i) (place_of object n)
 control_goes s o i object n =
     let went = not (has_instance (without_deleted s (place_of o i)) (place_of 2 n)) in
     elim (object == 2) as (λ b. (object == 2) ≡ b
@@ -139,7 +139,7 @@ control_goes s o i object n =
     ] refl
 
 goes_by : (s : Stored) (o i object : ℕ) (instance : Option ℕ)
-    → ((object == o && is_number i instance) || list_any (λ (j : ℕ). object == 2 && is_number j instance)
+    → ((object == o && has_number i instance) || list_any (λ (j : ℕ). object == 2 && has_number j instance)
     (taken_away s (without_deleted s (place_of o i))))
     ≡ goes_at s (place_of o i) object instance
 goes_by s o i object None =

@@ -8,7 +8,7 @@ use Rattle.std.specs.Ordering.{is_lt}
 use Rattle.std.proofs.lemmas.Bool.{eqb-true}
 use Rattle.std.proofs.lemmas.Bool.Decides.{nat_tests}
 use Rattle.std.proofs.lemmas.List.{append-nil}
-use Rattle.byte_layout.specs.Part.{Part, each}
+use Rattle.byte_layout.specs.Layout.{Layout, each}
 use Rattle.byte_layout.proofs.Fields.{number_below}
 use Rattle.lwm2m_values.specs.declared.kind.ValueKind.{ValueKind}
 use Rattle.lwm2m_values.specs.declared.kind.ValueKind.TheVariants as kinds
@@ -26,7 +26,7 @@ use Rattle.object_defs.specs.declared.path.FullPath.{FullPath}
 use Rattle.object_defs.specs.declared.path.InstancePath.{InstancePath}
 use Rattle.object_defs.proofs.LookUps.{same_number}
 use Rattle.instance_store.specs.Stored.{has_instance, instances_of, value_at, value_count, with_instance, with_value}
-use Rattle.scenario_layout.specs.Value.{kind_numbered, number_of, of_kind, opaque, text, value}
+use Rattle.scenario_layout.specs.Value.{kind_numbered, kind_number, of_kind, opaque, text, value}
 use Rattle.std.specs.Int.{w8}
 use Rattle.scenario_layout.specs.Definition.{resource, resources}
 use Rattle.device_template.specs.Template.{Template, account_fault, empty_class, instance_fault, kind_taken}
@@ -71,7 +71,7 @@ taken_is None h = refl
 taken_is (Some f) h = absurd cc
 
 -- items that are added one after another, each behind those before it
-items_lead : {A : Type 0} (say : A → Statement) (part : List A → Part A) (state : List A → Template)
+items_lead : {A : Type 0} (say : A → Statement) (part : List A → Layout A) (state : List A → Template)
     (P : List A → Type 0) (s : Scenario) (o : Option ℕ)
     → ((before : List A) (a : A) → P before → (part before).Good a
     → (effect (say a) (opened s (state before) o) ≡ Ok (opened s (state (before ++ a ∷ [])) o))
@@ -170,7 +170,7 @@ five_lines true true d e g h = (refl, refl)
 five_lines false b d e g h = absurd cc
 five_lines true false d e g h = absurd cc
 
-number_again : (k : ValueKind) → kind_numbered (number_of k) ≡ k
+number_again : (k : ValueKind) → kind_numbered (kind_number k) ≡ k
 number_again kinds.Text = refl
 number_again kinds.Whole = refl
 number_again kinds.Flag = refl
@@ -205,7 +205,7 @@ spelled_short (held.Link o i) h = refl
 of_kind_taken : (j : ValueKind) (v : Value) → (value (Some j)).Good v → (kind_of v ≡ j) × (has_good_length v ≡ true)
 unfolding value
 of_kind_taken j v good =
-    let same : number_of (kind_of v) ≡ number_of j = eqb-true (number_of (kind_of v)) (number_of j) good.0.1 in
+    let same : kind_number (kind_of v) ≡ kind_number j = eqb-true (kind_number (kind_of v)) (kind_number j) good.0.1 in
     (sym (number_again (kind_of v)) ∙ ap kind_numbered same ∙ number_again j, spelled_short v good.1)
 
 some_kind : (o : Option ValueKind) → is_some o ≡ true → (j : ValueKind) × (o ≡ Some j)

@@ -6,10 +6,10 @@ use Rattle.std.proofs.lemmas.Bool.Decides.{nat_tests}
 use Rattle.std.specs.Int.{w8, w16, w32}
 use Rattle.std.specs.List.{list_any}
 use Rattle.byte_layout.specs.declared.fault.Break.TheVariants.{BadField}
-use Rattle.byte_layout.specs.Part.{number, judged, at_most, last}
+use Rattle.byte_layout.specs.Layout.{number, judged, at_most, last}
 use Rattle.byte_layout.specs.Exact.{IsExact}
 use Rattle.byte_layout.proofs.Fields.{number_exact, wide32}
-use Rattle.byte_layout.proofs.Parts.{fits_exact, at_most_exact, split_exact, last_exact, sized_exact}
+use Rattle.byte_layout.proofs.Layouts.{fits_exact, at_most_exact, split_exact, last_exact, sized_exact}
 use Rattle.byte_layout.proofs.Lists.{counted_exact}
 use Rattle.scenario_layout.specs.Value.{path, value}
 use Rattle.scenario_layout.proofs.ExactValue.{path_exact, value_exact, short_exact, byte_exact}
@@ -20,7 +20,8 @@ use Rattle.scenario_image.specs.declared.kind.StepKind.TheVariants as kinds
 use Rattle.scenario_image.specs.declared.step.Step.{Step}
 use Rattle.scenario_image.specs.declared.step.Step.TheVariants.{Event, Post, Need}
 use Rattle.scenario_image.specs.Scenario.{accounts_of, most_rows, most_steps}
-use Rattle.scenario_image.specs.Layout.{kind_of, number_of, kind_numbered, kind, server_in, datagram_in, seconds_in}
+use Rattle.scenario_image.specs.Layout.{step_kind, step_kind_number, step_kind_numbered, kind, server_in, datagram_in}
+use Rattle.scenario_image.specs.Layout.{seconds_in}
 use Rattle.scenario_image.specs.Layout.{path_in, value_in, code_in, group_in, count_in, path_with, path_to, datagram}
 use Rattle.scenario_image.specs.Layout.{recv, tick, put, firmware, post, need, of_kind, step, steps, row_of, row, rows}
 
@@ -43,7 +44,7 @@ past m lt =
     (neither (m == 4) (m == 5 || m == 6) (apart m 4 (omega (arith, lt)))
     (neither (m == 5) (m == 6) (apart m 5 (omega (arith, lt))) (apart m 6 (omega (arith, lt)))))))
 
-numbered : (n : ℕ) → is_number n ≡ true → number_of (kind_numbered n) ≡ n
+numbered : (n : ℕ) → is_number n ≡ true → step_kind_number (step_kind_numbered n) ≡ n
 numbered zero h = absurd cc
 numbered (suc zero) h = refl
 numbered (suc (suc zero)) h = refl
@@ -56,7 +57,7 @@ numbered (suc (suc (suc (suc (suc (suc (suc n))))))) h =
 
 kind_exact : IsExact kind
 unfolding kind
-kind_exact = last_exact number_of kind_numbered (judged BadField is_number (number w8))
+kind_exact = last_exact step_kind_number step_kind_numbered (judged BadField is_number (number w8))
     (fits_exact is_number (number w8) byte_exact) (λ n good. numbered n good.1)
 
 long_exact : IsExact (number w32)
@@ -124,19 +125,19 @@ of_kind_exact accounts kinds.Firmware = firmware_exact
 of_kind_exact accounts kinds.Post = post_exact
 of_kind_exact accounts kinds.Need = need_exact
 
-kind_agrees : (accounts : List ℕ) (k : StepKind) (s : Step) → (of_kind accounts k).Good s → kind_of s ≡ k
+kind_agrees : (accounts : List ℕ) (k : StepKind) (s : Step) → (of_kind accounts k).Good s → step_kind s ≡ k
 unfolding recv tick put firmware post need
-kind_agrees accounts kinds.Recv s h = ap kind_of h.1.1
-kind_agrees accounts kinds.Tick s h = ap kind_of h.1
-kind_agrees accounts kinds.Put s h = ap kind_of h.1.1
-kind_agrees accounts kinds.Firmware s h = ap kind_of h.1
-kind_agrees accounts kinds.Post s h = ap kind_of h.1
-kind_agrees accounts kinds.Need s h = ap kind_of h.1.1
+kind_agrees accounts kinds.Recv s h = ap step_kind h.1.1
+kind_agrees accounts kinds.Tick s h = ap step_kind h.1
+kind_agrees accounts kinds.Put s h = ap step_kind h.1.1
+kind_agrees accounts kinds.Firmware s h = ap step_kind h.1
+kind_agrees accounts kinds.Post s h = ap step_kind h.1
+kind_agrees accounts kinds.Need s h = ap step_kind h.1.1
 
 pub step_exact : (accounts : List ℕ) → IsExact (step accounts)
 unfolding step
 step_exact accounts =
-    split_exact kind_of kind (of_kind accounts) kind_exact (λ k good. of_kind_exact accounts k)
+    split_exact step_kind kind (of_kind accounts) kind_exact (λ k good. of_kind_exact accounts k)
     (λ k good s h. kind_agrees accounts k s h)
 
 pub steps_exact : (accounts : List ℕ) → IsExact (steps accounts)

@@ -7,7 +7,7 @@ use Rattle.std.specs.List.{AllByRecursion}
 use Rattle.std.proofs.lemmas.Bool.{leb-true, le-leb, lt-ltb, ltb-true}
 use Rattle.std.proofs.lemmas.Option.{slice_get_within}
 use Rattle.byte_layout.specs.Exact.{IsBytes}
-use Rattle.byte_layout.specs.Part.{Part, number, raw, each}
+use Rattle.byte_layout.specs.Layout.{Layout, number, raw, each}
 use Rattle.byte_layout.proofs.Fields.{number_good, number_below, raw_good}
 use Rattle.byte_layout.proofs.Steps.{behind_front, front_bytes}
 use Rattle.lwm2m_values.specs.declared.value.Value.{Value}
@@ -30,19 +30,19 @@ use Rattle.scenario_image.specs.declared.step.Step.{Step}
 use Rattle.scenario_image.specs.declared.step.Step.TheVariants.{Event, Post, Need}
 use Rattle.scenario_image.specs.Scenario.{Row, HasShortNumbers, IsGoodStep, IsGoodRow, accounts_in, accounts_of}
 use Rattle.scenario_image.specs.Scenario.{most_rows, most_steps}
-use Rattle.scenario_image.specs.Layout.{kind, kind_of, datagram, recv, tick, put, firmware, post, need, of_kind, step}
+use Rattle.scenario_image.specs.Layout.{kind, step_kind, datagram, recv, tick, put, firmware, post, need, of_kind, step}
 use Rattle.scenario_image.specs.Layout.{steps, row, rows}
 use Rattle.scenario_image.proofs.Valid.{got}
 
 -- ---- lists of items that are laid out alike
 
-pub each_all : {A : Type 0} (part : Part A) (P : A → Type 0) → ((a : A) → P a → part.Good a) → (before xs : List A)
+pub each_all : {A : Type 0} (part : Layout A) (P : A → Type 0) → ((a : A) → P a → part.Good a) → (before xs : List A)
     → AllByRecursion P xs → (each (λ front. part) (length xs) before).Good xs
 unfolding each
 each_all part P f before [] all = refl
 each_all part P f before (x ∷ xs) all = (f x all.0, each_all part P f (before ++ x ∷ []) xs all.1)
 
-pub all_each : {A : Type 0} (part : Part A) (P : A → Type 0) → ((a : A) → part.Good a → IsBytes (part.spell a) → P a)
+pub all_each : {A : Type 0} (part : Layout A) (P : A → Type 0) → ((a : A) → part.Good a → IsBytes (part.spell a) → P a)
     → (n : ℕ) (before xs : List A)
     → (each (λ front. part) n before).Good xs → IsBytes ((each (λ front. part) n before).spell xs) → AllByRecursion P xs
 unfolding each
@@ -153,7 +153,7 @@ put_good (ResourcePart o i r n) v full short good = (
   (value_good None v good refl, refl),
 )
 
-held_good : (accounts : List ℕ) (s : Step) → IsGoodStep accounts s → (of_kind accounts (kind_of s)).Good s
+held_good : (accounts : List ℕ) (s : Step) → IsGoodStep accounts s → (of_kind accounts (step_kind s)).Good s
 unfolding recv tick firmware post need
 held_good accounts (Event (Recv server bytes)) g =
     ((number_good w16 server g.fields.0, g.known), (datagram_good bytes (leb-true (length bytes) 1500 g.within), refl))
@@ -167,7 +167,7 @@ held_good accounts (Need group count) g =
 
 pub step_good : (accounts : List ℕ) (s : Step) → IsGoodStep accounts s → (step accounts).Good s
 unfolding step
-step_good accounts s g = (kind_good (kind_of s), held_good accounts s g)
+step_good accounts s g = (kind_good (step_kind s), held_good accounts s g)
 
 good_put : (accounts : List ℕ) (p : Path) (v : Value) → put.Good (Event (Put p v))
     → IsBytes (put.spell (Event (Put p v))) → IsGoodStep accounts (Event (Put p v))
@@ -189,8 +189,8 @@ good_put accounts (ResourcePart o i r n) v h bytes =
     (behind_front (path.spell full) ((value None).spell v ++ []) bytes))).0 in
     record { fields = (short_path full h.0, good); range = refl; known = refl; within = short_value v good }
 
-good_held : (accounts : List ℕ) (s : Step) → (of_kind accounts (kind_of s)).Good s
-    → IsBytes ((of_kind accounts (kind_of s)).spell s) → IsGoodStep accounts s
+good_held : (accounts : List ℕ) (s : Step) → (of_kind accounts (step_kind s)).Good s
+    → IsBytes ((of_kind accounts (step_kind s)).spell s) → IsGoodStep accounts s
 unfolding recv tick firmware post need
 good_held accounts (Event (Recv server bytes)) h fits = record {
   fields = (
@@ -214,7 +214,7 @@ pub good_step : (accounts : List ℕ) (s : Step) → (step accounts).Good s → 
     → IsGoodStep accounts s
 unfolding step
 good_step accounts s h fits =
-    good_held accounts s h.1 (behind_front (kind.spell (kind_of s)) ((of_kind accounts (kind_of s)).spell s) fits)
+    good_held accounts s h.1 (behind_front (kind.spell (step_kind s)) ((of_kind accounts (step_kind s)).spell s) fits)
 
 steps_good : (accounts : List ℕ) (xs : List Step) → length xs ≤ most_steps → AllByRecursion (IsGoodStep accounts) xs
     → (steps accounts).Good xs

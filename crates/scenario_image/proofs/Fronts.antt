@@ -6,20 +6,20 @@ use Rattle.byte_layout.specs.declared.fault.Break.{Break}
 use Rattle.byte_layout.specs.declared.fault.Break.TheVariants.{Magic, Version, Trailing}
 use Rattle.byte_layout.specs.declared.fault.ReadError.{ReadError}
 use Rattle.byte_layout.specs.declared.fault.ReadError.TheVariants as errors
-use Rattle.byte_layout.specs.Part.{Part, ◌>>=◌, number, at_most, mark, marked, each}
+use Rattle.byte_layout.specs.Layout.{Layout, ◌>>=◌, number, at_most, mark, marked, each}
 use Rattle.byte_layout.specs.Outcome.{Fails}
 use Rattle.byte_layout.specs.Exact.{IsExact}
 use Rattle.byte_layout.specs.Whole.{placed, fault_of, read_all}
 use Rattle.byte_layout.proofs.Steps.{went_well, bind_err}
 use Rattle.byte_layout.proofs.Fields.{number_exact, wide32}
-use Rattle.byte_layout.proofs.Parts.{at_most_exact, marked_exact}
+use Rattle.byte_layout.proofs.Layouts.{at_most_exact, marked_exact}
 use Rattle.scenario_layout.proofs.ExactValue.{short_exact, byte_exact}
 use Rattle.scenario_layout.specs.Class.{class}
 use Rattle.scenario_image.specs.Scenario.{Scenario}
 use Rattle.scenario_image.specs.Image.{classes, lists, behind_classes, headed, image, front}
 
 -- a break of the mark, of the version or of the part is one of each part that has its breaks
-headed_off : {A B : Type 0} (p : Part A) (q : Part B) (bytes : List ℕ) (b : Break)
+headed_off : {A B : Type 0} (p : Layout A) (q : Layout B) (bytes : List ℕ) (b : Break)
     → ((rest : List ℕ) → p.read rest ≡ Err b → q.read rest ≡ Err b) → (headed p).read bytes ≡ Err b
     → (headed q).read bytes ≡ Err b
 headed_off p q bytes b within e =

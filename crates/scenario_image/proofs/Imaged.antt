@@ -3,11 +3,11 @@ use Rattle.std.proofs.Common.{◌≡◌, ℕ, ◌<◌, ◌≤◌, List, [], ◌+
 use Rattle.std.specs.Int.{w8, w16, w32}
 use Rattle.std.proofs.lemmas.Bool.{ltb-true}
 use Rattle.byte_layout.specs.declared.fault.Break.TheVariants.{Magic, Version}
-use Rattle.byte_layout.specs.Part.{number, at_most, marked}
+use Rattle.byte_layout.specs.Layout.{number, at_most, marked}
 use Rattle.byte_layout.specs.Exact.{IsBytes, IsExact}
 use Rattle.byte_layout.proofs.Fields.{number_exact, wide32}
 use Rattle.byte_layout.proofs.Steps.{behind_front, front_bytes}
-use Rattle.byte_layout.proofs.Parts.{at_most_exact, split_exact, last_exact, marked_exact}
+use Rattle.byte_layout.proofs.Layouts.{at_most_exact, split_exact, last_exact, marked_exact}
 use Rattle.byte_layout.proofs.Lists.{counted_exact}
 use Rattle.scenario_layout.proofs.ExactValue.{short_exact, byte_exact}
 use Rattle.device_template.specs.Template.{Template}

@@ -5,7 +5,7 @@ use Rattle.std.specs.Int.{w8, w16, w32}
 use Rattle.std.specs.List.{AllByRecursion}
 use Rattle.std.proofs.lemmas.Bool.{lt-ltb}
 use Rattle.std.proofs.lemmas.List.{take_more, take_all}
-use Rattle.byte_layout.specs.Part.{each}
+use Rattle.byte_layout.specs.Layout.{each}
 use Rattle.byte_layout.proofs.Fields.{number_good}
 use Rattle.device_template.specs.Template.{Template}
 use Rattle.scenario_layout.specs.Class.{class}

@@ -4,7 +4,7 @@ use Rattle.std.specs.Prelude.{Some, unwrap_or, if◌then◌else◌}
 use Rattle.std.specs.Int.{w8, w16, w32}
 use Rattle.std.specs.List.{list_any}
 use Rattle.byte_layout.specs.declared.fault.Break.TheVariants.{BadField}
-use Rattle.byte_layout.specs.Part.{Part, number, judged, at_most, split, last, sized, counted}
+use Rattle.byte_layout.specs.Layout.{Layout, number, judged, at_most, split, last, sized, counted}
 use Rattle.lwm2m_values.specs.declared.value.Value.{Value}
 use Rattle.lwm2m_values.specs.declared.value.Value.TheVariants.{Text}
 use Rattle.object_defs.specs.Path.{full_path}
@@ -22,31 +22,31 @@ use Rattle.scenario_image.specs.Scenario.{Row, accounts_of, most_rows, most_step
 
 -- ---- the kind of a step
 
-abbrev pub kind_of : Step → StepKind
-kind_of (Event (Recv server bytes)) = kinds.Recv
-kind_of (Event (Tick seconds)) = kinds.Tick
-kind_of (Event (Put p v)) = kinds.Put
-kind_of (Event (Firmware code)) = kinds.Firmware
-kind_of (Post group) = kinds.Post
-kind_of (Need group count) = kinds.Need
+abbrev pub step_kind : Step → StepKind
+step_kind (Event (Recv server bytes)) = kinds.Recv
+step_kind (Event (Tick seconds)) = kinds.Tick
+step_kind (Event (Put p v)) = kinds.Put
+step_kind (Event (Firmware code)) = kinds.Firmware
+step_kind (Post group) = kinds.Post
+step_kind (Need group count) = kinds.Need
 
 -- the number of a kind
-abbrev pub number_of : StepKind → ℕ
-number_of kinds.Recv = 1
-number_of kinds.Tick = 2
-number_of kinds.Put = 3
-number_of kinds.Firmware = 4
-number_of kinds.Post = 5
-number_of kinds.Need = 6
+abbrev pub step_kind_number : StepKind → ℕ
+step_kind_number kinds.Recv = 1
+step_kind_number kinds.Tick = 2
+step_kind_number kinds.Put = 3
+step_kind_number kinds.Firmware = 4
+step_kind_number kinds.Post = 5
+step_kind_number kinds.Need = 6
 
-abbrev pub kind_numbered : ℕ → StepKind
-kind_numbered n =
+abbrev pub step_kind_numbered : ℕ → StepKind
+step_kind_numbered n =
     if n == 1 then kinds.Recv else (if n == 2 then kinds.Tick
     else (if n == 3 then kinds.Put else (if n == 4 then kinds.Firmware
     else (if n == 5 then kinds.Post else kinds.Need))))
 
-unfoldable pub kind : Part StepKind
-kind = last number_of kind_numbered (judged BadField
+unfoldable pub kind : Layout StepKind
+kind = last step_kind_number step_kind_numbered (judged BadField
     (λ n. n == 1 || (n == 2 || (n == 3 || (n == 4 || (n == 5 || n == 6))))) (number w8))
 
 -- whether a step of this kind holds bytes or a value, for which memory is taken
@@ -104,37 +104,37 @@ path_to p = path_with p.object p.instance p.resource p.part
 -- ---- steps
 
 -- at most 1,500 bytes
-unfoldable pub datagram : Part (List ℕ)
+unfoldable pub datagram : Layout (List ℕ)
 datagram = sized (at_most 1500 (number w16))
 
 -- a server of these accounts, and a datagram
-unfoldable pub recv : List ℕ → Part Step
+unfoldable pub recv : List ℕ → Layout Step
 recv accounts = split server_in (judged BadField (λ server. list_any (λ account. account == server) accounts)
     (number w16)) (λ server. last datagram_in (λ bytes. Event (Recv server bytes)) datagram)
 
 -- 1 to 86,400 seconds
-unfoldable pub tick : Part Step
+unfoldable pub tick : Layout Step
 tick = last seconds_in (λ seconds. Event (Tick seconds))
     (judged BadField (λ n. nat_le 1 n && nat_le n 86400) (number w32))
 
 -- a path and a value of any kind
-unfoldable pub put : Part Step
+unfoldable pub put : Layout Step
 put = split path_in path (λ p. last value_in (λ v. Event (Put (path_to p) v)) (value None))
 
 -- a code of 0 to 9
-unfoldable pub firmware : Part Step
+unfoldable pub firmware : Layout Step
 firmware = last code_in (λ code. Event (Firmware code)) (judged BadField (λ n. nat_le n 9) (number w8))
 
 -- a group
-unfoldable pub post : Part Step
+unfoldable pub post : Layout Step
 post = last group_in (λ group. Post group) (number w8)
 
 -- a group, and 1 to 1,000,000 posts
-unfoldable pub need : Part Step
+unfoldable pub need : Layout Step
 need = split group_in (number w8) (λ group. last count_in (λ count. Need group count)
     (judged BadField (λ n. nat_le 1 n && nat_le n 1000000) (number w32)))
 
-abbrev pub of_kind : List ℕ → StepKind → Part Step
+abbrev pub of_kind : List ℕ → StepKind → Layout Step
 of_kind accounts kinds.Recv = recv accounts
 of_kind accounts kinds.Tick = tick
 of_kind accounts kinds.Put = put
@@ -143,11 +143,11 @@ of_kind accounts kinds.Post = post
 of_kind accounts kinds.Need = need
 
 -- a step of a class that has these accounts
-unfoldable pub step : List ℕ → Part Step
-step accounts = split kind_of kind (of_kind accounts)
+unfoldable pub step : List ℕ → Layout Step
+step accounts = split step_kind kind (of_kind accounts)
 
 -- at most `most_steps` steps
-unfoldable pub steps : List ℕ → Part (List Step)
+unfoldable pub steps : List ℕ → Layout (List Step)
 steps accounts = counted (at_most most_steps (number w16)) (λ before. step accounts)
 
 -- ---- rows
@@ -156,10 +156,10 @@ abbrev pub row_of : ℕ → List Step → Row
 row_of class steps = record { class = class; steps = steps }
 
 -- the place of a class that is there, and steps that suit it
-unfoldable pub row : List Template → Part Row
+unfoldable pub row : List Template → Layout Row
 row classes = split (λ r. r.class) (judged BadField (λ class. nat_lt class (length classes)) (number w16))
     (λ class. last (λ r. r.steps) (row_of class) (steps (accounts_of classes class)))
 
 -- at most `most_rows` rows
-unfoldable pub rows : List Template → Part (List Row)
+unfoldable pub rows : List Template → Layout (List Row)
 rows classes = counted (at_most most_rows (number w16)) (λ before. row classes)

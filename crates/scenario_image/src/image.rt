@@ -6,7 +6,7 @@ ghost use Rattle.byte_layout.specs.declared.fault.LayoutFault.{LayoutFault};
 ghost use Rattle.byte_layout.specs.declared.fault.LayoutFault.TheVariants.{Memory};
 ghost use Rattle.byte_layout.specs.declared.fault.ReadError.TheVariants as errors;
 ghost use Rattle.byte_layout.specs.Outcome.{Gives};
-ghost use Rattle.byte_layout.specs.Part.{each};
+ghost use Rattle.byte_layout.specs.Layout.{each};
 ghost use Rattle.byte_layout.specs.Whole.{placed, read_all};
 ghost use Rattle.scenario_layout.specs.Class.{class};
 ghost use Rattle.scenario_image.specs.Scenario.{Scenario};

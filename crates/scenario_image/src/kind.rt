@@ -1,7 +1,7 @@
 ghost use Rattle.std.specs.Prelude.{◌≡◌, ◌≢◌, ◌++◌, IfErr, OnOk};
 ghost use Rattle.byte_layout.specs.declared.fault.ReadError.TheVariants.{Memory};
 ghost use Rattle.byte_layout.specs.Outcome.{Gives};
-ghost use Rattle.scenario_image.specs.Layout.{kind, kind_of};
+ghost use Rattle.scenario_image.specs.Layout.{kind, step_kind};
 
 use crate::step::Step;
 use byte_layout::{Break, ReadError, put_u8, u8_at};
@@ -62,7 +62,7 @@ pub(crate) fn put_kind(out: &mut Vec<u8>, k: StepKind) -> Result<(), AllocError>
 impl Step {
     /// The kind of the step.
     pub(crate) fn kind(&self) -> StepKind
-        ensures { result ≡ kind_of self.now }
+        ensures { result ≡ step_kind self.now }
     {
         match self {
             Step::Event(Event::Recv { .. }) => StepKind::Recv,

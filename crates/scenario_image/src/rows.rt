@@ -5,7 +5,7 @@ ghost use Rattle.std.specs.Int.{w16};
 ghost use Rattle.byte_layout.specs.declared.fault.Break.TheVariants.{BadField};
 ghost use Rattle.byte_layout.specs.declared.fault.ReadError.TheVariants.{Memory};
 ghost use Rattle.byte_layout.specs.Outcome.{Gives};
-ghost use Rattle.byte_layout.specs.Part.{number, judged};
+ghost use Rattle.byte_layout.specs.Layout.{number, judged};
 ghost use Rattle.scenario_image.specs.Layout.{row, rows};
 ghost use Rattle.scenario_image.specs.Scenario.{accounts_of};
 

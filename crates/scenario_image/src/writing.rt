@@ -3,7 +3,7 @@
 ghost use Rattle.std.specs.Prelude.{◌≡◌, ◌++◌, length, None, OnOk, unwrap_or};
 ghost use Rattle.object_defs.specs.Path.{full_path};
 ghost use Rattle.scenario_layout.specs.Value.{value};
-ghost use Rattle.scenario_image.specs.Layout.{kind, kind_of, datagram, of_kind, step, steps};
+ghost use Rattle.scenario_image.specs.Layout.{kind, step_kind, datagram, of_kind, step, steps};
 
 use crate::kind::put_kind;
 use crate::reading::Steps;
@@ -52,9 +52,9 @@ impl<'a> Steps<'a> {
     /// Writes what the step holds.
     #[tactic(auto, unfolding(crate::specs::Layout::recv, crate::specs::Layout::tick, crate::specs::Layout::put, crate::specs::Layout::firmware, crate::specs::Layout::post, crate::specs::Layout::need))]
     fn put_held(&self, out: &mut Vec<u8>, held: &Step) -> Result<(), AllocError>
-        requires { (of_kind self.now.accounts.now (kind_of held.now)).Good held.now }
+        requires { (of_kind self.now.accounts.now (step_kind held.now)).Good held.now }
         ensures { OnOk result (out.new.items ≡ out.old.items
-            ++ (of_kind self.now.accounts.now (kind_of held.now)).spell held.now) }
+            ++ (of_kind self.now.accounts.now (step_kind held.now)).spell held.now) }
     {
         match held {
             Step::Event(Event::Recv { server, bytes }) => {

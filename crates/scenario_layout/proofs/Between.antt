@@ -6,7 +6,7 @@ use Rattle.std.specs.Prelude.{is_some, nat_le}
 use Rattle.std.specs.List.{AllByRecursion, list_all, list_any}
 use Rattle.std.proofs.lemmas.Bool.{lt-ltb}
 use Rattle.std.proofs.lemmas.Bool.Decides.{nat_tests}
-use Rattle.byte_layout.specs.Part.{Part, each}
+use Rattle.byte_layout.specs.Layout.{Layout, each}
 use Rattle.object_defs.specs.Lines.{first_line}
 use Rattle.object_defs.specs.Vendor.{inserted}
 use Rattle.device_template.proofs.Ascending.{Rises}
@@ -93,7 +93,7 @@ shorter xs front a back e =
 
 -- ---- items that are each good behind those before them
 
-pub each_good : {A : Type 0} (part : List A → Part A) (all before xs : List A) → all ≡ before ++ xs
+pub each_good : {A : Type 0} (part : List A → Layout A) (all before xs : List A) → all ≡ before ++ xs
     → ((front : List A) (a : A) (back : List A) → all ≡ front ++ a ∷ back → (part front).Good a)
     → (each part (length xs) before).Good xs
 unfolding each

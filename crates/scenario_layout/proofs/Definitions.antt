@@ -6,10 +6,10 @@ use Rattle.std.specs.List.{list_all}
 use Rattle.std.specs.Int.{w8, w16}
 use Rattle.std.proofs.lemmas.Bool.{ltb-true, eqb-true}
 use Rattle.byte_layout.specs.declared.fault.Break.TheVariants.{BadField}
-use Rattle.byte_layout.specs.Part.{Part, number, judged, at_most, split, last}
+use Rattle.byte_layout.specs.Layout.{Layout, number, judged, at_most, split, last}
 use Rattle.byte_layout.specs.Exact.{IsExact}
 use Rattle.byte_layout.proofs.Fields.{number_good}
-use Rattle.byte_layout.proofs.Parts.{fits_exact, at_most_exact, split_exact, last_exact}
+use Rattle.byte_layout.proofs.Layouts.{fits_exact, at_most_exact, split_exact, last_exact}
 use Rattle.byte_layout.proofs.Lists.{counted_exact}
 use Rattle.object_defs.specs.declared.definition.Ops.{Ops}
 use Rattle.object_defs.specs.declared.definition.Ops.TheVariants.{R, W, RW, E}
@@ -64,7 +64,7 @@ flags_again (suc (suc (suc zero))) below = refl
 flags_again (suc (suc (suc (suc n)))) below = absurd (omega arith)
 
 -- behind the operations, and behind the flags
-abbrev flags_and_kind : ℕ → Ops → Part ResourceDef
+abbrev flags_and_kind : ℕ → Ops → Layout ResourceDef
 flags_and_kind n o =
     split (λ r. flags_of r.multiple r.mandatory) (judged BadField (flags_fit o) (number w8))
     (λ flags. last (λ r. r.kind) (definition n o flags) (judged BadField (kind_fits o) kind))

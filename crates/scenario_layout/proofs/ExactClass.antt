@@ -5,9 +5,9 @@ use Rattle.std.specs.List.{list_all}
 use Rattle.std.specs.Ordering.{is_lt}
 use Rattle.std.specs.Int.{w8, w16}
 use Rattle.std.specs.FinMap as finite
-use Rattle.byte_layout.specs.Part.{number, at_most, last}
+use Rattle.byte_layout.specs.Layout.{number, at_most, last}
 use Rattle.byte_layout.specs.Exact.{IsExact}
-use Rattle.byte_layout.proofs.Parts.{fits_exact, at_most_exact, split_exact, last_exact}
+use Rattle.byte_layout.proofs.Layouts.{fits_exact, at_most_exact, split_exact, last_exact}
 use Rattle.byte_layout.proofs.Lists.{counted_exact}
 use Rattle.lwm2m_values.specs.declared.value.Value.{Value}
 use Rattle.object_defs.specs.Base.{base}

@@ -5,10 +5,10 @@ use Rattle.std.specs.Int.{w8, w16, w64}
 use Rattle.std.specs.Str.{is_utf8}
 use Rattle.std.proofs.lemmas.Bool.{ltb-true}
 use Rattle.byte_layout.specs.declared.fault.Break.TheVariants.{BadField}
-use Rattle.byte_layout.specs.Part.{Part, number, signed, judged, at_most, split, last, sized}
+use Rattle.byte_layout.specs.Layout.{Layout, number, signed, judged, at_most, split, last, sized}
 use Rattle.byte_layout.specs.Exact.{IsExact}
 use Rattle.byte_layout.proofs.Fields.{number_exact, wide8, wide16}
-use Rattle.byte_layout.proofs.Parts.{fits_exact, at_most_exact, done_exact, split_exact, last_exact, sized_exact}
+use Rattle.byte_layout.proofs.Layouts.{fits_exact, at_most_exact, done_exact, split_exact, last_exact, sized_exact}
 use Rattle.byte_layout.proofs.Signed.{signed64_exact}
 use Rattle.lwm2m_values.specs.declared.kind.ValueKind.{ValueKind}
 use Rattle.lwm2m_values.specs.declared.kind.ValueKind.TheVariants as kinds
@@ -16,7 +16,7 @@ use Rattle.lwm2m_values.specs.declared.value.Value.{Value}
 use Rattle.lwm2m_values.specs.declared.value.Value.TheVariants as values
 use Rattle.lwm2m_values.specs.Value.{kind_of}
 use Rattle.object_defs.specs.declared.path.FullPath.{FullPath}
-use Rattle.scenario_layout.specs.Value.{place, place_of, flag_of, behind_flag, part_number, path, path_of, number_of}
+use Rattle.scenario_layout.specs.Value.{place, place_of, flag_of, behind_flag, part_number, path, path_of, kind_number}
 use Rattle.scenario_layout.specs.Value.{kind_numbered, kind, bytes_in, number_in, flag_in, object_in, instance_in, text}
 use Rattle.scenario_layout.specs.Value.{opaque, of_kind, fits, value}
 
@@ -51,10 +51,10 @@ part_number_exact =
     (λ n good o h. flag_agrees n good.1 o h)
 
 -- a path behind its first two numbers, and behind its first
-abbrev resource_on : ℕ → ℕ → Part FullPath
+abbrev resource_on : ℕ → ℕ → Layout FullPath
 resource_on o i = split (λ p. p.resource) (number w16) (λ r. last (λ p. p.part) (path_of o i r) part_number)
 
-abbrev instance_on : ℕ → Part FullPath
+abbrev instance_on : ℕ → Layout FullPath
 instance_on o = split (λ p. p.instance) (number w16) (resource_on o)
 
 resource_on_exact : (o i : ℕ) → IsExact (resource_on o i)
@@ -74,7 +74,7 @@ path_exact =
     split_exact (λ p. p.object) (number w16) instance_on short_exact (λ o good. instance_on_exact o)
     (λ o good p h. ap (λ q. q.object) h.1.1.1)
 
-numbered : (n : ℕ) → nat_lt n 6 ≡ true → number_of (kind_numbered n) ≡ n
+numbered : (n : ℕ) → nat_lt n 6 ≡ true → kind_number (kind_numbered n) ≡ n
 numbered zero lt = refl
 numbered (suc zero) lt = refl
 numbered (suc (suc zero)) lt = refl
@@ -88,7 +88,7 @@ numbered (suc (suc (suc (suc (suc (suc n)))))) lt =
 pub kind_exact : IsExact kind
 unfolding kind
 kind_exact =
-    last_exact number_of kind_numbered (judged BadField (λ n. nat_lt n 6) (number w8))
+    last_exact kind_number kind_numbered (judged BadField (λ n. nat_lt n 6) (number w8))
     (fits_exact (λ n. nat_lt n 6) (number w8) byte_exact)
     (λ n good. numbered n good.1)
 

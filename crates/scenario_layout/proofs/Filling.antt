@@ -8,7 +8,7 @@ use Rattle.std.proofs.lemmas.List.{nil_from_length}
 use Rattle.std.specs.FinMap as finite
 use Rattle.byte_layout.specs.declared.fault.Break.{Break}
 use Rattle.byte_layout.specs.declared.fault.Break.TheVariants.{BadField}
-use Rattle.byte_layout.specs.Part.{Part, judged}
+use Rattle.byte_layout.specs.Layout.{Layout, judged}
 use Rattle.byte_layout.specs.Outcome.{Fails}
 use Rattle.lwm2m_values.specs.declared.value.Value.{Value}
 use Rattle.object_defs.specs.Base.{base}
@@ -30,13 +30,13 @@ use Rattle.scenario_layout.proofs.Ordered.{from_entries_of, insert_end}
 -- ---- what an item's test says
 
 -- an item that passes is read behind the others
-pub passed : {A : Type 0} (test : A → Bool) (p : Part A) (before : List A) (bytes : List ℕ) (a : A) (rest : List ℕ)
+pub passed : {A : Type 0} (test : A → Bool) (p : Layout A) (before : List A) (bytes : List ℕ) (a : A) (rest : List ℕ)
     → p.read bytes ≡ Ok (a, rest) → test a ≡ true
     → grown before ((judged BadField test p).read bytes) ≡ Ok (before ++ a ∷ [], rest)
 passed test p before bytes a rest read good = rw (read, good) refl
 
 -- one that does not is a bad field
-pub failed : {A : Type 0} (test : A → Bool) (p : Part A) (before : List A) (bytes : List ℕ) (a : A) (rest : List ℕ)
+pub failed : {A : Type 0} (test : A → Bool) (p : Layout A) (before : List A) (bytes : List ℕ) (a : A) (rest : List ℕ)
     → p.read bytes ≡ Ok (a, rest) → test a ≡ false
     → grown before ((judged BadField test p).read bytes) ≡ Err (BadField (length bytes))
 failed test p before bytes a rest read bad = rw (read, bad) refl

@@ -7,7 +7,7 @@ use Rattle.std.proofs.lemmas.Str.{is_utf8-from_IsUtf8, IsUtf8-from_is_utf8}
 use Rattle.std.proofs.lemmas.Bool.{lt-ltb, ltb-true}
 use Rattle.byte_layout.proofs.Steps.{behind_front, front_bytes}
 use Rattle.byte_layout.specs.Exact.{IsBytes}
-use Rattle.byte_layout.specs.Part.{number, raw, judged}
+use Rattle.byte_layout.specs.Layout.{number, raw, judged}
 use Rattle.byte_layout.specs.declared.fault.Break.TheVariants.{BadField}
 use Rattle.byte_layout.proofs.Fields.{number_good, number_below, raw_good}
 use Rattle.byte_layout.proofs.Signed.{signed64_good, signed64_fits}

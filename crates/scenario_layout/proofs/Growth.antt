@@ -4,7 +4,7 @@ use Rattle.std.proofs.Common.{◌∙◌}
 use Rattle.byte_layout.specs.declared.fault.Break.{Break}
 use Rattle.byte_layout.specs.declared.fault.ReadError.{ReadError}
 use Rattle.byte_layout.specs.declared.fault.ReadError.TheVariants as errors
-use Rattle.byte_layout.specs.Part.{Part, each}
+use Rattle.byte_layout.specs.Layout.{Layout, each}
 use Rattle.byte_layout.specs.Outcome.{Fails}
 use Rattle.byte_layout.proofs.Loop.{IsLeft, starts, goes_on, ends, is_done}
 use Rattle.device_template.specs.Template.{Template}
@@ -25,7 +25,7 @@ grown_fails before (errors.Fault b) (Ok x) h = absurd cc
 grown_fails before (errors.Fault b) (Err c) h = let same : b ≡ c = cc in ap (λ x. Err x) (sym same)
 
 -- an item was read
-pub grows_on : {A : Type 0} (part : List A → Part A) (front after : List A) (count i : ℕ) (bytes rest : List ℕ)
+pub grows_on : {A : Type 0} (part : List A → Layout A) (front after : List A) (count i : ℕ) (bytes rest : List ℕ)
     (total : Result (List A × List ℕ) Break) → i < count → grown front ((part front).read bytes) ≡ Ok (after, rest)
     → IsLeft part front (count - i) bytes total → IsLeft part after (count - (i + 1)) rest total
 grows_on {A} part front after count i bytes rest total lt h so_far =
@@ -34,7 +34,7 @@ grows_on {A} part front after count i bytes rest total lt h so_far =
     (goes_on part front count i bytes g.0 rest total front refl lt g.1 so_far)
 
 -- an item was not read
-pub grows_no_more : {A : Type 0} (part : List A → Part A) (e : ReadError) (front : List A) (count i : ℕ)
+pub grows_no_more : {A : Type 0} (part : List A → Layout A) (e : ReadError) (front : List A) (count i : ℕ)
     (bytes : List ℕ) (total : Result (List A × List ℕ) Break) → i < count
     → Fails e (grown front ((part front).read bytes))
     → IsLeft part front (count - i) bytes total → Fails e total
@@ -43,7 +43,7 @@ grows_no_more part e front count i bytes total lt h so_far =
 
 -- ---- a class into which items are read, in a loop
 
-module _ {A : Type 0} (part : Template → List A → Part A) (items : Template → List A)
+module _ {A : Type 0} (part : Template → List A → Layout A) (items : Template → List A)
     (put : Template → List A → Template) where
   -- behind the items that the class t has more than c, so many are left
   abbrev pub IsFilled : Template → Template → ℕ → List ℕ → Result (List A × List ℕ) Break → Type 0
@@ -71,7 +71,7 @@ module _ {A : Type 0} (part : Template → List A → Part A) (items : Template 
         → IsFilled c t (count - i) bytes total → IsFilled c u (count - (i + 1)) rest total
     filled_on c t u count i bytes rest total lt read made h = (
       grows_on (part c) (items t) (items u) count i bytes rest total lt
-          (ap (λ (p : Part A). grown (items t) (p.read bytes)) (sym (part_of c t h.1 (items t))) ∙ read) h.0,
+          (ap (λ (p : Layout A). grown (items t) (p.read bytes)) (sym (part_of c t h.1 (items t))) ∙ read) h.0,
       made ∙ ap (λ k. put k (items u)) h.1 ∙ twice c (items t) (items u),
     )
 
@@ -80,4 +80,4 @@ module _ {A : Type 0} (part : Template → List A → Part A) (items : Template 
         → IsFilled c t (count - i) bytes total → Fails e total
     filled_no_more c t e count i bytes total lt read h =
         grows_no_more (part c) e (items t) count i bytes total lt
-        (subst (λ (p : Part A). Fails e (grown (items t) (p.read bytes))) (part_of c t h.1 (items t)) read) h.0
+        (subst (λ (p : Layout A). Fails e (grown (items t) (p.read bytes))) (part_of c t h.1 (items t)) read) h.0

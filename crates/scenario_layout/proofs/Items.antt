@@ -10,7 +10,7 @@ use Rattle.std.proofs.lemmas.Bool.{eqb-true}
 use Rattle.byte_layout.specs.declared.fault.Break.TheVariants.{BadField}
 use Rattle.byte_layout.specs.declared.fault.ReadError.{ReadError}
 use Rattle.byte_layout.specs.declared.fault.ReadError.TheVariants as errors
-use Rattle.byte_layout.specs.Part.{Part, number, judged}
+use Rattle.byte_layout.specs.Layout.{Layout, number, judged}
 use Rattle.byte_layout.specs.Exact.{IsBytes}
 use Rattle.byte_layout.specs.Outcome.{Fails}
 use Rattle.lwm2m_values.specs.declared.kind.ValueKind.{ValueKind}
@@ -28,7 +28,7 @@ use Rattle.object_defs.specs.declared.fault.CatalogFault.TheVariants as catalog
 use Rattle.object_defs.specs.declared.path.FullPath.{FullPath}
 use Rattle.object_defs.specs.declared.path.InstancePath.{InstancePath}
 use Rattle.object_defs.proofs.PathOrder.{path_total, instance_total}
-use Rattle.scenario_layout.specs.Value.{place, path, value, number_of, kind_numbered, fits}
+use Rattle.scenario_layout.specs.Value.{place, path, value, kind_number, kind_numbered, fits}
 use Rattle.scenario_layout.proofs.ExactValue.{value_exact}
 use Rattle.device_template.specs.Template.{Template, with_catalogue, with_store, account_fault, object_fault, fault_of}
 use Rattle.device_template.specs.Template.{kind_taken, value_fault, value_fault_at}
@@ -39,7 +39,7 @@ use Rattle.instance_store.specs.Stored.{with_instance, with_value}
 use Rattle.scenario_layout.specs.Growing.{grown, IsLast}
 use Rattle.scenario_layout.specs.Class.{objects_in, instances_in, values_in, with_accounts, with_objects}
 use Rattle.scenario_layout.specs.Class.{with_instances, with_values, is_taken, account, instance, entry, value_path}
-use Rattle.byte_layout.proofs.Parts.{bytes_behind}
+use Rattle.byte_layout.proofs.Layouts.{bytes_behind}
 use Rattle.scenario_layout.proofs.ExactClass.{value_path_exact}
 use Rattle.scenario_layout.proofs.Ordered.{inserted_end, last_push}
 use Rattle.scenario_layout.proofs.Filling.{passed, failed, taken_none, instance_test, instances_itself, values_itself}
@@ -121,11 +121,11 @@ path_test c p = list_all (λ e. is_lt (path_cmp e.0 p)) (values_in c)
 same_kind : (c : Template) (p : FullPath) → kind_taken (with_values c (values_in c)) p ≡ kind_taken c p
 same_kind c p = ap (λ k. kind_taken k p) (sym (values_itself c))
 
-judged_ok : {A : Type 0} (test : A → Bool) (p : Part A) (bytes : List ℕ) (a : A) (rest : List ℕ)
+judged_ok : {A : Type 0} (test : A → Bool) (p : Layout A) (bytes : List ℕ) (a : A) (rest : List ℕ)
     → p.read bytes ≡ Ok (a, rest) → test a ≡ true → (judged BadField test p).read bytes ≡ Ok (a, rest)
 judged_ok test p bytes a rest read good = rw (read, good) refl
 
-judged_bad : {A : Type 0} (test : A → Bool) (p : Part A) (bytes : List ℕ) (a : A) (rest : List ℕ)
+judged_bad : {A : Type 0} (test : A → Bool) (p : Layout A) (bytes : List ℕ) (a : A) (rest : List ℕ)
     → p.read bytes ≡ Ok (a, rest) → test a ≡ false → (judged BadField test p).read bytes ≡ Err (BadField (length bytes))
 judged_bad test p bytes a rest read bad = rw (read, bad) refl
 
@@ -172,7 +172,7 @@ unfolding entry
 entry_read c u bytes p rest k v after read some held more = rw (read, same_kind c p, some, held, more) refl
 
 -- a value that was read for a kind is of that kind, and within its limits
-number_again : (k : ValueKind) → kind_numbered (number_of k) ≡ k
+number_again : (k : ValueKind) → kind_numbered (kind_number k) ≡ k
 number_again kinds.Text = refl
 number_again kinds.Whole = refl
 number_again kinds.Flag = refl
@@ -193,7 +193,7 @@ pub is_of_kind : (k : ValueKind) (v : Value) (bytes after : List ℕ) → IsByte
 unfolding value
 is_of_kind k v bytes after fits read =
     let good = ((value_exact (Some k)).taken bytes fits v after read).0 in
-    let same : number_of (kind_of v) ≡ number_of k = eqb-true (number_of (kind_of v)) (number_of k) good.0.1 in
+    let same : kind_number (kind_of v) ≡ kind_number k = eqb-true (kind_number (kind_of v)) (kind_number k) good.0.1 in
     ap (has_kind v) (sym (number_again k) ∙ ap kind_numbered (sym same) ∙ number_again (kind_of v)) ∙ own_kind v
 
 short : (n m : ℕ) → n ≤ m → nat_le n m ≡ true

@@ -2,9 +2,9 @@
 use Rattle.std.proofs.Common.{◌≡◌, ℕ, true, List, [], ◌∷◌, ◌++◌, length, Some, Ok, refl, sym, ap, ◌∙◌, append_assoc}
 use Rattle.std.specs.Prelude.{nat_lt}
 use Rattle.std.specs.List.{list_all}
-use Rattle.byte_layout.specs.Part.{each}
+use Rattle.byte_layout.specs.Layout.{each}
 use Rattle.byte_layout.specs.Exact.{IsBytes}
-use Rattle.byte_layout.proofs.Parts.{bytes_behind}
+use Rattle.byte_layout.proofs.Layouts.{bytes_behind}
 use Rattle.object_defs.specs.Base.{base}
 use Rattle.object_defs.specs.Catalogue.{object_of}
 use Rattle.object_defs.specs.Vendor.{new_object}

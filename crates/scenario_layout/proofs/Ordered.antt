@@ -11,7 +11,7 @@ use Rattle.std.specs.FinMap.{FinMap}
 use Rattle.std.specs.FinMap.Entries.{put, by_order, below_all, is_sorted}
 use Rattle.std.proofs.lemmas.Bool.Decides.{nat_tests}
 use Rattle.object_defs.specs.Vendor.{inserted}
-use Rattle.byte_layout.specs.Part.{Part, each}
+use Rattle.byte_layout.specs.Layout.{Layout, each}
 use Rattle.scenario_layout.specs.Growing.{IsLast}
 
 pub both_true : (a b : Bool) → (a && b) ≡ true → (a ≡ true) × (b ≡ true)
@@ -114,7 +114,7 @@ module _ {A K : Type 0} {R : K → K → Ordering} (total : IsTotalOrder R) (key
       λ j. all_push (λ b. is_lt (R (key b) j)) items a ∙ last_test (key a) j items (is_lt (R (key a) j)) refl h
 
 -- items, each of which stands behind those before it, ascend
-module _ {A K X : Type 0} (R : K → K → Ordering) (as_entry : A → K × X) (part : List A → Part A)
+module _ {A K X : Type 0} (R : K → K → Ordering) (as_entry : A → K × X) (part : List A → Layout A)
     (behind : (before : List A) (a : A) → (part before).Good a
     → list_all (λ b. is_lt (R (as_entry b).0 (as_entry a).0)) before ≡ true) where
   below_rest : (n : ℕ) (front : List A) (a : A) (back xs : List A) → (each part n (front ++ a ∷ back)).Good xs

@@ -5,7 +5,7 @@ use Rattle.std.proofs.Math.ListN.{get_or-map}
 use Rattle.std.proofs.lemmas.List.{length-map, map-append, take_more}
 use Rattle.std.proofs.lemmas.List.Elements.{All-get_or}
 use Rattle.byte_layout.proofs.Written.{spelled, spelled_push, each_spells}
-use Rattle.byte_layout.specs.Part.{Part, each}
+use Rattle.byte_layout.specs.Layout.{Layout, each}
 use Rattle.lwm2m_values.specs.declared.value.Value.{Value}
 use Rattle.lwm2m_values.specs.Value.{IsGood}
 use Rattle.object_defs.specs.declared.path.FullPath.{FullPath}
@@ -24,7 +24,7 @@ shown_good list i x good lt item =
     (All-get_or (λ e. IsGood e.1) (shown_pairs list) i (shown x)
     (subst (λ n. i < n) (sym (length-map list shown)) lt) good)
 
-pub shown_on : (part : List (FullPath × Value) → Part (FullPath × Value)) (list : List Pair) (i : ℕ) (x : Pair)
+pub shown_on : (part : List (FullPath × Value) → Layout (FullPath × Value)) (list : List Pair) (i : ℕ) (x : Pair)
     (start out new : List ℕ) → i < length list → x ≡ get_or list i x
     → new ≡ out ++ (part (shown_pairs (take i list))).spell (shown x)
     → out ≡ start ++ spelled part [] (shown_pairs (take i list))
@@ -39,7 +39,7 @@ shown_on part list i x start out new lt item step so_far =
     ∙ append_assoc start (spelled part [] front) ((part front).spell (shown x))
     ∙ ap (λ t. start ++ t) (sym (spelled_push part [] front (shown x)) ∙ ap (spelled part []) (sym more))
 
-pub shown_all : (part : List (FullPath × Value) → Part (FullPath × Value)) (list : List Pair) (i : ℕ)
+pub shown_all : (part : List (FullPath × Value) → Layout (FullPath × Value)) (list : List Pair) (i : ℕ)
     (start out : List ℕ) → (each part (length list) []).Good (shown_pairs list) → length list ≤ i
     → out ≡ start ++ spelled part [] (shown_pairs (take i list))
     → out ≡ start ++ (each part (length list) []).spell (shown_pairs list)

@@ -5,7 +5,7 @@ use Rattle.std.specs.Int.{w8, w16}
 use Rattle.std.specs.Ordering.{is_lt}
 use Rattle.std.specs.FinMap as finite
 use Rattle.byte_layout.specs.declared.fault.Break.TheVariants.{BadField}
-use Rattle.byte_layout.specs.Part.{Part, number, judged, at_most, split, last, counted}
+use Rattle.byte_layout.specs.Layout.{Layout, number, judged, at_most, split, last, counted}
 use Rattle.lwm2m_values.specs.declared.value.Value.{Value}
 use Rattle.object_defs.specs.Base.{base}
 use Rattle.object_defs.specs.Path.{path_cmp, instance_cmp}
@@ -53,64 +53,64 @@ abbrev pub is_taken : Option TemplateFault → Bool
 is_taken fault = not (is_some fault)
 
 -- an account above those before it, which the class takes
-unfoldable pub account : List ℕ → Part ℕ
+unfoldable pub account : List ℕ → Layout ℕ
 account before =
     judged BadField (λ n. list_all (λ m. nat_lt m n) before && is_taken (account_fault (with_accounts before) n))
     (number w16)
 
-unfoldable pub accounts : Part (List ℕ)
+unfoldable pub accounts : Layout (List ℕ)
 accounts = counted (at_most most_accounts (number w8)) account
 
 abbrev pub defined : ℕ → List ResourceDef → ObjectDef
 defined id definitions = record { id = id; resources = definitions }
 
 -- the number of an object, above those that the class has, which the class takes
-unfoldable pub object_id : Template → List ObjectDef → Part ℕ
+unfoldable pub object_id : Template → List ObjectDef → Layout ℕ
 object_id c before =
     judged BadField (λ id. list_all (λ o. nat_lt o.id id) (base ++ before)
     && is_taken (object_fault (with_objects c before) id)) (number w16)
 
 -- an object of the class's own: its number, and the definitions of its resources
-unfoldable pub object : Template → List ObjectDef → Part ObjectDef
+unfoldable pub object : Template → List ObjectDef → Layout ObjectDef
 object c before = split (λ o. o.id) (object_id c before) (λ id. last (λ o. o.resources) (defined id) resources)
 
-unfoldable pub objects : Template → Part (List ObjectDef)
+unfoldable pub objects : Template → Layout (List ObjectDef)
 objects c = counted (at_most 11 (number w8)) (object c)
 
 -- an instance behind those before it, which the class takes
-unfoldable pub instance : Template → List InstancePath → Part InstancePath
+unfoldable pub instance : Template → List InstancePath → Layout InstancePath
 instance c before =
     judged BadField (λ p. list_all (λ q. is_lt (instance_cmp q p)) before
     && is_taken (instance_fault (with_instances c before) p)) place
 
-unfoldable pub instances : Template → Part (List InstancePath)
+unfoldable pub instances : Template → Layout (List InstancePath)
 instances c = counted (number w16) (instance c)
 
 -- the path of a value, behind those before it, at which the class takes values of some kind
-unfoldable pub value_path : Template → List (FullPath × Value) → Part FullPath
+unfoldable pub value_path : Template → List (FullPath × Value) → Layout FullPath
 value_path c before =
     judged BadField (λ p. list_all (λ e. is_lt (path_cmp e.0 p)) before
     && is_some (kind_taken (with_values c before) p)) path
 
 -- a path, and a value of the kind that is taken there
-unfoldable pub entry : Template → List (FullPath × Value) → Part (FullPath × Value)
+unfoldable pub entry : Template → List (FullPath × Value) → Layout (FullPath × Value)
 entry c before =
     split (λ e. e.0) (value_path c before) (λ p. last (λ e. e.1) (λ v. (p, v))
     (value (kind_taken (with_values c before) p)))
 
-unfoldable pub values : Template → Part (List (FullPath × Value))
+unfoldable pub values : Template → Layout (List (FullPath × Value))
 values c = counted (number w16) (entry c)
 
 -- ---- the class: its accounts, the objects of its own, its instances, its values
 
-unfoldable pub behind_instances : Template → Part Template
+unfoldable pub behind_instances : Template → Layout Template
 behind_instances c = last values_in (with_values c) (values c)
 
-unfoldable pub behind_objects : Template → Part Template
+unfoldable pub behind_objects : Template → Layout Template
 behind_objects c = split instances_in (instances c) (λ places. behind_instances (with_instances c places))
 
-unfoldable pub behind_accounts : Template → Part Template
+unfoldable pub behind_accounts : Template → Layout Template
 behind_accounts c = split objects_in (objects c) (λ defs. behind_objects (with_objects c defs))
 
-unfoldable pub class : Part Template
+unfoldable pub class : Layout Template
 class = split (λ c. c.accounts) accounts (λ numbers. behind_accounts (with_accounts numbers))

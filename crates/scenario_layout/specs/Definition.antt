@@ -3,12 +3,12 @@ use Rattle.std.specs.Prelude.{ℕ, ◌+◌, ◌==◌, ◌&&◌, ◌||◌, Bool, 
 use Rattle.std.specs.List.{list_all}
 use Rattle.std.specs.Int.{w8, w16}
 use Rattle.byte_layout.specs.declared.fault.Break.TheVariants.{BadField}
-use Rattle.byte_layout.specs.Part.{Part, number, judged, at_most, split, last, counted}
+use Rattle.byte_layout.specs.Layout.{Layout, number, judged, at_most, split, last, counted}
 use Rattle.lwm2m_values.specs.declared.kind.ValueKind.{ValueKind}
 use Rattle.object_defs.specs.declared.definition.Ops.{Ops}
 use Rattle.object_defs.specs.declared.definition.Ops.TheVariants.{R, W, RW, E}
 use Rattle.object_defs.specs.declared.definition.ResourceDef.{ResourceDef}
-use Rattle.scenario_layout.specs.Value.{number_of, kind}
+use Rattle.scenario_layout.specs.Value.{kind_number, kind}
 
 -- the number of the operations that a resource has
 abbrev pub ops_number : Ops → ℕ
@@ -21,7 +21,7 @@ ops_number E = 4
 abbrev pub ops_numbered : ℕ → Ops
 ops_numbered n = if n == 1 then R else (if n == 2 then W else (if n == 3 then RW else E))
 
-unfoldable pub ops : Part Ops
+unfoldable pub ops : Layout Ops
 ops = last ops_number ops_numbered (judged BadField (λ n. nat_lt 0 n && nat_lt n 5) (number w8))
 
 -- 1 for a multiple resource, 2 more for a mandatory one
@@ -35,7 +35,7 @@ flags_fit _ n = nat_lt n 4
 
 -- an executable resource has the kind Text
 abbrev pub kind_fits : Ops → ValueKind → Bool
-kind_fits E k = number_of k == 0
+kind_fits E k = kind_number k == 0
 kind_fits _ k = true
 
 abbrev pub definition : ℕ → Ops → ℕ → ValueKind → ResourceDef
@@ -43,15 +43,15 @@ definition n o flags k =
     record { id = n; ops = o; multiple = flags == 1 || flags == 3; mandatory = nat_lt 1 flags; kind = k }
 
 -- what stands behind the number of a resource: operations, flags, kind
-abbrev pub behind_id : ℕ → Part ResourceDef
+abbrev pub behind_id : ℕ → Layout ResourceDef
 behind_id n = split (λ r. r.ops) ops (λ o. split (λ r. flags_of r.multiple r.mandatory)
     (judged BadField (flags_fit o) (number w8))
     (λ flags. last (λ r. r.kind) (definition n o flags) (judged BadField (kind_fits o) kind)))
 
 -- a definition, whose number is above those of the definitions before it
-unfoldable pub resource : List ResourceDef → Part ResourceDef
+unfoldable pub resource : List ResourceDef → Layout ResourceDef
 resource before = split (λ r. r.id) (judged BadField (λ n. list_all (λ r. nat_lt r.id n) before) (number w16)) behind_id
 
 -- at most 64 definitions, their numbers ascending
-unfoldable pub resources : Part (List ResourceDef)
+unfoldable pub resources : Layout (List ResourceDef)
 resources = counted (at_most 64 (number w8)) resource

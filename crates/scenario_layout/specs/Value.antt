@@ -4,7 +4,7 @@ use Rattle.std.specs.Prelude.{if◌then◌else◌}
 use Rattle.std.specs.Int.{w8, w16, w64}
 use Rattle.std.specs.Str.{is_utf8}
 use Rattle.byte_layout.specs.declared.fault.Break.TheVariants.{BadField}
-use Rattle.byte_layout.specs.Part.{Part, number, signed, judged, at_most, done, split, last, sized}
+use Rattle.byte_layout.specs.Layout.{Layout, number, signed, judged, at_most, done, split, last, sized}
 use Rattle.lwm2m_values.specs.declared.kind.ValueKind.{ValueKind}
 use Rattle.lwm2m_values.specs.declared.kind.ValueKind.TheVariants as kinds
 use Rattle.lwm2m_values.specs.declared.value.Value.{Value}
@@ -19,7 +19,7 @@ use Rattle.object_defs.specs.declared.path.InstancePath.{InstancePath}
 abbrev pub place_of : ℕ → ℕ → InstancePath
 place_of o i = record { object = o; instance = i }
 
-unfoldable pub place : Part InstancePath
+unfoldable pub place : Layout InstancePath
 place = split (λ p. p.object) (number w16) (λ o. last (λ p. p.instance) (place_of o) (number w16))
 
 -- 0 where there is no part, 1 before the number of one
@@ -27,18 +27,18 @@ abbrev pub flag_of : Option ℕ → ℕ
 flag_of None = 0
 flag_of (Some n) = 1
 
-abbrev pub behind_flag : ℕ → Part (Option ℕ)
+abbrev pub behind_flag : ℕ → Layout (Option ℕ)
 behind_flag zero = done None
 behind_flag (suc n) = last (λ o. unwrap_or o 0) (λ m. Some m) (number w16)
 
-unfoldable pub part_number : Part (Option ℕ)
+unfoldable pub part_number : Layout (Option ℕ)
 part_number = split flag_of (judged BadField (λ n. nat_lt n 2) (number w8)) behind_flag
 
 -- object, instance, resource, and the part's number where there is one
 abbrev pub path_of : ℕ → ℕ → ℕ → Option ℕ → FullPath
 path_of o i r n = record { object = o; instance = i; resource = r; part = n }
 
-unfoldable pub path : Part FullPath
+unfoldable pub path : Layout FullPath
 path = split (λ p. p.object) (number w16)
     (λ o. split (λ p. p.instance) (number w16)
     (λ i. split (λ p. p.resource) (number w16) (λ r. last (λ p. p.part) (path_of o i r) part_number)))
@@ -46,13 +46,13 @@ path = split (λ p. p.object) (number w16)
 -- ---- kinds
 
 -- the number of a kind
-abbrev pub number_of : ValueKind → ℕ
-number_of kinds.Text = 0
-number_of kinds.Whole = 1
-number_of kinds.Flag = 2
-number_of kinds.Opaque = 3
-number_of kinds.Moment = 4
-number_of kinds.Link = 5
+abbrev pub kind_number : ValueKind → ℕ
+kind_number kinds.Text = 0
+kind_number kinds.Whole = 1
+kind_number kinds.Flag = 2
+kind_number kinds.Opaque = 3
+kind_number kinds.Moment = 4
+kind_number kinds.Link = 5
 
 -- the kind of a number below 6
 abbrev pub kind_numbered : ℕ → ValueKind
@@ -61,8 +61,8 @@ kind_numbered n =
     else (if n == 2 then kinds.Flag else (if n == 3 then kinds.Opaque
     else (if n == 4 then kinds.Moment else kinds.Link))))
 
-unfoldable pub kind : Part ValueKind
-kind = last number_of kind_numbered (judged BadField (λ n. nat_lt n 6) (number w8))
+unfoldable pub kind : Layout ValueKind
+kind = last kind_number kind_numbered (judged BadField (λ n. nat_lt n 6) (number w8))
 
 -- ---- values
 
@@ -90,15 +90,15 @@ instance_in (values.Link o i) = i
 instance_in _ = 0
 
 -- UTF-8 of at most 255 bytes, judged at its length
-unfoldable pub text : Part (List ℕ)
+unfoldable pub text : Layout (List ℕ)
 text = judged BadField is_utf8 (sized (number w8))
 
 -- at most 1,024 bytes
-unfoldable pub opaque : Part (List ℕ)
+unfoldable pub opaque : Layout (List ℕ)
 opaque = sized (at_most 1024 (number w16))
 
 -- what stands behind the number of a kind
-abbrev pub of_kind : ValueKind → Part Value
+abbrev pub of_kind : ValueKind → Layout Value
 of_kind kinds.Text = last bytes_in (λ t. values.Text t) text
 of_kind kinds.Whole = last number_in (λ z. values.Whole z) (signed w64)
 of_kind kinds.Flag = last flag_in (λ n. values.Flag (n == 1)) (judged BadField (λ n. nat_lt n 2) (number w8))
@@ -109,8 +109,8 @@ of_kind kinds.Link = split object_in (number w16) (λ o. last instance_in (λ i.
 -- a kind fits where none is wanted, and where it is the one that is
 abbrev pub fits : Option ValueKind → ValueKind → Bool
 fits None k = true
-fits (Some wanted) k = number_of k == number_of wanted
+fits (Some wanted) k = kind_number k == kind_number wanted
 
 -- a value of the kind that is wanted, judged at the number of its kind
-unfoldable pub value : Option ValueKind → Part Value
+unfoldable pub value : Option ValueKind → Layout Value
 value wanted = split kind_of (judged BadField (fits wanted) kind) of_kind

@@ -68,7 +68,7 @@ impl PutItems for Definitions {
         item: &ResourceDef,
     ) -> Result<(), AllocError> {
         put_u16(out, item.id)?;
-        put_u8(out, number_of(item.ops))?;
+        put_u8(out, ops_number(item.ops))?;
         put_u8(out, flags_of(*item))?;
         put_kind(out, item.kind)
     }
@@ -80,7 +80,7 @@ fn is_above(id: u16, before: &[ResourceDef]) -> bool
     before.iter().all(|r| r.id < id)
 }
 
-fn number_of(o: Ops) -> u8
+fn ops_number(o: Ops) -> u8
     ensures { result ≡ ops_number o }
 {
     match o {

@@ -7,10 +7,10 @@ use Rattle.std.proofs.lemmas.Bool.{le-leb, ne_eqb}
 use Rattle.std.proofs.lemmas.Slice.Eq.{bytes_eq-Decides}
 use Rattle.coap_codec.specs.Message.{Message}
 use Rattle.coap_codec.proofs.OneReading.{read_spelling}
-use Rattle.object_defs.proofs.Digits.{number_of-law}
+use Rattle.object_defs.proofs.Digits.{decimal_number-law}
 use Rattle.object_defs.specs.declared.path.Path.{Path}
 use Rattle.object_defs.specs.declared.path.Path.TheVariants.{Object, Instance, Resource, Part}
-use Rattle.object_defs.specs.Decimal.{number_of}
+use Rattle.object_defs.specs.Decimal.{decimal_number}
 use Rattle.scenario_words.specs.PathWord.{IsPath}
 use Rattle.scenario_mnemonics.specs.declared.request_type.RequestType.{RequestType}
 use Rattle.scenario_mnemonics.specs.declared.request_type.RequestType.TheVariants.{Con, Non}
@@ -30,8 +30,8 @@ use Rattle.scenario_mnemonics.specs.Denoting.{token_from, request_from, mnemonic
 use Rattle.scenario_mnemonics.proofs.OptionOrder.{code_some, well_formed}
 use Rattle.scenario_mnemonics.proofs.Values.{observe_found, path_found, content_found, queries_found, accept_found}
 
-number_again : (n : ℕ) → n < 65536 → number_of (decimal n) ≡ Some n
-number_again n h = (number_of-law (decimal n) n).1 (h, refl)
+number_again : (n : ℕ) → n < 65536 → decimal_number (decimal n) ≡ Some n
+number_again n h = (decimal_number-law (decimal n) n).1 (h, refl)
 
 path_again : (p : Path) → IsPath p → path_from (segments p) ≡ Some p
 path_again (Object o) h = rw (number_again o h) refl

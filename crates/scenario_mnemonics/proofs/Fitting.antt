@@ -11,10 +11,10 @@ use Rattle.coap_codec.specs.declared.fault.CoapFault.{CoapFault}
 use Rattle.coap_codec.specs.Message.{Message, header_bytes, options_bytes, payload_bytes, spelling}
 use Rattle.coap_codec.specs.Reading.{reading_of}
 use Rattle.coap_codec.proofs.Soundness.{spelled_from_reading}
-use Rattle.object_defs.proofs.Digits.{number_of-law}
+use Rattle.object_defs.proofs.Digits.{decimal_number-law}
 use Rattle.object_defs.specs.declared.path.Path.{Path}
 use Rattle.object_defs.specs.declared.path.Path.TheVariants.{Object, Instance, Resource, Part}
-use Rattle.object_defs.specs.Decimal.{number_of}
+use Rattle.object_defs.specs.Decimal.{decimal_number}
 use Rattle.scenario_words.specs.PathWord.{IsPath}
 use Rattle.scenario_mnemonics.specs.declared.action.Action.{Action}
 use Rattle.scenario_mnemonics.specs.declared.action.Action.TheVariants as act
@@ -50,22 +50,22 @@ chosen P false x y h k = k
 there : {A : Type 0} (P : A → Type 0) (o : Option A) (x : A) → IfSome o P → o ≡ Some x → P x
 there P o x h e = subst (λ t. IfSome t P) e h
 
-number_small : (s : List ℕ) (n : ℕ) → number_of s ≡ Some n → n < 65536
-number_small s n e = ((number_of-law s n).0 e).0
+number_small : (s : List ℕ) (n : ℕ) → decimal_number s ≡ Some n → n < 65536
+number_small s n e = ((decimal_number-law s n).0 e).0
 
 path_small : (vs : List (List ℕ)) → IfSome (path_from vs) IsPath
 path_small [] = tt
-path_small (a ∷ []) = known IsPath (λ o. Object o) (number_of a) (λ o h. number_small a o h)
+path_small (a ∷ []) = known IsPath (λ o. Object o) (decimal_number a) (λ o h. number_small a o h)
 path_small (a ∷ b ∷ []) =
-    behind IsPath _ (number_of a) (λ o h. known IsPath (λ i. Instance o i) (number_of b)
+    behind IsPath _ (decimal_number a) (λ o h. known IsPath (λ i. Instance o i) (decimal_number b)
     (λ i k. (number_small a o h, number_small b i k)))
 path_small (a ∷ b ∷ c ∷ []) =
-    behind IsPath _ (number_of a) (λ o h. behind IsPath _ (number_of b)
-    (λ i k. known IsPath (λ r. Resource o i r) (number_of c) (λ r l.
+    behind IsPath _ (decimal_number a) (λ o h. behind IsPath _ (decimal_number b)
+    (λ i k. known IsPath (λ r. Resource o i r) (decimal_number c) (λ r l.
     (number_small a o h, number_small b i k, number_small c r l))))
 path_small (a ∷ b ∷ c ∷ d ∷ []) =
-    behind IsPath _ (number_of a) (λ o h. behind IsPath _ (number_of b)
-    (λ i k. behind IsPath _ (number_of c) (λ r l. known IsPath (λ n. Part o i r n) (number_of d) (λ n q.
+    behind IsPath _ (decimal_number a) (λ o h. behind IsPath _ (decimal_number b)
+    (λ i k. behind IsPath _ (decimal_number c) (λ r l. known IsPath (λ n. Part o i r n) (decimal_number d) (λ n q.
     (number_small a o h, number_small b i k, number_small c r l, number_small d n q)))))
 path_small (a ∷ b ∷ c ∷ d ∷ e ∷ more) = tt
 

@@ -9,10 +9,12 @@ use Rattle.coap_codec.specs.declared.kind.Kind.TheVariants as kind
 use Rattle.coap_codec.specs.declared.option.Opt.{Opt}
 use Rattle.coap_codec.specs.declared.fault.CoapFault.{CoapFault}
 use Rattle.coap_codec.specs.Message.{Message}
+use Rattle.coap_codec.specs.OptionNumber.{observe_option, uri_path_option, content_format_option, uri_query_option}
+use Rattle.coap_codec.specs.OptionNumber.{accept_option}
 use Rattle.coap_codec.specs.Reading.{reading_of}
 use Rattle.object_defs.specs.declared.path.Path.{Path}
 use Rattle.object_defs.specs.declared.path.Path.TheVariants.{Object, Instance, Resource, Part}
-use Rattle.object_defs.specs.Decimal.{number_of}
+use Rattle.object_defs.specs.Decimal.{decimal_number}
 use Rattle.scenario_mnemonics.specs.declared.request_type.RequestType.{RequestType}
 use Rattle.scenario_mnemonics.specs.declared.request_type.RequestType.TheVariants.{Con, Non}
 use Rattle.scenario_mnemonics.specs.declared.format.Format.{Format}
@@ -53,14 +55,14 @@ format_from (v ∷ w ∷ vs) = None
 -- the path of one to four segments
 abbrev pub path_from : List (List ℕ) → Option Path
 path_from [] = None
-path_from (a ∷ []) = option_map (λ o. Object o) (number_of a)
-path_from (a ∷ b ∷ []) = option_and_then (λ o. option_map (λ i. Instance o i) (number_of b)) (number_of a)
+path_from (a ∷ []) = option_map (λ o. Object o) (decimal_number a)
+path_from (a ∷ b ∷ []) = option_and_then (λ o. option_map (λ i. Instance o i) (decimal_number b)) (decimal_number a)
 path_from (a ∷ b ∷ c ∷ []) =
-    option_and_then (λ o. option_and_then (λ i. option_map (λ r. Resource o i r) (number_of c)) (number_of b))
-    (number_of a)
+    option_and_then (λ o. option_and_then (λ i. option_map (λ r. Resource o i r) (decimal_number c)) (decimal_number b))
+    (decimal_number a)
 path_from (a ∷ b ∷ c ∷ d ∷ []) =
-    option_and_then (λ o. option_and_then (λ i. option_and_then (λ r. option_map (λ n. Part o i r n) (number_of d))
-    (number_of c)) (number_of b)) (number_of a)
+    option_and_then (λ o. option_and_then (λ i. option_and_then (λ r. option_map (λ n. Part o i r n) (decimal_number d))
+    (decimal_number c)) (decimal_number b)) (decimal_number a)
 path_from (a ∷ b ∷ c ∷ d ∷ e ∷ more) = None
 
 -- an Accept of 40
@@ -91,9 +93,10 @@ put_from (q ∷ qs) contents payload = if are_queries (q ∷ qs) then Some (act.
 -- by its method
 abbrev pub action_from : Message → Path → Option Action
 action_from m p =
-    if m.code == 1 then get_from (values 6 m.options) (values 17 m.options)
-    else (if m.code == 2 then post_from p (values 12 m.options) m.payload
-    else (if m.code == 3 then put_from (values 15 m.options) (values 12 m.options) m.payload
+    if m.code == 1 then get_from (values observe_option m.options) (values accept_option m.options)
+    else (if m.code == 2 then post_from p (values content_format_option m.options) m.payload
+    else (if m.code == 3 then put_from (values uri_query_option m.options)
+    (values content_format_option m.options) m.payload
     else (if m.code == 4 then Some act.Delete else None)))
 
 abbrev pub token_from : List ℕ → Option (List ℕ)
@@ -106,7 +109,7 @@ request_from m =
     option_map (λ t. mnemonic.Request (record
     { kind = type_from m.kind; mid = m.mid; token = t; path = p; action = a })) (token_from m.token))
     (action_from m p))
-    (path_from (values 11 m.options))
+    (path_from (values uri_path_option m.options))
 
 -- the mnemonic that this message would have, if it has one
 abbrev pub mnemonic_from : Message → Option Mnemonic

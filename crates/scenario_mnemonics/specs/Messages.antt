@@ -5,6 +5,8 @@ use Rattle.std.specs.Int.Digits.{AllBelowBase}
 use Rattle.coap_codec.specs.declared.kind.Kind.{Kind}
 use Rattle.coap_codec.specs.declared.kind.Kind.TheVariants as kind
 use Rattle.coap_codec.specs.declared.option.Opt.{Opt}
+use Rattle.coap_codec.specs.OptionNumber.{observe_option, uri_path_option, content_format_option, uri_query_option}
+use Rattle.coap_codec.specs.OptionNumber.{accept_option}
 use Rattle.coap_codec.specs.Message.{Message, spelling}
 use Rattle.coap_codec.specs.Number.{shortest}
 use Rattle.object_defs.specs.declared.path.Path.{Path}
@@ -150,10 +152,10 @@ payload_of (act.Exec b) = b
 -- Observe 6, Uri-Path 11, Content-Format 12, Uri-Query 15, Accept 17 (RFC 7252 section 12.2, RFC 7641 section 2)
 abbrev pub options_of : Path → Action → List Opt
 options_of p a =
-    options_with 6 (observe_values a)
-    ++ (options_with 11 (segments p)
-    ++ (options_with 12 (content_values a)
-    ++ (options_with 15 (query_values a) ++ options_with 17 (accept_values a))))
+    options_with observe_option (observe_values a)
+    ++ (options_with uri_path_option (segments p)
+    ++ (options_with content_format_option (content_values a)
+    ++ (options_with uri_query_option (query_values a) ++ options_with accept_option (accept_values a))))
 
 -- the message of a mnemonic
 abbrev pub message_of : Mnemonic → Message

@@ -3,7 +3,7 @@
 ghost use Rattle.std.specs.Prelude.{◌≡◌, ◌++◌, IfOk, OnOk};
 ghost use Rattle.std.specs.Str.{bytes_eq};
 ghost use Rattle.coap_codec.specs.Reading.{reading_of};
-ghost use Rattle.object_defs.specs.Decimal.{number_of};
+ghost use Rattle.object_defs.specs.Decimal.{decimal_number};
 ghost use Rattle.scenario_mnemonics.specs.Denoting.{value_with, values, type_from, format_named, format_from};
 ghost use Rattle.scenario_mnemonics.specs.Denoting.{path_from, is_discover, get_from, post_from, put_from, action_from};
 ghost use Rattle.scenario_mnemonics.specs.Denoting.{request_from, mnemonic_from, mnemonic_read, own, mnemonic_of};
@@ -85,7 +85,7 @@ fn format_from(values: &[Bytes]) -> Option<Format>
 }
 
 fn number(segment: &Bytes) -> Option<u16>
-    ensures { result ≡ number_of segment.now }
+    ensures { result ≡ decimal_number segment.now }
 {
     decimal_number(segment.as_slice())
 }

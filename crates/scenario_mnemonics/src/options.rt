@@ -2,6 +2,9 @@
 
 ghost use Rattle.std.specs.Prelude.{◌≡◌, ◌<◌, ◌∷◌, ◌++◌, [], IfOk, OnOk};
 ghost use Rattle.std.specs.Fmt.{decimal};
+ghost use Rattle.coap_codec.specs.OptionNumber.{observe_option, uri_path_option, content_format_option};
+ghost use Rattle.coap_codec.specs.OptionNumber.{uri_query_option};
+ghost use Rattle.coap_codec.specs.OptionNumber.{accept_option};
 ghost use Rattle.coap_codec.specs.Number.{shortest};
 ghost use Rattle.scenario_words.specs.PathWord.{IsPath};
 ghost use Rattle.scenario_mnemonics.specs.Messages.{options_with, format_values, observe_values, segments};
@@ -33,7 +36,7 @@ fn put_number(
 
 /// Adds a segment of the path.
 fn put_segment(alloc: Global, options: &mut Options, number: u16) -> Result<(), AllocError>
-    ensures put { OnOk result (options.new ≡ options.old ++ options_with 11 (decimal number ∷ [])) }
+    ensures put { OnOk result (options.new ≡ options.old ++ options_with uri_path_option (decimal number ∷ [])) }
     ensures small { number < 65536 }
 {
     let text = format!(in alloc; "{number}")?;
@@ -62,7 +65,7 @@ fn put_format(
 }
 
 fn put_observe(alloc: Global, options: &mut Options, action: &Action) -> Result<(), AllocError>
-    ensures { OnOk result (options.new ≡ options.old ++ options_with 6 (observe_values action.now)) }
+    ensures { OnOk result (options.new ≡ options.old ++ options_with observe_option (observe_values action.now)) }
 {
     match action {
         Action::Observe(_) => put_number(alloc, options, OBSERVE, 0),
@@ -72,7 +75,7 @@ fn put_observe(alloc: Global, options: &mut Options, action: &Action) -> Result<
 }
 
 fn put_path(alloc: Global, options: &mut Options, path: Path) -> Result<(), AllocError>
-    ensures put { OnOk result (options.new ≡ options.old ++ options_with 11 (segments path)) }
+    ensures put { OnOk result (options.new ≡ options.old ++ options_with uri_path_option (segments path)) }
     ensures path { OnOk result (IsPath path) }
 {
     match path {
@@ -96,7 +99,7 @@ fn put_path(alloc: Global, options: &mut Options, path: Path) -> Result<(), Allo
 }
 
 fn put_content(alloc: Global, options: &mut Options, action: &Action) -> Result<(), AllocError>
-    ensures { OnOk result (options.new ≡ options.old ++ options_with 12 (content_values action.now)) }
+    ensures { OnOk result (options.new ≡ options.old ++ options_with content_format_option (content_values action.now)) }
 {
     match action {
         Action::Write(format, _) | Action::Update(format, _) | Action::Create(format, _) => {
@@ -107,7 +110,7 @@ fn put_content(alloc: Global, options: &mut Options, action: &Action) -> Result<
 }
 
 fn put_query(options: &mut Options, query: &Bytes) -> Result<(), AllocError>
-    ensures { OnOk result (options.new ≡ options.old ++ options_with 15 (query.now ∷ [])) }
+    ensures { OnOk result (options.new ≡ options.old ++ options_with uri_query_option (query.now ∷ [])) }
 {
     let value = query.clone()?;
     options.push(Opt {
@@ -117,7 +120,7 @@ fn put_query(options: &mut Options, query: &Bytes) -> Result<(), AllocError>
 }
 
 fn put_each(options: &mut Options, queries: &[Bytes]) -> Result<(), AllocError>
-    ensures { OnOk result (options.new ≡ options.old ++ options_with 15 queries.now) }
+    ensures { OnOk result (options.new ≡ options.old ++ options_with uri_query_option queries.now) }
 {
     for query in queries {
         put_query(options, query)?;
@@ -126,7 +129,7 @@ fn put_each(options: &mut Options, queries: &[Bytes]) -> Result<(), AllocError>
 }
 
 fn put_queries(options: &mut Options, action: &Action) -> Result<(), AllocError>
-    ensures { OnOk result (options.new ≡ options.old ++ options_with 15 (query_values action.now)) }
+    ensures { OnOk result (options.new ≡ options.old ++ options_with uri_query_option (query_values action.now)) }
 {
     match action {
         Action::Attr(queries) => put_each(options, queries.as_slice()),
@@ -135,7 +138,7 @@ fn put_queries(options: &mut Options, action: &Action) -> Result<(), AllocError>
 }
 
 fn put_accept(alloc: Global, options: &mut Options, action: &Action) -> Result<(), AllocError>
-    ensures { OnOk result (options.new ≡ options.old ++ options_with 17 (accept_values action.now)) }
+    ensures { OnOk result (options.new ≡ options.old ++ options_with accept_option (accept_values action.now)) }
 {
     match action {
         Action::Read(format) | Action::Observe(format) | Action::Cancel(format) => {

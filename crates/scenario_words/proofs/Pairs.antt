@@ -18,7 +18,7 @@ use Rattle.scenario_words.specs.HexWord.{digit_of, hex_byte, hex_word}
 use Rattle.scenario_words.specs.Quoted.{is_plain, unquoted, utf8_or_token, text_of, Spells, IsQuoted, escaped}
 use Rattle.scenario_words.specs.Quoted.{quoted_word}
 
-digit_small : (c v : ℕ) → hex_digit_value c ≡ Some v → v < 16
+pub digit_small : (c v : ℕ) → hex_digit_value c ≡ Some v → v < 16
 digit_small c v h = grind (arith)
 
 -- two digits that were read before others

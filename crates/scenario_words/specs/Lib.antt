@@ -1,3 +1,4 @@
+pub mod CauseWords
 pub mod HexWord
 pub mod Number
 pub mod PathWord

@@ -1,3 +1,6 @@
+ghost use Rattle.std.specs.Prelude.{◌≡◌};
+ghost use Rattle.scenario_words.specs.CauseWords.{cause_words};
+
 use std::alloc::{AllocError, AllocFailed};
 use thiserror::Error;
 
@@ -25,6 +28,21 @@ pub enum Cause {
     /// Memory ran out.
     #[error("memory")]
     Memory,
+}
+
+/// Returns the words for a cause, as the bench prints them.
+pub fn cause_words(cause: Cause) -> &'static str
+    ensures { result.now ≡ cause_words cause }
+{
+    match cause {
+        Cause::Missing => "missing",
+        Cause::Token => "token",
+        Cause::UnknownWord => "unknown word",
+        Cause::Range => "range",
+        Cause::Duplicate => "duplicate",
+        Cause::Limit => "limit",
+        Cause::Memory => "memory",
+    }
 }
 
 impl From<AllocError> for Cause {

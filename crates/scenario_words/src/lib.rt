@@ -12,7 +12,7 @@ mod paths;
 mod quotes;
 mod values;
 
-pub use cause::Cause;
+pub use cause::{Cause, cause_words};
 pub use cut::next_line;
 pub use hex_words::{hex_bytes, hex_word};
 pub use laws::{
@@ -21,5 +21,5 @@ pub use laws::{
 pub use line::{end, first_word, is_name, next_word};
 pub use number::{integer, natural};
 pub use paths::path;
-pub use quotes::{quoted, quoted_word};
+pub use quotes::{hex_digit_value, quoted, quoted_word};
 pub use values::{is_too_long, kind, kind_word, name_fault, spell, value};

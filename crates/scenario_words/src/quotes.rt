@@ -23,8 +23,8 @@ fn is_plain(byte: u8) -> bool
     (32 <= byte && byte <= 126) && (byte != b'"' && byte != b'\\')
 }
 
-/// The value of a hex digit, in either case.
-fn digit_value(digit: u8) -> Option<u8>
+/// Returns the value of a hex digit, in either case.
+pub fn hex_digit_value(digit: u8) -> Option<u8>
     ensures value { result ≡ hex_digit_value digit }
     ensures small { MatchOption result (Unit {0}) (λ v. v < 16) }
 {
@@ -45,8 +45,8 @@ fn byte_at(bytes: &[u8]) -> Option<(u8, &[u8])>
 {
     match bytes {
         [b'\\', high, low, behind @ ..] => {
-            let high = digit_value(*high)?;
-            let low = digit_value(*low)?;
+            let high = hex_digit_value(*high)?;
+            let low = hex_digit_value(*low)?;
             Some((high * 16 + low, behind))
         }
         [byte, behind @ ..] if is_plain(*byte) => Some((*byte, behind)),

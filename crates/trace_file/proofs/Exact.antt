@@ -5,15 +5,16 @@ use Rattle.std.specs.Int.{w8, w16, w32}
 use Rattle.std.proofs.lemmas.Bool.{ltb-true}
 use Rattle.std.proofs.lemmas.Bool.Decides.{nat_tests}
 use Rattle.byte_layout.specs.declared.fault.Break.TheVariants.{Magic, Version, BadField}
-use Rattle.byte_layout.specs.Part.{Part, number, judged, split, last, marked, sized}
+use Rattle.byte_layout.specs.Layout.{Layout, number, judged, split, last, marked, sized}
 use Rattle.byte_layout.specs.Exact.{IsExact}
 use Rattle.byte_layout.proofs.Fields.{number_exact, wide8, wide16, wide32}
-use Rattle.byte_layout.proofs.Parts.{fits_exact, split_exact, last_exact, sized_exact, marked_exact}
+use Rattle.byte_layout.proofs.Layouts.{fits_exact, split_exact, last_exact, sized_exact, marked_exact}
 use Rattle.byte_layout.proofs.Lists.{counted_exact}
 use Rattle.device_machine.specs.declared.output.Output.{Output}
 use Rattle.device_machine.specs.declared.output.Output.TheVariants as outputs
 use Rattle.trace_file.specs.declared.entry.Entry.{Entry}
-use Rattle.trace_file.specs.Layout.{number_of, act_numbered, act, kind_of, server_in, bytes_in, act_in, acted, datagram}
+use Rattle.trace_file.specs.Layout.{act_number, act_numbered, act, output_kind, server_in, bytes_in, act_in, acted}
+use Rattle.trace_file.specs.Layout.{datagram}
 use Rattle.trace_file.specs.Layout.{of_kind, output, output_list, entry_of, entry, entry_list, trace_file}
 
 byte_exact : IsExact (number w8)
@@ -25,7 +26,7 @@ short_exact = number_exact w16 wide16
 long_exact : IsExact (number w32)
 long_exact = number_exact w32 wide32
 
-numbered : (n : ℕ) → n < 5 → number_of (act_numbered n) ≡ n
+numbered : (n : ℕ) → n < 5 → act_number (act_numbered n) ≡ n
 numbered zero below = refl
 numbered (suc zero) below = refl
 numbered (suc (suc zero)) below = refl
@@ -36,7 +37,7 @@ numbered (suc (suc (suc (suc (suc n))))) below = absurd (omega arith)
 act_exact : IsExact act
 unfolding act
 act_exact =
-    last_exact number_of act_numbered (judged BadField (λ n. nat_lt n 5) (number w8))
+    last_exact act_number act_numbered (judged BadField (λ n. nat_lt n 5) (number w8))
     (fits_exact (λ n. nat_lt n 5) (number w8) byte_exact)
     (λ n good. numbered n (ltb-true n 5 good.1))
 
@@ -61,17 +62,17 @@ of_kind_exact (suc (suc n)) = acted_exact
 past : (n : ℕ) → (suc (suc (suc n)) == 1 || suc (suc (suc n)) == 2) ≡ false
 past n = grind (arith, nat_tests)
 
-kind_agrees : (k : ℕ) → (k == 1 || k == 2) ≡ true → (o : Output) → (of_kind k).Good o → kind_of o ≡ k
+kind_agrees : (k : ℕ) → (k == 1 || k == 2) ≡ true → (o : Output) → (of_kind k).Good o → output_kind o ≡ k
 unfolding datagram
 kind_agrees zero known o h = absurd cc
-kind_agrees (suc zero) known o h = ap kind_of h.1.1
-kind_agrees (suc (suc zero)) known o h = ap kind_of h.1
+kind_agrees (suc zero) known o h = ap output_kind h.1.1
+kind_agrees (suc (suc zero)) known o h = ap output_kind h.1
 kind_agrees (suc (suc (suc n))) known o h = absurd (let e : true ≡ false = sym known ∙ past n in cc)
 
 pub output_exact : IsExact output
 unfolding output
 output_exact =
-    split_exact kind_of (judged BadField (λ n. n == 1 || n == 2) (number w8)) of_kind
+    split_exact output_kind (judged BadField (λ n. n == 1 || n == 2) (number w8)) of_kind
     (fits_exact (λ n. n == 1 || n == 2) (number w8) byte_exact)
     (λ k good. of_kind_exact k)
     (λ k good o h. kind_agrees k good.1 o h)
@@ -81,10 +82,10 @@ unfolding output_list
 output_list_exact = counted_exact (number w32) (λ before. output) long_exact (λ before. output_exact)
 
 -- what stands behind a worker's number, and behind a device's
-abbrev behind_device : ℕ → ℕ → Part Entry
+abbrev behind_device : ℕ → ℕ → Layout Entry
 behind_device w d = split (λ e. e.step) (number w32) (λ s. last (λ e. e.outputs) (entry_of w d s) output_list)
 
-abbrev behind_worker : ℕ → Part Entry
+abbrev behind_worker : ℕ → Layout Entry
 behind_worker w = split (λ e. e.device) (number w16) (behind_device w)
 
 behind_device_exact : (w d : ℕ) → IsExact (behind_device w d)

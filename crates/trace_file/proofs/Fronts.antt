@@ -8,19 +8,19 @@ use Rattle.byte_layout.specs.declared.fault.Break.{Break}
 use Rattle.byte_layout.specs.declared.fault.Break.TheVariants.{Magic, Version, Cut, Trailing}
 use Rattle.byte_layout.specs.declared.fault.ReadError.{ReadError}
 use Rattle.byte_layout.specs.declared.fault.ReadError.TheVariants as errors
-use Rattle.byte_layout.specs.Part.{Part, ◌>>=◌, raw, number, mark, marked, split, last, each}
+use Rattle.byte_layout.specs.Layout.{Layout, ◌>>=◌, raw, number, mark, marked, split, last, each}
 use Rattle.byte_layout.specs.Outcome.{Fails}
 use Rattle.byte_layout.specs.Exact.{IsExact}
 use Rattle.byte_layout.specs.Whole.{placed, fault_of, read_all}
 use Rattle.byte_layout.proofs.Steps.{went_well, bind_err, barred_err}
 use Rattle.byte_layout.proofs.Fields.{raw_exact, number_exact, wide8, wide32}
-use Rattle.byte_layout.proofs.Parts.{split_exact, last_exact, marked_exact}
+use Rattle.byte_layout.proofs.Layouts.{split_exact, last_exact, marked_exact}
 use Rattle.trace_file.specs.declared.entry.Entry.{Entry}
 use Rattle.trace_file.specs.Layout.{output, output_list, entry, entry_of, entry_list, headed, trace_file, numbers_of}
 use Rattle.trace_file.specs.Layout.{first_numbers, front}
 
 -- a break of the mark, of the version or of the part is one of each part that has its breaks
-headed_off : {A B : Type 0} (p : Part A) (q : Part B) (bytes : List ℕ) (b : Break)
+headed_off : {A B : Type 0} (p : Layout A) (q : Layout B) (bytes : List ℕ) (b : Break)
     → ((rest : List ℕ) → p.read rest ≡ Err b → q.read rest ≡ Err b) → (headed p).read bytes ≡ Err b
     → (headed q).read bytes ≡ Err b
 headed_off p q bytes b within e =
@@ -47,7 +47,7 @@ number_there : (w : Width) (bytes : List ℕ) → byte_len w ≤ length bytes
 unfolding number
 number_there w bytes long = rw (le-ltb (length bytes) (byte_len w) long) refl
 
-split_cut : {A : Type 0} (proj : A → ℕ) (w : Width) (q : ℕ → Part A) (more : ℕ) (bytes : List ℕ)
+split_cut : {A : Type 0} (proj : A → ℕ) (w : Width) (q : ℕ → Layout A) (more : ℕ) (bytes : List ℕ)
     → ((n : ℕ) (rest : List ℕ) → length rest < more → (q n).read rest ≡ Err Cut) → length bytes < byte_len w + more
     → (split proj (number w) q).read bytes ≡ Err Cut
 split_cut proj w q more bytes behind short =

@@ -5,12 +5,13 @@ use Rattle.std.specs.Int.{Width, w8, w16, w32}
 use Rattle.byte_layout.specs.declared.fault.Break.{Break}
 use Rattle.byte_layout.specs.declared.fault.Break.TheVariants as breaks
 use Rattle.byte_layout.specs.declared.fault.LayoutFault.TheVariants as faults
-use Rattle.byte_layout.specs.Part.{Part, raw, number, judged, mark, done, split, last, marked, sized, linked, each}
-use Rattle.byte_layout.specs.Part.{counted}
+use Rattle.byte_layout.specs.Layout.{Layout, raw, number, judged, mark, done, split, last, marked, sized, linked, each}
+use Rattle.byte_layout.specs.Layout.{counted}
 use Rattle.byte_layout.specs.Whole.{HasFault, placed}
 use Rattle.device_machine.specs.declared.output.Output.TheVariants as outputs
 use Rattle.trace_file.specs.declared.entry.Entry.{Entry}
-use Rattle.trace_file.specs.Layout.{number_of, act_numbered, act, kind_of, server_in, bytes_in, act_in, acted, datagram}
+use Rattle.trace_file.specs.Layout.{act_number, act_numbered, act, output_kind, server_in, bytes_in, act_in, acted}
+use Rattle.trace_file.specs.Layout.{datagram}
 use Rattle.trace_file.specs.Layout.{of_kind, output, output_list, entry_of, entry, entry_list, trace_file}
 
 -- the break is no limit's
@@ -23,7 +24,7 @@ Free (breaks.BadField left) = Unit {0}
 Free (breaks.Limit left) = ⊥
 
 -- nor is any of the part's
-abbrev pub IsFree : {A : Type 0} → Part A → Type 0
+abbrev pub IsFree : {A : Type 0} → Layout A → Type 0
 IsFree p = (bytes : List ℕ) (b : Break) → p.Breaks bytes b → Free b
 
 is_free : (b c : Break) → b ≡ c → Free c → Free b
@@ -37,7 +38,7 @@ number_free : (w : Width) → IsFree (number w)
 unfolding number
 number_free w bytes b h = is_free b breaks.Cut h.1 tt
 
-judged_free : {A : Type 0} (fault : ℕ → Break) → ((left : ℕ) → Free (fault left)) → (is_good : A → Bool) (p : Part A)
+judged_free : {A : Type 0} (fault : ℕ → Break) → ((left : ℕ) → Free (fault left)) → (is_good : A → Bool) (p : Layout A)
     → IsFree p → IsFree (judged fault is_good p)
 judged_free fault free is_good p first bytes b h =
     elim h [
@@ -48,7 +49,7 @@ judged_free fault free is_good p first bytes b h =
 done_free : {A : Type 0} (a : A) → IsFree (done a)
 done_free a bytes b h = absurd h
 
-split_free : {A B : Type 0} (proj : A → B) (p : Part B) (q : B → Part A) → IsFree p → ((x : B) → IsFree (q x))
+split_free : {A B : Type 0} (proj : A → B) (p : Layout B) (q : B → Layout A) → IsFree p → ((x : B) → IsFree (q x))
     → IsFree (split proj p q)
 split_free proj p q first second bytes b h =
     elim h [
@@ -56,10 +57,10 @@ split_free proj p q first second bytes b h =
       | inr k ↦ second k.0 k.1 b k.4
     ]
 
-last_free : {A B : Type 0} (proj : A → B) (make : B → A) (p : Part B) → IsFree p → IsFree (last proj make p)
+last_free : {A B : Type 0} (proj : A → B) (make : B → A) (p : Layout B) → IsFree p → IsFree (last proj make p)
 last_free proj make p first = split_free proj p (λ x. done (make x)) first (λ x. done_free (make x))
 
-linked_free : {A : Type 0} (p : Part A) (q : A → Part (List A)) → IsFree p → ((x : A) → IsFree (q x))
+linked_free : {A : Type 0} (p : Layout A) (q : A → Layout (List A)) → IsFree p → ((x : A) → IsFree (q x))
     → IsFree (linked p q)
 linked_free p q first second bytes b h =
     elim h [
@@ -67,17 +68,17 @@ linked_free p q first second bytes b h =
       | inr k ↦ second k.0 k.1 b k.4
     ]
 
-each_free : {A : Type 0} (p : Part A) → IsFree p → (n : ℕ) (before : List A) → IsFree (each (λ xs. p) n before)
+each_free : {A : Type 0} (p : Layout A) → IsFree p → (n : ℕ) (before : List A) → IsFree (each (λ xs. p) n before)
 unfolding each
 each_free {A = A} p free zero before = let none : List A = [] in done_free none
 each_free p free (suc n) before =
     linked_free p (λ a. each (λ xs. p) n (before ++ a ∷ [])) free (λ a. each_free p free n (before ++ a ∷ []))
 
-counted_free : {A : Type 0} (p : Part A) → IsFree p → IsFree (counted (number w32) (λ before. p))
+counted_free : {A : Type 0} (p : Layout A) → IsFree p → IsFree (counted (number w32) (λ before. p))
 counted_free p free =
     split_free length (number w32) (λ n. each (λ before. p) n []) (number_free w32) (λ n. each_free p free n [])
 
-marked_free : {A : Type 0} (fault : Break) → Free fault → (n : ℕ) (p : Part ℕ) (q : Part A) → IsFree p → IsFree q
+marked_free : {A : Type 0} (fault : Break) → Free fault → (n : ℕ) (p : Layout ℕ) (q : Layout A) → IsFree p → IsFree q
     → IsFree (marked fault n p q)
 marked_free fault free n p q first second =
     split_free (λ a. n) (mark fault n p) (λ m. q) (judged_free (λ left. fault) (λ left. free) (λ m. m == n) p first)
@@ -85,7 +86,7 @@ marked_free fault free n p q first second =
 
 act_free : IsFree act
 unfolding act
-act_free = last_free number_of act_numbered (judged breaks.BadField (λ n. nat_lt n 5) (number w8))
+act_free = last_free act_number act_numbered (judged breaks.BadField (λ n. nat_lt n 5) (number w8))
     (judged_free breaks.BadField (λ left. tt) (λ n. nat_lt n 5) (number w8) (number_free w8))
 
 datagram_free : IsFree datagram
@@ -107,7 +108,7 @@ of_kind_free (suc (suc n)) = acted_free
 output_free : IsFree output
 unfolding output
 output_free =
-    split_free kind_of (judged breaks.BadField (λ n. n == 1 || n == 2) (number w8)) of_kind
+    split_free output_kind (judged breaks.BadField (λ n. n == 1 || n == 2) (number w8)) of_kind
     (judged_free breaks.BadField (λ left. tt) (λ n. n == 1 || n == 2) (number w8) (number_free w8)) of_kind_free
 
 output_list_free : IsFree output_list
@@ -115,10 +116,10 @@ unfolding output_list
 output_list_free = counted_free output output_free
 
 -- what stands behind a worker's number, and behind a device's
-abbrev behind_device : ℕ → ℕ → Part Entry
+abbrev behind_device : ℕ → ℕ → Layout Entry
 behind_device w d = split (λ e. e.step) (number w32) (λ s. last (λ e. e.outputs) (entry_of w d s) output_list)
 
-abbrev behind_worker : ℕ → Part Entry
+abbrev behind_worker : ℕ → Layout Entry
 behind_worker w = split (λ e. e.device) (number w16) (behind_device w)
 
 behind_device_free : (w d : ℕ) → IsFree (behind_device w d)

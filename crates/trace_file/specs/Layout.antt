@@ -2,7 +2,7 @@
 use Rattle.std.specs.Prelude.{ℕ, zero, suc, ◌==◌, ◌||◌, List, [], nat_lt, if◌then◌else◌}
 use Rattle.std.specs.Int.{w8, w16, w32}
 use Rattle.byte_layout.specs.declared.fault.Break.TheVariants.{Magic, Version, BadField}
-use Rattle.byte_layout.specs.Part.{Part, raw, number, judged, split, last, marked, done, sized, counted}
+use Rattle.byte_layout.specs.Layout.{Layout, raw, number, judged, split, last, marked, done, sized, counted}
 use Rattle.byte_layout.specs.Whole.{IsAll}
 use Rattle.device_requests.specs.declared.answer.Act.{Act}
 use Rattle.device_requests.specs.declared.answer.Act.TheVariants as acts
@@ -13,12 +13,12 @@ use Rattle.trace_file.specs.declared.entry.Entry.{Entry}
 -- ---- acts
 
 -- the number of an act
-abbrev pub number_of : Act → ℕ
-number_of acts.Reboot = 0
-number_of acts.FactoryReset = 1
-number_of acts.RegUpdate = 2
-number_of acts.Disable = 3
-number_of acts.Missed = 4
+abbrev pub act_number : Act → ℕ
+act_number acts.Reboot = 0
+act_number acts.FactoryReset = 1
+act_number acts.RegUpdate = 2
+act_number acts.Disable = 3
+act_number acts.Missed = 4
 
 -- the act of a number below 5
 abbrev pub act_numbered : ℕ → Act
@@ -27,15 +27,15 @@ act_numbered n =
     else (if n == 2 then acts.RegUpdate else (if n == 3 then acts.Disable else acts.Missed)))
 
 -- an act's number, below 5
-unfoldable pub act : Part Act
-act = last number_of act_numbered (judged BadField (λ n. nat_lt n 5) (number w8))
+unfoldable pub act : Layout Act
+act = last act_number act_numbered (judged BadField (λ n. nat_lt n 5) (number w8))
 
 -- ---- outputs
 
 -- 1 for a datagram, 2 for an act
-abbrev pub kind_of : Output → ℕ
-kind_of (outputs.Send server bytes) = 1
-kind_of (outputs.Act a) = 2
+abbrev pub output_kind : Output → ℕ
+output_kind (outputs.Send server bytes) = 1
+output_kind (outputs.Act a) = 2
 
 -- what an output of a kind holds; of the other kind, anything
 abbrev pub server_in : Output → ℕ
@@ -51,26 +51,26 @@ act_in (outputs.Act a) = a
 act_in _ = acts.Missed
 
 -- a server, any, and a datagram with two bytes of length
-unfoldable pub datagram : Part Output
+unfoldable pub datagram : Layout Output
 datagram = split server_in (number w16) (λ server. last bytes_in (λ bytes. outputs.Send server bytes)
     (sized (number w16)))
 
 -- an act
-abbrev pub acted : Part Output
+abbrev pub acted : Layout Output
 acted = last act_in (λ a. outputs.Act a) act
 
 -- what stands behind the number of a kind: 1 a datagram, any other an act
-abbrev pub of_kind : ℕ → Part Output
+abbrev pub of_kind : ℕ → Layout Output
 of_kind zero = acted
 of_kind (suc zero) = datagram
 of_kind (suc (suc n)) = acted
 
 -- the number of its kind, 1 or 2, and what an output of that kind holds
-unfoldable pub output : Part Output
-output = split kind_of (judged BadField (λ n. n == 1 || n == 2) (number w8)) of_kind
+unfoldable pub output : Layout Output
+output = split output_kind (judged BadField (λ n. n == 1 || n == 2) (number w8)) of_kind
 
 -- four bytes of count, and so many outputs
-unfoldable pub output_list : Part (List Output)
+unfoldable pub output_list : Layout (List Output)
 output_list = counted (number w32) (λ before. output)
 
 -- ---- entries
@@ -79,37 +79,37 @@ abbrev pub entry_of : ℕ → ℕ → ℕ → List Output → Entry
 entry_of worker device step os = record { worker = worker; device = device; step = step; outputs = os }
 
 -- worker, device and step, any, and the outputs
-unfoldable pub entry : Part Entry
+unfoldable pub entry : Layout Entry
 entry = split (λ e. e.worker) (number w16)
     (λ w. split (λ e. e.device) (number w16)
     (λ d. split (λ e. e.step) (number w32) (λ s. last (λ e. e.outputs) (entry_of w d s) output_list)))
 
 -- four bytes of count, and so many entries
-unfoldable pub entry_list : Part (List Entry)
+unfoldable pub entry_list : Layout (List Entry)
 entry_list = counted (number w32) (λ before. entry)
 
 -- the file's mark and version, and this
-abbrev pub headed : {A : Type 0} → Part A → Part A
+abbrev pub headed : {A : Type 0} → Layout A → Layout A
 headed part = marked Magic 0x4C575452 (number w32) (marked Version 1 (number w8) part)
 
 -- the mark and the version alone
-abbrev pub header : Part (Unit {0})
+abbrev pub header : Layout (Unit {0})
 header = headed (done tt)
 
 -- the file's mark and version, and the entries
-unfoldable pub trace_file : Part (List Entry)
+unfoldable pub trace_file : Layout (List Entry)
 trace_file = headed entry_list
 
 -- the bytes of an entry before its outputs: two each for worker and device, four each for the step and the count
-abbrev pub numbers_of : ℕ → Part (List ℕ)
+abbrev pub numbers_of : ℕ → Layout (List ℕ)
 numbers_of entries = raw (if entries == 0 then 0 else 12)
 
 -- how many entries there are, and the numbers of the first of them
-abbrev pub first_numbers : Part (ℕ × List ℕ)
+abbrev pub first_numbers : Layout (ℕ × List ℕ)
 first_numbers = split (λ x. x.0) (number w32) (λ count. last (λ x. x.1) (λ bytes. (count, bytes)) (numbers_of count))
 
 -- the file's front: the mark, the version, how many entries there are, and the numbers of the first of them
-unfoldable pub front : Part (ℕ × List ℕ)
+unfoldable pub front : Layout (ℕ × List ℕ)
 front = headed first_numbers
 
 -- the bytes are a trace file of these entries

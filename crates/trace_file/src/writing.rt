@@ -3,7 +3,8 @@
 ghost use Rattle.std.specs.Prelude.{◌≡◌, ◌↔◌, ◌<◌, ◌++◌, List, ℕ, length, IfOk, IfErr, OnOk, IsTrue};
 ghost use Rattle.device_machine.specs.declared.output.Output.TheVariants.{Send};
 ghost use Rattle.trace_file.specs.declared.fault.WriteFault.TheVariants.{TooLarge};
-ghost use Rattle.trace_file.specs.Layout.{number_of, act, datagram, output, output_list, entry, entry_list, trace_file};
+ghost use Rattle.trace_file.specs.Layout.{act_number, act, datagram, output, output_list, entry, entry_list};
+ghost use Rattle.trace_file.specs.Layout.{trace_file};
 ghost use Rattle.trace_file.specs.Layout.{IsTraceFile};
 
 use crate::entry::Entry;
@@ -74,8 +75,8 @@ fn entries_have_bytes(items: &[Entry]) -> bool
 }
 
 /// The number of an act.
-fn number_of(a: Act) -> u8
-    ensures { result ≡ number_of a }
+fn act_number(a: Act) -> u8
+    ensures { result ≡ act_number a }
 {
     match a {
         Act::Reboot => 0,
@@ -90,7 +91,7 @@ fn number_of(a: Act) -> u8
 fn put_act(out: &mut Vec<u8>, a: Act) -> Result<(), AllocError>
     ensures { OnOk result (out.new.items ≡ out.old.items ++ act.spell a) }
 {
-    put_u8(out, number_of(a))
+    put_u8(out, act_number(a))
 }
 
 #[tactic(auto, unfolding(crate::specs::Layout::datagram))]

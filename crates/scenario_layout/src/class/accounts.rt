@@ -1,7 +1,7 @@
 ghost use Rattle.std.specs.Prelude.{◌≡◌, ◌≢◌, nat_lt, [], OnOk};
 ghost use Rattle.std.specs.List.{list_all};
 ghost use Rattle.byte_layout.specs.Outcome.{Gives};
-ghost use Rattle.byte_layout.specs.Part.{each};
+ghost use Rattle.byte_layout.specs.Layout.{each};
 ghost use Rattle.device_template.specs.Template.{empty_class};
 ghost use Rattle.scenario_layout.specs.Growing.{grown};
 ghost use Rattle.scenario_layout.specs.Class.{account, accounts, with_accounts};

@@ -1,7 +1,7 @@
 ghost use Rattle.std.specs.Prelude.{◌≡◌, [], Some, IfOk, OnOk, None};
 ghost use Rattle.std.specs.FinMap as finite;
 ghost use Rattle.byte_layout.specs.Outcome.{Gives};
-ghost use Rattle.byte_layout.specs.Part.{each};
+ghost use Rattle.byte_layout.specs.Layout.{each};
 ghost use Rattle.object_defs.specs.Path.{instance_cmp};
 ghost use Rattle.scenario_layout.specs.Growing.{grown, is_behind, IsLast};
 ghost use Rattle.scenario_layout.specs.Class.{instance, instances, instances_in, with_instances};

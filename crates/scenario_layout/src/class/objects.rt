@@ -1,7 +1,7 @@
 ghost use Rattle.std.specs.Prelude.{◌≡◌, ◌++◌, ◌∷◌, [], nat_lt, true, IfOk, OnOk, length};
 ghost use Rattle.std.specs.List.{list_all};
 ghost use Rattle.byte_layout.specs.Outcome.{Gives};
-ghost use Rattle.byte_layout.specs.Part.{each};
+ghost use Rattle.byte_layout.specs.Layout.{each};
 ghost use Rattle.object_defs.specs.Base.{base};
 ghost use Rattle.object_defs.specs.Vendor.{is_vendor, new_object};
 ghost use Rattle.object_defs.specs.declared.definition.ObjectDef.{ObjectDef};

@@ -3,7 +3,7 @@ ghost use Rattle.std.specs.FinMap as finite;
 ghost use Rattle.std.specs.List.{list_all};
 ghost use Rattle.std.specs.Ordering.{is_lt};
 ghost use Rattle.byte_layout.specs.Outcome.{Gives};
-ghost use Rattle.byte_layout.specs.Part.{each};
+ghost use Rattle.byte_layout.specs.Layout.{each};
 ghost use Rattle.object_defs.specs.Path.{full_path, path_cmp};
 ghost use Rattle.device_template.specs.Template.{kind_taken, value_fault_at};
 ghost use Rattle.device_template.specs.Values.{has_kind};

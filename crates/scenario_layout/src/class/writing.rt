@@ -1,7 +1,7 @@
 //! A class, written at the end of a vector. Where memory runs out, some of its bytes may have been written.
 
 ghost use Rattle.std.specs.Prelude.{◌≡◌, ◌≤◌, ◌<◌, ◌++◌, List, [], All, length, drop, OnOk};
-ghost use Rattle.byte_layout.specs.Part.{each};
+ghost use Rattle.byte_layout.specs.Layout.{each};
 ghost use Rattle.lwm2m_values.specs.declared.value.Value.{Value};
 ghost use Rattle.lwm2m_values.specs.Value.{IsGood};
 ghost use Rattle.object_defs.specs.Base.{base};

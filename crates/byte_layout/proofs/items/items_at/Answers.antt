@@ -1,6 +1,6 @@
 use Rattle.std.proofs.Common.{[]}
 use Rattle.std.proofs.lemmas.Result.{err_from_is_err_and}
-use Rattle.byte_layout.specs.Part.{each}
+use Rattle.byte_layout.specs.Layout.{each}
 use Rattle.byte_layout.proofs.Loop.{starts, goes_on, ends, is_done}
 use Rattle.byte_layout.proofs.items.items_at.Goals as goal
 

@@ -1,5 +1,5 @@
 use Rattle.std.proofs.Common.{[], ◌-◌}
-use Rattle.byte_layout.specs.Part.{each}
+use Rattle.byte_layout.specs.Layout.{each}
 use Rattle.byte_layout.proofs.Loop.{IsLeft}
 use Rattle.byte_layout.proofs.items.items_at.Given as goal
 

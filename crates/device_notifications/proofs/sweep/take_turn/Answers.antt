@@ -3,7 +3,7 @@ use Rattle.notifier.specs.Observed.{next_number, with_sent}
 use Rattle.notifier.specs.declared.observation.Observation.{Observation}
 use Rattle.device_notifications.specs.Message.{datagram_of}
 use Rattle.device_notifications.specs.Report.{report_of}
-use Rattle.device_notifications.specs.Second.{verdict_of}
+use Rattle.device_notifications.specs.Second.{evaluation_of}
 use Rattle.device_notifications.proofs.Passing.{passes_quiet, passes_sends, passes_gone}
 use Rattle.device_notifications.proofs.sweep.take_turn.Goals as goal
 
@@ -15,7 +15,7 @@ returns-in-Quiet-clause-passes c =
     λ o at.
     let same = some_same c.in-Some.observation.now o (c.in-Some.ensures.value ∙ at) in
     passes_quiet c.args.client.now c.args.clock c.args.observations.now c.args.place o c.args.outbox.now at
-    (sym c.in-Quiet.is ∙ c.in_ok-judge.ensures ∙ ap (λ x. verdict_of c.args.client.now c.args.clock x) same)
+    (sym c.in-Quiet.is ∙ c.in_ok-judge.ensures ∙ ap (λ x. evaluation_of c.args.client.now c.args.clock x) same)
 
 pub returns-in_ok-post-in-Sends-clause-passes : goal.returns-in_ok-post-in-Sends-clause-passes
 returns-in_ok-post-in-Sends-clause-passes c =
@@ -27,7 +27,7 @@ returns-in_ok-post-in-Sends-clause-passes c =
     passes_sends c.args.client.now c.args.clock c.args.observations.now c.sent.new.self c.args.place o c.args.outbox.now
     c.post.new.self
     c.in-Sends.answer c.in_ok-datagram_of-in-Sends.field-0 at
-    (sym c.in-Sends.is ∙ c.in_ok-judge.ensures ∙ ap (λ x. verdict_of c.args.client.now c.args.clock x) same)
+    (sym c.in-Sends.is ∙ c.in_ok-judge.ensures ∙ ap (λ x. evaluation_of c.args.client.now c.args.clock x) same)
     (c.in_ok-datagram_of-in-Sends.ensures ∙ (λ j. datagram_of (same j) (c.next_id-mid.ensures j)
     (Some (number j)) c.in-Sends.answer))
     (c.sent.ensures.sent ∙ (λ j. with_sent c.args.observations.now c.args.place c.args.clock (c.next_id-mid.ensures j)
@@ -41,7 +41,7 @@ returns-in_ok-post-in-Gone-clause-passes c =
     passes_gone c.args.client.now c.args.clock c.args.observations.now c.remove.new.self c.args.place o
     c.args.outbox.now c.post-in-Gone.new.self
     c.in-Gone.answer c.in_ok-datagram_of-in-Gone.field-0
-    (sym c.in-Gone.is ∙ c.in_ok-judge.ensures ∙ ap (λ x. verdict_of c.args.client.now c.args.clock x) same)
+    (sym c.in-Gone.is ∙ c.in_ok-judge.ensures ∙ ap (λ x. evaluation_of c.args.client.now c.args.clock x) same)
     (c.in_ok-datagram_of-in-Gone.ensures ∙ (λ j. datagram_of (same j) (c.next_id-mid.ensures j) None c.in-Gone.answer))
     c.remove.ensures
     c.in_ok-post-in-Gone.ensures.posted

@@ -1,7 +1,7 @@
 use Rattle.std.proofs.Common.{sym, ap, subst, ◌∙◌}
 use Rattle.lwm2m_values.specs.Tlv.{AreNested}
 use Rattle.lwm2m_values.specs.Tree.{trees_of}
-use Rattle.lwm2m_values.specs.declared.level.Level.TheVariants.{Top}
+use Rattle.lwm2m_values.specs.declared.level.Around.TheVariants.{Top}
 use Rattle.lwm2m_payloads.proofs.Nesting.{nested_object}
 use Rattle.lwm2m_payloads.proofs.payloads.object_tlv.Goals as goal
 

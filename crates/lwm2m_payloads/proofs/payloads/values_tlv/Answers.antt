@@ -1,7 +1,7 @@
 use Rattle.std.proofs.Common.{sym, ap, subst, ◌∙◌}
 use Rattle.lwm2m_values.specs.Tlv.{AreNested}
 use Rattle.lwm2m_values.specs.Tree.{trees_of}
-use Rattle.lwm2m_values.specs.declared.level.Level.TheVariants.{Top}
+use Rattle.lwm2m_values.specs.declared.level.Around.TheVariants.{Top}
 use Rattle.lwm2m_payloads.specs.Nodes.{shown_in}
 use Rattle.lwm2m_payloads.proofs.Nesting.{nested}
 use Rattle.lwm2m_payloads.proofs.payloads.values_tlv.Goals as goal

@@ -1,4 +1,4 @@
-use Rattle.lwm2m_values.specs.declared.level.Level.TheVariants.{Top}
+use Rattle.lwm2m_values.specs.declared.level.Around.TheVariants.{Top}
 use Rattle.lwm2m_values.proofs.OneTlv.{one_reading, one_fault, not_both}
 use Rattle.lwm2m_values.proofs.Shortest.{nodes_written}
 use Rattle.lwm2m_values.proofs.NoShorter.{no_shorter_nodes}

@@ -1,5 +1,5 @@
 use Rattle.std.proofs.Common.{◌≡◌, ◌++◌, sym, ap, subst, ◌∙◌}
-use Rattle.lwm2m_values.specs.declared.level.Level.TheVariants.{Top}
+use Rattle.lwm2m_values.specs.declared.level.Around.TheVariants.{Top}
 use Rattle.lwm2m_values.specs.Tree.{trees_of}
 use Rattle.lwm2m_values.specs.Tlv.{IsTlv, shortest_tlv}
 use Rattle.lwm2m_values.proofs.Shortest.{nodes_written}

@@ -2,7 +2,7 @@ use Rattle.std.proofs.Common.{get_or, arith, eqb-true, below_more, cond, ltb, So
 use Rattle.std.proofs.lemmas.Bool.{eqb-false}
 use Rattle.std.specs.Int.{IsInRange}
 use Rattle.std.proofs.lemmas.Int.Digits.{digits_value_more}
-use Rattle.object_defs.proofs.Digits.{none-empty, none-long, none-zero, none-other, zero_alone, number_of-digits}
+use Rattle.object_defs.proofs.Digits.{none-empty, none-long, none-zero, none-other, zero_alone, decimal_number-digits}
 use Rattle.object_defs.proofs.Digits.{digit_value-digit, short_number, outside, narrowed, all_read}
 use Rattle.object_defs.proofs.decimal.read.Goals as goal
 
@@ -61,5 +61,5 @@ returns c =
     c.ok.ensures.value
     ∙ narrowed c.try_from.result c.loop-byte.number c.try_from.ensures
     ∙ ap (λ n. cond (ltb n 65536) (Some n) None) number
-    ∙ sym (number_of-digits c.args.segment.now (λ k h. c.loop-byte.invariant.digits k (omega arith))
+    ∙ sym (decimal_number-digits c.args.segment.now (λ k h. c.loop-byte.invariant.digits k (omega arith))
     (omega (arith, eqb-false _ _ (sym c.if-is_empty.ensures))) c.if-segment-eq48.false c.if-segment-gt5.false)

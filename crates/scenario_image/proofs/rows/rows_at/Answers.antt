@@ -1,6 +1,6 @@
 use Rattle.std.proofs.Common.{[], sym, subst}
 use Rattle.byte_layout.specs.Outcome.{Gives}
-use Rattle.byte_layout.specs.Part.{◌>>=◌, each}
+use Rattle.byte_layout.specs.Layout.{◌>>=◌, each}
 use Rattle.scenario_image.specs.Layout.{row, rows}
 use Rattle.scenario_image.proofs.rows.rows_at.Goals as goal
 

@@ -1,5 +1,5 @@
 use Rattle.std.proofs.Common.{◌-◌, []}
-use Rattle.byte_layout.specs.Part.{each}
+use Rattle.byte_layout.specs.Layout.{each}
 use Rattle.scenario_layout.specs.Class.{account, with_accounts}
 use Rattle.scenario_layout.proofs.Growth.{IsFilled}
 use Rattle.scenario_layout.proofs.class.accounts.accounts_each.Given as goal

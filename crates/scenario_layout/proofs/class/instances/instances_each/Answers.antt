@@ -1,6 +1,6 @@
 use Rattle.std.proofs.Common.{[]}
 use Rattle.std.proofs.lemmas.Result.{err_from_is_err_and}
-use Rattle.byte_layout.specs.Part.{each}
+use Rattle.byte_layout.specs.Layout.{each}
 use Rattle.scenario_layout.specs.Class.{instance, instances_in, with_instances}
 use Rattle.scenario_layout.proofs.Growth.{filled_starts, filled_on, filled_no_more, filled_done}
 use Rattle.scenario_layout.proofs.Filling.{instances_same, instances_twice, instances_itself, instances_none}

@@ -1,5 +1,5 @@
 use Rattle.std.proofs.Common.{◌-◌, []}
-use Rattle.byte_layout.specs.Part.{each}
+use Rattle.byte_layout.specs.Layout.{each}
 use Rattle.object_defs.specs.Path.{instance_cmp}
 use Rattle.scenario_layout.specs.Growing.{IsLast}
 use Rattle.scenario_layout.specs.Class.{instance, instances_in, with_instances}

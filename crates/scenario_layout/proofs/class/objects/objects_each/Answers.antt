@@ -1,6 +1,6 @@
 use Rattle.std.proofs.Common.{[]}
 use Rattle.std.proofs.lemmas.Result.{err_from_is_err_and}
-use Rattle.byte_layout.specs.Part.{each}
+use Rattle.byte_layout.specs.Layout.{each}
 use Rattle.scenario_layout.specs.Class.{object, objects_in, with_objects}
 use Rattle.scenario_layout.proofs.Growth.{filled_starts, filled_on, filled_no_more, filled_done}
 use Rattle.scenario_layout.proofs.Filling.{objects_same, objects_twice, objects_none, objects_itself, objects_now}

@@ -1,5 +1,5 @@
 ghost use Rattle.std.specs.Prelude.{◌≡◌, IfOk};
-ghost use Rattle.device_notifications.specs.Second.{is_due_now, triggers_now, verdict_of};
+ghost use Rattle.device_notifications.specs.Second.{is_due_now, triggers_now, evaluation_of};
 
 use crate::period::{pmax_of, pmin_of};
 use crate::report::number_at;
@@ -9,7 +9,7 @@ use std::alloc::AllocError;
 
 /// What an observation does in a second.
 #[derive(Clone, Debug, Drop)]
-pub enum Verdict {
+pub enum Evaluation {
     /// Nothing.
     Quiet,
     /// It notifies its server of this answer.
@@ -50,15 +50,15 @@ pub(crate) fn judge(
     client: &Client,
     clock: u64,
     observation: &Observation,
-) -> Result<Verdict, AllocError>
-    ensures { IfOk result (λ v. v ≡ verdict_of client.now clock observation.now) }
+) -> Result<Evaluation, AllocError>
+    ensures { IfOk result (λ v. v ≡ evaluation_of client.now clock observation.now) }
 {
     let answer = client.read(observation.server, observation.path, observation.accept)?;
     if !answer.is_content() {
-        return Ok(Verdict::Gone(answer));
+        return Ok(Evaluation::Gone(answer));
     }
     if is_due_now(client, clock, observation, answer.payload.as_slice()) {
-        return Ok(Verdict::Sends(answer));
+        return Ok(Evaluation::Sends(answer));
     }
-    Ok(Verdict::Quiet)
+    Ok(Evaluation::Quiet)
 }

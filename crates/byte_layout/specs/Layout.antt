@@ -1,4 +1,4 @@
--- The parts that a format of bytes is put together from.
+-- Layouts of bytes, from which formats are put together.
 use Rattle.std.specs.Prelude.{◌≡◌, ℕ, zero, suc, ◌+◌, ◌^◌, ◌<◌, ◌⊎◌, ◌==◌, Bool, true, false, List, [], ◌∷◌, ◌++◌}
 use Rattle.std.specs.Prelude.{length, take, drop, Result, Ok, Err, nat_lt, if◌then◌else◌}
 use Rattle.std.specs.Int.{Width, byte_len, to_be_bytes, from_be_bytes, cast_signed, cast_unsigned}
@@ -12,8 +12,8 @@ abbrev pub ◌>>=◌ : {A B : Type 0} → Result A Break → (A → Result B Bre
 (Ok x) >>= f = f x
 (Err b) >>= f = Err b
 
--- a part of a format, for values of this type
-pub record Part (A : Type 0) : Type 1 where
+-- how values of this type are laid out as bytes
+pub record Layout (A : Type 0) : Type 1 where
   -- the bytes of a value
   pub spell : A → List ℕ
   -- the value may stand here
@@ -24,7 +24,7 @@ pub record Part (A : Type 0) : Type 1 where
   pub read : List ℕ → Result (A × List ℕ) Break
 
 -- so many bytes, whatever they are
-unfoldable pub raw : ℕ → Part (List ℕ)
+unfoldable pub raw : ℕ → Layout (List ℕ)
 raw n = record {
   spell = λ a. a;
   Good = λ a. length a ≡ n;
@@ -33,7 +33,7 @@ raw n = record {
 }
 
 -- an unsigned number of this width, the high byte first
-unfoldable pub number : Width → Part ℕ
+unfoldable pub number : Width → Layout ℕ
 number w = record {
   spell = to_be_bytes w;
   Good = λ n. n < 256 ^ byte_len w;
@@ -42,9 +42,9 @@ number w = record {
       else Ok (from_be_bytes w (take (byte_len w) bytes), drop (byte_len w) bytes);
 }
 
--- a part whose value has to pass a test, made once all of it is there. A value that fails breaks the bytes off at its
+-- a layout whose value has to pass a test, made once all of it is there. A value that fails breaks the bytes off at its
 -- first byte: the fault is told how many bytes are left from there
-abbrev pub judged : {A : Type 0} → (ℕ → Break) → (A → Bool) → Part A → Part A
+abbrev pub judged : {A : Type 0} → (ℕ → Break) → (A → Bool) → Layout A → Layout A
 judged fault is_good p = record {
   spell = p.spell;
   Good = λ a. p.Good a × (is_good a ≡ true);
@@ -55,15 +55,15 @@ judged fault is_good p = record {
 }
 
 -- a count or a length that is at most the limit
-abbrev pub at_most : ℕ → Part ℕ → Part ℕ
+abbrev pub at_most : ℕ → Layout ℕ → Layout ℕ
 at_most limit p = judged Limit (λ n. nat_lt n (limit + 1)) p
 
 -- one number and no other: what marks a format, or its version
-abbrev pub mark : Break → ℕ → Part ℕ → Part ℕ
+abbrev pub mark : Break → ℕ → Layout ℕ → Layout ℕ
 mark fault n p = judged (λ left. fault) (λ m. m == n) p
 
 -- no bytes: the value is known
-abbrev pub done : {A : Type 0} → A → Part A
+abbrev pub done : {A : Type 0} → A → Layout A
 done a = record {
   spell = λ x. [];
   Good = λ x. x ≡ a;
@@ -71,8 +71,8 @@ done a = record {
   read = λ bytes. Ok (a, bytes);
 }
 
--- what this takes of the value, by the first part; then, knowing it, the rest of the value by the second
-abbrev pub split : {A B : Type 0} → (A → B) → Part B → (B → Part A) → Part A
+-- what this takes of the value, by the first layout; then, knowing it, the rest of the value by the second
+abbrev pub split : {A B : Type 0} → (A → B) → Layout B → (B → Layout A) → Layout A
 split proj p q = record {
   spell = λ a. p.spell (proj a) ++ (q (proj a)).spell a;
   Good = λ a. p.Good (proj a) × (q (proj a)).Good a;
@@ -82,32 +82,32 @@ split proj p q = record {
 }
 
 -- the last field: the value is made of it
-abbrev pub last : {A B : Type 0} → (A → B) → (B → A) → Part B → Part A
+abbrev pub last : {A B : Type 0} → (A → B) → (B → A) → Layout B → Layout A
 last proj make p = split proj p (λ b. done (make b))
 
 -- one number and no other, and then the rest of the value
-abbrev pub marked : {A : Type 0} → Break → ℕ → Part ℕ → Part A → Part A
+abbrev pub marked : {A : Type 0} → Break → ℕ → Layout ℕ → Layout A → Layout A
 marked fault n p q = split (λ a. n) (mark fault n p) (λ m. q)
 
 -- a signed number of this width, in two's complement, the high byte first
-abbrev pub signed : Width → Part ℤ
+abbrev pub signed : Width → Layout ℤ
 signed w = last (cast_unsigned w) (cast_signed w) (number w)
 
--- a length by this part, and so many bytes
-abbrev pub sized : Part ℕ → Part (List ℕ)
+-- a length by this layout, and so many bytes
+abbrev pub sized : Layout ℕ → Layout (List ℕ)
 sized len = split length len raw
 
 -- no list but the empty one has no head
-abbrev pub LinkedGood : {A : Type 0} → Part A → (A → Part (List A)) → List A → Type 0
+abbrev pub LinkedGood : {A : Type 0} → Layout A → (A → Layout (List A)) → List A → Type 0
 LinkedGood p q [] = ⊥
 LinkedGood p q (a ∷ tail) = p.Good a × (q a).Good tail
 
-abbrev pub linked_bytes : {A : Type 0} → Part A → (A → Part (List A)) → List A → List ℕ
+abbrev pub linked_bytes : {A : Type 0} → Layout A → (A → Layout (List A)) → List A → List ℕ
 linked_bytes p q [] = []
 linked_bytes p q (a ∷ tail) = p.spell a ++ (q a).spell tail
 
--- a list that is not empty: its head by the first part; then, knowing it, its tail by the second
-abbrev pub linked : {A : Type 0} → Part A → (A → Part (List A)) → Part (List A)
+-- a list that is not empty: its head by the first layout; then, knowing it, its tail by the second
+abbrev pub linked : {A : Type 0} → Layout A → (A → Layout (List A)) → Layout (List A)
 linked p q = record {
   spell = linked_bytes p q;
   Good = LinkedGood p q;
@@ -116,11 +116,11 @@ linked p q = record {
   read = λ bytes. p.read bytes >>= λ x. (q x.0).read x.1 >>= λ xs. Ok (x.0 ∷ xs.0, xs.1);
 }
 
--- so many items, each by a part that knows the list of those before it
-unfoldable pub each : {A : Type 0} → (List A → Part A) → ℕ → List A → Part (List A)
+-- so many items, each by a layout that knows the list of those before it
+unfoldable pub each : {A : Type 0} → (List A → Layout A) → ℕ → List A → Layout (List A)
 each part zero before = done []
 each part (suc n) before = linked (part before) (λ a. each part n (before ++ a ∷ []))
 
--- a count by this part, and so many items
-abbrev pub counted : {A : Type 0} → Part ℕ → (List A → Part A) → Part (List A)
+-- a count by this layout, and so many items
+abbrev pub counted : {A : Type 0} → Layout ℕ → (List A → Layout A) → Layout (List A)
 counted count part = split length count (λ n. each part n [])
