@@ -12,7 +12,8 @@ use Rattle.trace_file.specs.declared.entry.Entry.{Entry}
 use Rattle.fleet_core.specs.Along.{Along}
 use Rattle.fleet_core.specs.Run.{steps_in, step_in, step_at, made_by, is_post, posts_of, may_pass, is_enabled, entry_of}
 use Rattle.fleet_core.specs.Run.{Fits, IsLowest, IsSerial}
-use Rattle.fleet_core.specs.Board.{Seen, with_entry, cursor_after, marks_after, marks_with}
+use Rattle.fleet_core.specs.Board.{Seen, with_entry}
+use Rattle.fleet_core.specs.Cursor.{cursor_after, marks_after, marks_with}
 use Rattle.fleet_core.proofs.Along.{along-append, along_weaker}
 use Rattle.fleet_core.proofs.Posts.{one, made_same, made_other, posts-push, fits_enabled, enabled_fits, blocked_ended}
 

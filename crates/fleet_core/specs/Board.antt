@@ -1,5 +1,5 @@
 -- What contracts see of a fleet, and what it keeps.
-use Rattle.std.specs.Prelude.{◌≡◌, ℕ, ◌+◌, ◌<◌, Bool, true, false, List, [], ◌∷◌, ◌++◌, length, min, Option, None, Some}
+use Rattle.std.specs.Prelude.{◌≡◌, ℕ, ◌+◌, ◌<◌, Bool, true, false, List, [], ◌∷◌, ◌++◌, length, Some}
 use Rattle.std.specs.Prelude.{slice_get, slice_index, slice_set}
 use Rattle.device_template.specs.Template.{Template}
 use Rattle.device_machine.specs.State.{Device, Shows}
@@ -57,28 +57,6 @@ posts_after posts (Need group count) = posts
 abbrev pub with_entry : Seen → ℕ → ℕ → Seen
 with_entry v worker d =
     record { scenario = v.scenario; entries = v.entries ++ entry_of v.scenario worker d v.entries ∷ []; spent = false }
-
--- behind a post a device may be able to go that waits for its group, so none below the group's mark; behind another
--- step of a device none that couldn't before
-abbrev pub cursor_after : List ℕ → Option Step → ℕ → ℕ
-cursor_after wake None low = low
-cursor_after wake (Some (Event event)) low = low
-cursor_after wake (Some (Post group)) low = min low (slice_index wake group)
-cursor_after wake (Some (Need group count)) low = low
-
--- behind a post the cursor is at the group's mark or below it, so that the group needs none
-abbrev pub marks_after : List ℕ → Option Step → List ℕ
-marks_after wake None = wake
-marks_after wake (Some (Event event)) = wake
-marks_after wake (Some (Post group)) = slice_set wake group 65535
-marks_after wake (Some (Need group count)) = wake
-
--- where the device waits for a group, the group's mark is at it, if it wasn't lower
-abbrev pub marks_with : List ℕ → Option Step → ℕ → List ℕ
-marks_with wake None low = wake
-marks_with wake (Some (Event event)) low = wake
-marks_with wake (Some (Post group)) low = wake
-marks_with wake (Some (Need group count)) low = slice_set wake group (min (slice_index wake group) low)
 
 -- the entry came next, and has been added
 pub record Continues (old new : Seen) (e : Entry) : Type 0 where

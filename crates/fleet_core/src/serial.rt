@@ -4,7 +4,8 @@ ghost use Rattle.std.specs.Prelude.{◌≡◌, ℕ, ◌++◌, ◌∷◌, List, l
 ghost use Rattle.std.specs.Option.{option_copied};
 ghost use Rattle.trace_file.specs.declared.entry.Entry.{Entry};
 ghost use Rattle.fleet_core.specs.Run.{is_enabled, IsComplete, IsSerial, IsSame};
-ghost use Rattle.fleet_core.specs.Board.{with_entry, cursor_after, marks_after, marks_with};
+ghost use Rattle.fleet_core.specs.Board.{with_entry};
+ghost use Rattle.fleet_core.specs.Cursor.{cursor_after, marks_after, marks_with};
 
 use crate::fault::CommitFault;
 use crate::fleet::Fleet;

@@ -1,4 +1,5 @@
--- How the store keeps its instances: for each object the ascending numbers of its instances.
+-- How the store keeps its instances, for each object the ascending numbers of its instances, as clauses of private
+-- functions name it. No promise rests on it.
 use Rattle.std.specs.Prelude.{ℕ, ◌==◌, not, List, [], ◌∷◌, ◌++◌, map}
 use Rattle.std.specs.List.{filter}
 use Rattle.std.specs.Ordering.{nat_cmp}

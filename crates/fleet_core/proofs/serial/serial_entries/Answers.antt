@@ -1,6 +1,6 @@
 use Rattle.std.proofs.Common.{◌<◌, ◌≤◌, length, sym, ap, subst, ◌∙◌, arith}
 use Rattle.fleet_core.specs.Run.{IsSerial}
-use Rattle.fleet_core.specs.Board.{cursor_after, marks_after, marks_with}
+use Rattle.fleet_core.specs.Cursor.{cursor_after, marks_after, marks_with}
 use Rattle.fleet_core.proofs.Lowest.{goes_on, passes_on, goes_down, arrives}
 use Rattle.fleet_core.proofs.serial.serial_entries.Goals as goal
 
