@@ -147,13 +147,15 @@ def write_apart(path, steps, devices):
 
 
 def once(command, wanted, given=os.devnull):
-    """Seconds by the clock and of processors, and KiB of memory, of one run, which has to print this line."""
+    """Seconds by the clock until its line is there, seconds of processors and KiB of memory until its end, of one run,
+    which has to print just this line."""
     with open(given, "rb") as source:
         begun = time.monotonic()
         child = subprocess.Popen(command, stdin=source, stdout=subprocess.PIPE)
-        line = child.stdout.read().decode()
-        _, status, usage = os.wait4(child.pid, 0)
+        line = child.stdout.readline().decode()
         taken = time.monotonic() - begun
+        line += child.stdout.read().decode()
+        _, status, usage = os.wait4(child.pid, 0)
     child.returncode = os.waitstatus_to_exitcode(status)
     child.stdout.close()
     if child.returncode != 0 or line != wanted:

@@ -1,5 +1,5 @@
 -- What a server may do to an object instance (OMA LwM2M 1.1 Core, access control; the cases are this profile's).
-use Rattle.std.specs.Prelude.{ℕ, ◌==◌, nat_le, ℤ, pos, negsuc, bit_and, Bool, true, false, not, ◌&&◌, Option, None}
+use Rattle.std.specs.Prelude.{ℕ, ◌==◌, nat_le, ℤ, bit_and, Bool, true, false, not, ◌&&◌, Option, None}
 use Rattle.std.specs.Prelude.{Some, find, if◌then◌else◌}
 use Rattle.std.specs.Int.{w64, cast_unsigned}
 use Rattle.lwm2m_values.specs.Value.{is_integer}

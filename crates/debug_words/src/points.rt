@@ -1,6 +1,6 @@
 //! The points of breakpoints, and the arguments that other commands have too.
 
-ghost use Rattle.std.specs.Prelude.{◌≡◌, ◌≤◌, ◌<◌, IfOk, MatchOption};
+ghost use Rattle.std.specs.Prelude.{◌≤◌, IfOk};
 ghost use Rattle.scenario_words.specs.Words.{words};
 ghost use Rattle.scenario_words.specs.Reading.{Reads, word_by};
 ghost use Rattle.debug_words.specs.Reading.{byte_of, code_point, device_and_path, only_number, point_by, step_point};

@@ -3,7 +3,7 @@ ghost use Rattle.std.specs.Prelude.{◌≤◌};
 ghost use Rattle.std.specs.Thread.{IsSync};
 
 use crate::turns::{claimed, is_put};
-use fleet_core::{run_serial, start_devices, write_entries};
+use fleet_core::{Entries, run_serial, start_devices, write_entries};
 use fleet_workers::{OpenGate, run_fleet, worker_loop};
 use scenario_image::{Scenario, load};
 use shared_trace::Trace;
@@ -13,24 +13,38 @@ use std::sync::Wait;
 use std::thread::Threads;
 use ticket_lock::TicketLock;
 
+/// A run that was made. It is held until the number of its steps is printed: letting it go is no step of it.
+#[derive(Drop)]
+struct Made {
+    count: usize,
+    _entries: Entries,
+}
+
+fn made_of(entries: Entries) -> Made {
+    Made {
+        count: entries.as_slice().len(),
+        _entries: entries,
+    }
+}
+
 /// Starts the devices, and makes no step.
-fn by_nobody(alloc: Global, scenario: &Scenario) -> Option<usize> {
+fn by_nobody(alloc: Global, scenario: &Scenario) -> Option<Made> {
     match start_devices(alloc, scenario) {
-        Ok(_) => Some(0),
+        Ok(_) => Some(made_of(Entries::new(alloc))),
         Err(_) => None,
     }
 }
 
-/// How many steps the serial run has.
-fn by_serial(alloc: Global, scenario: &Scenario) -> Option<usize> {
+/// The serial run.
+fn by_serial(alloc: Global, scenario: &Scenario) -> Option<Made> {
     match run_serial(alloc, scenario) {
-        Ok(entries) => Some(entries.as_slice().len()),
+        Ok(entries) => Some(made_of(entries)),
         Err(_) => None,
     }
 }
 
-/// How many steps one worker makes.
-fn by_one<R: Wait>(rt: &R, alloc: Global, scenario: &Scenario, batch: u32) -> Option<usize>
+/// The run that one worker makes.
+fn by_one<R: Wait>(rt: &R, alloc: Global, scenario: &Scenario, batch: u32) -> Option<Made>
     requires { 1 ≤ batch }
 {
     let Ok(trace) = Trace::new(alloc, scenario) else {
@@ -43,19 +57,19 @@ fn by_one<R: Wait>(rt: &R, alloc: Global, scenario: &Scenario, batch: u32) -> Op
     let Ok(trace) = lock.close(pass) else {
         unreachable!()
     };
-    Some(trace.into_entries().as_slice().len())
+    Some(made_of(trace.into_entries()))
 }
 
 /// How often one worker claims a device and puts it again without a step: as often as the rows have steps.
-fn by_visits<R: Wait>(rt: &R, alloc: Global, scenario: &Scenario) -> Option<usize> {
+fn by_visits<R: Wait>(rt: &R, alloc: Global, scenario: &Scenario) -> Option<Made> {
     let Ok(trace) = Trace::new(alloc, scenario) else {
         return None;
     };
     let Ok((lock, mut pass)) = TicketLock::new(trace, alloc) else {
         return None;
     };
-    let total = scenario.steps();
-    for _made in 0..total {
+    let count = scenario.steps();
+    for _visit in 0..count {
         let (outside, job) = claimed(rt, &lock, pass);
         let Some(job) = job else {
             return None;
@@ -66,33 +80,36 @@ fn by_visits<R: Wait>(rt: &R, alloc: Global, scenario: &Scenario) -> Option<usiz
             return None;
         }
     }
-    Some(total)
+    Some(Made {
+        count,
+        _entries: Entries::new(alloc),
+    })
 }
 
-/// How many steps two workers make.
+/// The run that two workers make.
 fn by_two<R: Threads + Wait + Sync>(
     rt: &R,
     alloc: Global,
     scenario: &Scenario,
     batch: u32,
-) -> Option<usize>
+) -> Option<Made>
     requires { IsSync R.row }
 {
     match run_fleet(rt, alloc, scenario, 2, batch, &OpenGate) {
-        Ok(run) => Some(run.entries.as_slice().len()),
+        Ok(run) => Some(made_of(run.entries)),
         Err(_) => None,
     }
 }
 
-/// How many steps the run of this kind makes: `start` starts the devices alone, `two 16` lets two workers run with
+/// The run of this kind: `start` starts the devices alone, `two 16` lets two workers run with
 /// batches of 16, and `one row` lets one make each row as a single batch. `visits` makes none: it claims and puts as
 /// often as there are steps.
-fn steps<R: Threads + Wait + Sync>(
+fn made<R: Threads + Wait + Sync>(
     rt: &R,
     alloc: Global,
     kind: &str,
     scenario: &Scenario,
-) -> Option<usize>
+) -> Option<Made>
     requires { IsSync R.row }
 {
     match kind {
@@ -151,8 +168,11 @@ pub fn run<R: Threads + Wait + Sync + Print>(rt: &R, alloc: Global, text: &str) 
             None => println!(rt; "no run"),
         };
     }
-    match steps(rt, alloc, kind, &scenario) {
-        Some(count) => println!(rt; "steps {count}"),
+    match made(rt, alloc, kind, &scenario) {
+        Some(run) => {
+            let count = run.count;
+            println!(rt; "steps {count}")
+        }
         None => println!(rt; "no run"),
     }
 }
