@@ -23,7 +23,7 @@ use Rattle.device_requests.specs.declared.answer.Code.TheVariants.{Created, Dele
 use Rattle.device_requests.specs.declared.answer.Code.TheVariants.{Unauthorized, BadOption, NotFound, MethodNotAllowed}
 use Rattle.device_requests.specs.declared.answer.Code.TheVariants.{NotAcceptable, UnsupportedContentFormat}
 use Rattle.device_requests.specs.declared.answer.Code.TheVariants.{InternalServerError}
-use Rattle.device_notifications.specs.Message.{datagram_of, format_option}
+use Rattle.device_notifications.specs.Message.{datagram_of, format_options}
 use Rattle.device_notifications.specs.Second.{Turn, present, second, seconds, turn_by, turn_of}
 use Rattle.device_notifications.specs.declared.datagram.Datagram.{Datagram}
 use Rattle.device_notifications.proofs.Turns.{both, by_evaluation}
@@ -81,7 +81,7 @@ numbered before option None rest h k l m = l
 numbered before option (Some n) rest h k l m =
     (record { ascends = h; in_range = omega (arith); fits = short_number n }, m)
 
-format_follows : (before : ℕ) (format : Option ℕ) → before ≤ 12 → IsOptionList before (format_option format)
+format_follows : (before : ℕ) (format : Option ℕ) → before ≤ 12 → IsOptionList before (format_options format)
 format_follows before None h = tt
 format_follows before (Some f) h = (record { ascends = h; in_range = omega (arith); fits = short_number f }, tt)
 
@@ -133,15 +133,15 @@ spelled kind code mid token options payload h k o =
 
 -- ---- what observations send
 
-notification_options : (number format : Option ℕ) → IsOptionList 0 (number_option 6 number ++ format_option format)
+notification_options : (number format : Option ℕ) → IsOptionList 0 (number_option 6 number ++ format_options format)
 notification_options number format =
-    numbered 0 6 number (format_option format) (omega arith) (omega arith) (format_follows 0 format (omega arith))
+    numbered 0 6 number (format_options format) (omega arith) (omega arith) (format_follows 0 format (omega arith))
     (format_follows 6 format (omega arith))
 
 told : (o : Observation) (mid : ℕ) (number : Option ℕ) (answer : Answer) → HasToken o → mid < 65536
     → IsMessage (datagram_of o mid number answer).bytes
 told o mid number answer h k =
-    spelled Non answer.code mid o.token (number_option 6 number ++ format_option answer.format) answer.payload k h
+    spelled Non answer.code mid o.token (number_option 6 number ++ format_options answer.format) answer.payload k h
     (notification_options number answer.format)
 
 id_fits : (n : ℕ) → (n + 1) % 65536 < 65536
@@ -224,7 +224,7 @@ starts class = record { next_id = omega arith; tokens = tt; replies = tt }
 -- ---- what arrives
 
 location_follows : (before : ℕ) (location : Option InstancePath) (format : Option ℕ) → before ≤ 8 → IsShort location
-    → IsOptionList before (location_options location ++ format_option format)
+    → IsOptionList before (location_options location ++ format_options format)
 location_follows before None format b h = format_follows before format (omega (arith))
 location_follows before (Some place) format b h = (
   record { ascends = omega (arith); in_range = omega (arith); fits = omega (arith, h.0) },
@@ -237,7 +237,7 @@ location_follows before (Some place) format b h = (
 in_order : (number : Option ℕ) (location : Option InstancePath) (format : Option ℕ) → IsShort location
     → IsOptionList 0 (answer_options number location format)
 in_order number location format h =
-    numbered 0 6 number (location_options location ++ format_option format) (omega (arith)) (omega (arith))
+    numbered 0 6 number (location_options location ++ format_options format) (omega (arith)) (omega (arith))
     (location_follows 0 location format (omega (arith)) h) (location_follows 6 location format (omega (arith)) h)
 
 answered : (kind : Kind) (mid : ℕ) (token : List ℕ) (number : Option ℕ) (answer : Answer) → mid < 65536

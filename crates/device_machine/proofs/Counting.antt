@@ -19,7 +19,7 @@ use Rattle.device_requests.specs.declared.answer.Code.TheVariants.{BadOption}
 use Rattle.device_requests.specs.declared.answer.Answer.{Answer}
 use Rattle.device_requests.specs.declared.observe.Interest.{Interest}
 use Rattle.device_requests.specs.declared.observe.Interest.TheVariants.{Register}
-use Rattle.device_notifications.specs.Message.{format_option, observe_option}
+use Rattle.device_notifications.specs.Message.{format_options, observe_options}
 use Rattle.device_machine.specs.Observing.{Noted, begun, entered, lacks_place, noted, noted_by, unobserved}
 use Rattle.device_machine.specs.State.{Machine, Kept, with_client, with_observations}
 use Rattle.device_machine.specs.Reactions.{acted, location_options, on_noted, on_outcome, reply_to, response, sent_to}
@@ -92,8 +92,8 @@ counted_con f server m outcome told n k number left =
       act = answer.act;
       sent = ap (λ kind. sent_to server (option_map spelling (reply_to f.kept.next_id m kind told.number answer))
           ++ acted answer.act) k;
-      options = location_options answer.location ++ format_option answer.format;
-      observe = ap (λ o. observe_option o ++ (location_options answer.location ++ format_option answer.format)) number;
+      options = location_options answer.location ++ format_options answer.format;
+      observe = ap (λ o. observe_options o ++ (location_options answer.location ++ format_options answer.format)) number;
     }
 
 counted_non : (f : Machine) (server : ℕ) (m : Message) (outcome : Outcome) (told : Noted) (n : ℕ) → m.kind ≡ Non
@@ -112,8 +112,8 @@ counted_non f server m outcome told n k h number left =
       sent = ap (λ kind. sent_to server (option_map spelling (reply_to f.kept.next_id m kind told.number answer))
           ++ acted answer.act) k
           ∙ ap (λ b. sent_to server (option_map spelling (if b then None else Some reply)) ++ acted answer.act) h;
-      options = location_options answer.location ++ format_option answer.format;
-      observe = ap (λ o. observe_option o ++ (location_options answer.location ++ format_option answer.format)) number;
+      options = location_options answer.location ++ format_options answer.format;
+      observe = ap (λ o. observe_options o ++ (location_options answer.location ++ format_options answer.format)) number;
     }
 
 counted_by : (f : Machine) (server : ℕ) (m : Message) (path : Path) (accept : Option ℕ) (outcome : Outcome)

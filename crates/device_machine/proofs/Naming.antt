@@ -8,7 +8,7 @@ use Rattle.coap_codec.specs.Message.{IsOptionList}
 use Rattle.coap_codec.specs.Number.{shortest}
 use Rattle.coap_codec.specs.declared.option.Opt.{Opt}
 use Rattle.object_defs.specs.declared.path.InstancePath.{InstancePath}
-use Rattle.device_notifications.specs.Message.{format_option}
+use Rattle.device_notifications.specs.Message.{format_options}
 use Rattle.coap_codec.specs.Options.{number_option}
 use Rattle.device_machine.specs.Reactions.{IsShort, answer_options, location_options}
 
@@ -33,13 +33,13 @@ numbered before option (Some n) rest h k l m =
     (record { ascends = h; in_range = omega (arith); fits = short_number n }, m)
 
 -- Content-Format, the last option
-format_follows : (before : ℕ) (format : Option ℕ) → before ≤ 12 → IsOptionList before (format_option format)
+format_follows : (before : ℕ) (format : Option ℕ) → before ≤ 12 → IsOptionList before (format_options format)
 format_follows before None h = tt
 format_follows before (Some f) h = (record { ascends = h; in_range = omega (arith); fits = short_number f }, tt)
 
 -- Location-Path and Content-Format behind an option of no greater number
 location_follows : (before : ℕ) (location : Option InstancePath) (format : Option ℕ) → before ≤ 8 → IsShort location
-    → IsOptionList before (location_options location ++ format_option format)
+    → IsOptionList before (location_options location ++ format_options format)
 location_follows before None format b h = format_follows before format (omega (arith))
 location_follows before (Some place) format b h = (
   record { ascends = omega (arith); in_range = omega (arith); fits = omega (arith, h.0) },
@@ -53,7 +53,7 @@ location_follows before (Some place) format b h = (
 pub in_order : (number : Option ℕ) (location : Option InstancePath) (format : Option ℕ) → IsShort location
     → IsOptionList 0 (answer_options number location format)
 in_order number location format h =
-    numbered 0 6 number (location_options location ++ format_option format) (omega (arith)) (omega (arith))
+    numbered 0 6 number (location_options location ++ format_options format) (omega (arith)) (omega (arith))
     (location_follows 0 location format (omega (arith)) h) (location_follows 6 location format (omega (arith)) h)
 
 pub short_decimal : (n : ℕ) → n < 65536 → length (decimal n) ≤ 5

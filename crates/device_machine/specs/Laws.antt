@@ -22,7 +22,7 @@ use Rattle.object_defs.specs.declared.path.Path.{Path}
 use Rattle.device_notifications.specs.declared.datagram.Datagram.{Datagram}
 use Rattle.device_notifications.specs.Laws.{IsOf, RisesByOne}
 use Rattle.device_notifications.specs.Laws.{IsYoung}
-use Rattle.device_notifications.specs.Message.{observe_option}
+use Rattle.device_notifications.specs.Message.{observe_options}
 use Rattle.device_machine.specs.Observing.{lacks_place}
 use Rattle.device_requests.specs.Observe.{interest_of}
 use Rattle.device_requests.specs.declared.observe.Interest.TheVariants.{Cancel, Register}
@@ -149,7 +149,7 @@ pub record IsCounted (reaction : Reaction) (server : ℕ) (m : Message) (number 
   pub act : Option Deed
   pub sent : reaction.outputs ≡ Send server (spelling reply) ∷ acted act
   pub options : List Opt
-  pub observe : reply.options ≡ observe_option (Some number) ++ options
+  pub observe : reply.options ≡ observe_options (Some number) ++ options
 
 -- the reply to a Read that registers and is answered by content has, where there is a place, Observe 0 for a new name,
 -- else one more than the observation's last message, modulo 2^24 (RFC 7641 section 3.4)

@@ -7,6 +7,7 @@ use Rattle.coap_codec.specs.declared.kind.Kind.TheVariants.{Con, Non, Ack, Rst}
 use Rattle.coap_codec.specs.declared.fault.CoapFault.{CoapFault}
 use Rattle.coap_codec.specs.declared.option.Opt.{Opt}
 use Rattle.coap_codec.specs.Message.{Message, spelling, kind_number}
+use Rattle.coap_codec.specs.OptionNumber.{location_path_option}
 use Rattle.coap_codec.specs.Reading.{reading_of}
 use Rattle.device_requests.specs.declared.answer.Answer.{Answer}
 use Rattle.device_machine.specs.declared.event.Event.{Event}
@@ -30,7 +31,7 @@ use Rattle.device_requests.specs.Options.{has_unrecognized_critical}
 use Rattle.device_requests.specs.Request.{outcome_of}
 use Rattle.device_machine.specs.declared.recorded.Recorded.{Recorded}
 use Rattle.notifier.specs.Observed.{without_reset}
-use Rattle.device_notifications.specs.Message.{format_option, observe_option}
+use Rattle.device_notifications.specs.Message.{format_options, observe_options}
 use Rattle.device_notifications.specs.Second.{Turn, seconds}
 use Rattle.device_notifications.specs.declared.datagram.Datagram.{Datagram}
 use Rattle.device_machine.specs.Observing.{Noted, noted}
@@ -61,7 +62,9 @@ reset mid = record { kind = Rst; code = 0; mid = mid; token = []; options = []; 
 abbrev pub location_options : Option InstancePath → List Opt
 location_options None = []
 location_options (Some place) =
-    record { number = 8; value = decimal place.object } ∷ record { number = 8; value = decimal place.instance } ∷ []
+    record { number = location_path_option; value = decimal place.object }
+    ∷ record { number = location_path_option; value = decimal place.instance }
+    ∷ []
 
 -- its numbers have five digits at most
 abbrev pub IsShort : Option InstancePath → Type 0
@@ -70,7 +73,7 @@ IsShort (Some place) = (length (decimal place.object) ≤ 5) × (length (decimal
 
 -- Observe with this number, Location-Path and Content-Format, in the order of their numbers
 abbrev pub answer_options : Option ℕ → Option InstancePath → Option ℕ → List Opt
-answer_options number location format = observe_option number ++ (location_options location ++ format_option format)
+answer_options number location format = observe_options number ++ (location_options location ++ format_options format)
 
 -- the message of an answer, with the token of the request and this Observe number
 abbrev pub response : Kind → ℕ → List ℕ → Option ℕ → Answer → Message

@@ -15,7 +15,7 @@ use Rattle.device_requests.specs.declared.answer.Answer.{Answer}
 use Rattle.device_notifications.specs.declared.datagram.Datagram.{Datagram}
 use Rattle.device_notifications.specs.Laws.{AreNamesakes, Counts, HasNamesake, IsEnd, IsLeft, IsMessageOf, IsNumbered}
 use Rattle.device_notifications.specs.Laws.{IsOfOneOf, RisesByOne, SecondsCountObserveNumbers}
-use Rattle.device_notifications.specs.Message.{datagram_of, format_option, observe_option}
+use Rattle.device_notifications.specs.Message.{datagram_of, format_options, observe_options}
 use Rattle.device_notifications.specs.Outbox.{id_after}
 use Rattle.device_notifications.specs.Report.{report_of}
 use Rattle.device_notifications.specs.Second.{Turn, and_then, beside, present, second, seconds, turn_by, turn_of}
@@ -32,7 +32,7 @@ same_message o p mid number answer h = λ j. record {
     code = code_byte answer.code;
     mid = mid;
     token = h.1 j;
-    options = observe_option number ++ format_option answer.format;
+    options = observe_options number ++ format_options answer.format;
     payload = answer.payload;
   });
 }

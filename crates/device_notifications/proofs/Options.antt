@@ -4,7 +4,7 @@ use Rattle.std.proofs.Common.{arith}
 use Rattle.std.specs.Bool.{if◌then◌else◌}
 use Rattle.coap_codec.specs.Message.{IsOptionList}
 use Rattle.coap_codec.specs.Number.{shortest}
-use Rattle.device_notifications.specs.Message.{format_option, observe_option}
+use Rattle.device_notifications.specs.Message.{format_options, observe_options}
 
 short_choice : (a b c d : Bool) (n : ℕ)
     → length (if a then [] else (if b then n ∷ [] else (if c then n / 256 ∷ n % 256 ∷ []
@@ -19,11 +19,11 @@ short_choice false false false false n = omega (arith)
 short_number : (n : ℕ) → length (shortest n) ≤ 65804
 short_number n = short_choice (nat_lt n 1) (nat_lt n 256) (nat_lt n 65536) (nat_lt n 16777216) n
 
-format_follows : (before : ℕ) (format : Option ℕ) → before ≤ 12 → IsOptionList before (format_option format)
+format_follows : (before : ℕ) (format : Option ℕ) → before ≤ 12 → IsOptionList before (format_options format)
 format_follows before None h = tt
 format_follows before (Some f) h = (record { ascends = h; in_range = omega (arith); fits = short_number f }, tt)
 
-pub in_order : (number format : Option ℕ) → IsOptionList 0 (observe_option number ++ format_option format)
+pub in_order : (number format : Option ℕ) → IsOptionList 0 (observe_options number ++ format_options format)
 in_order None format = format_follows 0 format (omega (arith))
 in_order (Some n) format = (
   record { ascends = omega (arith); in_range = omega (arith); fits = short_number n },

@@ -1,6 +1,7 @@
 -- The messages of an observation (RFC 7641 section 4).
 use Rattle.std.specs.Prelude.{ℕ, List, [], ◌∷◌, ◌++◌, Option, None, Some}
 use Rattle.coap_codec.specs.Message.{Message, spelling}
+use Rattle.coap_codec.specs.OptionNumber.{observe_option, content_format_option}
 use Rattle.coap_codec.specs.Options.{number_option}
 use Rattle.coap_codec.specs.declared.kind.Kind.TheVariants.{Non}
 use Rattle.coap_codec.specs.declared.option.Opt.{Opt}
@@ -10,11 +11,11 @@ use Rattle.device_requests.specs.declared.answer.Answer.{Answer}
 use Rattle.device_notifications.specs.declared.datagram.Datagram.{Datagram}
 
 -- Observe with this number, and Content-Format
-abbrev pub observe_option : Option ℕ → List Opt
-observe_option number = number_option 6 number
+abbrev pub observe_options : Option ℕ → List Opt
+observe_options number = number_option observe_option number
 
-abbrev pub format_option : Option ℕ → List Opt
-format_option format = number_option 12 format
+abbrev pub format_options : Option ℕ → List Opt
+format_options format = number_option content_format_option format
 
 -- an answer as a message of the device's own: a NON of this message ID, with the observation's token
 abbrev pub notification : Observation → ℕ → Option ℕ → Answer → Message
@@ -24,7 +25,7 @@ notification o mid number answer =
       code = code_byte answer.code;
       mid = mid;
       token = o.token;
-      options = observe_option number ++ format_option answer.format;
+      options = observe_options number ++ format_options answer.format;
       payload = answer.payload;
     }
 

@@ -3,7 +3,7 @@
 ghost use Rattle.std.specs.Prelude.{◌≡◌, ◌++◌, ℕ, Option, IfOk, OnOk};
 ghost use Rattle.coap_codec.specs.Message.{IsOptionList, spelling};
 ghost use Rattle.notifier.specs.Observed.{HasToken};
-ghost use Rattle.device_notifications.specs.Message.{datagram_of, format_option, notification, observe_option};
+ghost use Rattle.device_notifications.specs.Message.{datagram_of, format_options, notification, observe_options};
 
 use crate::datagram::Datagram;
 use coap_codec::option_number::{CONTENT_FORMAT, OBSERVE};
@@ -19,7 +19,7 @@ fn options_of(
     number: Option<u32>,
     format: Option<u16>,
 ) -> Result<Options, AllocError>
-    ensures { IfOk result (λ o. o ≡ observe_option number ++ format_option format) }
+    ensures { IfOk result (λ o. o ≡ observe_options number ++ format_options format) }
 {
     let mut options = Options::new(alloc);
     options.push_number(alloc, OBSERVE, number)?;
