@@ -14,6 +14,7 @@ use Rattle.scenario_words.specs.HexWord.{IsByte}
 use Rattle.scenario_words.specs.PathWord.{IsPath, path_of}
 use Rattle.object_defs.specs.Path.{path_text}
 use Rattle.scenario_words.proofs.NumberLaws.{number_of-law}
+use Rattle.scenario_words.proofs.Pairs.{digit_small}
 use Rattle.scenario_words.proofs.PathLaws.{path_law}
 use Rattle.debug_words.specs.Reading.{only_number, device_and_path, byte_by, byte_of}
 

@@ -104,7 +104,7 @@ fn by_two<R: Threads + Wait + Sync>(
 /// The run of this kind: `start` starts the devices alone, `two 16` lets two workers run with
 /// batches of 16, and `one row` lets one make each row as a single batch. `visits` makes none: it claims and puts as
 /// often as there are steps.
-fn made<R: Threads + Wait + Sync>(
+fn run_of<R: Threads + Wait + Sync>(
     rt: &R,
     alloc: Global,
     kind: &str,
@@ -168,7 +168,7 @@ pub fn run<R: Threads + Wait + Sync + Print>(rt: &R, alloc: Global, text: &str) 
             None => println!(rt; "no run"),
         };
     }
-    match made(rt, alloc, kind, &scenario) {
+    match run_of(rt, alloc, kind, &scenario) {
         Some(run) => {
             let count = run.count;
             println!(rt; "steps {count}")
