@@ -1,8 +1,8 @@
 -- What a Write changes.
-use Rattle.std.proofs.Common.{◌≡◌, ◌≢◌, ℕ, Bool, true, false, cond, not, ◌&&◌, ◌==◌, List, [], ◌∷◌, Option, None, Some}
-use Rattle.std.proofs.Common.{refl, sym, ap, subst, ◌∙◌}
+use Rattle.std.proofs.Common.{◌≡◌, ◌≢◌, ℕ, Bool, true, false, not, ◌==◌, List, Option, None, Some}
+use Rattle.std.proofs.Common.{refl, sym, ap, ◌∙◌}
 use Rattle.std.specs.Bool.{if◌then◌else◌}
-use Rattle.std.specs.Option.{is_some, option_and_then, option_map}
+use Rattle.std.specs.Option.{is_some, option_and_then}
 use Rattle.std.proofs.lemmas.Bool.{ne_eqb}
 use Rattle.object_defs.specs.Catalogue.{definition_of}
 use Rattle.object_defs.specs.Lines.{first_line}
@@ -32,7 +32,7 @@ use Rattle.device_requests.specs.Targets.{defined, place_of, resource_place}
 use Rattle.device_requests.specs.Write.{event_of, given_to_resource, left, mode_at, new_values, turn_lines}
 use Rattle.device_requests.specs.Write.{values_given}
 use Rattle.device_requests.specs.Write.{write_lines, write_outcome, write_unless}
-use Rattle.request_laws.specs.Writes.{InstancesAreWritten, IsInstanceWritten, IsResourceWritten, ResourcesAreWritten}
+use Rattle.request_laws.specs.Writes.{InstancesAreWritten, ResourcesAreWritten}
 use Rattle.request_laws.proofs.Asking.{AllRefuse, chosen, fails, passes, there}
 
 turns_refuse : (client : Client) (mode : Mode) (path : Path) (number : Option ℕ) (payload : List ℕ)
@@ -120,7 +120,7 @@ instances_written client server mode o i number payload h =
 
 -- ---- a resource
 
-resource_good : (client : Client) (o i r : ℕ) (payload : List ℕ) (f : Format) (given : Option Given)
+pub resource_good : (client : Client) (o i r : ℕ) (payload : List ℕ) (f : Format) (given : Option Given)
     → given_to_resource (definition_of client.catalogue o r) f payload ≡ given
     → not (is_some (values_given client.catalogue (Resource o i r) payload f)) ≡ false
     → (g : Given) × (given ≡ Some g)
