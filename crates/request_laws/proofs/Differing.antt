@@ -1,15 +1,18 @@
 -- What is alike in stores that differ only in values that a server may not read.
+use Rattle.std.proofs.Common.{nat_le, ℤ, if◌then◌else◌}
 use Rattle.std.proofs.Common.{◌≡◌, ℕ, Bool, true, false, cond, not, ◌&&◌, ◌||◌, ◌==◌, nat_lt, List}
 use Rattle.std.proofs.Common.{[], ◌∷◌, length, Option, None, Some, option_map, refl, sym, ap, ◌∙◌, ◌+◌, arith}
 use Rattle.std.specs.FinMap as finite
 use Rattle.std.specs.FinMap.{find, is_sorted}
 use Rattle.std.specs.FinMap.Entries.{below_all, find-where_key, is_sorted-where_key, same_entries}
+use Rattle.std.specs.List.{find as find_first}
 use Rattle.std.specs.List.{cons_option, filter, filter_map, list_any}
 use Rattle.std.specs.Option.{is_some}
 use Rattle.std.specs.Ordering.{eq_by_cmp}
 use Rattle.std.specs.declared.cmp.Ordering.TheVariants.{Equal}
 use Rattle.std.proofs.Math.Dec.{T}
 use Rattle.std.proofs.lemmas.Bool.Decides.{nat_tests}
+use Rattle.lwm2m_values.specs.Value.{is_integer}
 use Rattle.lwm2m_values.specs.declared.value.Value.{Value}
 use Rattle.object_defs.specs.Catalogue.{definition_of, object_of}
 use Rattle.object_defs.specs.Operations.{can_read}
@@ -25,7 +28,9 @@ use Rattle.object_defs.proofs.PathOrder.{path_exact, path_total}
 use Rattle.instance_store.specs.Existence.{exists_as, is_held}
 use Rattle.instance_store.specs.Stored.{Stored, has_instance, instances_of, lies_in, parts_of, resource_path, value_at}
 use Rattle.instance_store.specs.Stored.{values_in}
-use Rattle.access_control.specs.Rights.{creation}
+use Rattle.access_control.specs.Rights.{control_of, creation, entry_of, every_right, integer_in, names, owns}
+use Rattle.access_control.specs.Rights.{read_alone, read_and_write, right_by, right_by_default, right_by_entry}
+use Rattle.access_control.specs.Rights.{right_of, right_on_control}
 use Rattle.access_control.specs.declared.letters.Rights.{Rights}
 use Rattle.lwm2m_payloads.specs.Changes.{has_too_many, is_kept, is_other, is_too_many, resource_of}
 use Rattle.lwm2m_payloads.specs.Nodes.{Pairs}
@@ -166,17 +171,74 @@ same_list s t o h =
 
 -- ---- rights
 
+-- Access Control can be read by all
+reads_control : (stored : Stored) (accounts server j : ℕ) → reads stored accounts server 2 j ≡ true
+reads_control stored accounts server j =
+    elim (nat_le accounts 1) as (λ b. (if b then every_right else right_on_control stored server j).read ≡ true) [
+      | true ↦ refl
+      | false ↦ elim (owns stored j server) as (λ b. (if b then read_and_write else read_alone).read ≡ true) [
+        | true ↦ refl
+        | false ↦ refl
+      ]
+    ]
+
+same_control : (client : Client) (stored : Stored) (server j r : ℕ) (n : Option ℕ) → DiffersUnread client stored server
+    → value_at stored (record { object = 2; instance = j; resource = r; part = n })
+    ≡ value_at client.store (record { object = 2; instance = j; resource = r; part = n })
+same_control client stored server j r n h =
+    h.values (record { object = 2; instance = j; resource = r; part = n })
+    (reads_control client.store (length client.accounts) server j)
+
+same_names : (client : Client) (stored : Stored) (server j r n : ℕ) → DiffersUnread client stored server
+    → names stored j r n ≡ names client.store j r n
+same_names client stored server j r n h =
+    ap (λ (v : Option Value). is_integer n (integer_in v)) (same_control client stored server j r None h)
+
+same_entry : (client : Client) (stored : Stored) (server j n : ℕ) → DiffersUnread client stored server
+    → entry_of stored j n ≡ entry_of client.store j n
+same_entry client stored server j n h = ap integer_in (same_control client stored server j 2 (Some n) h)
+
+same_decider : (client : Client) (stored : Stored) (server o i : ℕ) → DiffersUnread client stored server
+    → control_of stored o i ≡ control_of client.store o i
+same_decider client stored server o i h =
+    λ k. find_first (λ j. same_names client stored server j 0 o h k && same_names client stored server j 1 i h k)
+    (same_list stored client.store 2 h.instances k)
+
+same_by_entry : (client : Client) (stored : Stored) (server j : ℕ) (entry : Option ℤ)
+    → DiffersUnread client stored server
+    → right_by_entry stored j server entry ≡ right_by_entry client.store j server entry
+same_by_entry client stored server j (Some n) h = refl
+same_by_entry client stored server j None h =
+    λ k. if same_names client stored server j 3 server h k then every_right
+    else right_by_default (same_entry client stored server j 0 h k)
+
+same_right_by : (client : Client) (stored : Stored) (server : ℕ) (control : Option ℕ)
+    → DiffersUnread client stored server → right_by stored server control ≡ right_by client.store server control
+same_right_by client stored server None h = refl
+same_right_by client stored server (Some j) h =
+    ap (right_by_entry stored j server) (same_entry client stored server j server h)
+    ∙ same_by_entry client stored server j (entry_of client.store j server) h
+
+same_right : (client : Client) (stored : Stored) (server o i : ℕ) → DiffersUnread client stored server
+    → right_of stored (length client.accounts) server o i ≡ right_of client.store (length client.accounts) server o i
+same_right client stored server o i h =
+    let other = ap (right_by stored server) (same_decider client stored server o i h)
+    ∙ same_right_by client stored server (control_of client.store o i) h in
+    λ k. if nat_le (length client.accounts) 1 then every_right
+    else (if o == 2
+    then (if same_names client stored server i 3 server h k then read_and_write else read_alone) else other k)
+
 pub same_rights : (client : Client) (stored : Stored) (server : ℕ) (path : Path) → DiffersUnread client stored server
     → rights_at stored (length client.accounts) server path
     ≡ rights_at client.store (length client.accounts) server path
-same_rights client stored server (Object o) h = h.rights o creation
-same_rights client stored server (Instance o i) h = h.rights o i
-same_rights client stored server (Resource o i r) h = h.rights o i
-same_rights client stored server (Part o i r n) h = h.rights o i
+same_rights client stored server (Object o) h = same_right client stored server o creation h
+same_rights client stored server (Instance o i) h = same_right client stored server o i h
+same_rights client stored server (Resource o i r) h = same_right client stored server o i h
+same_rights client stored server (Part o i r n) h = same_right client stored server o i h
 
 pub same_reads : (client : Client) (stored : Stored) (server o i : ℕ) → DiffersUnread client stored server
     → reads stored (length client.accounts) server o i ≡ reads client.store (length client.accounts) server o i
-same_reads client stored server o i h = ap (λ (r : Rights). r.read) (h.rights o i)
+same_reads client stored server o i h = ap (λ (r : Rights). r.read) (same_right client stored server o i h)
 
 -- ---- counts
 

@@ -87,7 +87,8 @@ pub among_value : (parts : PartList) (n : ℕ) (v : Value) → PartsOnce parts �
 among_value [] n v once h = absurd h
 among_value (e ∷ parts) n v once (inl is) =
     let first : (e.0 == n) ≡ true = ap (λ (d : ℕ × Value). d.0 == n) is ∙ number_same n in
-    ap (λ (b : Bool). option_map (λ (d : ℕ × Value). d.1) (if b then Some e else lists.find (λ d. d.0 == n) parts)) first
+    ap (λ (b : Bool). option_map (λ (d : ℕ × Value). d.1)
+    (if b then Some e else lists.find (λ d. d.0 == n) parts)) first
     ∙ ap (λ (d : ℕ × Value). Some d.1) is
 among_value (e ∷ parts) n v once (inr h) =
     elim (e.0 == n) as (λ b. (e.0 == n) ≡ b
@@ -406,7 +407,8 @@ payload_is client server o i r d accept h k =
     let shows = shown_instances client.store (length client.accounts) server o in
     let resources = defined client.catalogue o in
     let payload : payload_in client.catalogue client.store shows path Tlv
-    ≡ within_limit (shortest_tlv (nodes_of (shown_in client.store resources path))) = rw (h.defined_as, h.several) refl in
+    ≡ within_limit (shortest_tlv (nodes_of (shown_in client.store resources path))) =
+    rw (h.defined_as, h.several) refl in
     ap (λ (f : Option Format). option_and_then (payload_in client.catalogue client.store shows path) f)
     (format_is client o i r d accept h.defined_as h.several k)
     ∙ payload

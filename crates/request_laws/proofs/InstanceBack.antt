@@ -161,7 +161,8 @@ taken_means : (resources : List ResourceDef) (given : List Assignment) (r : ℕ)
     → is_taken_away resources given r ≡ true → IsTaken resources given r
 taken_means resources given r h =
     let d = any_of (λ (e : ResourceDef). e.id == r && is_lost given e) resources h in
-    let l = lost_means (d.0.id == r) d.0.mandatory (can_write d.0.ops) (list_any (λ a. a.resource == d.0.id) given) d.2 in
+    let l = lost_means (d.0.id == r) d.0.mandatory (can_write d.0.ops)
+    (list_any (λ a. a.resource == d.0.id) given) d.2 in
     let same = same_number d.0.id r l.is_same in
     record {
       optional = (d.0, d.1, same, l.optional, l.written);
@@ -262,6 +263,10 @@ instances_hold client server mode o i number payload h =
           let q = single_of (resource_place o i r) in
           w.inside q (lies_single o i r)
           ∙ behind_named client mode o given q (Single v) true (value_at client.store q) once is readable;
+      beside = λ r v n is readable.
+          let q = part_of (resource_place o i r) n in
+          w.inside q (lies_part o i r n)
+          ∙ behind_named client mode o given q (Single v) true (value_at client.store q) once is readable;
       part = λ r parts n v is readable among.
           let q = part_of (resource_place o i r) n in
           let before = value_at client.store q in
@@ -275,6 +280,12 @@ instances_hold client server mode o i number payload h =
           w.inside q (lies_part o i r n)
           ∙ behind_named client mode o given q (Parts parts) true before once is readable
           ∙ ap (λ (x : Option Value). option_or x (left_of mode (Parts parts) before)) (has_value parts n never)
+          ∙ parts_left mode parts before;
+      no_part = λ r parts is readable.
+          let q = single_of (resource_place o i r) in
+          let before = value_at client.store q in
+          w.inside q (lies_single o i r)
+          ∙ behind_named client mode o given q (Parts parts) true before once is readable
           ∙ parts_left mode parts before;
       write_only = λ q lies named readable.
           w.inside q lies

@@ -179,12 +179,15 @@ multiple_back client server o i r d number payload defined_as several readable h
     let place : has_instance stored (place_of o i) ≡ true =
     ap (λ m. finite.contains_key m (place_of o i)) (given_instances Replace (Parts parts.0) client.store p)
     ∙ target_there (is_some (definition_of client.catalogue o r)) (has_instance client.store (place_of o i)) all.1.0 in
-    let back = multiple_read (with_stored client stored) o i r d (is_nonzero o all.0) defined_as several readable place in
+    let back = multiple_read (with_stored client stored) o i r d (is_nonzero o all.0) defined_as several readable place
+    in
     let held = replaced client.store p parts.0 once in
     subst (ArePartsReadBack o i r d payload) (sym new) (record {
       given = parts.0;
       gives = gives ∙ are;
       shown = back.0;
-      same = λ e. (λ k. (held e.0 e.1).0 ((back.1.held e.0 e.1).1 k), λ k. (back.1.held e.0 e.1).0 ((held e.0 e.1).1 k));
+      same = λ e.
+          let then_held = back.1.held e.0 e.1 in
+          (λ k. (held e.0 e.1).0 (then_held.1 k), λ k. then_held.0 ((held e.0 e.1).1 k));
       read = back.1;
     })

@@ -47,9 +47,11 @@ use Rattle.device_requests.specs.Client.{Client, with_stored}
 use Rattle.device_requests.specs.Create.{Newborn, create_lines, create_outcome, create_unless, is_tlv, lacks_room}
 use Rattle.device_requests.specs.Create.{newborn, numbered}
 use Rattle.device_requests.specs.Delete.{delete_lines, delete_outcome, delete_unless}
-use Rattle.device_requests.specs.Discover.{attributes_text, dimension, dimension_text, discover_answer, discover_payload}
+use Rattle.device_requests.specs.Discover.{attributes_text, dimension, dimension_text, discover_answer}
+use Rattle.device_requests.specs.Discover.{discover_payload}
 use Rattle.device_requests.specs.Discover.{inherits_at, paths_below}
-use Rattle.device_requests.specs.Execute.{act_of, execute_lines, execute_outcome, execute_unless, is_executable, is_plain}
+use Rattle.device_requests.specs.Execute.{act_of, execute_lines, execute_outcome, execute_unless, is_executable}
+use Rattle.device_requests.specs.Execute.{is_plain}
 use Rattle.device_requests.specs.Execute.{is_resource, is_untimely}
 use Rattle.lwm2m_payloads.specs.Scanning.{are_arguments}
 use Rattle.device_requests.specs.Operation.{link_format}
@@ -57,7 +59,8 @@ use Rattle.device_requests.specs.Options.{queries_of}
 use Rattle.device_requests.specs.Order.{Asks}
 use Rattle.device_requests.specs.Read.{can_be_read, content_in, format_at, payload_in, read_answer, read_payload}
 use Rattle.device_requests.specs.Request.{outcome_by, outcome_for, request_of}
-use Rattle.device_requests.specs.Targets.{defined, definition_at, exists, is_fixed, is_multiple, place_of, resource_place}
+use Rattle.device_requests.specs.Targets.{defined, definition_at, exists, is_fixed, is_multiple, place_of}
+use Rattle.device_requests.specs.Targets.{resource_place}
 use Rattle.device_requests.specs.Write.{can_be_written, event_of, exceeds, given_to_part, given_to_resource, left}
 use Rattle.device_requests.specs.Write.{mode_at, write_lines}
 use Rattle.device_requests.specs.Write.{new_values, package_in, resource_exceeds, turn_lines, uri_in, values_given}
@@ -179,7 +182,7 @@ same_may client stored server (Instance o i) h = same_reads client stored server
 same_may client stored server (Resource o i r) h = same_reads client stored server o i h
 same_may client stored server (Part o i r n) h = same_reads client stored server o i h
 
-same_read : (client : Client) (stored : Stored) (server : ℕ) (path : Path) (accept : Option ℕ)
+pub same_read : (client : Client) (stored : Stored) (server : ℕ) (path : Path) (accept : Option ℕ)
     → DiffersUnread client stored server
     → read_answer (with_stored client stored) server path accept ≡ read_answer client server path accept
 same_read client stored server path accept h =

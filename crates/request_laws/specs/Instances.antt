@@ -50,14 +50,18 @@ abbrev pub left_by : Mode → Option Value → Option Value
 left_by Replace before = None
 left_by Update before = before
 
--- what the payload gives to the resources of the instance that can be read is there then; of the parts of these that
--- are not given, and of the optional resources that are not named, Replace leaves none; all else is as it was
+-- what the payload gives to the resources of the instance that can be read is there then; of what else lies below a
+-- resource that is given parts, and of the optional resources that are not named, Replace leaves nothing; all else is
+-- as it was
 pub record HoldsGiven (client : Client) (mode : Mode) (o i : ℕ) (payload : List ℕ) (new : Stored) : Type 0 where
   pub given : List Assignment
   pub gives : instance_given (defined client.catalogue o) i payload ≡ Some given
   pub value : (r : ℕ) (v : Value) → IsGivenTo given r (Single v)
       → is_readable (definition_of client.catalogue o r) ≡ true
       → value_at new (single_of (resource_place o i r)) ≡ Some v
+  pub beside : (r : ℕ) (v : Value) (n : ℕ) → IsGivenTo given r (Single v)
+      → is_readable (definition_of client.catalogue o r) ≡ true
+      → value_at new (part_of (resource_place o i r) n) ≡ value_at client.store (part_of (resource_place o i r) n)
   pub part : (r : ℕ) (parts : PartList) (n : ℕ) (v : Value) → IsGivenTo given r (Parts parts)
       → is_readable (definition_of client.catalogue o r) ≡ true → IsAmong (n, v) parts
       → value_at new (part_of (resource_place o i r) n) ≡ Some v
@@ -65,6 +69,10 @@ pub record HoldsGiven (client : Client) (mode : Mode) (o i : ℕ) (payload : Lis
       → is_readable (definition_of client.catalogue o r) ≡ true → ¬ (HasPart parts n)
       → value_at new (part_of (resource_place o i r) n)
       ≡ left_by mode (value_at client.store (part_of (resource_place o i r) n))
+  pub no_part : (r : ℕ) (parts : PartList) → IsGivenTo given r (Parts parts)
+      → is_readable (definition_of client.catalogue o r) ≡ true
+      → value_at new (single_of (resource_place o i r))
+      ≡ left_by mode (value_at client.store (single_of (resource_place o i r)))
   pub write_only : (q : FullPath) → lies_in (Instance o i) q ≡ true → IsNamedIn given q.resource
       → is_readable (definition_of client.catalogue o q.resource) ≡ false
       → value_at new q ≡ value_at client.store q

@@ -9,7 +9,7 @@ ghost use Rattle.request_laws.specs.Good.{GoodIsDone, LimitsComeLast};
 ghost use Rattle.request_laws.specs.Instances.{InstancesAreReadBack, InstancesHoldGiven};
 ghost use Rattle.request_laws.specs.Multiples.{MultipleIsRead, MultipleIsReadBack};
 ghost use Rattle.request_laws.specs.Readings.{PartIsRead};
-ghost use Rattle.request_laws.specs.Unread.{AnswersHideUnread};
+ghost use Rattle.request_laws.specs.Unread.{AnswersHideUnread, ReadsHideUnread};
 ghost use Rattle.request_laws.specs.Writes.{InstancesAreWritten, PartsAreWritten, ResourcesAreWritten};
 
 use device_requests::refusals_have_reasons;
@@ -81,7 +81,9 @@ pub fn instances_hold_what_was_given()
     ensures read { InstancesAreReadBack }
 {}
 
-/// Values that a server may not read show in no answer to it, whatever it asks for.
+/// Values of instances that a server may not read show in no answer to it, whatever it asks for, but for what the
+/// firmware decides by its State.
 pub fn answers_hide_the_unreadable()
-    ensures { AnswersHideUnread }
+    ensures read { ReadsHideUnread }
+    ensures all { AnswersHideUnread }
 {}
