@@ -26,8 +26,8 @@ use Rattle.lwm2m_payloads.proofs.EachOnce.{instance_once}
 use Rattle.device_requests.specs.Client.{Client}
 use Rattle.device_requests.specs.Laws.{IsAmong}
 use Rattle.device_requests.specs.Targets.{defined, is_readable, resource_place}
-use Rattle.request_laws.specs.Instances.{HasPart, InstancesHoldGiven, IsGivenTo, IsNamedIn, IsOptional}
-use Rattle.request_laws.specs.Instances.{left_by}
+use Rattle.request_laws.specs.Instances.{InstancesHoldGiven, IsGivenTo, IsNamedIn, IsOptional, left_by}
+use Rattle.request_laws.specs.Multiples.{HasPart}
 use Rattle.request_laws.proofs.Holding.{among_value, is_defined_in, value_among}
 use Rattle.request_laws.proofs.Writing.{instances_written}
 

@@ -23,21 +23,20 @@ use Rattle.lwm2m_payloads.specs.declared.given.Given.TheVariants.{Parts}
 use Rattle.lwm2m_payloads.specs.declared.given.Mode.{Mode}
 use Rattle.lwm2m_payloads.specs.declared.given.Mode.TheVariants.{Replace, Update}
 use Rattle.lwm2m_payloads.proofs.EachOnce.{instance_once}
-use Rattle.device_requests.specs.declared.answer.Code.{Code}
 use Rattle.device_requests.specs.Access.{may_read, shown_instances}
 use Rattle.device_requests.specs.Client.{Client, with_stored}
 use Rattle.device_requests.specs.Laws.{IsAmong}
 use Rattle.device_requests.specs.Read.{content_in, format_at, payload_in, read_answer, read_payload}
 use Rattle.device_requests.specs.Targets.{defined, exists, is_readable, place_of, resource_place}
-use Rattle.device_requests.specs.Write.{write_lines, write_outcome, write_unless}
-use Rattle.request_laws.specs.Instances.{HasPart, HoldsGiven, InstancesAreReadBack, IsInstanceReadBack, IsPartThen}
-use Rattle.request_laws.specs.Instances.{left_by}
+use Rattle.device_requests.specs.Write.{write_lines, write_outcome}
+use Rattle.request_laws.specs.Instances.{HoldsGiven, InstancesAreReadBack, IsInstanceReadBack, left_by}
+use Rattle.request_laws.specs.Multiples.{HasPart, IsPartThen}
 use Rattle.request_laws.proofs.Asking.{fails}
 use Rattle.request_laws.proofs.Changing.{wrote}
 use Rattle.request_laws.proofs.Holding.{among_value, multiple_read, value_among}
 use Rattle.request_laws.proofs.InstanceBack.{instances_hold, is_once}
 use Rattle.request_laws.proofs.PartBack.{shown}
-use Rattle.request_laws.proofs.Writing.{leaves, unrefused}
+use Rattle.request_laws.proofs.Writing.{is_stored, unrefused}
 
 -- ---- a single resource
 
@@ -105,11 +104,11 @@ no_part_of parts n once h part =
     let l : Some part.0 ≡ None = sym (among_value parts n part.0 once part.1) ∙ h in cc
 
 -- what a part holds behind a change, and what is given to it
-record IsChanged (mode : Mode) (parts : PartList) (n : ℕ) (before after : Option Value) : Type 0 where
-  given : (v : Value) → IsAmong (n, v) parts → after ≡ Some v
-  other : ¬ (HasPart parts n) → after ≡ left_by mode before
+pub record IsChanged (mode : Mode) (parts : PartList) (n : ℕ) (before after : Option Value) : Type 0 where
+  pub given : (v : Value) → IsAmong (n, v) parts → after ≡ Some v
+  pub other : ¬ (HasPart parts n) → after ≡ left_by mode before
 
-then_is : (mode : Mode) (parts : PartList) (n : ℕ) (before after : Option Value) (v : Value) → PartsOnce parts
+pub then_is : (mode : Mode) (parts : PartList) (n : ℕ) (before after : Option Value) (v : Value) → PartsOnce parts
     → IsChanged mode parts n before after → after ≡ Some v → IsPartThen mode parts n before v
 then_is mode parts n before after v once h k =
     elim (part_value parts (Some n)) as (λ w. part_value parts (Some n) ≡ w → IsPartThen mode parts n before v) [
@@ -121,7 +120,7 @@ then_is mode parts n before after v once h k =
           inl (subst (λ (x : Value). IsAmong (n, x) parts) same among)
     ] refl
 
-is_then : (mode : Mode) (parts : PartList) (n : ℕ) (before after : Option Value) (v : Value)
+pub is_then : (mode : Mode) (parts : PartList) (n : ℕ) (before after : Option Value) (v : Value)
     → IsChanged mode parts n before after → IsPartThen mode parts n before v → after ≡ Some v
 is_then mode parts n before after v h (inl among) = h.given v among
 is_then mode parts n before after v h (inr (updated, never, was)) =
@@ -174,7 +173,7 @@ target_there true true h = refl
 target_there true false h = cc
 target_there false b h = cc
 
-is_nonzero : (o : ℕ) → (o == 0) ≡ false → o ≢ 0
+pub is_nonzero : (o : ℕ) → (o == 0) ≡ false → o ≢ 0
 is_nonzero o h e = let l : true ≡ false = sym (ap (λ (k : ℕ). k == 0) e) ∙ h in cc
 
 pub instances_read : InstancesAreReadBack
@@ -183,14 +182,9 @@ instances_read client server mode o i number payload h =
     let new = (write_outcome client server mode path number payload).client in
     let no_line = unrefused client server mode path number payload h in
     let all = fails (write_lines client server mode path number payload) no_line in
-    let left = leaves client mode path payload (format_at client.catalogue path number) in
-    let becomes : new ≡ with_stored client left =
-    ap (λ (code : Option Code). (write_unless code client left).client) no_line in
-    let is : new ≡ with_stored client new.store =
-    becomes ∙ sym (ap (λ (c : Client). with_stored client c.store) becomes) in
     let place : has_instance new.store (place_of o i) ≡ true =
     ap (λ m. finite.contains_key m (place_of o i)) (wrote client server mode path number payload).instances
     ∙ target_there (is_some (object_of client.catalogue o)) (has_instance client.store (place_of o i)) all.1.0 in
-    subst (IsInstanceReadBack client mode o i payload) (sym is)
+    subst (IsInstanceReadBack client mode o i payload) (sym (is_stored client server mode path number payload h))
     (read_back client mode o i payload new.store (is_nonzero o all.0) place
     (instances_hold client server mode o i number payload h))

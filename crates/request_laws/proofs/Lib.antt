@@ -11,6 +11,7 @@ mod InstanceBack
 mod InstanceReading
 mod MultipleBack
 mod PartBack
+mod PartReading
 mod PartWriting
 mod Unread
 mod Writing

@@ -70,7 +70,7 @@ gives_part d n PlainText payload g h = one_is n (value_of_text d.kind payload) g
 gives_part d n OctetStream payload g h = one_is n (value_of_bytes d.kind payload) g h
 gives_part d n Tlv payload g h = nodes_are d n (nodes_of_bytes payload) g h
 
-both_are : (a b : Bool) → not (a && b) ≡ false → (a ≡ true) × (b ≡ true)
+pub both_are : (a b : Bool) → not (a && b) ≡ false → (a ≡ true) × (b ≡ true)
 both_are true true h = (refl, refl)
 both_are true false h = cc
 both_are false b h = cc

@@ -25,7 +25,7 @@ use Rattle.lwm2m_payloads.proofs.EachOnce.{instance_once, resource_once}
 use Rattle.lwm2m_payloads.proofs.Written.{at_given, at_written}
 use Rattle.device_requests.specs.declared.answer.Code.{Code}
 use Rattle.device_requests.specs.declared.answer.Code.TheVariants.{Changed}
-use Rattle.device_requests.specs.Client.{Client}
+use Rattle.device_requests.specs.Client.{Client, with_stored}
 use Rattle.device_requests.specs.Laws.{is_refusal}
 use Rattle.device_requests.specs.Read.{format_at}
 use Rattle.device_requests.specs.Targets.{defined, place_of, resource_place}
@@ -84,6 +84,18 @@ comes client server mode path number payload h =
           (leaves client mode path payload (format_at client.catalogue path number))).client.store) no_line
           ∙ ap (leaves client mode path payload) f.1;
     }
+
+-- it leaves all but the store
+pub is_stored : (client : Client) (server : ℕ) (mode : Mode) (path : Path) (number : Option ℕ) (payload : List ℕ)
+    → (write_outcome client server mode path number payload).answer.code ≡ Changed
+    → (write_outcome client server mode path number payload).client
+    ≡ with_stored client (write_outcome client server mode path number payload).client.store
+is_stored client server mode path number payload h =
+    let left_store = leaves client mode path payload (format_at client.catalogue path number) in
+    let becomes : (write_outcome client server mode path number payload).client ≡ with_stored client left_store =
+    ap (λ (code : Option Code). (write_unless code client left_store).client)
+    (unrefused client server mode path number payload h) in
+    becomes ∙ sym (ap (λ (c : Client). with_stored client c.store) becomes)
 
 -- ---- an instance
 

@@ -26,7 +26,7 @@ use Rattle.device_requests.specs.Laws.{IsAmong}
 use Rattle.device_requests.specs.Read.{content_in, read_answer}
 use Rattle.device_requests.specs.Targets.{defined, is_readable, resource_place}
 use Rattle.device_requests.specs.Write.{write_outcome}
-use Rattle.request_laws.specs.Multiples.{IsReadInParts}
+use Rattle.request_laws.specs.Multiples.{HasPart, IsPartThen, IsReadInParts}
 
 -- the resource of this number is given this
 abbrev pub IsGivenTo : List Assignment → ℕ → Given → Type 0
@@ -35,10 +35,6 @@ IsGivenTo given r value = IsAmong (record { resource = r; given = value }) given
 -- the resource of this number is given something
 abbrev pub IsNamedIn : List Assignment → ℕ → Type 0
 IsNamedIn given r = (value : Given) × IsGivenTo given r value
-
--- the part of this number is given a value
-abbrev pub HasPart : PartList → ℕ → Type 0
-HasPart parts n = (v : Value) × IsAmong (n, v) parts
 
 -- an optional resource that can be written, which Replace takes away where it is not named
 abbrev pub IsOptional : List ResourceDef → ℕ → Type 0
@@ -89,11 +85,6 @@ InstancesHoldGiven =
     (client : Client) (server : ℕ) (mode : Mode) (o i : ℕ) (number : Option ℕ) (payload : List ℕ)
     → (write_outcome client server mode (Instance o i) number payload).answer.code ≡ Changed
     → HoldsGiven client mode o i payload (write_outcome client server mode (Instance o i) number payload).client.store
-
--- a part of a resource behind a change: one that is given, and with Partial Update one that was there and is not given
-abbrev pub IsPartThen : Mode → PartList → ℕ → Option Value → Value → Type 0
-IsPartThen mode parts n before v =
-    IsAmong (n, v) parts ⊎ ((mode ≡ Update) × (¬ (HasPart parts n)) × (before ≡ Some v))
 
 -- a Read of a single resource that is given a value answers it, in each format that is served; a Read of a multiple
 -- resource that is given parts answers these, and with Partial Update the others that it held, by ascending number

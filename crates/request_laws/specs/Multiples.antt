@@ -1,6 +1,6 @@
 -- A multiple resource is read as the parts that it holds, and holds what was written (OMA LwM2M 1.1 Core, Write and
 -- Read).
-use Rattle.std.specs.Prelude.{◌≡◌, ◌≢◌, ◌↔◌, ℕ, true, List, [], ◌∷◌, map, Option, Some}
+use Rattle.std.specs.Prelude.{◌≡◌, ◌≢◌, ◌↔◌, ◌⊎◌, ℕ, true, List, [], ◌∷◌, map, Option, Some}
 use Rattle.std.specs.List.Sorted.{IsStrictlySortedBy}
 use Rattle.std.specs.Ordering.{nat_cmp}
 use Rattle.lwm2m_values.specs.Tlv.{shortest_tlv}
@@ -11,15 +11,17 @@ use Rattle.object_defs.specs.Catalogue.{definition_of}
 use Rattle.object_defs.specs.Operations.{can_read}
 use Rattle.object_defs.specs.Path.{part_of}
 use Rattle.object_defs.specs.declared.definition.ResourceDef.{ResourceDef}
-use Rattle.object_defs.specs.declared.path.Path.TheVariants.{Resource}
+use Rattle.object_defs.specs.declared.path.Path.TheVariants.{Resource, Part}
 use Rattle.object_defs.specs.declared.path.ResourcePath.{ResourcePath}
 use Rattle.instance_store.specs.Stored.{Stored, has_instance, value_at}
-use Rattle.lwm2m_payloads.specs.Given.{resource_given}
+use Rattle.lwm2m_payloads.specs.Given.{part_given, resource_given}
 use Rattle.lwm2m_payloads.specs.Nodes.{within_limit}
 use Rattle.lwm2m_payloads.specs.PartList.{PartList}
+use Rattle.lwm2m_payloads.specs.declared.format.Format.{Format}
 use Rattle.lwm2m_payloads.specs.declared.format.Format.TheVariants.{Tlv}
 use Rattle.lwm2m_payloads.specs.declared.given.Given.TheVariants.{Parts}
-use Rattle.lwm2m_payloads.specs.declared.given.Mode.TheVariants.{Replace}
+use Rattle.lwm2m_payloads.specs.declared.given.Mode.{Mode}
+use Rattle.lwm2m_payloads.specs.declared.given.Mode.TheVariants.{Replace, Update}
 use Rattle.device_requests.specs.declared.answer.Answer.{Answer}
 use Rattle.device_requests.specs.declared.answer.Code.TheVariants.{Changed, NotFound}
 use Rattle.device_requests.specs.Access.{may_read}
@@ -27,7 +29,7 @@ use Rattle.device_requests.specs.Answer.{bare}
 use Rattle.device_requests.specs.Client.{Client}
 use Rattle.device_requests.specs.Create.{is_tlv}
 use Rattle.device_requests.specs.Laws.{IsAmong}
-use Rattle.device_requests.specs.Read.{content_in, read_answer}
+use Rattle.device_requests.specs.Read.{content_in, format_at, read_answer}
 use Rattle.device_requests.specs.Targets.{place_of, resource_place}
 use Rattle.device_requests.specs.Write.{write_outcome}
 
@@ -76,3 +78,34 @@ MultipleIsReadBack =
     → definition_of client.catalogue o r ≡ Some d → d.multiple ≡ true → can_read d.ops ≡ true
     → (write_outcome client server Replace (Resource o i r) number payload).answer.code ≡ Changed
     → ArePartsReadBack o i r d payload (write_outcome client server Replace (Resource o i r) number payload).client
+
+-- the part of this number is given a value
+abbrev pub HasPart : PartList → ℕ → Type 0
+HasPart parts n = (v : Value) × IsAmong (n, v) parts
+
+-- a part of a resource behind a change: one that is given, and with Partial Update one that was there and is not given
+abbrev pub IsPartThen : Mode → PartList → ℕ → Option Value → Value → Type 0
+IsPartThen mode parts n before v =
+    IsAmong (n, v) parts ⊎ ((mode ≡ Update) × (¬ (HasPart parts n)) × (before ≡ Some v))
+
+-- a Write of a part gives it one value, and a Read of its resource then answers this part and the others that it held
+pub record IsPartReadAmong (client : Client) (o i r n : ℕ) (d : ResourceDef) (number : Option ℕ) (payload : List ℕ)
+    (new : Client) : Type 0 where
+  pub format : Format
+  pub served : format_at client.catalogue (Part o i r n) number ≡ Some format
+  pub value : Value
+  pub gives : part_given d n format payload ≡ Some (Parts ((n, value) ∷ []))
+  pub shown : PartList
+  pub read : IsReadInParts new o i r shown
+  pub parts : (m : ℕ) (v : Value) → IsAmong (m, v) shown
+      ↔ IsPartThen Update ((n, value) ∷ []) m (value_at client.store (part_of (resource_place o i r) m)) v
+
+-- a Write of a part of a resource that can be read, answered by Changed; other parts stay, whatever the mode is
+abbrev pub PartIsReadAmong : Type 0
+PartIsReadAmong =
+    (client : Client) (server : ℕ) (mode : Mode) (o i r n : ℕ) (d : ResourceDef) (number : Option ℕ)
+    (payload : List ℕ)
+    → definition_of client.catalogue o r ≡ Some d → can_read d.ops ≡ true
+    → (write_outcome client server mode (Part o i r n) number payload).answer.code ≡ Changed
+    → IsPartReadAmong client o i r n d number payload
+    (write_outcome client server mode (Part o i r n) number payload).client

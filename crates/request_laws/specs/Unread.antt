@@ -15,8 +15,8 @@ use Rattle.device_requests.specs.Read.{read_answer}
 use Rattle.device_requests.specs.Request.{outcome_of}
 
 -- a store differs from that of a client only in values of instances that a server may not read: there are the same
--- instances, and values at the same full paths, as Discover shows them; and where the server may read, the values are
--- the same. So they are in Access Control, which all may read, and the server has the same rights
+-- instances, and values at the same full paths, since what exists shows without a right; and where the server may read,
+-- the values are the same. So they are in Access Control, which all may read, and the server has the same rights
 pub record DiffersUnread (client : Client) (stored : Stored) (server : ℕ) : Type 0 where
   pub instances : stored.instances ≡ client.store.instances
   pub places : (q : FullPath) → is_some (value_at stored q) ≡ is_some (value_at client.store q)

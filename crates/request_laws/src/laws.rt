@@ -7,7 +7,7 @@ ghost use Rattle.request_laws.specs.Deletions.{DeletesTake};
 ghost use Rattle.request_laws.specs.Executions.{ErrorsAreReset, ExecutesKeep, UpdatesBegin};
 ghost use Rattle.request_laws.specs.Good.{GoodIsDone, LimitsComeLast};
 ghost use Rattle.request_laws.specs.Instances.{InstancesAreReadBack, InstancesHoldGiven};
-ghost use Rattle.request_laws.specs.Multiples.{MultipleIsRead, MultipleIsReadBack};
+ghost use Rattle.request_laws.specs.Multiples.{MultipleIsRead, MultipleIsReadBack, PartIsReadAmong};
 ghost use Rattle.request_laws.specs.Readings.{PartIsRead};
 ghost use Rattle.request_laws.specs.Unread.{AnswersHideUnread, ReadsHideUnread};
 ghost use Rattle.request_laws.specs.Writes.{InstancesAreWritten, PartsAreWritten, ResourcesAreWritten};
@@ -68,10 +68,11 @@ pub fn reads_the_part_that_was_written()
 {}
 
 /// A Read of a multiple resource answers exactly the parts that it holds, by ascending number; behind a Write that
-/// replaces, these are the parts that were given.
+/// replaces, these are the parts that were given; behind a Write of a part, that part and the others from before.
 pub fn reads_multiple_resources()
     ensures held { MultipleIsRead }
     ensures written { MultipleIsReadBack }
+    ensures part { PartIsReadAmong }
 {}
 
 /// Behind a Write an instance holds each value and each part that was given to a resource that can be read; what
