@@ -208,7 +208,7 @@ is_kept_here : (client : Client) (o r : ℕ) (b : Bool) → is_readable (definit
 is_kept_here client o r b h =
     same_test (resource_in (defined client.catalogue o) r) ∙ sym (ap is_readable (is_defined_in client o r)) ∙ h
 
--- behind a Write of an instance that names a resource
+-- after a Write of an instance that names a resource
 behind_named : (client : Client) (mode : Mode) (o : ℕ) (given : List Assignment) (q : FullPath) (g : Given) (b : Bool)
     (before : Option Value) → EachOnce given → IsGivenTo given q.resource g
     → is_readable (definition_of client.catalogue o q.resource) ≡ b

@@ -103,7 +103,7 @@ no_part_of : (parts : PartList) (n : ℕ) → PartsOnce parts → part_value par
 no_part_of parts n once h part =
     let l : Some part.0 ≡ None = sym (among_value parts n part.0 once part.1) ∙ h in cc
 
--- what a part holds behind a change, and what is given to it
+-- what a part holds after a change, and what is given to it
 pub record IsChanged (mode : Mode) (parts : PartList) (n : ℕ) (before after : Option Value) : Type 0 where
   pub given : (v : Value) → IsAmong (n, v) parts → after ≡ Some v
   pub other : ¬ (HasPart parts n) → after ≡ left_by mode before

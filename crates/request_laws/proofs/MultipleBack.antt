@@ -102,7 +102,7 @@ is_only_tlv client o i r d number f defined_as several h =
     only_tlv number f (sym (ap (λ (e : Option ResourceDef). format_for (extent_as e) number) defined_as
     ∙ ap (λ (b : Bool). format_for (if b then many else one d.kind) number) several) ∙ h)
 
--- ---- the store behind it
+-- ---- the store after it
 
 -- the firmware takes single values alone
 parts_leave : (client : Client) (mode : Mode) (o i r : ℕ) (payload : List ℕ) (f : Format) (d : ResourceDef)
@@ -132,7 +132,7 @@ or_none (Some v) = refl
 lies_here : (p : ResourcePath) (n : ℕ) → lies_in (resource_path p) (part_of p n) ≡ true
 lies_here p n = grind (arith, nat_tests)
 
--- behind Replace there are the parts given
+-- after Replace there are the parts given
 replaced : (stored : Stored) (p : ResourcePath) (parts : PartList) → PartsOnce parts
     → HoldsParts (with_given Replace stored p (Parts parts)) p parts
 replaced stored p parts once =

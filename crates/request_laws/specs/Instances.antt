@@ -1,4 +1,4 @@
--- What an instance holds behind a Write (OMA LwM2M 1.1 Core, Write: Replace and Partial Update).
+-- What an instance holds after a Write (OMA LwM2M 1.1 Core, Write: Replace and Partial Update).
 use Rattle.std.specs.Prelude.{◌≡◌, ◌⊎◌, ◌↔◌, ℕ, true, false, List, Option, None, Some}
 use Rattle.lwm2m_values.specs.Tree.{single}
 use Rattle.lwm2m_values.specs.declared.value.Value.{Value}

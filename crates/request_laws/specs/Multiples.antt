@@ -8,6 +8,7 @@ use Rattle.lwm2m_values.specs.Tree.{Trees, multi, part, none, more}
 use Rattle.lwm2m_values.specs.Value.{bytes_of}
 use Rattle.lwm2m_values.specs.declared.value.Value.{Value}
 use Rattle.object_defs.specs.Catalogue.{definition_of}
+use Rattle.object_defs.specs.Numbers.{security_object}
 use Rattle.object_defs.specs.Operations.{can_read}
 use Rattle.object_defs.specs.Path.{part_of}
 use Rattle.object_defs.specs.declared.definition.ResourceDef.{ResourceDef}
@@ -58,7 +59,7 @@ pub record IsReadInParts (client : Client) (o i r : ℕ) (parts : PartList) : Ty
 -- each multiple resource that can be read, of an instance that is there
 abbrev pub MultipleIsRead : Type 0
 MultipleIsRead =
-    (client : Client) (o i r : ℕ) (d : ResourceDef) → o ≢ 0 → definition_of client.catalogue o r ≡ Some d
+    (client : Client) (o i r : ℕ) (d : ResourceDef) → o ≢ security_object → definition_of client.catalogue o r ≡ Some d
     → d.multiple ≡ true → can_read d.ops ≡ true → has_instance client.store (place_of o i) ≡ true
     → (parts : PartList) × IsReadInParts client o i r parts
 
@@ -83,7 +84,7 @@ MultipleIsReadBack =
 abbrev pub HasPart : PartList → ℕ → Type 0
 HasPart parts n = (v : Value) × IsAmong (n, v) parts
 
--- a part of a resource behind a change: one that is given, and with Partial Update one that was there and is not given
+-- a part of a resource after a change: one that is given, and with Partial Update one that was there and is not given
 abbrev pub IsPartThen : Mode → PartList → ℕ → Option Value → Value → Type 0
 IsPartThen mode parts n before v =
     IsAmong (n, v) parts ⊎ ((mode ≡ Update) × (¬ (HasPart parts n)) × (before ≡ Some v))

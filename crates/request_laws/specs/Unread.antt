@@ -35,18 +35,18 @@ asks_firmware path WritePartial = is_package path
 asks_firmware path Execute = is_resource firmware_update_object update path
 asks_firmware path operation = false
 
--- a Read has the same answer then, and so has a notification, which is the answer to a Read
+-- a Read has the same answer then, and so has what a notification reports, which is the answer to a Read
 abbrev pub ReadsHideUnread : Type 0
 ReadsHideUnread =
     (client : Client) (stored : Stored) (server : ℕ) (path : Path) (accept : Option ℕ)
     → DiffersUnread client stored server
     → read_answer (with_stored client stored) server path accept ≡ read_answer client server path accept
 
--- every request has the same answer then, whatever it asks for, but for what the firmware decides while the server may
--- not read its State
+-- every request has the same answer then, whatever it asks for, except for what the firmware decides while the server
+-- may not read its State
 abbrev pub AnswersHideUnread : Type 0
 AnswersHideUnread =
     (client : Client) (stored : Stored) (server : ℕ) (m : Message) → DiffersUnread client stored server
     → ((path : Path) (operation : Operation) → Asks m path operation
-    → (asks_firmware path operation ≡ false) ⊎ (reads client.store (length client.accounts) server 5 0 ≡ true))
+    → (asks_firmware path operation ≡ false) ⊎ (reads client.store (length client.accounts) server firmware_update_object 0 ≡ true))
     → (outcome_of (with_stored client stored) server m).answer ≡ (outcome_of client server m).answer

@@ -67,23 +67,23 @@ pub fn reads_the_part_that_was_written()
     ensures { PartIsRead }
 {}
 
-/// A Read of a multiple resource answers exactly the parts that it holds, by ascending number; behind a Write that
-/// replaces, these are the parts that were given; behind a Write of a part, that part and the others from before.
+/// A Read of a multiple resource answers exactly the parts that it holds, by ascending number; after a Write that
+/// replaces, these are the parts that were given; after a Write of a part, that part and the others from before.
 pub fn reads_multiple_resources()
     ensures held { MultipleIsRead }
     ensures written { MultipleIsReadBack }
     ensures part { PartIsReadAmong }
 {}
 
-/// Behind a Write an instance holds each value and each part that was given to a resource that can be read; what
+/// After a Write an instance holds each value and each part that was given to a resource that can be read; what
 /// Replace takes away is gone, and all else is as it was. Reads of its resources then answer what was given.
 pub fn instances_hold_what_was_given()
     ensures held { InstancesHoldGiven }
     ensures read { InstancesAreReadBack }
 {}
 
-/// Values of instances that a server may not read show in no answer to it, whatever it asks for, but for what the
-/// firmware decides by its State.
+/// Values of instances that a server may not read show in no answer to it, whatever it asks for, except for what
+/// the firmware decides by its State.
 pub fn answers_hide_the_unreadable()
     ensures read { ReadsHideUnread }
     ensures all { AnswersHideUnread }
