@@ -48,5 +48,6 @@ abbrev pub AnswersHideUnread : Type 0
 AnswersHideUnread =
     (client : Client) (stored : Stored) (server : ℕ) (m : Message) → DiffersUnread client stored server
     → ((path : Path) (operation : Operation) → Asks m path operation
-    → (asks_firmware path operation ≡ false) ⊎ (reads client.store (length client.accounts) server firmware_update_object 0 ≡ true))
+    → (asks_firmware path operation ≡ false)
+    ⊎ (reads client.store (length client.accounts) server firmware_update_object 0 ≡ true))
     → (outcome_of (with_stored client stored) server m).answer ≡ (outcome_of client server m).answer
