@@ -1,13 +1,12 @@
 -- What a Write-Attributes changes.
 use Rattle.std.proofs.Common.{◌≡◌, ◌≢◌, ℕ, ℤ, Bool, true, false, cond, not, ◌==◌, List, [], ◌∷◌, Option, None, Some}
-use Rattle.std.proofs.Common.{Result, Ok, Err, refl, sym, ap, subst, ◌∙◌}
+use Rattle.std.proofs.Common.{Result, Ok, Err, refl, sym, ap, ◌∙◌}
 use Rattle.std.specs.Bool.{if◌then◌else◌}
 use Rattle.std.specs.Cmp.{eq_by_cmp_equiv, Equal-is}
 use Rattle.std.specs.FinMap as map
 use Rattle.std.specs.Option.{is_some, option_and_then}
 use Rattle.std.specs.Ordering.{eq_by_cmp}
 use Rattle.std.proofs.lemmas.Bool.{eq-eqb, eqb-true, false≢true, false_from_ne_true}
-use Rattle.object_defs.specs.Lines.{first_line}
 use Rattle.object_defs.specs.declared.path.Path.{Path}
 use Rattle.object_defs.specs.declared.path.Path.TheVariants.{Object, Instance, Resource, Part}
 use Rattle.notifier.specs.declared.attribute.AttributeKey.{AttributeKey}
@@ -19,11 +18,10 @@ use Rattle.notifier.specs.Attributes.{with_number, written}
 use Rattle.notifier.specs.Query.{changes_of}
 use Rattle.notifier.proofs.Keys.{key_exact, key_total}
 use Rattle.device_requests.specs.declared.answer.Code.{Code}
-use Rattle.device_requests.specs.Client.{Client}
 use Rattle.device_requests.specs.Laws.{is_refusal}
 use Rattle.device_requests.specs.WriteAttributes.{agreed, annotate_unless, attribute_lines, attributes_given}
 use Rattle.device_requests.specs.WriteAttributes.{attributes_outcome, level_at, spelled}
-use Rattle.request_laws.specs.Annotations.{AreAnnotated, AttributesAreSet, changed_by}
+use Rattle.request_laws.specs.Annotations.{AttributesAreSet, changed_by}
 use Rattle.request_laws.proofs.Asking.{fails, passes}
 
 name_in : (s : ℕ) (p : Path) (n : Name) → (key_of s p n).name ≡ n

@@ -31,10 +31,9 @@ use Rattle.device_requests.specs.declared.operation.Operation.TheVariants.{Delet
 use Rattle.device_requests.specs.Answer.{Outcome}
 use Rattle.device_requests.specs.Client.{Client}
 use Rattle.device_requests.specs.Create.{Newborn, create_lines, create_unless, newborn}
-use Rattle.device_requests.specs.Execute.{executed, execute_lines, execute_unless, is_resource, with_no_error}
+use Rattle.device_requests.specs.Execute.{execute_lines, execute_unless, is_resource, with_no_error}
 use Rattle.device_requests.specs.Options.{content_format_of, queries_of}
-use Rattle.device_requests.specs.Order.{Asks}
-use Rattle.device_requests.specs.Request.{outcome_at, outcome_of, request_with}
+use Rattle.device_requests.specs.Request.{outcome_at, request_with}
 use Rattle.device_requests.specs.Targets.{defined, place_of, resource_place}
 use Rattle.device_requests.specs.Read.{format_at}
 use Rattle.device_requests.specs.Write.{event_of, given_to_part, given_to_resource, left, mode_at, new_values}
@@ -129,16 +128,16 @@ annotated None client None = same client WriteAttributes
 annotated None client (Some m) = record { attributes = λ h. cc; instances = λ h. refl; values = λ h. refl }
 annotated (Some code) client given = same client WriteAttributes
 
-record KeepsMost (old new : Client) : Type 0 where
-  attributes : new.attributes ≡ old.attributes
-  instances : new.store.instances ≡ old.store.instances
+pub record KeepsMost (old new : Client) : Type 0 where
+  pub attributes : new.attributes ≡ old.attributes
+  pub instances : new.store.instances ≡ old.store.instances
 
 write_keeps : (code : Option Code) (client : Client) (s : Stored) → s.instances ≡ client.store.instances
     → KeepsMost client (write_unless code client s).client
 write_keeps None client s h = record { attributes = refl; instances = h }
 write_keeps (Some code) client s h = record { attributes = refl; instances = refl }
 
-wrote : (client : Client) (server : ℕ) (mode : Mode) (path : Path) (number : Option ℕ) (payload : List ℕ)
+pub wrote : (client : Client) (server : ℕ) (mode : Mode) (path : Path) (number : Option ℕ) (payload : List ℕ)
     → KeepsMost client (write_outcome client server mode path number payload).client
 wrote client server mode path number payload =
     let values = new_values client path number payload in

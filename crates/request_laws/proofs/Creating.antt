@@ -1,11 +1,10 @@
 -- What a Create adds.
-use Rattle.std.proofs.Common.{◌≡◌, ◌≢◌, ℕ, Bool, true, false, cond, not, List, Option, None, Some, pos, length, nat_le}
+use Rattle.std.proofs.Common.{◌≡◌, ◌≢◌, ℕ, Bool, true, false, List, Option, None, Some, length, nat_le}
 use Rattle.std.proofs.Common.{refl, sym, ap, subst, ◌∙◌}
 use Rattle.std.specs.Bool.{if◌then◌else◌}
 use Rattle.std.specs.FinMap as map
 use Rattle.std.specs.Option.{is_some, option_map}
 use Rattle.std.proofs.lemmas.Bool.{false≢true}
-use Rattle.object_defs.specs.Lines.{first_line}
 use Rattle.object_defs.specs.Path.{part_of, single_of}
 use Rattle.object_defs.specs.declared.definition.ResourceDef.{ResourceDef}
 use Rattle.object_defs.specs.declared.path.FullPath.{FullPath}
@@ -29,10 +28,10 @@ use Rattle.device_instances.proofs.Within.{written_within}
 use Rattle.device_requests.specs.declared.answer.Code.{Code}
 use Rattle.device_requests.specs.Answer.{Outcome}
 use Rattle.device_requests.specs.Client.{Client}
-use Rattle.device_requests.specs.Create.{Newborn, create_lines, create_outcome, create_unless, newborn, numbered}
+use Rattle.device_requests.specs.Create.{Newborn, create_lines, create_unless, newborn, numbered}
 use Rattle.device_requests.specs.Laws.{is_refusal}
 use Rattle.device_requests.specs.Targets.{defined, is_fixed, place_of}
-use Rattle.request_laws.specs.Creations.{CreatesAdd, IsControlOf, IsCreated, IsSame, new_control}
+use Rattle.request_laws.specs.Creations.{CreatesAdd, IsControlOf, IsCreated, IsSame}
 use Rattle.request_laws.proofs.Asking.{chosen, fails, passes, there}
 
 -- ---- the instance of Access Control

@@ -17,13 +17,11 @@ use Rattle.access_control.specs.Rights.{speaks_of}
 use Rattle.notifier.specs.declared.attribute.AttributeKey.{AttributeKey}
 use Rattle.notifier.specs.Attributes.{Numbers, has_number, lies_under, without_under}
 use Rattle.notifier.proofs.Keys.{key_exact, key_total}
-use Rattle.device_instances.specs.Deletions.{instance_in, is_control_of, goes_with, is_same, without_deleted}
+use Rattle.device_instances.specs.Deletions.{instance_in, goes_with, without_deleted}
 use Rattle.device_instances.proofs.Instances.{listed}
 use Rattle.device_requests.specs.declared.answer.Code.{Code}
-use Rattle.device_requests.specs.declared.answer.Code.TheVariants.{Deleted}
-use Rattle.device_requests.specs.Answer.{Outcome}
 use Rattle.device_requests.specs.Client.{Client}
-use Rattle.device_requests.specs.Delete.{delete_lines, delete_outcome, delete_unless, deleted, forgotten, taken_away}
+use Rattle.device_requests.specs.Delete.{delete_lines, delete_unless, forgotten, taken_away}
 use Rattle.device_requests.specs.Delete.{without_controls}
 use Rattle.device_requests.specs.Laws.{is_refusal}
 use Rattle.device_requests.specs.Targets.{place_of}

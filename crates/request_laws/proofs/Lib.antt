@@ -4,7 +4,14 @@ mod Changing
 mod Creating
 mod Deciding
 mod Deleting
+mod Differing
 mod Executing
+mod Holding
+mod InstanceBack
+mod InstanceReading
+mod MultipleBack
 mod PartBack
+mod PartReading
 mod PartWriting
+mod Unread
 mod Writing

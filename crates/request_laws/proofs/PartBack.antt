@@ -1,11 +1,10 @@
 -- A part that was written is read again.
 use Rattle.std.proofs.Common.{◌≡◌, ℕ, Bool, true, false, cond, not, ◌&&◌, ◌==◌, List, [], ◌∷◌, length, Option, None}
 use Rattle.std.proofs.Common.{Some, refl, sym, ap, subst, ◌∙◌}
-use Rattle.std.specs.Bool.{if◌then◌else◌}
 use Rattle.std.specs.Cmp.{eq_by_cmp_equiv}
-use Rattle.std.specs.Option.{is_some, option_and_then, option_map}
+use Rattle.std.specs.Option.{is_some, option_and_then}
 use Rattle.lwm2m_values.specs.Reading.{nodes_of_bytes, value_of_bytes, value_of_text}
-use Rattle.lwm2m_values.specs.Tree.{Tree, Trees, instance, multi, part, single, none, more}
+use Rattle.lwm2m_values.specs.Tree.{Trees, multi, part, none, more}
 use Rattle.lwm2m_values.specs.declared.kind.ValueKind.{ValueKind}
 use Rattle.lwm2m_values.specs.declared.value.Value.{Value}
 use Rattle.object_defs.specs.Catalogue.{definition_of}
@@ -16,7 +15,6 @@ use Rattle.object_defs.specs.declared.definition.ResourceDef.{ResourceDef}
 use Rattle.object_defs.specs.declared.path.Path.TheVariants.{Part}
 use Rattle.object_defs.proofs.PathOrder.{path_total}
 use Rattle.instance_store.specs.Stored.{Stored, has_instance, value_at, with_value}
-use Rattle.lwm2m_payloads.specs.Changes.{is_kept_as, with_given}
 use Rattle.lwm2m_payloads.specs.Given.{given_if, lone_part, one_part, part_given, part_record}
 use Rattle.lwm2m_payloads.specs.Nodes.{value_payload, within_limit}
 use Rattle.lwm2m_payloads.specs.declared.format.Format.{Format}
@@ -24,7 +22,6 @@ use Rattle.lwm2m_payloads.specs.declared.format.Format.TheVariants.{PlainText, O
 use Rattle.lwm2m_payloads.specs.declared.given.Given.{Given}
 use Rattle.lwm2m_payloads.specs.declared.given.Given.TheVariants.{Parts}
 use Rattle.lwm2m_payloads.specs.declared.given.Mode.{Mode}
-use Rattle.lwm2m_payloads.specs.declared.given.Mode.TheVariants.{Update}
 use Rattle.device_requests.specs.declared.answer.Code.{Code}
 use Rattle.device_requests.specs.declared.answer.Code.TheVariants.{Unauthorized, NotFound, MethodNotAllowed}
 use Rattle.device_requests.specs.declared.answer.Code.TheVariants.{NotAcceptable, InternalServerError}
@@ -33,10 +30,10 @@ use Rattle.device_requests.specs.Answer.{refused_or}
 use Rattle.device_requests.specs.Client.{Client, with_stored}
 use Rattle.device_requests.specs.Read.{content_in, format_at, payload_in, read_answer, read_payload}
 use Rattle.device_requests.specs.Targets.{exists, is_multiple, is_readable, place_of, resource_place}
-use Rattle.device_requests.specs.Write.{given_to_part, is_target, values_given, write_lines, write_outcome}
+use Rattle.device_requests.specs.Write.{given_to_part, values_given, write_lines, write_outcome}
 use Rattle.device_requests.specs.Write.{write_unless}
 use Rattle.request_laws.specs.Readings.{IsPartReadBack, PartIsRead}
-use Rattle.request_laws.proofs.Asking.{fails, there}
+use Rattle.request_laws.proofs.Asking.{fails}
 use Rattle.request_laws.proofs.Executing.{behind}
 use Rattle.request_laws.proofs.Writing.{comes, leaves, unrefused}
 
@@ -73,13 +70,13 @@ gives_part d n PlainText payload g h = one_is n (value_of_text d.kind payload) g
 gives_part d n OctetStream payload g h = one_is n (value_of_bytes d.kind payload) g h
 gives_part d n Tlv payload g h = nodes_are d n (nodes_of_bytes payload) g h
 
-both_are : (a b : Bool) → not (a && b) ≡ false → (a ≡ true) × (b ≡ true)
+pub both_are : (a b : Bool) → not (a && b) ≡ false → (a ≡ true) × (b ≡ true)
 both_are true true h = (refl, refl)
 both_are true false h = cc
 both_are false b h = cc
 
 -- no line of a Read applies but that of its payload's length
-shown : (a b s c : Bool) (format : Option Format) (wanted : Format) (payload : Option (List ℕ)) → a ≡ false → b
+pub shown : (a b s c : Bool) (format : Option Format) (wanted : Format) (payload : Option (List ℕ)) → a ≡ false → b
     ≡ false → s ≡ false → c ≡ false → format ≡ Some wanted
     → refused_or (first_line ((a, Unauthorized) ∷ (b, NotFound) ∷ (s, Unauthorized) ∷ (c, MethodNotAllowed)
     ∷ (not (is_some format), NotAcceptable) ∷ (not (is_some payload), InternalServerError) ∷ []))

@@ -1,8 +1,8 @@
 -- What a Write changes.
-use Rattle.std.proofs.Common.{◌≡◌, ◌≢◌, ℕ, Bool, true, false, cond, not, ◌&&◌, ◌==◌, List, [], ◌∷◌, Option, None, Some}
-use Rattle.std.proofs.Common.{refl, sym, ap, subst, ◌∙◌}
+use Rattle.std.proofs.Common.{◌≡◌, ◌≢◌, ℕ, Bool, true, false, not, ◌==◌, List, Option, None, Some}
+use Rattle.std.proofs.Common.{refl, sym, ap, ◌∙◌}
 use Rattle.std.specs.Bool.{if◌then◌else◌}
-use Rattle.std.specs.Option.{is_some, option_and_then, option_map}
+use Rattle.std.specs.Option.{is_some, option_and_then}
 use Rattle.std.proofs.lemmas.Bool.{ne_eqb}
 use Rattle.object_defs.specs.Catalogue.{definition_of}
 use Rattle.object_defs.specs.Lines.{first_line}
@@ -25,14 +25,14 @@ use Rattle.lwm2m_payloads.proofs.EachOnce.{instance_once, resource_once}
 use Rattle.lwm2m_payloads.proofs.Written.{at_given, at_written}
 use Rattle.device_requests.specs.declared.answer.Code.{Code}
 use Rattle.device_requests.specs.declared.answer.Code.TheVariants.{Changed}
-use Rattle.device_requests.specs.Client.{Client}
+use Rattle.device_requests.specs.Client.{Client, with_stored}
 use Rattle.device_requests.specs.Laws.{is_refusal}
 use Rattle.device_requests.specs.Read.{format_at}
 use Rattle.device_requests.specs.Targets.{defined, place_of, resource_place}
 use Rattle.device_requests.specs.Write.{event_of, given_to_resource, left, mode_at, new_values, turn_lines}
 use Rattle.device_requests.specs.Write.{values_given}
 use Rattle.device_requests.specs.Write.{write_lines, write_outcome, write_unless}
-use Rattle.request_laws.specs.Writes.{InstancesAreWritten, IsInstanceWritten, IsResourceWritten, ResourcesAreWritten}
+use Rattle.request_laws.specs.Writes.{InstancesAreWritten, ResourcesAreWritten}
 use Rattle.request_laws.proofs.Asking.{AllRefuse, chosen, fails, passes, there}
 
 turns_refuse : (client : Client) (mode : Mode) (path : Path) (number : Option ℕ) (payload : List ℕ)
@@ -85,6 +85,18 @@ comes client server mode path number payload h =
           ∙ ap (leaves client mode path payload) f.1;
     }
 
+-- it leaves all but the store
+pub is_stored : (client : Client) (server : ℕ) (mode : Mode) (path : Path) (number : Option ℕ) (payload : List ℕ)
+    → (write_outcome client server mode path number payload).answer.code ≡ Changed
+    → (write_outcome client server mode path number payload).client
+    ≡ with_stored client (write_outcome client server mode path number payload).client.store
+is_stored client server mode path number payload h =
+    let left_store = leaves client mode path payload (format_at client.catalogue path number) in
+    let becomes : (write_outcome client server mode path number payload).client ≡ with_stored client left_store =
+    ap (λ (code : Option Code). (write_unless code client left_store).client)
+    (unrefused client server mode path number payload h) in
+    becomes ∙ sym (ap (λ (c : Client). with_stored client c.store) becomes)
+
 -- ---- an instance
 
 instance_good : (client : Client) (o i : ℕ) (payload : List ℕ) (f : Format) (given : Option (List Assignment))
@@ -120,7 +132,7 @@ instances_written client server mode o i number payload h =
 
 -- ---- a resource
 
-resource_good : (client : Client) (o i r : ℕ) (payload : List ℕ) (f : Format) (given : Option Given)
+pub resource_good : (client : Client) (o i r : ℕ) (payload : List ℕ) (f : Format) (given : Option Given)
     → given_to_resource (definition_of client.catalogue o r) f payload ≡ given
     → not (is_some (values_given client.catalogue (Resource o i r) payload f)) ≡ false
     → (g : Given) × (given ≡ Some g)

@@ -4,5 +4,8 @@ pub mod Creations
 pub mod Deletions
 pub mod Executions
 pub mod Good
+pub mod Instances
+pub mod Multiples
 pub mod Readings
+pub mod Unread
 pub mod Writes

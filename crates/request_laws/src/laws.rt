@@ -6,7 +6,10 @@ ghost use Rattle.request_laws.specs.Creations.{CreatesAdd};
 ghost use Rattle.request_laws.specs.Deletions.{DeletesTake};
 ghost use Rattle.request_laws.specs.Executions.{ErrorsAreReset, ExecutesKeep, UpdatesBegin};
 ghost use Rattle.request_laws.specs.Good.{GoodIsDone, LimitsComeLast};
+ghost use Rattle.request_laws.specs.Instances.{InstancesAreReadBack, InstancesHoldGiven};
+ghost use Rattle.request_laws.specs.Multiples.{MultipleIsRead, MultipleIsReadBack, PartIsReadAmong};
 ghost use Rattle.request_laws.specs.Readings.{PartIsRead};
+ghost use Rattle.request_laws.specs.Unread.{AnswersHideUnread, ReadsHideUnread};
 ghost use Rattle.request_laws.specs.Writes.{InstancesAreWritten, PartsAreWritten, ResourcesAreWritten};
 
 use device_requests::refusals_have_reasons;
@@ -62,4 +65,26 @@ pub fn attributes_are_set()
 /// A Read of a resource instance answers what was written there.
 pub fn reads_the_part_that_was_written()
     ensures { PartIsRead }
+{}
+
+/// A Read of a multiple resource answers exactly the parts that it holds, by ascending number; after a Write that
+/// replaces, these are the parts that were given; after a Write of a part, that part and the others from before.
+pub fn reads_multiple_resources()
+    ensures held { MultipleIsRead }
+    ensures written { MultipleIsReadBack }
+    ensures part { PartIsReadAmong }
+{}
+
+/// After a Write an instance holds each value and each part that was given to a resource that can be read; what
+/// Replace takes away is gone, and all else is as it was. Reads of its resources then answer what was given.
+pub fn instances_hold_what_was_given()
+    ensures held { InstancesHoldGiven }
+    ensures read { InstancesAreReadBack }
+{}
+
+/// Values of instances that a server may not read show in no answer to it, whatever it asks for, except for what
+/// the firmware decides by its State.
+pub fn answers_hide_the_unreadable()
+    ensures read { ReadsHideUnread }
+    ensures all { AnswersHideUnread }
 {}

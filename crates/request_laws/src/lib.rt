@@ -4,7 +4,8 @@
 mod laws;
 
 pub use laws::{
-    attributes_are_set, creates_add_one_instance, deletes_take_what_belongs,
-    executes_change_little, good_requests_are_done, operations_keep_others,
+    answers_hide_the_unreadable, attributes_are_set, creates_add_one_instance,
+    deletes_take_what_belongs, executes_change_little, good_requests_are_done,
+    instances_hold_what_was_given, operations_keep_others, reads_multiple_resources,
     reads_the_part_that_was_written, writes_are_kept,
 };

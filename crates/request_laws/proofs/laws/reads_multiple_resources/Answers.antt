@@ -1,0 +1,13 @@
+use Rattle.request_laws.proofs.Holding.{multiple_read}
+use Rattle.request_laws.proofs.MultipleBack.{multiple_back}
+use Rattle.request_laws.proofs.PartReading.{part_read_among}
+use Rattle.request_laws.proofs.laws.reads_multiple_resources.Goals as goal
+
+pub returns-clause-held : goal.returns-clause-held
+returns-clause-held c = multiple_read
+
+pub returns-clause-written : goal.returns-clause-written
+returns-clause-written c = multiple_back
+
+pub returns-clause-part : goal.returns-clause-part
+returns-clause-part c = part_read_among
