@@ -8,3 +8,4 @@ mod PrintedNumbers
 mod Queries
 mod ShownNumbers
 mod Validity
+mod WrittenBack

@@ -9,7 +9,7 @@ use Rattle.device_requests.specs.Discover.{shown_number}
 use Rattle.device_requests.specs.WriteAttributes.{level_at}
 use Rattle.reading_laws.specs.Queries.{AreSaid, IsNew}
 use Rattle.reading_laws.proofs.Saying.{changes_are_said}
-use Rattle.discover_laws.specs.Links.{attribute_parameter, attribute_parameters, names, ParametersAreQueries, query_of}
+use Rattle.discover_laws.specs.Links.{attribute_parameter, attribute_names, attribute_parameters, ParametersAreQueries, query_of}
 use Rattle.discover_laws.specs.Links.{settings, settings_shown}
 use Rattle.discover_laws.specs.Printed.{IsAttributeNumber, setting}
 use Rattle.discover_laws.proofs.Lists.{all_joined, Ordered}
@@ -48,7 +48,7 @@ all_said before level numbers valid (n ∷ ns) differ new =
           later (before ++ setting n z ∷ []) (still_new before n z ns new.1 differ.0),
         )
 
-names_differ : Ordered (λ m n. m ≢ n) names
+names_differ : Ordered (λ m n. m ≢ n) attribute_names
 names_differ = (
   ((λ e. cc e), ((λ e. cc e), ((λ e. cc e), ((λ e. cc e), tt)))),
   (((λ e. cc e), ((λ e. cc e), ((λ e. cc e), tt))), (((λ e. cc e), ((λ e. cc e), tt)), (((λ e. cc e), tt), (tt, tt)))),
@@ -60,4 +60,4 @@ parameters_are_queries client server inherits path h =
     (changes_are_said level (map query_of (attribute_parameters client server inherits path))
     (settings_shown client server inherits path)).1
     (all_said [] level (shown_number client.attributes server inherits path) (shown_valid client h server inherits path)
-    names names_differ (tt, (tt, (tt, (tt, (tt, tt))))))
+    attribute_names names_differ (tt, (tt, (tt, (tt, (tt, tt))))))

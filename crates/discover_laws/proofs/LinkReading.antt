@@ -42,18 +42,18 @@ one_cut test (x ∷ a) b (y ∷ c) d p q s r e =
 
 -- texts all of whose characters pass a test
 
-pub all_joined : (test : ℕ → Bool) (a b : List ℕ) → list_all test a ≡ true → list_all test b ≡ true
+pub joined_passes : (test : ℕ → Bool) (a b : List ℕ) → list_all test a ≡ true → list_all test b ≡ true
     → list_all test (a ++ b) ≡ true
-all_joined test [] b p q = q
-all_joined test (x ∷ a) b p q =
-    let h = both (test x) (list_all test a) p in both_back (test x) _ h.0 (all_joined test a b h.1 q)
+joined_passes test [] b p q = q
+joined_passes test (x ∷ a) b p q =
+    let h = both (test x) (list_all test a) p in both_back (test x) _ h.0 (joined_passes test a b h.1 q)
 
-pub all_weaker : (test other : ℕ → Bool) → ((c : ℕ) → test c ≡ true → other c ≡ true) → (t : List ℕ)
+pub weaker_passes : (test other : ℕ → Bool) → ((c : ℕ) → test c ≡ true → other c ≡ true) → (t : List ℕ)
     → list_all test t ≡ true → list_all other t ≡ true
-all_weaker test other weaker [] h = refl
-all_weaker test other weaker (c ∷ t) h =
+weaker_passes test other weaker [] h = refl
+weaker_passes test other weaker (c ∷ t) h =
     let p = both (test c) (list_all test t) h in
-    both_back (other c) (list_all other t) (weaker c p.0) (all_weaker test other weaker t p.1)
+    both_back (other c) (list_all other t) (weaker c p.0) (weaker_passes test other weaker t p.1)
 
 pub digits_pass : (test : ℕ → Bool) → ((c : ℕ) → IsInRange 48 57 c → test c ≡ true) → (t : List ℕ) → AllDigits 10 t
     → list_all test t ≡ true
@@ -73,16 +73,16 @@ path_passes : (test : ℕ → Bool) → ((c : ℕ) → IsInRange 48 57 c → tes
     → IsPath p → list_all test (path_text p) ≡ true
 path_passes test digits slash (Object o) h = slashed test slash _ (decimal_passes test digits o h)
 path_passes test digits slash (Instance o i) h =
-    slashed test slash _ (all_joined test (decimal o) _ (decimal_passes test digits o h.0)
+    slashed test slash _ (joined_passes test (decimal o) _ (decimal_passes test digits o h.0)
     (slashed test slash _ (decimal_passes test digits i h.1)))
 path_passes test digits slash (Resource o i r) h =
-    slashed test slash _ (all_joined test (decimal o) _ (decimal_passes test digits o h.0)
-    (slashed test slash _ (all_joined test (decimal i) _ (decimal_passes test digits i h.1)
+    slashed test slash _ (joined_passes test (decimal o) _ (decimal_passes test digits o h.0)
+    (slashed test slash _ (joined_passes test (decimal i) _ (decimal_passes test digits i h.1)
     (slashed test slash _ (decimal_passes test digits r h.2)))))
 path_passes test digits slash (Part o i r p) h =
-    slashed test slash _ (all_joined test (decimal o) _ (decimal_passes test digits o h.0)
-    (slashed test slash _ (all_joined test (decimal i) _ (decimal_passes test digits i h.1)
-    (slashed test slash _ (all_joined test (decimal r) _ (decimal_passes test digits r h.2)
+    slashed test slash _ (joined_passes test (decimal o) _ (decimal_passes test digits o h.0)
+    (slashed test slash _ (joined_passes test (decimal i) _ (decimal_passes test digits i h.1)
+    (slashed test slash _ (joined_passes test (decimal r) _ (decimal_passes test digits r h.2)
     (slashed test slash _ (decimal_passes test digits p h.3)))))))
 
 -- any character but one
@@ -134,9 +134,9 @@ parameters_without_comma : (text : List ℕ) (ps : List (List ℕ × List ℕ)) 
 parameters_without_comma text [] h = ap (list_all (Other 44)) h
 parameters_without_comma text (p ∷ ps) h =
     ap (list_all (Other 44)) h.1
-    ∙ all_joined (Other 44) p.0 (61 ∷ (p.1 ++ h.0))
-    (all_weaker is_name_char (Other 44) (apart is_name_char 44 refl) p.0 h.2.1)
-    (all_joined (Other 44) p.1 h.0 (all_weaker is_value_char (Other 44) (apart is_value_char 44 refl) p.1 h.3.1)
+    ∙ joined_passes (Other 44) p.0 (61 ∷ (p.1 ++ h.0))
+    (weaker_passes is_name_char (Other 44) (apart is_name_char 44 refl) p.0 h.2.1)
+    (joined_passes (Other 44) p.1 h.0 (weaker_passes is_value_char (Other 44) (apart is_value_char 44 refl) p.1 h.3.1)
     (parameters_without_comma h.0 ps h.4))
 
 -- links
@@ -166,7 +166,7 @@ one_link text l m h k =
 link_without_comma : (text : List ℕ) (l : PathLink) → IsLink text l → list_all (Other 44) text ≡ true
 link_without_comma text l h =
     ap (list_all (Other 44)) h.1
-    ∙ all_joined (Other 44) (path_text l.path) (62 ∷ h.0)
+    ∙ joined_passes (Other 44) (path_text l.path) (62 ∷ h.0)
     (path_without 44 (λ r. omega (arith, r)) (λ r. omega (arith, r.0)) l.path h.2)
     (parameters_without_comma h.0 l.parameters h.3)
 

@@ -38,7 +38,7 @@ use Rattle.discover_laws.specs.Links.{IsWithinTypes, link_to, links_to}
 use Rattle.discover_laws.specs.Links.{PathLink, PathsAreRead}
 use Rattle.discover_laws.specs.Printed.{HasValidAttributes, IsAttributeNumber}
 use Rattle.discover_laws.proofs.Fitting.{counts_fit, path_of_fits, paths_fit}
-use Rattle.discover_laws.proofs.LinkReading.{all_joined, digits_pass, one_reading}
+use Rattle.discover_laws.proofs.LinkReading.{joined_passes, digits_pass, one_reading}
 use Rattle.discover_laws.proofs.PrintedNumbers.{number_text_says}
 use Rattle.discover_laws.proofs.ShownNumbers.{shown_valid}
 
@@ -60,7 +60,7 @@ thousandths_chars n t (inr p) =
     let whole = decimal_chars p.0 p.2 p.5 in
     let part = decimal_chars p.1 p.3 p.7 in
     subst (AreChars is_value_char) (sym p.4)
-    (some_joined p.2 (46 ∷ p.3) whole.0, all_joined is_value_char p.2 (46 ∷ p.3) whole.1 part.1)
+    (some_joined p.2 (46 ∷ p.3) whole.0, joined_passes is_value_char p.2 (46 ∷ p.3) whole.1 part.1)
 
 signed_chars : (z : ℤ) (t : List ℕ) → IsSignedThousandths z t → AreChars is_value_char t
 signed_chars z t (inl p) = thousandths_chars p.0 t p.1

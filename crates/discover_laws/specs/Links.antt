@@ -23,7 +23,7 @@ use Rattle.device_requests.specs.Client.{Client}
 use Rattle.device_requests.specs.Discover.{dimension, inherits_at, linked, name_text, number_text, shown_number}
 use Rattle.device_requests.specs.Order.{Asks}
 use Rattle.device_requests.specs.Request.{outcome_of}
-use Rattle.device_requests.specs.WriteAttributes.{level_at}
+use Rattle.device_requests.specs.WriteAttributes.{attributes_outcome, level_at}
 use Rattle.discover_laws.specs.Printed.{HasValidAttributes, setting}
 
 -- a character of a parameter's name: a digit, a letter or one of these marks (RFC 5987 section 3.2.1)
@@ -76,8 +76,8 @@ abbrev pub LinksHaveOneReading : Type 0
 LinksHaveOneReading = (text : List ℕ) (ls ms : List PathLink) → AreLinks text ls → AreLinks text ms → ls ≡ ms
 
 -- the names of attributes in the order in which links show them
-abbrev pub names : List Name
-names = Pmin ∷ Pmax ∷ Gt ∷ Lt ∷ St ∷ []
+abbrev pub attribute_names : List Name
+attribute_names = Pmin ∷ Pmax ∷ Gt ∷ Lt ∷ St ∷ []
 
 -- `dim` with the number of parts that a resource holds, if there are any
 abbrev pub dimension_parameter : ℕ → List (List ℕ × List ℕ)
@@ -91,7 +91,7 @@ attribute_parameter n (Some z) = (name_text n, number_text n z) ∷ []
 -- the attributes of a server that the link of a path shows, in this order
 abbrev pub attribute_parameters : Client → ℕ → Bool → Path → List (List ℕ × List ℕ)
 attribute_parameters client server inherits path =
-    flat_map (λ n. attribute_parameter n (shown_number client.attributes server inherits path n)) names
+    flat_map (λ n. attribute_parameter n (shown_number client.attributes server inherits path n)) attribute_names
 
 -- the link of a path: `dim`, and then the attributes
 abbrev pub link_to : Client → ℕ → Bool → Path → PathLink
@@ -144,7 +144,7 @@ settings n (Some z) = setting n z ∷ []
 
 abbrev pub settings_shown : Client → ℕ → Bool → Path → List Change
 settings_shown client server inherits path =
-    flat_map (λ n. settings n (shown_number client.attributes server inherits path n)) names
+    flat_map (λ n. settings n (shown_number client.attributes server inherits path n)) attribute_names
 
 -- the attributes that a link shows, sent back as the queries of a Write-Attributes at its path, set just these
 abbrev pub ParametersAreQueries : Type 0
@@ -153,3 +153,10 @@ ParametersAreQueries =
     → changes_of [] (level_at client.catalogue path)
     (map query_of (attribute_parameters client server inherits path))
     ≡ Ok (settings_shown client server inherits path)
+
+-- so a server that writes back what it is shown of its attributes at a path changes nothing
+abbrev pub WrittenBackIsTheSame : Type 0
+WrittenBackIsTheSame =
+    (client : Client) (server : ℕ) (path : Path) → HasValidAttributes client
+    → (attributes_outcome client server path
+    (map query_of (attribute_parameters client server false path))).client ≡ client

@@ -44,7 +44,7 @@ OnlyTheseAreRead =
     (before : List Change) (level : Level) (query : List ℕ) (n : Name) (z : ℤ)
     → reading_of before level query ≡ Ok (setting n z) → IsAttributeNumber n z
 
--- so what a query says of an attribute, what is printed of it says again
+-- so what a query says, the text that is printed of it says again
 abbrev pub PrintedSaysAgain : Type 0
 PrintedSaysAgain =
     (before : List Change) (level : Level) (query : List ℕ) (n : Name) (z : ℤ)

@@ -1,7 +1,7 @@
 //! What follows from the tables of Discover, for their readers. The calls do nothing; their contracts are the laws.
 
 ghost use Rattle.discover_laws.specs.Links.{DiscoversAreRead, LinksHaveOneReading, ParametersAreQueries};
-ghost use Rattle.discover_laws.specs.Links.{PathsAreRead};
+ghost use Rattle.discover_laws.specs.Links.{PathsAreRead, WrittenBackIsTheSame};
 ghost use Rattle.discover_laws.specs.Order.{LinksAscend, LinksDiffer};
 ghost use Rattle.discover_laws.specs.Printed.{NoneIsValid, OnlyTheseAreRead, PrintedIsRead, PrintedSaysAgain};
 ghost use Rattle.discover_laws.specs.Printed.{RequestsKeepValid};
@@ -22,9 +22,11 @@ pub fn attributes_stay_valid()
     ensures requests { RequestsKeepValid }
 {}
 
-/// The attributes that a link shows, sent back as the queries of a Write-Attributes, set just these.
+/// The attributes that a link shows, sent back as the queries of a Write-Attributes, set just these; so a server that
+/// writes back what it is shown of its attributes at a path changes nothing.
 pub fn shown_attributes_are_queries()
-    ensures { ParametersAreQueries }
+    ensures set { ParametersAreQueries }
+    ensures unchanged { WrittenBackIsTheSame }
 {}
 
 /// The paths of a Discover's links ascend, so none is listed twice.
