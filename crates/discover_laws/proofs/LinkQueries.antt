@@ -9,7 +9,8 @@ use Rattle.device_requests.specs.Discover.{shown_number}
 use Rattle.device_requests.specs.WriteAttributes.{level_at}
 use Rattle.reading_laws.specs.Queries.{AreSaid, IsNew}
 use Rattle.reading_laws.proofs.Saying.{changes_are_said}
-use Rattle.discover_laws.specs.Links.{attribute_parameter, attribute_names, attribute_parameters, ParametersAreQueries, query_of}
+use Rattle.discover_laws.specs.Links.{attribute_parameter, attribute_names}
+use Rattle.discover_laws.specs.Links.{attribute_parameters, ParametersAreQueries, query_of}
 use Rattle.discover_laws.specs.Links.{settings, settings_shown}
 use Rattle.discover_laws.specs.Printed.{IsAttributeNumber, setting}
 use Rattle.discover_laws.proofs.Lists.{all_joined, Ordered}

@@ -109,7 +109,7 @@ links_to client server [] = []
 links_to client server (p ∷ ps) = link_to client server (inherits_at p) p ∷ map (link_to client server false) ps
 
 -- what the types of a device's numbers give: instances and resources have numbers of 16 bits, and parts can be counted
--- in 64 bits; and attributes are valid, as `attributes_stay_valid` says of every device
+-- in 64 bits; and attributes are valid, as they are from the start whatever is requested (`attributes_stay_valid`)
 pub record IsWithinTypes (client : Client) : Type 0 where
   pub instances : (p : InstancePath) → has_instance client.store p ≡ true → (p.object < 65536) × (p.instance < 65536)
   pub resources : (o r : ℕ) (d : ResourceDef) → definition_of client.catalogue o r ≡ Some d → r < 65536
