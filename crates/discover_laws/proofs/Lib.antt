@@ -1,0 +1,11 @@
+mod Ascending
+mod Fitting
+mod LinkQueries
+mod LinkReading
+mod LinkTexts
+mod Lists
+mod PrintedNumbers
+mod Queries
+mod ShownNumbers
+mod Validity
+mod WrittenBack

@@ -1,0 +1,3 @@
+pub mod Links
+pub mod Order
+pub mod Printed

@@ -1,0 +1,46 @@
+//! What follows from the tables of Discover, for their readers. The calls do nothing; their contracts are the laws.
+
+ghost use Rattle.discover_laws.specs.Links.{DiscoversAreRead, LinksHaveOneReading, ParametersAreQueries};
+ghost use Rattle.discover_laws.specs.Links.{PathsAreRead, WrittenBackIsTheSame};
+ghost use Rattle.discover_laws.specs.Order.{LinksAscend, LinksDiffer};
+ghost use Rattle.discover_laws.specs.Printed.{NoneIsValid, OnlyTheseAreRead, PrintedIsRead, PrintedSaysAgain};
+ghost use Rattle.discover_laws.specs.Printed.{RequestsKeepValid};
+
+use device_requests::links_what_exists;
+
+/// What a Discover prints of an attribute is a query that is read as the attribute and its number, for exactly the
+/// numbers that queries can give it.
+pub fn printed_attributes_are_read()
+    ensures read { PrintedIsRead }
+    ensures only { OnlyTheseAreRead }
+    ensures again { PrintedSaysAgain }
+{}
+
+/// No request gives an attribute a number that it may not have, or sets it where it does not stand.
+pub fn attributes_stay_valid()
+    ensures start { NoneIsValid }
+    ensures requests { RequestsKeepValid }
+{}
+
+/// The attributes that a link shows, sent back as the queries of a Write-Attributes, set just these; so a server that
+/// writes back what it is shown of its attributes at a path changes nothing.
+pub fn shown_attributes_are_queries()
+    ensures set { ParametersAreQueries }
+    ensures unchanged { WrittenBackIsTheSame }
+{}
+
+/// The paths of a Discover's links ascend, so none is listed twice.
+pub fn links_ascend()
+    ensures ascend { LinksAscend }
+    ensures differ { LinksDiffer }
+{}
+
+/// Text says one list of links at most, and the payload of a Discover says the links of its paths, in order, with
+/// `dim` and the attributes.
+pub fn discovers_are_read()
+    ensures one { LinksHaveOneReading }
+    ensures links { DiscoversAreRead }
+    ensures paths { PathsAreRead }
+{
+    links_what_exists();
+}

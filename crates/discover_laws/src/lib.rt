@@ -1,0 +1,9 @@
+//! What a Discover prints can be read: its attributes as queries, its payload as links. Nothing runs here.
+#![tactic(auto)]
+
+mod laws;
+
+pub use laws::{
+    attributes_stay_valid, discovers_are_read, links_ascend, printed_attributes_are_read,
+    shown_attributes_are_queries,
+};
