@@ -52,7 +52,7 @@ pub addition : (d : Draft) (add : Template → Result Template Cause) (make : Te
 addition d add make None e h = absurd cc
 addition d add make (Some c) e h = made_by d add make c e (add c) refl h
 
--- ---- behind each statement a text has begun
+-- ---- after each statement a text has begun
 
 same_begun : (d e : Draft) (o : Option Cause) (f : Draft) → f.begun ≡ d.begun → needs d.begun (unless o f) ≡ Ok e
     → e.begun ≡ true

@@ -1,4 +1,4 @@
--- What a class holds behind each addition.
+-- What a class holds after each addition.
 use Rattle.std.proofs.Common.{◌≡◌, ◌≢◌, ◌↔◌, ◌⊎◌, inl, inr, ℕ, Bool, true, false, cond, eqb, ltb, List, [], ◌∷◌, Option}
 use Rattle.std.proofs.Common.{None, Some, Ordering, option_map, refl, sym, ap, ◌∙◌, eqb-true}
 use Rattle.std.specs.Prelude.{◌||◌, is_some, option_and_then}
@@ -24,7 +24,7 @@ use Rattle.object_defs.proofs.LookUps.{same_number}
 use Rattle.object_defs.proofs.PathOrder.{instance_exact, instance_total, path_exact, path_total}
 use Rattle.instance_store.specs.Stored.{Stored, has_instance, value_at, with_instance, with_value}
 
--- what is there behind an addition: what was there, and what was added
+-- what is there after an addition: what was there, and what was added
 abbrev pub Grows : Type 0 → Type 0 → Type 0 → Type 0
 Grows now before added = now ↔ (before ⊎ added)
 

@@ -106,7 +106,7 @@ change (says.Firmware code) o c e h = no_change (says.Firmware code) o c e refl 
 change (says.Post group) o c e h = no_change (says.Post group) o c e refl h
 change (says.Need group count) o c e h = no_change (says.Need group count) o c e refl h
 
--- ---- what is there behind a statement
+-- ---- what is there after a statement
 
 -- no statement about a class
 apart : (s t : Statement) → is_of_class s ≡ false → is_of_class t ≡ true → s ≡ t → ⊥
@@ -246,7 +246,7 @@ value_step p v _ _ _ _ (value path q w o c is free) =
     grows_so (λ h. (path, is ∙ ap (λ x. Some x) h.0, ap (λ x. says.Value path x) h.1))
     (λ h. value_same path h.0 q p w v is h.1 h.2) (value_grows c.store q w p v free)
 
--- ---- and behind all of a part
+-- ---- and after all of a part
 
 sorted_in : {M A B C : Type 0} → Grows M A B → M ⊎ C → A ⊎ (B ⊎ C)
 sorted_in first (inl h) = renamed (λ k. inl k) (first.0 h)

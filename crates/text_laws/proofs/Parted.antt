@@ -26,7 +26,7 @@ use Rattle.scenario_asm.specs.Effect.{reopened, reopened_with}
 use Rattle.scenario_asm.specs.Reading.{behind, said_in}
 use Rattle.scenario_asm.proofs.Denoting.{so_denotes}
 use Rattle.text_laws.specs.Parts.{AreMatched, Adds, IsMadeBy, MakeOf, PartsAreSaid, class_parts, object_since}
-use Rattle.text_laws.specs.Parts.{open_part, said_rows, said_steps}
+use Rattle.text_laws.specs.Parts.{PartsSayOne, open_part, said_rows, said_steps}
 use Rattle.text_laws.proofs.Begun.{IsAddition, addition, fitted, needed, unrefused}
 
 -- ---- what is kept, and what is added
@@ -142,7 +142,7 @@ object_was : (o : Option ℕ) (add : ℕ → Template → Result Template Cause)
 object_was None add c e h = absurd cc
 object_was (Some id) add c e h = (id, refl, h)
 
--- the classes behind a draft that an addition made
+-- the classes after a draft that an addition made
 from_made : (f e : Draft) (ss : List Statement) (cs : List Template) → f ≡ e
     → ClassesFrom e.open_class e.object e.scenario.classes ss cs
     → ClassesFrom f.open_class f.object f.scenario.classes ss cs
@@ -417,3 +417,52 @@ parts_are_said text s h =
         rows = ap (λ x. x.rows) (sym d.scenario) ∙ rows;
       },
     )
+
+-- ---- the parts say one scenario
+
+same_made : {X : Type 0} (r : Result X Cause) (x y : X) → r ≡ Ok x → r ≡ Ok y → x ≡ y
+same_made r x y h k = cc
+
+same_stated : (o : Option ℕ) (m n : ℕ) → o ≡ Some m → o ≡ Some n → n ≡ m
+same_stated o m n h k = cc
+
+one_addition : (s : Statement) (o : Option ℕ) (c e f : Template) → Adds s o c e → Adds s o c f → e ≡ f
+one_addition says.Scenario o c e f h k = sym h ∙ k
+one_addition says.Class o c e f h k = sym h ∙ k
+one_addition (says.Account server) o c e f h k = same_made (account_added server c) e f h k
+one_addition (says.Object id) o c e f h k = same_made (object_added id c) e f h k
+one_addition (says.Def d) o c e f h k =
+    same_made (definition_added h.0 d c) e f h.2
+    (subst (λ n. definition_added n d c ≡ Ok f) (same_stated o h.0 k.0 h.1 k.1) k.2)
+one_addition (says.Instance place) o c e f h k = same_made (instance_added place c) e f h k
+one_addition (says.Value p value) o c e f h k = same_made (value_added p value c) e f h k
+one_addition (says.Device class) o c e f h k = sym h ∙ k
+one_addition (says.Recv server bytes) o c e f h k = sym h ∙ k
+one_addition (says.Request server m) o c e f h k = sym h ∙ k
+one_addition (says.Tick seconds) o c e f h k = sym h ∙ k
+one_addition (says.Put p value) o c e f h k = sym h ∙ k
+one_addition (says.Firmware code) o c e f h k = sym h ∙ k
+one_addition (says.Post group) o c e f h k = sym h ∙ k
+one_addition (says.Need group count) o c e f h k = sym h ∙ k
+
+one_class : (ss : List Statement) (o : Option ℕ) (c e f : Template) → MakeOf o c ss e → MakeOf o c ss f → e ≡ f
+one_class [] o c e f h k = sym h ∙ k
+one_class (s ∷ ss) o c e f h k =
+    one_class ss (object_since s o) h.0 e f h.2
+    (subst (λ x. MakeOf (object_since s o) x ss f) (one_addition s o c k.0 h.0 k.1 h.1) k.2)
+
+one_each : (parts : List (List Statement)) (xs ys : List Template) → AreMatched IsMadeBy parts xs
+    → AreMatched IsMadeBy parts ys → xs ≡ ys
+one_each [] [] [] h k = refl
+one_each [] [] (y ∷ ys) h k = absurd k
+one_each [] (x ∷ xs) ys h k = absurd h
+one_each (p ∷ parts) [] ys h k = absurd h
+one_each (p ∷ parts) (x ∷ xs) [] h k = absurd k
+one_each (p ∷ parts) (x ∷ xs) (y ∷ ys) h k =
+    ap (λ c. c ∷ xs) (one_class p None empty_class x y h.0 k.0)
+    ∙ ap (λ cs. y ∷ cs) (one_each parts xs ys h.1 k.1)
+
+pub parts_say_one : PartsSayOne
+parts_say_one ss s t h k =
+    ap (λ cs. record { classes = cs; rows = s.rows }) (one_each (class_parts ss) s.classes t.classes h.classes k.classes)
+    ∙ ap (λ rs. record { classes = t.classes; rows = rs }) (h.rows ∙ sym k.rows)

@@ -6,7 +6,7 @@ use Rattle.scenario_asm.specs.declared.fault.AsmFault.{AsmFault}
 use Rattle.scenario_asm.specs.Draft.{Draft}
 use Rattle.scenario_asm.specs.Text.{at_line, line_after, lines_after, then_lines}
 
--- what is made of a line, and then of those behind it
+-- what is made of a line, and then of those after it
 abbrev pub go_on : List (List ℕ) → ℕ → Result Draft Cause → Result Draft AsmFault
 go_on more n r = then_lines (lines_after more (n + 1)) (at_line (n + 1) r)
 
@@ -49,7 +49,7 @@ pub one_more : (xs : List (List ℕ)) (line : List ℕ) (n : ℕ) (d e f : Draft
     → line_after line e ≡ Ok f → lines_after (xs ++ line ∷ []) n d ≡ Ok f
 one_more xs line n d e f h taken = run_on xs (line ∷ []) n d e h ∙ ap (go_on [] (n + length xs)) taken
 
--- the line behind those that are taken is refused
+-- the line after those that are taken is refused
 pub refused_behind : (xs : List (List ℕ)) (line : List ℕ) (ys : List (List ℕ)) (n : ℕ) (d e : Draft) (cause : Cause)
     → lines_after xs n d ≡ Ok e → line_after line e ≡ Err cause
     → lines_after (xs ++ line ∷ ys) n d ≡ Err (record { line = n + length xs + 1; cause = cause })
@@ -94,7 +94,7 @@ stops_by line more n d fault (Ok e) is h rest =
       refused = s.refused;
     }
 
--- where lines are refused, one is, behind those that are taken
+-- where lines are refused, one is, after those that are taken
 pub stops_at : (ls : List (List ℕ)) (n : ℕ) (d : Draft) (fault : AsmFault) → lines_after ls n d ≡ Err fault
     → StopsAt ls n d fault
 stops_at [] n d fault h = absurd cc

@@ -19,6 +19,7 @@ use Rattle.scenario_asm.specs.declared.fault.AsmFault.{AsmFault}
 use Rattle.scenario_asm.specs.Draft.{Draft, closed, nothing}
 use Rattle.scenario_asm.specs.Text.{assembled, effect_of, line_after, lines_after, whole, whole_of}
 use Rattle.scenario_asm.proofs.Denoting.{denotes_so, so_denotes}
+use Rattle.scenario_asm.proofs.Each.{each_append}
 use Rattle.text_laws.specs.WrongLine.{CanBegin, IsFirstWrong, IsRefusedAt, LaterLinesChangeNothing, NothingIsMissing}
 use Rattle.text_laws.specs.WrongLine.{RefusedAtFirstWrong, StatesNothing}
 use Rattle.text_laws.proofs.Begun.{are_blank, blank_run}
@@ -42,11 +43,6 @@ each_alone (b ∷ bs) = alone_by b (eqb b 10) bs (lines bs) refl refl (each_alon
 pub front_all : {X : Type 0} (P : X → Type 0) (xs ys : List X) → AllByRecursion P (xs ++ ys) → AllByRecursion P xs
 front_all P [] ys h = tt
 front_all P (x ∷ xs) ys h = (h.0, front_all P xs ys h.1)
-
-all_append : {X : Type 0} (P : X → Type 0) (xs ys : List X) → AllByRecursion P xs → AllByRecursion P ys
-    → AllByRecursion P (xs ++ ys)
-all_append P [] ys h k = k
-all_append P (x ∷ xs) ys h k = (h.0, all_append P xs ys h.1 k)
 
 -- those of a text up to a line
 front_alone : (text : List ℕ) (before behind : List (List ℕ)) → lines text ≡ before ++ behind
@@ -88,10 +84,10 @@ first_line_taken d unbegun =
 begins_by : (ls : List (List ℕ)) (d : Draft) (b : Bool) → d.begun ≡ b → AllByRecursion IsLine ls
     → lines_after ls 0 nothing ≡ Ok d → CanBegin ls
 begins_by ls d true begun alone taken =
-    begins ls [] d d (all_append IsLine ls [] alone tt) taken refl begun
+    begins ls [] d d (each_append IsLine ls [] alone tt) taken refl begun
 begins_by ls d false begun alone taken =
     begins ls (line_of says.Scenario ∷ []) d (begun_now d)
-    (all_append IsLine ls (line_of says.Scenario ∷ []) alone (line_alone says.Scenario tt, tt)) taken
+    (each_append IsLine ls (line_of says.Scenario ∷ []) alone (line_alone says.Scenario tt, tt)) taken
     (ap (go_on ([] ∷ []) (0 + length ls)) (first_line_taken d begun)) refl
 
 can_begin : (ls : List (List ℕ)) (d : Draft) → AllByRecursion IsLine ls → lines_after ls 0 nothing ≡ Ok d → CanBegin ls

@@ -43,7 +43,7 @@ in_stated without d test =
     in_open without d (λ c. option_map_or (λ id. option_map_or test (vendor_object c.catalogue id) without) d.object
     without)
 
--- ---- the four columns, behind what was stated so far
+-- ---- the four, after what was stated so far
 
 -- what the statement needs was not stated
 abbrev pub is_unstated : Statement → Draft → Bool
@@ -119,7 +119,7 @@ first_cause s d =
 
 -- ---- the fault of a text
 
--- a line is refused for this cause: one of its words is wrong, or its statement is refused behind that draft
+-- a line is refused for this cause: one of its words is wrong, or its statement is refused after that draft
 abbrev pub IsCauseAt : List ℕ → Draft → Cause → Type 0
 IsCauseAt line d cause =
     (statement_of (words line) ≡ Err cause)

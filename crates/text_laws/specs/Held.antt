@@ -27,7 +27,7 @@ StatesOne P object (s ∷ ss) = P object s ⊎ StatesOne P (object_since s objec
 abbrev pub HasOne : (Option ℕ → Statement → Type 0) → List Statement → Type 0
 HasOne P part = StatesOne P None part
 
--- an account is there by its `account`, an object of the class's own by its `object`, its resource by a `def` behind
+-- an account is there by its `account`, an object of the class's own by its `object`, its resource by a `def` after
 -- that, an instance by its `instance`, a value by its `value`; and nothing else is there but the base objects
 pub record HoldsWhatIsStated (part : List Statement) (c : Template) : Type 0 where
   pub accounts : (server : ℕ)

@@ -37,7 +37,7 @@ Adds (says.Instance place) object c e = instance_added place c ≡ Ok e
 Adds (says.Value p value) object c e = value_added p value c ≡ Ok e
 Adds s object c e = c ≡ e
 
--- the object that was stated last, behind a statement
+-- the object that was stated last, after a statement
 abbrev pub object_since : Statement → Option ℕ → Option ℕ
 object_since (says.Object id) object = Some id
 object_since s object = object
@@ -98,3 +98,7 @@ abbrev pub PartsAreSaid : Type 0
 PartsAreSaid =
     (text : List ℕ) (s : Scenario) → assembled text ≡ Ok s
     → (ss : List Statement) × (said_by text ≡ Ok ss) × IsSaid ss s
+
+-- the parts say one scenario
+abbrev pub PartsSayOne : Type 0
+PartsSayOne = (ss : List Statement) (s : Scenario) (t : Scenario) → IsSaid ss s → IsSaid ss t → s ≡ t

@@ -17,7 +17,7 @@ pub record CanBegin (ls : List (List ℕ)) : Type 0 where
   pub are : lines text ≡ ls ++ behind
   pub denotes : Denotes text scenario
 
--- the first line of a text with which no text of a scenario can begin, behind those before it; counted from 1
+-- the first line of a text such that no text of a scenario begins with the lines up to it; counted from 1
 pub record IsFirstWrong (text : List ℕ) (line : ℕ) : Type 0 where
   pub before : List (List ℕ)
   pub here : List ℕ

@@ -2,12 +2,12 @@
 
 ghost use Rattle.text_laws.specs.FirstCause.{FaultsAreFirst};
 ghost use Rattle.text_laws.specs.Held.{ClassesHoldWhatIsStated};
-ghost use Rattle.text_laws.specs.Parts.{PartsAreSaid};
+ghost use Rattle.text_laws.specs.Parts.{PartsAreSaid, PartsSayOne};
 ghost use Rattle.text_laws.specs.SameWords.{BlankLinesAddNothing, BlankLinesMoveFaults, OnlyWordsCount};
 ghost use Rattle.text_laws.specs.WrongLine.{LaterLinesChangeNothing, NothingIsMissing, RefusedAtFirstWrong};
 
-/// A text is refused at the first line with which no text of a scenario can begin, behind those before it, whatever
-/// stands in later lines; one that states nothing is refused at line 1.
+/// A text is refused at the first line such that no text of a scenario begins with the lines up to it, for the same
+/// cause whatever stands in later lines; one that states nothing is refused at line 1.
 pub fn refused_at_first_wrong_line()
     ensures line { RefusedAtFirstWrong }
     ensures stays { LaterLinesChangeNothing }
@@ -22,9 +22,11 @@ pub fn blank_lines_add_nothing()
 {}
 
 /// Each class of a text's scenario is what its own statements make of the empty class, those from its `class` up to
-/// the next `class` or `device`; each device has the class of its `device` and the steps up to the next `device`.
+/// the next `class` or `device`; each device has the class of its `device` and the steps up to the next `device`. So
+/// what the lines say, part by part, is one scenario.
 pub fn parts_are_said()
-    ensures { PartsAreSaid }
+    ensures said { PartsAreSaid }
+    ensures one { PartsSayOne }
 {}
 
 /// Each class of a text's scenario holds just what its part of the text states, in whatever order: its accounts, the
