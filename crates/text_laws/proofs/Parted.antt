@@ -464,5 +464,6 @@ one_each (p ∷ parts) (x ∷ xs) (y ∷ ys) h k =
 
 pub parts_say_one : PartsSayOne
 parts_say_one ss s t h k =
-    ap (λ cs. record { classes = cs; rows = s.rows }) (one_each (class_parts ss) s.classes t.classes h.classes k.classes)
+    ap (λ cs. record { classes = cs; rows = s.rows })
+    (one_each (class_parts ss) s.classes t.classes h.classes k.classes)
     ∙ ap (λ rs. record { classes = t.classes; rows = rs }) (h.rows ∙ sym k.rows)

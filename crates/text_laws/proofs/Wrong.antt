@@ -16,11 +16,13 @@ use Rattle.scenario_statements.specs.Grammar.{statement_of}
 use Rattle.scenario_statements.specs.Spelling.{line_of}
 use Rattle.scenario_statements.proofs.Again.{line_alone, statement_again, words_of_line}
 use Rattle.scenario_asm.specs.declared.fault.AsmFault.{AsmFault}
+use Rattle.scenario_asm.specs.Denotes.{Denotes}
 use Rattle.scenario_asm.specs.Draft.{Draft, closed, nothing}
 use Rattle.scenario_asm.specs.Text.{assembled, effect_of, line_after, lines_after, whole, whole_of}
 use Rattle.scenario_asm.proofs.Denoting.{denotes_so, so_denotes}
 use Rattle.scenario_asm.proofs.Each.{each_append}
-use Rattle.text_laws.specs.WrongLine.{CanBegin, IsFirstWrong, IsRefusedAt, LaterLinesChangeNothing, NothingIsMissing}
+use Rattle.text_laws.specs.WrongLine.{CanBegin, IsFirstWrong, IsRefusedAt, LaterLinesChangeNothing}
+use Rattle.text_laws.specs.WrongLine.{NothingElseEndsWrong, NothingIsMissing}
 use Rattle.text_laws.specs.WrongLine.{RefusedAtFirstWrong, StatesNothing}
 use Rattle.text_laws.proofs.Begun.{are_blank, blank_run}
 use Rattle.text_laws.proofs.Runs.{front_taken, go_on, one_more, refused_behind, run_on, stop_is, stops_at}
@@ -240,3 +242,15 @@ later_by text other fault (Err first) is h w same =
 pub later_lines : LaterLinesChangeNothing
 later_lines text other fault h w same =
     later_by text other fault (lines_after (lines text) 0 nothing) refl h w same
+
+-- ---- the end of a text
+
+ends_by : (text : List ℕ) (d : Draft) (b : Bool) → d.begun ≡ b → lines_after (lines text) 0 nothing ≡ Ok d
+    → ((s : Scenario) → Denotes text s → ⊥) → StatesNothing text
+ends_by text d true is taken none =
+    absurd (none (closed d) (so_denotes text (closed d) (ap whole_of taken ∙ whole_begun d is)))
+ends_by text d false is taken none = are_blank (lines text) 0 nothing d taken is
+
+pub nothing_else_ends : NothingElseEndsWrong
+nothing_else_ends text can none =
+    let so = taken_so (lines text) can in ends_by text so.0 so.0.begun refl so.1 none

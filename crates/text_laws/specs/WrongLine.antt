@@ -53,3 +53,9 @@ LaterLinesChangeNothing =
 abbrev pub NothingIsMissing : Type 0
 NothingIsMissing =
     (text : List ℕ) → StatesNothing text → assembled text ≡ Err (record { line = 1; cause = Missing })
+
+-- a fault that is found at the end of a text alone: where some text of a scenario begins with all of its lines, and it
+-- denotes none itself, it states nothing
+abbrev pub NothingElseEndsWrong : Type 0
+NothingElseEndsWrong =
+    (text : List ℕ) → CanBegin (lines text) → ((s : Scenario) → Denotes text s → ⊥) → StatesNothing text

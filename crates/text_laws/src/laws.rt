@@ -4,14 +4,16 @@ ghost use Rattle.text_laws.specs.FirstCause.{FaultsAreFirst};
 ghost use Rattle.text_laws.specs.Held.{ClassesHoldWhatIsStated};
 ghost use Rattle.text_laws.specs.Parts.{PartsAreSaid, PartsSayOne};
 ghost use Rattle.text_laws.specs.SameWords.{BlankLinesAddNothing, BlankLinesMoveFaults, OnlyWordsCount};
-ghost use Rattle.text_laws.specs.WrongLine.{LaterLinesChangeNothing, NothingIsMissing, RefusedAtFirstWrong};
+ghost use Rattle.text_laws.specs.WrongLine.{LaterLinesChangeNothing, NothingElseEndsWrong, NothingIsMissing};
+ghost use Rattle.text_laws.specs.WrongLine.{RefusedAtFirstWrong};
 
 /// A text is refused at the first line such that no text of a scenario begins with the lines up to it, for the same
-/// cause whatever stands in later lines; one that states nothing is refused at line 1.
+/// cause whatever stands in later lines; one that states nothing is refused at line 1, and no other one at its end.
 pub fn refused_at_first_wrong_line()
     ensures line { RefusedAtFirstWrong }
     ensures stays { LaterLinesChangeNothing }
     ensures nothing { NothingIsMissing }
+    ensures end { NothingElseEndsWrong }
 {}
 
 /// Of a line its words alone count. Lines without words add nothing, and change the number of a fault's line alone.
