@@ -1,0 +1,9 @@
+pub mod Begun
+pub mod Causes
+pub mod Contents
+pub mod Faulted
+pub mod Holding
+pub mod Parted
+pub mod Runs
+pub mod Worded
+pub mod Wrong

@@ -1,0 +1,44 @@
+//! What follows from the definitions, for their readers. The calls do nothing; their contracts are the laws.
+
+ghost use Rattle.text_laws.specs.FirstCause.{FaultsAreFirst};
+ghost use Rattle.text_laws.specs.Held.{ClassesHoldWhatIsStated};
+ghost use Rattle.text_laws.specs.Parts.{PartsAreSaid, PartsSayOne};
+ghost use Rattle.text_laws.specs.SameWords.{BlankLinesAddNothing, BlankLinesMoveFaults, OnlyWordsCount};
+ghost use Rattle.text_laws.specs.WrongLine.{LaterLinesChangeNothing, NothingElseEndsWrong, NothingIsMissing};
+ghost use Rattle.text_laws.specs.WrongLine.{RefusedAtFirstWrong};
+
+/// A text is refused at the first line such that no text of a scenario begins with the lines up to it, for the same
+/// cause whatever stands in later lines; one that states nothing is refused at line 1, and no other one at its end.
+pub fn refused_at_first_wrong_line()
+    ensures line { RefusedAtFirstWrong }
+    ensures stays { LaterLinesChangeNothing }
+    ensures nothing { NothingIsMissing }
+    ensures end { NothingElseEndsWrong }
+{}
+
+/// Of a line its words alone count. Lines without words add nothing, and change the number of a fault's line alone.
+pub fn blank_lines_add_nothing()
+    ensures words { OnlyWordsCount }
+    ensures scenario { BlankLinesAddNothing }
+    ensures fault { BlankLinesMoveFaults }
+{}
+
+/// Each class of a text's scenario is what its own statements make of the empty class, those from its `class` up to
+/// the next `class` or `device`; each device has the class of its `device` and the steps up to the next `device`. So
+/// what the lines say, part by part, is one scenario.
+pub fn parts_are_said()
+    ensures said { PartsAreSaid }
+    ensures one { PartsSayOne }
+{}
+
+/// Each class of a text's scenario holds just what its part of the text states, in whatever order: its accounts, the
+/// objects of its own beside those of the base, their resources, its instances and its values.
+pub fn classes_hold_what_is_stated()
+    ensures { ClassesHoldWhatIsStated }
+{}
+
+/// The fault of a text: the lines before it are taken, and its line is refused for the first cause of its words, from
+/// the left, or else of its statement: something is missing, does not fit, is a duplicate, or is over a limit.
+pub fn faults_are_first()
+    ensures { FaultsAreFirst }
+{}
