@@ -1,5 +1,5 @@
-//! A trace as text, for people: entry by entry the step that was made, the second of its device, and what the device
-//! output. docs/use/program.md has it in words.
+//! A trace as text, for people: entry by entry the step that was made, the second of its device, what the device
+//! output, and what the datagrams say.
 #![tactic(auto)]
 
 mod clock;

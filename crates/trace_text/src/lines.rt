@@ -3,8 +3,8 @@
 ghost use Rattle.std.specs.Prelude.{◌≡◌, ◌++◌, IfOk, OnOk};
 ghost use Rattle.std.specs.Option.{option_copied};
 ghost use Rattle.std.specs.String.{string_bytes};
-ghost use Rattle.trace_text.specs.Lines.{act_name, all_output_lines, arrival_lines, entry_line, output_lines, said_line};
-ghost use Rattle.trace_text.specs.Lines.{sent_line};
+ghost use Rattle.trace_text.specs.Lines.{act_name, all_output_lines, arrival_lines, entry_line, output_lines};
+ghost use Rattle.trace_text.specs.Lines.{said_line, sent_line};
 
 use device_machine::{Act, Event, Output};
 use message_words::datagram_text;
