@@ -1,2 +1,3 @@
 pub mod Seconds
 pub mod Shown
+pub mod Parts

@@ -60,7 +60,7 @@ act_name RegUpdate = codes "reg update"
 act_name Disable = codes "disable"
 act_name Missed = codes "missed"
 
--- the lines of an output; that of a datagram has behind it what the datagram says
+-- the lines of an output; after that of a datagram comes what the datagram says
 abbrev pub output_lines : Output → List ℕ
 output_lines (Send server bytes) = sent_line server bytes ++ said_line bytes
 output_lines (Act act) = ended_line (codes "=> act " ++ act_name act)

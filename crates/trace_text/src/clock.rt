@@ -49,7 +49,7 @@ pub(crate) fn row_steps(scenario: &Scenario, device: u16) -> &[Step]
     }
 }
 
-/// The second at a place of a row, from the clock at a place that is not behind it.
+/// The second at a place of a row, from the clock at that place or an earlier one.
 fn second_from(clock: Clock, steps: &[Step], place: usize) -> u64
     requires is { IsClock steps.now clock }
     requires order { clock.place ≤ place }
@@ -64,7 +64,7 @@ fn second_from(clock: Clock, steps: &[Step], place: usize) -> u64
     second
 }
 
-/// The same from the clock at any place: where that is behind it, the row is looked at from its beginning.
+/// The same from the clock at any place: where that is a later one, the row is looked at from its beginning.
 fn second_of(clock: Clock, steps: &[Step], place: usize) -> u64
     requires is { IsClock steps.now clock }
     requires within { place ≤ length steps.now }

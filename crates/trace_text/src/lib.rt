@@ -8,5 +8,5 @@ mod lines;
 mod steps;
 mod transcript;
 
-pub use laws::{runs_have_steps, seconds_are_shown};
+pub use laws::{parts_join, runs_have_steps, seconds_are_shown};
 pub use transcript::{Transcript, trace_text};

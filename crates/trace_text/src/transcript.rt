@@ -67,8 +67,8 @@ impl<'a> Transcript<'a> {
     }
 
     /// The text of an entry, of this number in its trace: a line for the step, with the second of the device before
-    /// it, and a line for each output. Behind a datagram, one that arrives and one that is sent, stands what it says,
-    /// in a line that begins with `    # `.
+    /// it, and a line for each output. After a datagram, one that arrives and one that is sent, comes what it says, in
+    /// a line that begins with `    # `.
     pub fn entry_text(&mut self, number: usize, entry: &Entry) -> Result<String, AllocError>
         ensures text { IfOk result (λ t. string_bytes t ≡ entry_text self.old number entry.now) }
         ensures same { self.new ≡ self.old }
