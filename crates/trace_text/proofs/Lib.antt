@@ -1,0 +1,3 @@
+pub mod Seconds
+pub mod Shown
+pub mod Parts

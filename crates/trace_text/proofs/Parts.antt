@@ -1,0 +1,15 @@
+-- The text of two lists of entries, one after the other.
+use Rattle.std.proofs.Common.{◌≡◌, ℕ, ◌+◌, List, [], ◌∷◌, ◌++◌, length, sym, ap, ◌∙◌, append_assoc, arith}
+use Rattle.scenario_image.specs.Scenario.{Scenario}
+use Rattle.trace_file.specs.declared.entry.Entry.{Entry}
+use Rattle.trace_text.specs.Text.{entries_text, entry_text}
+
+pub joined : (s : Scenario) (number : ℕ) (a b : List Entry)
+    → entries_text s number (a ++ b) ≡ entries_text s number a ++ entries_text s (number + length a) b
+joined s number [] b = let same : number ≡ number + 0 = omega arith in ap (λ n. entries_text s n b) same
+joined s number (e ∷ es) b =
+    let same : number + 1 + length es ≡ number + length (e ∷ es) = omega arith in
+    ap (λ t. entry_text s number e ++ t)
+    (joined s (number + 1) es b ∙ ap (λ n. entries_text s (number + 1) es ++ entries_text s n b) same)
+    ∙ sym (append_assoc (entry_text s number e) (entries_text s (number + 1) es)
+    (entries_text s (number + length (e ∷ es)) b))

@@ -1,0 +1,4 @@
+pub mod Seconds
+pub mod Lines
+pub mod Text
+pub mod Clocks

@@ -1,0 +1,12 @@
+//! A trace as text, for people: entry by entry the step that was made, the second of its device, what the device
+//! output, and what the datagrams say.
+#![tactic(auto)]
+
+mod clock;
+mod laws;
+mod lines;
+mod steps;
+mod transcript;
+
+pub use laws::{parts_join, runs_have_steps, seconds_are_shown};
+pub use transcript::{Transcript, trace_text};

@@ -1,0 +1,111 @@
+//! The lines of an entry. Where memory runs out, some of them may have been written.
+
+ghost use Rattle.std.specs.Prelude.{◌≡◌, ◌++◌, IfOk, OnOk};
+ghost use Rattle.std.specs.Option.{option_copied};
+ghost use Rattle.std.specs.String.{string_bytes};
+ghost use Rattle.trace_text.specs.Lines.{act_name, all_output_lines, arrival_lines, entry_line, output_lines};
+ghost use Rattle.trace_text.specs.Lines.{said_line, sent_line};
+
+use device_machine::{Act, Event, Output};
+use message_words::datagram_text;
+use scenario_image::Step;
+use scenario_words::hex_word;
+use std::alloc::{AllocError, Global};
+use trace_file::Entry;
+
+/// The line of an entry, of this number in its trace: with the second of its device, and the words of its step.
+pub(crate) fn entry_line(
+    alloc: Global,
+    number: usize,
+    entry: &Entry,
+    second: u64,
+    words: &str,
+) -> Result<String, AllocError>
+    ensures { IfOk result (λ t. string_bytes t ≡ entry_line number entry.now second words.now) }
+{
+    let worker = entry.worker;
+    let device = entry.device;
+    let step = entry.step;
+    format!(in alloc;
+        "{number} worker {worker} device {device} step {step} second {second}: {words}\n"
+    )
+}
+
+/// Writes what a datagram says, in a line of its own.
+fn put_said(alloc: Global, out: &mut String, bytes: &[u8]) -> Result<(), AllocError>
+    ensures { OnOk result (string_bytes out.new ≡ string_bytes out.old ++ said_line bytes.now) }
+{
+    let words = datagram_text(alloc, bytes)?;
+    out.push_str("    # ")?;
+    out.push_str(words.as_str())?;
+    out.push('\n')
+}
+
+/// Writes what the datagram says that arrives in a step, if one does.
+pub(crate) fn put_arrival(
+    alloc: Global,
+    out: &mut String,
+    step: Option<&Step>,
+) -> Result<(), AllocError>
+    ensures { OnOk result (string_bytes out.new ≡ string_bytes out.old ++ arrival_lines (option_copied step.entry)) }
+{
+    match step {
+        Some(Step::Event(Event::Recv { bytes, .. })) => put_said(alloc, out, bytes.as_slice()),
+        Some(
+            Step::Event(Event::Put { .. } | Event::Firmware(_) | Event::Tick(_))
+            | Step::Post(_)
+            | Step::Need(_, _),
+        )
+        | None => Ok(()),
+    }
+}
+
+/// Writes the line of a datagram that is sent to a server.
+fn put_sent(alloc: Global, out: &mut String, server: u16, bytes: &[u8]) -> Result<(), AllocError>
+    ensures { OnOk result (string_bytes out.new ≡ string_bytes out.old ++ sent_line server bytes.now) }
+{
+    let hex = hex_word(alloc, bytes)?;
+    write!(out, "=> send {server} {hex}\n")
+}
+
+fn act_name(act: Act) -> &'static str
+    ensures { result.now ≡ act_name act }
+{
+    match act {
+        Act::Reboot => "reboot",
+        Act::FactoryReset => "factory reset",
+        Act::RegUpdate => "reg update",
+        Act::Disable => "disable",
+        Act::Missed => "missed",
+    }
+}
+
+/// Writes the lines of an output.
+fn put_output(alloc: Global, out: &mut String, output: &Output) -> Result<(), AllocError>
+    ensures { OnOk result (string_bytes out.new ≡ string_bytes out.old ++ output_lines output.now) }
+{
+    match output {
+        Output::Send { server, bytes } => {
+            put_sent(alloc, out, *server, bytes.as_slice())?;
+            put_said(alloc, out, bytes.as_slice())
+        }
+        Output::Act(act) => {
+            let name = act_name(*act);
+            write!(out, "=> act {name}\n")
+        }
+    }
+}
+
+/// Writes the lines of outputs, in their order.
+pub(crate) fn put_outputs(
+    alloc: Global,
+    out: &mut String,
+    outputs: &[Output],
+) -> Result<(), AllocError>
+    ensures { OnOk result (string_bytes out.new ≡ string_bytes out.old ++ all_output_lines outputs.now) }
+{
+    for output in outputs {
+        put_output(alloc, out, output)?;
+    }
+    Ok(())
+}

@@ -1,0 +1,101 @@
+//! A trace as text, entry by entry.
+
+ghost use Rattle.std.specs.Prelude.{◌≡◌, IfOk};
+ghost use Rattle.std.specs.String.{string_bytes};
+ghost use Rattle.trace_text.specs.Seconds.{second_at};
+ghost use Rattle.trace_text.specs.Text.{entry_text, trace_text};
+
+use crate::clock::{Clock, START, clock_before, row_steps};
+use crate::lines::{entry_line, put_arrival, put_outputs};
+use crate::steps::step_words;
+use fleet_core::step_of;
+use scenario_image::Scenario;
+use std::alloc::{AllocError, Global};
+use std::marker::Model;
+use trace_file::Entry;
+
+/// Makes the text of entries of a scenario, in any order. It keeps the latest second of each device, so that the text
+/// of entries in the order of a run looks at each step of a row once. Contracts see the scenario.
+#[derive(Drop)]
+pub struct Transcript<'a> {
+    alloc: Global,
+    scenario: &'a Scenario,
+    clocks: Vec<Clock>,
+}
+
+impl<'a> Model for Transcript<'a> {
+    ghost use Rattle.std.specs.Coded.{codes};
+    ghost use Rattle.instance_store.specs.Stored.{stored_code};
+    ghost use Rattle.scenario_image.specs.Scenario.{Scenario};
+    ghost use Rattle.trace_text.specs.Clocks.{AreClocks};
+
+    ghost Value = { Scenario };
+
+    ghost coded = { Prim.hlevel (codes, stored_code) };
+
+    ghost view = { λ t. t.scenario.now };
+
+    ghost invariant = { λ t. AreClocks t.scenario.now t.clocks.items };
+}
+
+impl<'a> Transcript<'a> {
+    /// A transcript of entries of the scenario.
+    pub fn new(alloc: Global, scenario: &'a Scenario) -> Result<Transcript<'a>, AllocError>
+        ensures { IfOk result (λ t. t ≡ scenario.now) }
+    {
+        let rows = scenario.rows();
+        Ok(Transcript {
+            alloc,
+            scenario,
+            clocks: vec![in alloc; START; rows]?,
+        })
+    }
+
+    /// The second of a device before the step of this number in its row.
+    fn second_at(&mut self, device: u16, step: u32) -> u64
+        ensures second { result ≡ second_at self.old device step }
+        ensures same { self.new ≡ self.old }
+    {
+        let at = usize::from(device);
+        let steps = row_steps(self.scenario, device);
+        if at >= self.clocks.len() {
+            return 0;
+        }
+        let clock = clock_before(self.clocks[at], steps, step);
+        self.clocks[at] = clock;
+        clock.second
+    }
+
+    /// The text of an entry, of this number in its trace: a line for the step, with the second of the device before
+    /// it, and a line for each output. After a datagram, one that arrives and one that is sent, comes what it says, in
+    /// a line that begins with `    # `.
+    pub fn entry_text(&mut self, number: usize, entry: &Entry) -> Result<String, AllocError>
+        ensures text { IfOk result (λ t. string_bytes t ≡ entry_text self.old number entry.now) }
+        ensures same { self.new ≡ self.old }
+    {
+        let second = self.second_at(entry.device, entry.step);
+        let step = step_of(self.scenario, entry.device, entry.step);
+        let words = step_words(self.alloc, step)?;
+        let mut out = entry_line(self.alloc, number, entry, second, words.as_str())?;
+        put_arrival(self.alloc, &mut out, step)?;
+        put_outputs(self.alloc, &mut out, entry.outputs.as_slice())?;
+        Ok(out)
+    }
+}
+
+/// The text of a trace: that of each entry, in their order.
+pub fn trace_text(
+    alloc: Global,
+    scenario: &Scenario,
+    entries: &[Entry],
+) -> Result<String, AllocError>
+    ensures { IfOk result (λ t. string_bytes t ≡ trace_text scenario.now entries.now) }
+{
+    let mut transcript = Transcript::new(alloc, scenario)?;
+    let mut out = String::new(alloc);
+    for (number, entry) in entries.iter().enumerate() {
+        let text = transcript.entry_text(number, entry)?;
+        out.push_str(text.as_str())?;
+    }
+    Ok(out)
+}
