@@ -1,0 +1,6 @@
+pub mod Clock
+pub mod Sent
+pub mod Served
+pub mod Stepped
+pub mod Told
+pub mod Turned
