@@ -1,6 +1,8 @@
 -- The seconds that pass at one reading more.
-use Rattle.std.proofs.Common.{◌≡◌, ◌≢◌, ℕ, true, cond, ◌+◌, ◌-◌, ◌<◌, min, nat_lt, List, [], ◌∷◌, ◌++◌, length, take, filter, sum}
-use Rattle.std.proofs.Common.{slice_index, Option, Some, unwrap_or, refl, sym, ap, ◌∙◌, arith, length-append, append-nil}
+use Rattle.std.proofs.Common.{◌≡◌, ◌≢◌, ℕ, true, cond, ◌+◌, ◌-◌, ◌<◌, min, nat_lt, List, [], ◌∷◌, ◌++◌, length}
+use Rattle.std.proofs.Common.{take, filter, sum}
+use Rattle.std.proofs.Common.{slice_index, Option, Some, unwrap_or, refl, sym, ap, ◌∙◌, arith, length-append}
+use Rattle.std.proofs.Common.{append-nil}
 use Rattle.std.proofs.lemmas.List.{get_or_append_left, get_or_push, take-append-le, take_all}
 use Rattle.std.proofs.lemmas.List.Elements.{filter-append}
 use Rattle.std.proofs.lemmas.List.Sums.{sum_by_push}
@@ -70,7 +72,8 @@ timed_more rs counted ticks more r s to h e f m =
     record {
       seconds = h.seconds ++ s ∷ [];
       passed = passed_more rs h.seconds r s h.passed (e ∙ ap (λ n. min 86400 (r - n)) at);
-      counted_is = ap Some (f ∙ ap (λ o. unwrap_or o r + s) h.counted_is) ∙ counted_more rs h.seconds r s h.passed.count;
+      counted_is = ap Some (f ∙ ap (λ o. unwrap_or o r + s) h.counted_is)
+          ∙ counted_more rs h.seconds r s h.passed.count;
       ticks_are = m ∙ ap (λ t. t ++ filter (nat_lt 0) (s ∷ [])) h.ticks_are
           ∙ sym (filter-append (nat_lt 0) h.seconds (s ∷ []));
     }

@@ -1,4 +1,5 @@
 pub mod Clock
+pub mod Rows
 pub mod Sent
 pub mod Served
 pub mod Stepped

@@ -1,6 +1,7 @@
 -- A session, put together from its steps.
 use Rattle.std.proofs.Common.{◌≡◌, ℕ, Bool, ◌||◌, true, false, List, [], ◌∷◌, ◌++◌}
-use Rattle.std.proofs.Common.{Option, Result, Ok, Err, ◌↔◌, OnOk, IfErr, refl, sym, ap, subst, ◌∙◌, append_assoc, append-nil, arith, add-zero, zero-add}
+use Rattle.std.proofs.Common.{Option, Result, Ok, Err, ◌↔◌, OnOk, IfErr, refl, sym, ap, subst, ◌∙◌, append_assoc}
+use Rattle.std.proofs.Common.{append-nil, arith, add-zero, zero-add}
 use Rattle.std.specs.Bool.{IsTrue}
 use Rattle.std.specs.List.{AllByRecursion}
 use Rattle.std.specs.Result.{IsErrAnd}
@@ -91,7 +92,8 @@ step_served first before handed asked device newer steps more sent noted between
 
 -- ---- where it is cut short
 
-sent_at : (end : LiveEnd) (gone all sent : List Packet) → IsCutAt end gone all → IsSentAt end (sent ++ gone) (sent ++ all)
+sent_at : (end : LiveEnd) (gone all sent : List Packet) → IsCutAt end gone all
+    → IsSentAt end (sent ++ gone) (sent ++ all)
 sent_at Turns gone all sent h = absurd h
 sent_at ReceiveFault gone all sent h = absurd h
 sent_at SendFault gone all sent (failed, rest, e) =

@@ -14,7 +14,8 @@ use Rattle.live_link.specs.declared.packet.Packet.{Packet}
 use Rattle.live_link.specs.declared.session.LiveEnd.{LiveEnd}
 use Rattle.live_link.specs.declared.session.LiveEnd.TheVariants.{Turns, ReceiveFault, SendFault, Memory, Spent}
 use Rattle.live_link.specs.Wire.{Traffic}
-use Rattle.live_link.specs.Live.{IsHeardAt, IsAtLastSecond, AreTickedAt, heard_by, heard_in, ticks_of, tick_in, most_refused}
+use Rattle.live_link.specs.Live.{IsHeardAt, IsAtLastSecond, AreTickedAt, heard_by, heard_in, ticks_of, tick_in}
+use Rattle.live_link.specs.Live.{most_refused}
 use Rattle.live_link.specs.Serving.{IsServing, IsCutShort, IsNotedAt, IsBroken, IsTimed}
 use Rattle.live_link.proofs.Clock.{all_ticked, one_unticked}
 

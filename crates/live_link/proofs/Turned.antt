@@ -1,5 +1,6 @@
 -- A session, put together from its turns.
-use Rattle.std.proofs.Common.{◌≡◌, ◌≢◌, ℕ, ◌+◌, ◌≤◌, List, [], ◌∷◌, ◌++◌, length, Option, None, Some, refl, sym, ap, subst}
+use Rattle.std.proofs.Common.{◌≡◌, ◌≢◌, ℕ, ◌+◌, ◌≤◌, List, [], ◌∷◌, ◌++◌, length, Option, None, Some, refl, sym, ap}
+use Rattle.std.proofs.Common.{subst}
 use Rattle.std.proofs.Common.{◌∙◌, append_assoc, append-nil, arith, length-append, zero-add}
 use Rattle.device_machine.specs.State.{Device}
 use Rattle.scenario_image.specs.declared.step.Step.{Step}
@@ -239,7 +240,8 @@ all_turns first before read_before made turns device counted steps sent after re
     record {
       handed = heard_by steps;
       asked = made;
-      cut = ends_there Turns first before (heard_by steps) made device steps steps sent sent after h.serving tt refl refl;
+      cut = ends_there Turns first before (heard_by steps) made device steps steps sent sent after h.serving tt
+          refl refl;
       heard = all_heard Turns (heard_by steps) (heard_by steps) refl;
       asked_count = e;
       readings = h.readings;

@@ -1,7 +1,8 @@
-//! One emulated device on a wire: what arrives is what it receives, what it outputs is sent, and its clock is a real one.
+//! One emulated device on a wire: it receives what arrives, what it outputs is sent, and a clock is its ticks.
 #![tactic(auto)]
 
 mod end;
+mod laws;
 mod packet;
 mod seconds;
 mod sending;
@@ -9,6 +10,7 @@ mod serving;
 mod session;
 mod wire;
 
+pub use laws::sessions_are_rows;
 pub use packet::Packet;
 pub use seconds::Seconds;
 pub use serving::serve;

@@ -29,7 +29,8 @@ returns-clause-cut g c =
     c.take_event.ensures.cut_noted (λ end is cut noted.
     tick_broken end first before asked c.args.self.now.device c.args.self.now.steps.items
     c.take_event.new.self.steps.items c.args.self.now.sent.items c.take_event.new.self.sent.items
-    (g.W.Wire.told c.args.wire.now) (g.W.Wire.told c.take_event.new.wire) s h cut noted (λ e. c.take_event.ensures.spent (is ∙ ap Err e))
+    (g.W.Wire.told c.args.wire.now) (g.W.Wire.told c.take_event.new.wire) s h cut noted
+    (λ e. c.take_event.ensures.spent (is ∙ ap Err e))
     (omega (arith, c.pass_seconds-seconds.ensures.seconds)))
 
 pub returns-clause-timed : goal.returns-clause-timed

@@ -13,7 +13,8 @@ returns-in_err-outputs-clause-cut g c =
 
 pub returns-in_err-push-clause-cut : goal.returns-in_err-push-clause-cut
 returns-in_err-push-clause-cut g c =
-    λ first before handed asked h live. at_end _ Memory c.from_residual-in_err-push.result c.from_residual-in_err-push.ensures.1
+    λ first before handed asked h live.
+    at_end _ Memory c.from_residual-in_err-push.result c.from_residual-in_err-push.ensures.1
     (ends_there Memory first before handed asked c.args.self.now.device c.args.self.now.steps.items _
     c.args.self.now.sent.items _ (g.W.Wire.told c.args.wire.now) h tt c.in_err-push.ensures.items refl)
 

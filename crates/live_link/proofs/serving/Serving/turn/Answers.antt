@@ -27,7 +27,8 @@ returns-clause-under_way g c =
     turned first before read_before turns c.args.self.now.device c.hear.new.self.device c.args.self.now.counted
     c.hear.new.self.counted c.args.self.now.steps.items c.hear.new.self.steps.items c.args.self.now.sent.items
     c.hear.new.self.sent.items (g.W.Wire.told c.args.wire.now) (g.W.Wire.told c.hear.new.wire)
-    (g.C.Seconds.read c.args.clock.now) (g.C.Seconds.read c.now-now.new.self) c.now-now.result h c.now-now.ensures serving
+    (g.C.Seconds.read c.args.clock.now) (g.C.Seconds.read c.now-now.new.self) c.now-now.result h
+    c.now-now.ensures serving
     (λ readings t. rw (c.hear.ensures.ticks, c.hear.ensures.counted) (c.in_ok-pass.ensures.timed readings t)))
 
 pub returns-clause-over : goal.returns-clause-over
