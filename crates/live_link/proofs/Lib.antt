@@ -1,5 +1,6 @@
 pub mod Clock
 pub mod Rows
+pub mod Scripted
 pub mod Sent
 pub mod Served
 pub mod Stepped

@@ -3,6 +3,7 @@
 
 mod end;
 mod laws;
+mod memory;
 mod packet;
 mod seconds;
 mod sending;
@@ -11,6 +12,7 @@ mod session;
 mod wire;
 
 pub use laws::sessions_are_rows;
+pub use memory::{Receipt, ScriptedClock, ScriptedWire};
 pub use packet::Packet;
 pub use seconds::Seconds;
 pub use serving::serve;
