@@ -84,7 +84,8 @@ received a b c r h k = carries_both a b c _ _ _ h k (both_parts r)
 pub handed_one : (silent : Bool) (handed more : List Packet) (packet : Packet) (taken : List Packet)
     (n failures refusals : ℕ) → more ≡ handed ++ packet ∷ []
     → Carries
-    (told_unless silent (record { handed = handed; asked = n; taken = taken; failures = failures; refusals = refusals }))
+    (told_unless silent
+    (record { handed = handed; asked = n; taken = taken; failures = failures; refusals = refusals }))
     (told_unless silent (record { handed = more; asked = n; taken = taken; failures = failures; refusals = refusals }))
     (record { handed = packet ∷ []; asked = 0; taken = []; failures = 0; refusals = 0 })
 handed_one silent handed more packet taken n failures refusals e =
@@ -97,7 +98,8 @@ handed_one silent handed more packet taken n failures refusals e =
 pub taken_one : (silent : Bool) (handed taken more : List Packet) (packet : Packet)
     (n failures refusals : ℕ) → more ≡ taken ++ packet ∷ []
     → Carries
-    (told_unless silent (record { handed = handed; asked = n; taken = taken; failures = failures; refusals = refusals }))
+    (told_unless silent
+    (record { handed = handed; asked = n; taken = taken; failures = failures; refusals = refusals }))
     (told_unless silent (record { handed = handed; asked = n; taken = more; failures = failures; refusals = refusals }))
     (record { handed = []; asked = 0; taken = packet ∷ []; failures = 0; refusals = 0 })
 taken_one silent handed taken more packet n failures refusals e =

@@ -9,6 +9,7 @@ mod seconds;
 mod sending;
 mod serving;
 mod session;
+mod udp;
 mod wire;
 
 pub use laws::sessions_are_rows;
@@ -17,4 +18,5 @@ pub use packet::Packet;
 pub use seconds::Seconds;
 pub use serving::serve;
 pub use session::{LiveEnd, LiveSession};
+pub use udp::UdpWire;
 pub use wire::{Wire, WireFault};

@@ -1,13 +1,16 @@
 use Rattle.std.proofs.Common.{ap, refl, ◌∙◌}
 use Rattle.live_link.specs.declared.session.LiveEnd.TheVariants.{Memory}
 use Rattle.live_link.specs.Live.{end_at, packets_in}
+use Rattle.live_link.specs.Serving.{IsCutShort}
 use Rattle.live_link.proofs.Served.{accepted, at_end, end_is_quiet, ends_there, if_err, on_ok, step_cut, step_served}
 use Rattle.live_link.proofs.serving.Serving.take_event.Goals as goal
 
 pub returns-in_err-outputs-clause-cut : goal.returns-in_err-outputs-clause-cut
 returns-in_err-outputs-clause-cut g c =
     let fault = c.in_err-outputs.field-0.0 in
-    λ first before handed asked h live. at_end _ (end_at fault) c.from_residual.result c.from_residual.ensures.1
+    λ first before handed asked h live.
+    at_end (λ end. IsCutShort end first before handed asked c.args.self.now.steps.items c.args.self.now.sent.items
+    (g.W.Wire.told c.args.wire.now)) (end_at fault) c.from_residual.result c.from_residual.ensures.1
     (ends_there (end_at fault) first before handed asked c.args.self.now.device c.args.self.now.steps.items _
     c.args.self.now.sent.items _ (g.W.Wire.told c.args.wire.now) h (end_is_quiet fault) refl refl)
 
