@@ -1,0 +1,4 @@
+pub mod Wire
+pub mod Live
+pub mod Serving
+pub mod Memory

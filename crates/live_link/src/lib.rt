@@ -1,0 +1,22 @@
+//! One emulated device on a wire: it receives what arrives, what it outputs is sent, and a clock is its ticks.
+#![tactic(auto)]
+
+mod end;
+mod laws;
+mod memory;
+mod packet;
+mod seconds;
+mod sending;
+mod serving;
+mod session;
+mod udp;
+mod wire;
+
+pub use laws::sessions_are_rows;
+pub use memory::{Receipt, ScriptedClock, ScriptedWire};
+pub use packet::Packet;
+pub use seconds::Seconds;
+pub use serving::serve;
+pub use session::{LiveEnd, LiveSession};
+pub use udp::UdpWire;
+pub use wire::{Wire, WireFault};
