@@ -69,7 +69,7 @@ fn by_visits<R: Wait>(rt: &R, alloc: Global, scenario: &Scenario) -> Option<Made
         return None;
     };
     let count = scenario.steps();
-    for _visit in 0..count {
+    for _made in 0..count {
         let (outside, job) = claimed(rt, &lock, pass);
         let Some(job) = job else {
             return None;
