@@ -14,7 +14,7 @@ use Rattle.bench_commands.specs.Files.{IsLonger, most_bytes}
 use Rattle.bench_commands.specs.declared.fault.Fault.{Fault}
 use Rattle.bench_commands.specs.declared.fault.Fault.TheVariants as faults
 
--- of the bytes that might be read at first, so many may still be
+-- of the bytes that might be read at first, this many may still be
 abbrev pub IsSpent : Option (List ℕ) → Option (List ℕ) → ℕ → ℕ → Type 0
 IsSpent before after most left = WhereKnown (λ bytes rest. left + length bytes ≡ most + length rest) before after
 

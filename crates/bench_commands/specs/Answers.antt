@@ -15,7 +15,7 @@ abbrev pub files_of : Option NewFile → List Made
 files_of None = []
 files_of (Some f) = (f.path.now, f.bytes) ∷ []
 
--- the fault of what was not written: want of memory is not its fault
+-- the fault of what was not written: a lack of memory is not its fault
 abbrev pub writing_fault : FileFault → Fault
 writing_fault file.Memory = Memory
 writing_fault (file.Failed why) = Write

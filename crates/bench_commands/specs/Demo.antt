@@ -1,4 +1,4 @@
--- The DEMO device: its class, and what it puts out when it has just started (this profile).
+-- The DEMO device: its class, and what it outputs when it has just started (this profile).
 use Rattle.std.specs.Prelude.{ℕ, List, [], ◌∷◌, codes, pos, false}
 use Rattle.std.specs.List.{fold}
 use Rattle.object_defs.specs.Base.{base}
@@ -53,7 +53,7 @@ demo_class =
     (fold with_place (with_account (record { accounts = []; catalogue = base; store = empty }) 1) demo_instances)
     demo_values
 
--- what the device, just started, puts out where server 1 sends these bytes
+-- what the device, just started, outputs where server 1 sends these bytes
 unfoldable pub demo_outputs : List ℕ → List Output
 demo_outputs bytes = outputs_of (record { kept = start_of demo_class; recorded = [] }) (Recv 1 bytes)
 

@@ -18,14 +18,14 @@ use Rattle.bench_commands.specs.declared.fault.Fault.{Fault}
 use Rattle.bench_commands.specs.declared.fault.Fault.TheVariants.{Hex, Memory, Read, Write, Layout, Text, TooLarge}
 use Rattle.bench_commands.specs.declared.fault.Fault.TheVariants.{Template, Workers, Batch, Spent}
 
--- the fault of a text that could not be read as hex: want of memory is not the text's fault
+-- the fault of a text that could not be read as hex: a lack of memory is not the text's fault
 abbrev pub hex_fault : FromHexError → Fault
 hex_fault OutOfMemory = Memory
 hex_fault OddLength = Hex
 hex_fault InvalidStringLength = Hex
 hex_fault (InvalidHexCharacter c i) = Hex
 
--- the fault of bytes that are no file of their kind: want of memory is not the bytes' fault
+-- the fault of bytes that are no file of their kind: a lack of memory is not the bytes' fault
 abbrev pub layout_fault : LayoutFault → Fault
 layout_fault layout.Magic = Layout layout.Magic
 layout_fault layout.Version = Layout layout.Version
@@ -39,7 +39,7 @@ abbrev pub refused_text : Cause → AsmFault → Fault
 refused_text cause.Memory fault = Memory
 refused_text _ fault = Text fault
 
--- the fault of a text that denotes no scenario: want of memory is not the text's fault
+-- the fault of a text that denotes no scenario: a lack of memory is not the text's fault
 abbrev pub text_fault : AsmFault → Fault
 text_fault fault = refused_text fault.cause fault
 
@@ -48,7 +48,7 @@ abbrev pub trace_fault : WriteFault → Fault
 trace_fault trace.TooLarge = TooLarge
 trace_fault trace.Memory = Memory
 
--- the fault of a template that refused a part: want of memory is not the part's fault
+-- the fault of a template that refused a part: a lack of memory is not the part's fault
 abbrev pub template_fault : TemplateFault → Fault
 template_fault template.Range = Template template.Range
 template_fault template.Missing = Template template.Missing
@@ -63,19 +63,19 @@ run_fault (runs.Spent entries) = Spent
 run_fault runs.Workers = Workers
 run_fault runs.Batch = Batch
 
--- what may befall a text that is printed, or a file that is made: want of memory, or that it was not taken
+-- what may befall a text that is printed, or a file that is made: a lack of memory, or that it was not taken
 abbrev pub IsWritingFault : Type 0 → Fault → Type 0
 IsWritingFault refused Memory = ⊤
 IsWritingFault refused Write = refused
 IsWritingFault refused _ = ⊥
 
--- what may befall a file that is read: want of memory, or that it could not be read
+-- what may befall a file that is read: a lack of memory, or that it could not be read
 abbrev pub IsReadingFault : Type 0 → Fault → Type 0
 IsReadingFault fails Memory = ⊤
 IsReadingFault fails Read = fails
 IsReadingFault fails _ = ⊥
 
--- what may befall a device that is made: want of memory, or that its template refused a part
+-- what may befall a device that is made: a lack of memory, or that its template refused a part
 abbrev pub IsTemplateFault : Fault → Type 0
 IsTemplateFault Memory = ⊤
 IsTemplateFault (Template fault) = ⊤

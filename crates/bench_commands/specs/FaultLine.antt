@@ -53,7 +53,7 @@ abbrev pub placed : List ℕ → Option ℕ → List ℕ
 placed word None = word
 placed word (Some place) = word ++ codes " at " ++ decimal place
 
--- the name of a fault: its word, behind the line where it is a text's, and with its place where it has one
+-- the name of a fault: its word, after the line where it is a text's, and with its place where it has one
 abbrev pub fault_name : Fault → List ℕ
 fault_name (faults.Text fault) = codes "line " ++ decimal fault.line ++ codes ": " ++ cause_words fault.cause
 fault_name fault = placed (fault_word fault) (place_of fault)

@@ -20,7 +20,7 @@ Grows None new more = ⊤
 Grows (Some old) None more = ⊥
 Grows (Some old) (Some new) more = new ≡ old ++ more
 
--- the fault of an error of this kind: want of memory is not the file's fault
+-- the fault of an error of this kind: a lack of memory is not the file's fault
 abbrev pub IsFileFaultOf : ErrorKind → FileFault → Type 0
 IsFileFaultOf kind Memory = kind ≡ OutOfMemory
 IsFileFaultOf kind (Failed why) = kind ≢ OutOfMemory

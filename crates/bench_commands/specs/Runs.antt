@@ -8,11 +8,11 @@ use Rattle.debug_answers.specs.Lines.{line}
 use Rattle.bench_commands.specs.declared.status.Status.{Status}
 use Rattle.bench_commands.specs.declared.status.Status.TheVariants.{Done, NotRun}
 
--- `done E`: all devices are at the end of their rows, behind E entries
+-- `done E`: all devices are at the end of their rows, after E entries
 abbrev pub done_line : ℕ → List ℕ
 done_line count = line (codes "done " ++ decimal count)
 
--- a device, behind a space
+-- a device, after a space
 abbrev pub device_word : ℕ → List ℕ
 device_word d = codes " " ++ decimal d
 
@@ -22,11 +22,11 @@ device_words devices = flat_map device_word devices
 abbrev pub stalled_text : ℕ → List ℕ → List ℕ
 stalled_text count devices = line (codes "stalled " ++ decimal count ++ codes " waiting" ++ devices)
 
--- `stalled E waiting D ..`: behind E entries these devices are not at the end of their rows
+-- `stalled E waiting D ..`: after E entries these devices are not at the end of their rows
 abbrev pub stalled_line : ℕ → List ℕ → List ℕ
 stalled_line count devices = stalled_text count (device_words devices)
 
--- the line of a run of so many entries, behind which these devices are not at the end of their rows
+-- the line of a run of n entries, after which these devices are not at the end of their rows
 abbrev pub end_line : ℕ → List ℕ → List ℕ
 end_line count [] = done_line count
 end_line count (d ∷ ds) = stalled_line count (d ∷ ds)

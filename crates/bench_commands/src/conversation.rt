@@ -37,7 +37,7 @@ pub fn converse<'a, I: Input, O: Output>(
     Ok(())
 }
 
-/// Reads a line and answers it. Of the bytes that may still be read, so many are then left; none where the conversation
+/// Reads a line and answers it. Returns how many bytes may still be read; none where the conversation
 /// has ended.
 fn take_turn<'a, I: Input, O: Output>(
     alloc: Global,

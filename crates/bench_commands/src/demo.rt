@@ -80,7 +80,7 @@ pub fn template(alloc: Global) -> Result<Template, Fault>
     Ok(template)
 }
 
-/// What the DEMO device, just started, puts out where its server sends these bytes.
+/// What the DEMO device, just started, outputs where its server sends these bytes.
 pub fn answer(alloc: Global, bytes: Bytes) -> Result<Outputs, Fault>
     ensures put_out { IfOk result (λ outputs. outputs ≡ demo_outputs bytes) }
     ensures refused { IfErr result IsTemplateFault }

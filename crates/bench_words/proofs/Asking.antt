@@ -77,7 +77,7 @@ is_local true false true rest plain = search rules
 is_local true true globals rest plain = search rules
 is_local false external globals rest plain = search rules
 
--- an error that is not want of memory is one of those that the words may have
+-- an error that is not a lack of memory is one of those that the words may have
 pub refused_as : (app : App) (words : List Word) (e : Error) (is_mistake : Bool) → app ≡ bench_app
     → (is_simple_and_free app ≡ true → HasKind (fault_of app words) e) → (kind_of e ≢ kind.OutOfMemory)
     → (IsTrue is_mistake ↔ ((kind_of e ≢ kind.DisplayHelp) × (kind_of e ≢ kind.DisplayVersion)))

@@ -6,7 +6,7 @@ use Rattle.std.specs.declared.num.ParseIntError.{ParseIntError}
 use Rattle.clap.specs.Words.{ReadsOne, Text as Word}
 use Rattle.bench_words.specs.Words.{IsNoNumber, IsNumber}
 
--- how a number of so many bits is read
+-- how a number of n bits is read
 abbrev pub reads : ℕ → Word → Result ℕ ParseIntError → Type 0
 reads bits word r = ParsesUnsigned bits 10 word r × ExplainsUnsignedError 10 word r × HasUnsignedDigitsIfOk word r
 

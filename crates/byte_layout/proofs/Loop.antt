@@ -12,7 +12,7 @@ use Rattle.byte_layout.specs.Outcome.{Fails}
 abbrev pub with_front : {A : Type 0} → List A → Result (List A × List ℕ) Break → Result (List A × List ℕ) Break
 with_front front r = r >>= λ x. Ok (front ++ x.0, x.1)
 
--- after the items of front, so many are left; the bytes are those of the rest, and total is what all of them give
+-- after the items of front, this many are left; the bytes are those of the rest, and total is what all of them give
 abbrev pub IsLeft : {A : Type 0} → (List A → Layout A) → List A → ℕ → List ℕ → Result (List A × List ℕ) Break → Type 0
 IsLeft part front left bytes total = with_front front ((each part left front).read bytes) ≡ total
 

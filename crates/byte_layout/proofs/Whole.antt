@@ -26,7 +26,7 @@ err_is p b c e = cc
 abbrev ended : {A : Type 0} → A × List ℕ → Result A Break
 ended x = cond (eqb (length x.1) 0) (Ok x.0) (Err Trailing)
 
--- what is read is a good value, and the bytes are its spelling
+-- what is read is a valid value, and the bytes are its spelling
 pub whole_taken : {A : Type 0} (p : Layout A) → IsExact p → (bytes : List ℕ) → IsBytes bytes → (a : A)
     → read_all p bytes ≡ Ok a → IsAll p bytes a
 whole_taken {A = A} p exact bytes fits a e =
@@ -36,7 +36,7 @@ whole_taken {A = A} p exact bytes fits a e =
     let none : s.0.1 ≡ [] = nil_from_length s.0.1 (eqb-true (length s.0.1) 0 g.0) in
     subst (λ (x : A). IsAll p bytes x) g.1 (t.0, t.1 ∙ ap (λ r. p.spell s.0.0 ++ r) none ∙ append-nil (p.spell s.0.0))
 
--- the spelling of a good value is read
+-- the spelling of a valid value is read
 pub whole_again : {A : Type 0} (p : Layout A) → IsExact p → (bytes : List ℕ) (a : A) → IsAll p bytes a
     → read_all p bytes ≡ Ok a
 whole_again p exact bytes a h =
@@ -97,7 +97,7 @@ pub found_sound : {A : Type 0} (p : Layout A) → IsExact p → (bytes : List �
     → read_all p bytes ≡ Ok v → HasFault p bytes f → ⊥
 found_sound p exact bytes v f e h = went_well v h.0 (sym e ∙ whole_refused p exact bytes h.0 h.1)
 
--- where bytes are a value's, an error is want of memory
+-- where bytes are a value's, an error is a lack of memory
 pub failed_only : {A : Type 0} (p : Layout A) → IsExact p → (bytes : List ℕ) (total : ℕ) (e : ReadError) (a : A)
     → Fails e (read_all p bytes) → IsAll p bytes a → fault_of total e ≡ faults.Memory
 failed_only p exact bytes total errors.Memory a h k = refl

@@ -17,7 +17,7 @@ left_of Trailing = 0
 left_of (BadField left) = left
 left_of (Limit left) = left
 
--- what is read is a good value, and the bytes are its spelling with what is left after it; the spelling of a good
+-- what is read is a valid value, and the bytes are its spelling with what is left after it; the spelling of a valid
 -- value is read again, whatever stands after it; a reading breaks off exactly where the bytes do, and so; and no break
 -- says that more bytes are left than there are
 pub record IsExact {A : Type 0} (p : Layout A) : Type 0 where

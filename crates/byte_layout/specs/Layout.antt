@@ -18,12 +18,12 @@ pub record Layout (A : Type 0) : Type 1 where
   pub spell : A → List ℕ
   -- the value may stand here
   pub Good : A → Type 0
-  -- no good value's bytes stand at the front of these: whole good fields do, and then they break off so
+  -- no valid value's bytes stand at the front of these: whole good fields do, and then they break off so
   pub Breaks : List ℕ → Break → Type 0
   -- the value at the front and the bytes after it, or the first break
   pub read : List ℕ → Result (A × List ℕ) Break
 
--- so many bytes, whatever they are
+-- n bytes, whatever they are
 unfoldable pub raw : ℕ → Layout (List ℕ)
 raw n = record {
   spell = λ a. a;
@@ -93,7 +93,7 @@ marked fault n p q = split (λ a. n) (mark fault n p) (λ m. q)
 abbrev pub signed : Width → Layout ℤ
 signed w = last (cast_unsigned w) (cast_signed w) (number w)
 
--- a length by this layout, and so many bytes
+-- a length by this layout, and n bytes
 abbrev pub sized : Layout ℕ → Layout (List ℕ)
 sized len = split length len raw
 
@@ -116,11 +116,11 @@ linked p q = record {
   read = λ bytes. p.read bytes >>= λ x. (q x.0).read x.1 >>= λ xs. Ok (x.0 ∷ xs.0, xs.1);
 }
 
--- so many items, each by a layout that knows the list of those before it
+-- n items, each by a layout that knows the list of those before it
 unfoldable pub each : {A : Type 0} → (List A → Layout A) → ℕ → List A → Layout (List A)
 each part zero before = done []
 each part (suc n) before = linked (part before) (λ a. each part n (before ++ a ∷ []))
 
--- a count by this layout, and so many items
+-- a count by this layout, and n items
 abbrev pub counted : {A : Type 0} → Layout ℕ → (List A → Layout A) → Layout (List A)
 counted count part = split length count (λ n. each part n [])

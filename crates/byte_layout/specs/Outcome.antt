@@ -4,7 +4,7 @@ use Rattle.byte_layout.specs.declared.fault.Break.{Break}
 use Rattle.byte_layout.specs.declared.fault.ReadError.{ReadError}
 use Rattle.byte_layout.specs.declared.fault.ReadError.TheVariants as errors
 
--- the error is the break that reading meets, unless it is want of memory
+-- the error is the break that reading meets, unless memory runs out
 abbrev pub Fails : {Y : Type 0} → ReadError → Result Y Break → Type 0
 Fails errors.Memory read = Unit {0}
 Fails (errors.Fault b) read = read ≡ Err b

@@ -8,11 +8,11 @@ use Rattle.byte_layout.specs.declared.fault.LayoutFault.{LayoutFault}
 use Rattle.byte_layout.specs.declared.fault.LayoutFault.TheVariants as faults
 use Rattle.byte_layout.specs.Layout.{Layout, ◌>>=◌}
 
--- the bytes are those of this good value, all of them
+-- the bytes are those of this valid value, all of them
 abbrev pub IsAll : {A : Type 0} → Layout A → List ℕ → A → Type 0
 IsAll p bytes a = p.Good a × (bytes ≡ p.spell a)
 
--- the bytes break off within the part, or a good value's stand there and at least one after them
+-- the bytes break off within the part, or a valid value's stand there and at least one after them
 abbrev pub BreaksOff : {A : Type 0} → Layout A → List ℕ → Break → Type 0
 BreaksOff p bytes b =
     p.Breaks bytes b
@@ -23,7 +23,7 @@ BreaksOff p bytes b =
 abbrev pub read_all : {A : Type 0} → Layout A → List ℕ → Result A Break
 read_all p bytes = p.read bytes >>= λ x. if length x.1 == 0 then Ok x.0 else Err breaks.Trailing
 
--- the fault of so many bytes that break off so: its place is counted from the first byte
+-- the fault of n bytes that break off so: its place is counted from the first byte
 abbrev pub placed : ℕ → Break → LayoutFault
 placed total breaks.Magic = faults.Magic
 placed total breaks.Version = faults.Version
@@ -32,7 +32,7 @@ placed total breaks.Trailing = faults.Trailing
 placed total (breaks.BadField left) = faults.BadField (total - left)
 placed total (breaks.Limit left) = faults.Limit (total - left)
 
--- the fault of so many bytes whose reading ended so
+-- the fault of n bytes whose reading ended so
 abbrev pub fault_of : ℕ → ReadError → LayoutFault
 fault_of total errors.Memory = faults.Memory
 fault_of total (errors.Fault b) = placed total b

@@ -84,7 +84,7 @@ impl<T: Drop> From<AllocFailed<T>> for ReadError {
     }
 }
 
-/// The fault of bytes, so many of them, whose reading ended with this error.
+/// The fault of n bytes whose reading ended with this error.
 pub fn fault_at(total: usize, error: ReadError) -> LayoutFault
     ensures { result ≡ fault_of total error }
 {
@@ -94,7 +94,7 @@ pub fn fault_at(total: usize, error: ReadError) -> LayoutFault
     }
 }
 
-/// The fault of bytes, so many of them, that break off so.
+/// The fault of n bytes that break off so.
 fn place(total: usize, broken: Break) -> LayoutFault
     ensures { result ≡ placed total broken }
 {

@@ -27,7 +27,7 @@ pub trait Items {
         ensures { Gives (λ x. (x.0, x.1.now)) result ((part self.now before.now).read bytes.now) };
 }
 
-/// So many items at the front of the bytes, and the bytes after them. No room is made for more items than are read.
+/// n items at the front of the bytes, and the bytes after them. No room is made for more items than are read.
 pub fn items_at<'a, I: Items>(
     items: &I,
     alloc: Global,

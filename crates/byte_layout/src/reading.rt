@@ -80,7 +80,7 @@ pub fn i64_at(bytes: &[u8]) -> Result<(i64, &[u8]), ReadError>
     Ok((number, rest))
 }
 
-/// So many bytes, lent, and the bytes after them.
+/// n bytes, and the bytes after them.
 #[tactic(auto, unfolding(crate::specs::Layout::raw))]
 pub fn bytes_at(count: usize, bytes: &[u8]) -> Result<(&[u8], &[u8]), ReadError>
     ensures read { Gives (λ x. (x.0.now, x.1.now)) result ((raw count).read bytes.now) }

@@ -34,7 +34,7 @@ stands_no_fault number first rest s =
           (amount (first % 16) (drop (width (first / 16)) rest)) s.whole,
     ) refl
 
--- an option that was taken apart fits each case: its delta, its length, and what stands behind each of them
+-- an option that was taken apart fits each case: its delta, its length, and what stands after each of them
 pub taken_apart : (number first delta size : ℕ) (bytes rest behind : List ℕ) → (first / 16 ≡ 15 → ⊥)
     → (first % 16 ≡ 15 → ⊥) → width (first / 16) ≤ length bytes → delta ≡ amount (first / 16) bytes
     → rest ≡ drop (width (first / 16)) bytes → number + delta ≤ 65535 → width (first % 16) ≤ length rest
@@ -118,7 +118,7 @@ pub place_no_fault : (number first : ℕ) (rest : List ℕ) (o : Opt) (behind : 
     → place_fault number (first ∷ rest) ≡ None
 place_no_fault number first rest o behind a = rw (ne_eqb first 255 a.other) (stands_no_fault number first rest a.stands)
 
--- an option is read, and then what stands behind it
+-- an option is read, and then what stands after it
 read_step : (steps number first : ℕ) (rest : List ℕ) (o : Opt) (behind : List ℕ) → ReadAs number first rest o behind
     → read_options (suc steps) number (first ∷ rest) ≡ with_option o (read_options steps o.number behind)
 unfolding read_options
@@ -128,7 +128,7 @@ read_step steps number first rest o behind a =
     (read_options steps p.number (behind_option first rest))) a.option
     ∙ ap (λ r. with_option o (read_options steps o.number r)) a.behind_is)
 
--- options before what was found behind them
+-- options before what was found after them
 abbrev pub with_all : List Opt → Result Found CoapFault → Result Found CoapFault
 with_all [] found = found
 with_all (o ∷ os) found = with_option o (with_all os found)
@@ -142,7 +142,7 @@ pub with_all-err : (os : List Opt) (fault : CoapFault) → with_all os (Err faul
 with_all-err [] fault = refl
 with_all-err (o ∷ os) fault = ap (with_option o) (with_all-err os fault)
 
--- whole options are read one after another, and then what stands behind them
+-- whole options are read one after another, and then what stands after them
 pub read_all : (os : List Opt) (number : ℕ) (tail : List ℕ) (found : Result Found CoapFault) → IsOptionList number os
     → ((steps : ℕ) → length tail ≤ steps → read_options steps (last_number number os) tail ≡ found) → (steps : ℕ)
     → length (options_bytes number os ++ tail) ≤ steps

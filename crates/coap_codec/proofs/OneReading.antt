@@ -64,7 +64,7 @@ read_tail m steps good enough =
     (λ s h. read_payload (last_number 0 m.options) m.payload s h) steps enough
     ∙ with_all-ok m.options m.payload
 
--- what stands behind an empty code is nothing
+-- what stands after an empty code is nothing
 empty_tail : (os : List Opt) (p : List ℕ) → length os ≡ 0 → length p ≡ 0
     → length (options_bytes 0 os ++ payload_bytes p) ≡ 0
 empty_tail [] [] a b = refl

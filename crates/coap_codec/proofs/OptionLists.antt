@@ -1,4 +1,4 @@
--- one more option behind a list of options
+-- one more option after a list of options
 use Rattle.std.proofs.Common.{◌≡◌, ℕ, ◌⊎◌, inl, inr, List, [], ◌∷◌, ◌++◌, refl, ap, sym, subst, ◌∙◌, append_assoc}
 use Rattle.std.proofs.Common.{Option, Some, None, false, eqb}
 use Rattle.coap_codec.specs.declared.option.Opt.{Opt}
@@ -43,7 +43,7 @@ parts_go_on bytes rest behind after first found os o number more last parts begi
 pub last_goes_on : (found os : List Opt) (o : Opt) → found ≡ os ++ o ∷ [] → o.number ≡ last_number 0 found
 last_goes_on found os o more = sym (ap (last_number 0) more ∙ last_number-push 0 os o)
 
--- an option that fits no case, behind whole options
+-- an option that fits no case, after whole options
 pub breaks_off : (bytes rest after : List ℕ) (os : List Opt) (number first : ℕ) (fault : CoapFault) → IsOptionList 0 os
     → number ≡ last_number 0 os → bytes ≡ options_bytes 0 os ++ rest → rest ≡ first ∷ after → eqb first 255 ≡ false
     → option_fault number first after ≡ Some fault → BreaksOff 0 bytes fault
@@ -80,7 +80,7 @@ none_if : (o : Option CoapFault) → ((f : CoapFault) → o ≡ Some f → ⊥) 
 none_if None never = refl
 none_if (Some f) never = absurd (never f refl)
 
--- behind an option without a fault what stands first fits
+-- after an option without a fault what stands first fits
 pub first_fits : (bytes rest after : List ℕ) (number first : ℕ) → HasBegun number rest bytes → rest ≡ first ∷ after
     → eqb first 255 ≡ false → ((f : CoapFault) → option_fault number first after ≡ Some f → ⊥)
     → place_fault 0 bytes ≡ None

@@ -44,7 +44,7 @@ at_fourteen a b h =
     by_size n (λ k e. (k ≡ 14) × (e ≡ a ∷ b ∷ [])) (λ s. absurd (omega arith)) (λ s t. absurd (omega arith))
     (λ s. (refl, ap (λ (x : ℕ). x ∷ (n - 269) % 256 ∷ []) high ∙ ap (λ (x : ℕ). a ∷ x ∷ []) low))
 
--- a nibble and the bytes behind it spell the number that they stand for
+-- a nibble and the bytes after it spell the number that they stand for
 record Amount (nibble : ℕ) (bytes : List ℕ) : Type 0 where
   parts : bytes ≡ extension_of (amount nibble bytes) ++ drop (width nibble) bytes
   nibble_is : nibble_of (amount nibble bytes) ≡ nibble
@@ -177,7 +177,7 @@ option_sound number first rest below all s =
           (b.parts ∙ ap (λ x. extension_of l ++ x) (sym (take-append-drop l after))) delta size refl;
     }
 
--- what was found behind an option of this number is there, or else that is where the bytes break off
+-- what was found after an option of this number is there, or else that is where the bytes break off
 abbrev pub IsThere : ℕ → List ℕ → Result Found CoapFault → Type 0
 IsThere number bytes r =
     MatchResult r (λ x. IsOptionList number x.options

@@ -24,14 +24,14 @@ header_fault bytes =
 abbrev pub width : ℕ → ℕ
 width nibble = if nat_lt nibble 13 then 0 else (if nibble == 13 then 1 else 2)
 
--- the number that a nibble below 15 and the bytes behind it stand for (RFC 7252 section 3.1)
+-- the number that a nibble below 15 and the bytes after it stand for (RFC 7252 section 3.1)
 abbrev pub amount : ℕ → List ℕ → ℕ
 amount nibble bytes =
     if nat_lt nibble 13 then nibble
     else (if nibble == 13 then 13 + slice_index bytes 0
     else 269 + 256 * slice_index bytes 0 + slice_index bytes 1)
 
--- what is wrong with the option of this first byte, behind one of this number, in the order that its
+-- what is wrong with the option of this first byte, after one of this number, in the order that its
 -- bytes stand in (RFC 7252 section 3.1)
 abbrev pub option_fault : ℕ → ℕ → List ℕ → Option CoapFault
 option_fault number first rest =
@@ -43,7 +43,7 @@ option_fault number first rest =
     else (if nat_lt (length (drop (width (first % 16)) behind)) (amount (first % 16) behind) then Some OptionCut
     else None))))
 
--- what is wrong behind whole options, the last of this number: nothing where they end, a marker with
+-- what is wrong after whole options, the last of this number: nothing where they end, a marker with
 -- no payload, or the next option's fault (RFC 7252 section 3)
 abbrev pub place_fault : ℕ → List ℕ → Option CoapFault
 place_fault number [] = None
@@ -55,7 +55,7 @@ abbrev pub last_number : ℕ → List Opt → ℕ
 last_number number [] = number
 last_number number (o ∷ os) = last_number o.number os
 
--- behind one of this number stand whole options, and behind them nothing that fits
+-- after one of this number stand whole options, and after them nothing that fits
 pub record BreaksOff (number : ℕ) (bytes : List ℕ) (fault : CoapFault) : Type 0 where
   pub whole : List Opt
   pub rest : List ℕ
@@ -68,7 +68,7 @@ abbrev pub HasFault : List ℕ → CoapFault → Type 0
 HasFault bytes fault =
     MatchOption (header_fault bytes) (BreaksOff 0 (drop (4 + token_length bytes) bytes) fault) (λ f. f ≡ fault)
 
--- the fault of the header, or else of what stands first behind the token: an option, or the payload marker
+-- the fault of the header, or else of what stands first after the token: an option, or the payload marker
 abbrev pub HasEarlyFault : List ℕ → CoapFault → Type 0
 HasEarlyFault bytes fault =
     MatchOption (header_fault bytes) (place_fault 0 (drop (4 + token_length bytes) bytes) ≡ Some fault) (λ f. f ≡ fault)

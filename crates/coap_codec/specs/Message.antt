@@ -13,14 +13,14 @@ pub record Message : Type 0 where
   pub options : List Opt
   pub payload : List ℕ
 
--- an option may stand behind one of this number: numbers don't descend and have 16 bits, and a
--- length has at most two bytes behind 269 (RFC 7252 section 3.1)
+-- an option may stand after one of this number: numbers don't descend and have 16 bits, and a
+-- length has at most two bytes after 269 (RFC 7252 section 3.1)
 pub record MayFollow (number : ℕ) (o : Opt) : Type 0 where
   pub ascends : number ≤ o.number
   pub in_range : o.number < 65536
   pub fits : length o.value ≤ 65804
 
--- options that may stand behind one of this number (RFC 7252 section 3.1)
+-- options that may stand after one of this number (RFC 7252 section 3.1)
 abbrev pub IsOptionList : ℕ → List Opt → Type 0
 IsOptionList number [] = Unit {0}
 IsOptionList number (o ∷ os) = MayFollow number o × IsOptionList o.number os
@@ -57,14 +57,14 @@ nibble_of n = if nat_lt n 13 then n else (if nat_lt n 269 then 13 else 14)
 abbrev pub extension_of : ℕ → List ℕ
 extension_of n = if nat_lt n 13 then [] else (if nat_lt n 269 then (n - 13) ∷ [] else two_bytes (n - 269))
 
--- an option behind one of this number: both nibbles, the delta's extension, the length's, the value (RFC 7252 section
+-- an option after one of this number: both nibbles, the delta's extension, the length's, the value (RFC 7252 section
 -- 3.1)
 abbrev pub option_bytes : ℕ → Opt → List ℕ
 option_bytes number o =
     (16 * nibble_of (o.number - number) + nibble_of (length o.value)) ∷ (extension_of (o.number - number)
     ++ (extension_of (length o.value) ++ o.value))
 
--- options one after another, behind one of this number (RFC 7252 section 3.1)
+-- options one after another, after one of this number (RFC 7252 section 3.1)
 abbrev pub options_bytes : ℕ → List Opt → List ℕ
 options_bytes number [] = []
 options_bytes number (o ∷ os) = option_bytes number o ++ options_bytes o.number os

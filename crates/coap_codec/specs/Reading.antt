@@ -11,12 +11,12 @@ use Rattle.coap_codec.specs.Fault.{token_length, header_fault, width, amount, pl
 abbrev pub kind_of : ℕ → Kind
 kind_of n = if n == 0 then Con else (if n == 1 then Non else (if n == 2 then Ack else Rst))
 
--- options that were found, and the payload behind them
+-- options that were found, and the payload after them
 pub record Found : Type 0 where
   pub options : List Opt
   pub payload : List ℕ
 
--- the option of this first byte, behind one of this number (RFC 7252 section 3.1)
+-- the option of this first byte, after one of this number (RFC 7252 section 3.1)
 abbrev pub option_here : ℕ → ℕ → List ℕ → Opt
 option_here number first rest =
     let behind = drop (width (first / 16)) rest in
@@ -26,18 +26,18 @@ option_here number first rest =
           take (amount (first % 16) behind) (drop (width (first % 16)) behind);
     }
 
--- what stands behind that option
+-- what stands after that option
 abbrev pub behind_option : ℕ → List ℕ → List ℕ
 behind_option first rest =
     let behind = drop (width (first / 16)) rest in
     drop (amount (first % 16) behind) (drop (width (first % 16)) behind)
 
--- an option before what was found behind it
+-- an option before what was found after it
 abbrev pub with_option : Opt → Result Found CoapFault → Result Found CoapFault
 with_option o (Ok found) = Ok (record { options = o ∷ found.options; payload = found.payload })
 with_option o (Err fault) = Err fault
 
--- options and payload at a place: what is wrong there, and how the bytes behind an option are read
+-- options and payload at a place: what is wrong there, and how the bytes after an option are read
 abbrev pub read_place : (ℕ → List ℕ → Result Found CoapFault) → ℕ → List ℕ → Option CoapFault → Result Found CoapFault
 read_place behind number bytes (Some fault) = Err fault
 read_place behind number [] None = Ok (record { options = []; payload = [] })
@@ -45,13 +45,13 @@ read_place behind number (first ∷ rest) None =
     if first == 255 then Ok (record { options = []; payload = rest })
     else (let o = option_here number first rest in with_option o (behind o.number (behind_option first rest)))
 
--- options and payload behind an option of the second number; the first bounds the steps, of which
+-- options and payload after an option of the second number; the first bounds the steps, of which
 -- there is at most one a byte (RFC 7252 section 3.1)
 unfoldable pub read_options : ℕ → ℕ → List ℕ → Result Found CoapFault
 read_options zero number bytes = Ok (record { options = []; payload = [] })
 read_options (suc steps) number bytes = read_place (read_options steps) number bytes (place_fault number bytes)
 
--- the message of a header, its token and what was found behind them (RFC 7252 section 3)
+-- the message of a header, its token and what was found after them (RFC 7252 section 3)
 abbrev pub message_of : List ℕ → Result Found CoapFault → Result Message CoapFault
 message_of bytes (Ok found) =
     Ok (record {

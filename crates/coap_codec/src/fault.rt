@@ -13,7 +13,7 @@ pub enum CoapFault {
     /// A token length above 8.
     #[error("a token length above 8")]
     TokenLength = 3,
-    /// Code 0.00 with a token length or with bytes behind the header.
+    /// Code 0.00 with a token length or with bytes after the header.
     #[error("an empty message with bytes behind its header")]
     EmptyWithData = 4,
     /// The bytes end within a token, an extension or a value.

@@ -47,7 +47,7 @@ impl Options {
         Options { items }
     }
 
-    /// One more option, behind the others.
+    /// One more option, after the others.
     pub fn push(&mut self, option: Opt) -> Result<(), AllocError>
         ensures ok { OnOk result (self.new ≡ self.old ++ option ∷ []) }
         ensures err { OnErr result (self.new ≡ self.old) }
@@ -91,7 +91,7 @@ impl Options {
         self.push_number(alloc, number, Some(u32::from(value)))
     }
 
-    /// The options, lent.
+    /// The options.
     pub fn as_slice(&self) -> &[Opt]
         ensures { result.now ≡ self.now }
     {

@@ -11,7 +11,7 @@ use crate::{CoapFault, Kind, Message, Opt, Options};
 use octets::Bytes;
 use std::alloc::Global;
 
-/// The header of a message, its token, and what stands behind them.
+/// The header of a message, its token, and what stands after them.
 #[derive(Drop)]
 struct Start<'a> {
     kind: Kind,
@@ -21,7 +21,7 @@ struct Start<'a> {
     rest: &'a [u8],
 }
 
-/// The number that a nibble and the bytes behind it stand for, and what stands behind those.
+/// The number that a nibble and the bytes after it stand for, and what stands after those.
 fn amount_at(nibble: u8, bytes: &[u8]) -> Option<(u32, &[u8])>
     requires { nibble < 15 }
     ensures parts { IfSome result (λ x. bytes.now ≡ extension_of x.0 ++ x.1.now) }
@@ -85,7 +85,7 @@ fn start_of(bytes: &[u8]) -> Result<Start<'_>, CoapFault>
     })
 }
 
-/// The option of this first byte, behind one of this number, and what stands behind it.
+/// The option of this first byte, after one of this number, and what stands after it.
 fn option_at(alloc: Global, number: u16, first: u8, bytes: &[u8]) -> Result<(Opt, &[u8]), CoapFault>
     ensures follows { IfOk result (λ x. MayFollow number x.0) }
     ensures parts { IfOk result (λ x. first ∷ bytes.now ≡ option_bytes number x.0 ++ x.1.now) }
@@ -117,7 +117,7 @@ fn option_at(alloc: Global, number: u16, first: u8, bytes: &[u8]) -> Result<(Opt
     Ok((Opt { number, value }, rest))
 }
 
-/// The options, and the payload behind them.
+/// The options, and the payload after them.
 fn options_at(alloc: Global, bytes: &[u8]) -> Result<(Vec<Opt>, &[u8]), CoapFault>
     ensures follow { IfOk result (λ x. IsOptionList 0 x.0.items) }
     ensures parts { IfOk result (λ x. bytes.now ≡ options_bytes 0 x.0.items ++ payload_bytes x.1.now) }
@@ -149,7 +149,7 @@ pub fn decode(alloc: Global, bytes: &[u8]) -> Result<Message, CoapFault>
     ensures only { (m : Message) → Spells bytes.now m → MatchResult result (λ x. x ≡ m) (λ f. f ≡ CoapFault.Memory) }
     ensures fault { IfErr result (λ f. f ≢ CoapFault.Memory → HasFault bytes.now f) }
     ensures refused { (f : CoapFault) → HasFault bytes.now f → IsErrAnd result (λ g. g ≢ CoapFault.Memory → g ≡ f) }
-    // The faults of a header, and those right behind the token, are found before memory is taken.
+    // The faults of a header, and those right after the token, are found before memory is taken.
     ensures early { (f : CoapFault) → HasEarlyFault bytes.now f → result ≡ Err f }
     ensures reading { MatchResult result
         (λ m. reading_of bytes.now ≡ Ok m)

@@ -67,7 +67,7 @@ fn put_extension(out: &mut Vec<u8>, n: u32) -> Result<(), AllocError>
     out.extend_from_slice(&[(behind / 256) as u8, (behind % 256) as u8])
 }
 
-/// An option behind one of this number.
+/// An option after one of this number.
 fn put_option(out: &mut Vec<u8>, number: u16, option: &Opt) -> Result<(), AllocError>
     requires { MayFollow number option.now }
     ensures { OnOk result (out.new.items ≡ out.old.items ++ option_bytes number option.now) }

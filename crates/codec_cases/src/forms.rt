@@ -170,7 +170,7 @@ fn hex_piece(alloc: Global, digits: &str) -> Result<Vec<u8>, Unanswered> {
     }
 }
 
-/// Adds bytes so many times.
+/// Adds bytes n times.
 fn repeat(out: &mut Vec<u8>, bytes: &[u8], count: u64) -> Result<(), Unanswered> {
     for _ in 0..count {
         if out.len() as u64 > MOST {

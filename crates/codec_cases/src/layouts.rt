@@ -91,7 +91,7 @@ fn read_fields(alloc: Global, names: &str, bytes: &[u8]) -> Result<String, Unans
     told(alloc, bytes.len(), found(alloc, names, bytes))
 }
 
-/// What was found, or the fault of bytes, so many of them.
+/// What was found, or the fault of n bytes.
 fn told(alloc: Global, total: usize, found: Result<String, Unfound>) -> Result<String, Unanswered> {
     match found {
         Ok(text) => Ok(text),

@@ -4,7 +4,7 @@ use Rattle.std.specs.Fmt.{decimal}
 use Rattle.debugger.specs.declared.breaks.Stop.{Stop}
 use Rattle.debugger.specs.declared.breaks.Stop.TheVariants as stops
 
--- a line: its words, and the line feed behind them
+-- a line: its words, and the line feed after them
 abbrev pub line : List ℕ → List ℕ
 line words = words ++ 10 ∷ []
 
@@ -20,7 +20,7 @@ break_line id = line (codes "break " ++ decimal id)
 abbrev pub cleared_line : ℕ → List ℕ
 cleared_line id = line (codes "cleared " ++ decimal id)
 
--- a place, behind ` at `
+-- a place, after ` at `
 abbrev pub at_word : ℕ → List ℕ
 at_word place = codes " at " ++ decimal place
 

@@ -28,7 +28,7 @@ pub fn cleared_line(alloc: Global, id: u8) -> Result<String, AllocError>
     format!(in alloc; "cleared {id}\n")
 }
 
-/// A place, behind ` at `.
+/// A place, after ` at `.
 fn at_word(alloc: Global, place: usize) -> Result<String, AllocError>
     ensures { IfOk result (λ text. string_bytes text ≡ at_word place) }
 {

@@ -11,7 +11,7 @@ use std::alloc::{AllocError, Global};
 pub enum Part<'a> {
     /// What stands before the first of the others.
     Start,
-    /// A line of the scenario's text, so many times.
+    /// A line of the scenario's text, n times.
     Text {
         /// The line.
         line: &'a str,

@@ -38,7 +38,7 @@ fn add_word(alloc: Global, out: &mut Vec<u8>, word: &str) -> Result<bool, AllocE
     }
 }
 
-/// Adds a text in quotes, with the escapes of scenario text, so many times: `"class\0A"*257`.
+/// Adds a text in quotes, with the escapes of scenario text, n times: `"class\0A"*257`.
 fn add_quoted(alloc: Global, out: &mut Vec<u8>, word: &str) -> Result<bool, AllocError> {
     let Some((word, times)) = counted(alloc, word)? else {
         return Ok(false);

@@ -37,7 +37,7 @@ fn send_line(alloc: Global, server: u16, hex: &str) -> Result<String, AllocError
 enum Meaning {
     /// The next output is this line.
     Line(String),
-    /// So many outputs, of which nothing is said.
+    /// n outputs, of which nothing is said.
     More(u32),
     /// There is no output.
     Nothing,

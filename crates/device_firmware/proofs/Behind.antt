@@ -1,4 +1,4 @@
--- What a store holds behind an event.
+-- What a store holds after an event.
 use Rattle.std.proofs.Common.{◌≡◌, ◌≢◌, ℕ, Bool, true, false, cond, ◌&&◌, eqb, List, Option, None, Some, Result, Ok}
 use Rattle.std.proofs.Common.{Err, pos, refl, sym, ap, ◌∙◌, ◌⊎◌, inl, inr}
 use Rattle.std.specs.Ordering.{eq_by_cmp, is_eq}
@@ -24,7 +24,7 @@ use Rattle.device_firmware.specs.Firmware.{uri_of, with_uri, with_outcome}
 use Rattle.device_firmware.specs.Firmware.{held, is_ready}
 use Rattle.device_firmware.specs.Laws.{uri_behind}
 
--- behind an insertion
+-- after an insertion
 behind : (s : Stored) (p q : FullPath) (v : Value)
     → value_at (with_value s p v) q ≡ cond (eq_by_cmp path_cmp q p) (Some v) (value_at s q)
 behind s p q v = map.get-insert path_total s.values p v q

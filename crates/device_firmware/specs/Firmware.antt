@@ -128,7 +128,7 @@ with_outcome stored outcome =
     (with_value stored (single_of (firmware_resource update_state)) (Whole (pos (state_number outcome.state))))
     (single_of (firmware_resource update_result)) (Whole (pos outcome.code))
 
--- a store behind an event; None where it isn't taken
+-- a store after an event; None where it isn't taken
 abbrev pub firmware_after : Stored → FirmwareEvent → Option Stored
 firmware_after stored event = option_map (with_outcome (with_uri stored (uri_of event))) (outcome_in stored event)
 
@@ -136,7 +136,7 @@ firmware_after stored event = option_map (with_outcome (with_uri stored (uri_of 
 abbrev pub held : Stored → ℕ → Option Value
 held stored number = value_at stored (single_of (firmware_resource number))
 
--- the three resources that change are held, as they are behind each event
+-- the three resources that change are held, as they are after each event
 abbrev pub is_ready : Stored → Bool
 is_ready stored =
     is_some (held stored package_uri) && (is_some (held stored update_state) && is_some (held stored update_result))

@@ -17,7 +17,7 @@ use Rattle.device_firmware.specs.Firmware.{uri_of, to}
 abbrev pub ClearingIsTaken : Type 0
 ClearingIsTaken = (stored : Stored) → has_instance stored firmware ≡ true → outcome_in stored Cleared ≡ Some (to Idle 0)
 
--- behind an event the State and the Update Result are those of the table
+-- after an event the State and the Update Result are those of the table
 abbrev pub OutcomeIsHeld : Type 0
 OutcomeIsHeld =
     (stored after : Stored) (event : FirmwareEvent) (outcome : Outcome) → outcome_in stored event ≡ Some outcome

@@ -8,7 +8,7 @@ pub fn clearing()
     ensures { ClearingIsTaken }
 {}
 
-/// Behind an event the State, the Update Result and the Package URI are those of the table.
+/// After an event the State, the Update Result and the Package URI are those of the table.
 pub fn behind()
     ensures outcome { OutcomeIsHeld }
     ensures uri { UriIsHeld }

@@ -19,7 +19,7 @@ pub(crate) enum State {
     Updating,
 }
 
-/// The State and the Update Result behind an event.
+/// The State and the Update Result after an event.
 #[derive(Clone, Copy, Debug, PartialEq, Eq)]
 pub(crate) struct Outcome {
     pub(crate) state: State,

@@ -43,7 +43,7 @@ fn outcome_in(store: &Store, event: &FirmwareEvent) -> Option<Outcome>
     next_from(event, state_as(store.get(state.single())))
 }
 
-/// The Package URI behind an event, where it changes.
+/// The Package URI after an event, where it changes.
 fn uri_of(alloc: Global, event: FirmwareEvent) -> Option<Text>
     ensures { result ≡ uri_of event }
 {
@@ -96,7 +96,7 @@ fn set_outcome(store: &mut Store, outcome: Outcome) -> Result<(), AllocError>
     Ok(())
 }
 
-/// Sets what an event leads to. After want of memory, some of it may be set.
+/// Sets what an event leads to. Where memory runs out, some of it may be set.
 fn change(
     alloc: Global,
     store: &mut Store,

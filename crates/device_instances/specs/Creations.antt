@@ -1,4 +1,4 @@
--- A Create: what there has to be room for, and a store behind it (OMA LwM2M 1.1 Core, Create and access control; the
+-- A Create: what there has to be room for, and a store after it (OMA LwM2M 1.1 Core, Create and access control; the
 -- limits are this profile's).
 use Rattle.std.specs.Prelude.{ℕ, nat_le, pos, Bool, ◌&&◌, ◌||◌, List, length, Option, None, Some, if◌then◌else◌}
 use Rattle.lwm2m_values.specs.declared.value.Value.TheVariants.{Whole}

@@ -1,4 +1,4 @@
--- A store behind a Delete (OMA LwM2M 1.1 Core, Delete and access control).
+-- A store after a Delete (OMA LwM2M 1.1 Core, Delete and access control).
 use Rattle.std.specs.Prelude.{◌==◌, Bool, not, ◌&&◌, ◌||◌}
 use Rattle.std.specs.FinMap as map
 use Rattle.object_defs.specs.Numbers.{access_control_object}

@@ -11,7 +11,7 @@ use Rattle.device_instances.specs.Numbers.{instance_at, smallest_free}
 use Rattle.device_instances.specs.Creations.{with_created, is_full}
 use Rattle.device_instances.specs.Deletions.{instance_in, without_deleted}
 
--- behind a Create there is the instance
+-- after a Create there is the instance
 abbrev pub CreatedIsThere : Type 0
 CreatedIsThere =
     (stored : Stored) (accounts server : ℕ) (resources : List ResourceDef) (place : InstancePath)
@@ -47,7 +47,7 @@ CreatorHasEveryRight =
     → right_of (with_created stored accounts server resources place given) accounts server place.object place.instance
     ≡ every_right
 
--- behind a Delete no value lies below the instance
+-- after a Delete no value lies below the instance
 abbrev pub NoValueIsLeft : Type 0
 NoValueIsLeft =
     (stored : Stored) (place : InstancePath) (q : FullPath) → instance_in q ≡ place

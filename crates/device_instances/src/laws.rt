@@ -3,7 +3,7 @@
 ghost use Rattle.device_instances.specs.Laws.{CreatedIsThere, OthersStay, NoneElseIsNew, CreatorHasEveryRight};
 ghost use Rattle.device_instances.specs.Laws.{NoValueIsLeft, NoControlIsLeft};
 
-/// Behind a Create the instance is there; each other instance that was there is as before; and no other is new but the
+/// After a Create the instance is there; each other instance that was there is as before; and no other is new but the
 /// one of object 2 Access Control.
 pub fn created()
     ensures there { CreatedIsThere }
@@ -17,7 +17,7 @@ pub fn creator()
     ensures { CreatorHasEveryRight }
 {}
 
-/// Behind a Delete no value lies below the instance, and no instance of object 2 speaks of it.
+/// After a Delete no value lies below the instance, and no instance of object 2 speaks of it.
 pub fn deleted()
     ensures values { NoValueIsLeft }
     ensures controls { NoControlIsLeft }

@@ -15,7 +15,7 @@ for_cause f n =
       each = seconds_for_cause f.kept.client f.kept.clock n f.kept.next_id f.kept.observations;
     }
 
--- what is among the datagrams is among what is put out
+-- what is among the datagrams is among what is output
 among : (ds : List Datagram) (d : Datagram) → Contains ds d → Contains (map send_of ds) (send_of d)
 among [] d h = absurd (omega (arith, h.1))
 among (e ∷ ds) d (zero, inside, is) = (0, omega arith, ap send_of is)

@@ -57,7 +57,7 @@ NotifiesForCause =
     (client : Client) (clock next_id : ℕ) (os : List Observation)
     → AllByRecursion (IsCausedBy client clock os) (second client clock next_id os).sent
 
--- and so is each datagram of so many seconds, in one of them
+-- and so is each datagram of n seconds, in one of them
 abbrev pub IsCausedInOneOf : Client → ℕ → ℕ → ℕ → List Observation → Datagram → Type 0
 IsCausedInOneOf client clock n next_id os d =
     (k : ℕ) × (k < n) × IsCausedBy client (clock + (k + 1)) (seconds client clock k next_id os).left d
@@ -83,7 +83,7 @@ CausedIsSent =
     (client : Client) (clock next_id : ℕ) (os : List Observation) (o : Observation) → Contains os o
     → IsDue client clock o → IsTold client clock o (second client clock next_id os).sent
 
--- and so in each of so many seconds
+-- and so in each of n seconds
 abbrev pub SecondsSendCaused : Type 0
 SecondsSendCaused =
     (client : Client) (clock n k next_id : ℕ) (os : List Observation) (o : Observation) → k < n

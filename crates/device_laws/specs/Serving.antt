@@ -99,7 +99,7 @@ pub data Observes (kept : Kept) (server : ℕ) (m : Message) (answer : Answer)
       → Observes kept server m answer (Some (number_for kept.observations server m.token))
       (registered kept.observations (begun kept server m path accept answer.payload))
 
--- all that a request leaves: the reply, behind which the device may act; a record of the request with it; the device's
+-- all that a request leaves: the reply, after which the device may act; a record of the request with it; the device's
 -- next message ID; the observations; what is managed, as the request changes it; and the clock as it was
 pub record IsServed (f : Machine) (server : ℕ) (bytes : List ℕ) (m : Message) : Type 0 where
   pub number : Option ℕ

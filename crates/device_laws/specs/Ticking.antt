@@ -15,7 +15,7 @@ abbrev pub IsCausedIn : Machine → ℕ → Datagram → Type 0
 IsCausedIn f n d =
     (k : ℕ) × (k < n) × IsCausedBy f.kept.client (f.kept.clock + (k + 1)) (flat_after f (Tick k)).kept.observations d
 
--- so is all that a device puts out in a tick
+-- so is all that a device outputs in a tick
 pub record SendsForCause (f : Machine) (n : ℕ) : Type 0 where
   pub datagrams : List Datagram
   pub sent : outputs_of f (Tick n) ≡ map send_of datagrams
@@ -32,7 +32,7 @@ TicksSendCaused =
     → (d : Datagram) × Contains (outputs_of f (Tick n)) (send_of d)
     × Notifies f.kept.client (f.kept.clock + (k + 1)) o d
 
--- a tick puts out nothing, and only the clock goes on
+-- a tick outputs nothing, and only the clock goes on
 pub record IsQuiet (f : Machine) (n : ℕ) : Type 0 where
   pub sent : outputs_of f (Tick n) ≡ []
   pub client : (flat_after f (Tick n)).kept.client ≡ f.kept.client

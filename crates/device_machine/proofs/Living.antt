@@ -34,7 +34,7 @@ use Rattle.device_machine.specs.Reactions.{Reaction, reply_to, kept_after, later
 use Rattle.device_machine.specs.Reactions.{on_outcome, on_reset, repeat_of, is_same, on_request, on_message}
 use Rattle.device_machine.specs.Reactions.{on_datagram, claims_confirmable, is_request, reaction_to}
 
--- a filter behind a weaker one
+-- a filter after a weaker one
 pub filter-filter : {X : Type 0} (p q : X → Bool) → ((x : X) → q x ≡ true → p x ≡ true) → (xs : List X)
     → filter q (filter p xs) ≡ filter q xs
 filter-filter p q h [] = refl
@@ -81,7 +81,7 @@ forgotten k kept all h =
     ap (λ rs. flat_of k (filter (λ r. is_live k.clock r) rs)) h
     ∙ ap (λ rs. flat_of k rs) (filter-filter (λ r. is_live k.clock r) (λ r. is_live k.clock r) (λ r e. e) all)
 
--- what is remembered behind an event lives
+-- what is remembered after an event lives
 pub living_remembered : (f : Machine) (event : Event) → living (remembered f event) ≡ living f
 living_remembered f (Recv server bytes) = refl
 living_remembered f (Put path value) = refl

@@ -25,7 +25,7 @@ short_choice false false false false n = omega (arith)
 short_number : (n : ℕ) → length (shortest n) ≤ 65804
 short_number n = short_choice (nat_lt n 1) (nat_lt n 256) (nat_lt n 65536) (nat_lt n 16777216) n
 
--- an option with a number, behind one of no greater number and before others
+-- an option with a number, after one of no greater number and before others
 numbered : (before option : ℕ) (number : Option ℕ) (rest : List Opt) → before ≤ option → option ≤ 12
     → IsOptionList before rest → IsOptionList option rest → IsOptionList before (number_option option number ++ rest)
 numbered before option None rest h k l m = l
@@ -37,7 +37,7 @@ format_follows : (before : ℕ) (format : Option ℕ) → before ≤ 12 → IsOp
 format_follows before None h = tt
 format_follows before (Some f) h = (record { ascends = h; in_range = omega (arith); fits = short_number f }, tt)
 
--- Location-Path and Content-Format behind an option of no greater number
+-- Location-Path and Content-Format after an option of no greater number
 location_follows : (before : ℕ) (location : Option InstancePath) (format : Option ℕ) → before ≤ 8 → IsShort location
     → IsOptionList before (location_options location ++ format_options format)
 location_follows before None format b h = format_follows before format (omega (arith))

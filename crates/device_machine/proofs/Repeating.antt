@@ -102,7 +102,7 @@ found_at clock server seconds m n xs e es ek ei et first short k i =
     let same : is_same server n e ≡ true = rw (es, ek, ei, k, i) (same_id server m.mid m.mid m.kind m.kind refl refl) in
     find_last _ xs e (find_none _ _ weaker xs first) (all_true _ _ lives same)
 
--- what a repeat finds behind a fresh request and some seconds
+-- what a repeat finds after a fresh request and some seconds
 pub found : (f : Machine) (server seconds : ℕ) (m n : Message) (client : Client) (left : List Observation)
     (reply : Option Message) (act : Option Deed)
     → repeat_of f server m ≡ None → seconds < lifetime m.kind → n.kind ≡ m.kind → n.mid ≡ m.mid
@@ -165,7 +165,7 @@ only_sent server None (Some act) = refl
 only_sent server (Some bytes) None = refl
 only_sent server (Some bytes) (Some act) = refl
 
--- what is kept behind a request with this outcome
+-- what is kept after a request with this outcome
 abbrev noted_with : Machine → ℕ → Message → Outcome → Noted
 noted_with f server m outcome = noted (with_client f.kept outcome.client) server m outcome.answer
 

@@ -52,7 +52,7 @@ is_sent (Send server bytes) = true
 is_sent (Act act) = false
 
 -- a confirmable request that comes again within its lifetime gets the same bytes again, and changes nothing (RFC 7252
--- section 4.5); what the device did behind the first reply it does not do again
+-- section 4.5); what the device did after the first reply it does not do again
 abbrev pub ConfirmableRepeats : Type 0
 ConfirmableRepeats =
     (f : Machine) (server seconds : ℕ) (bytes again : List ℕ) (m n : Message)
@@ -71,7 +71,7 @@ NonConfirmableRepeats =
     × (flat_after (later (flat_after f (Recv server bytes)) seconds) (Recv server again)
     ≡ later (flat_after f (Recv server bytes)) seconds)
 
--- a request gets one datagram, behind which the device may act: a message of this type and message ID, with its token,
+-- a request gets one datagram, after which the device may act: a message of this type and message ID, with its token,
 -- whose code is that of the first line that applies
 pub record IsAnswered (f : Machine) (server : ℕ) (bytes : List ℕ) (m : Message) (kind : Kind) (mid : ℕ) : Type 0 where
   pub reply : Message
@@ -122,7 +122,7 @@ RefusedChangesNothing =
     → is_refusal (outcome_of f.kept.client server m).answer.code ≡ true
     → OnlyRecords f server m (flat_after f (Recv server bytes))
 
--- behind a Read that says Observe 1 there is no observation of its name, whatever it was answered (RFC 7641 section
+-- after a Read that says Observe 1 there is no observation of its name, whatever it was answered (RFC 7641 section
 -- 3.6)
 abbrev pub CancelsEnd : Type 0
 CancelsEnd =
@@ -130,7 +130,7 @@ CancelsEnd =
     ⊎ (m.kind ≡ Non)
     → interest_of m ≡ Some Cancel → has_name (flat_after f (Recv server bytes)).kept.observations server m.token ≡ false
 
--- behind an empty Reset there is no observation of its server whose last message was a NON with its message ID
+-- after an empty Reset there is no observation of its server whose last message was a NON with its message ID
 abbrev pub ResetsEnd : Type 0
 ResetsEnd =
     (f : Machine) (server : ℕ) (bytes : List ℕ) (m : Message) → has_account f.kept.client server ≡ true
@@ -161,7 +161,7 @@ RegistrationsCount =
     → lacks_place f.kept.observations server m.token ≡ false
     → IsCounted (reaction_to f (Recv server bytes)) server m (number_for f.kept.observations server m.token)
 
--- a tick of so many seconds, and one of so many more behind it, are one of all of them
+-- a tick of n seconds, and one of m seconds after it, are one of n + m
 pub record AddsUp (f : Machine) (a b : ℕ) : Type 0 where
   pub sent : outputs_of f (Tick (a + b)) ≡ outputs_of f (Tick a) ++ outputs_of (flat_after f (Tick a)) (Tick b)
   pub then_flat : flat_after f (Tick (a + b)) ≡ flat_after (flat_after f (Tick a)) (Tick b)
@@ -170,12 +170,12 @@ abbrev pub TicksAdd : Type 0
 TicksAdd = (f : Machine) (a b : ℕ) → AddsUp f a b
 
 -- a datagram is sent in a second of a tick by an observation that is there then: a notification that keeps it, pmin
--- seconds or more behind its last message, or the message that ends it
+-- seconds or more after its last message, or the message that ends it
 abbrev pub IsSentIn : Machine → ℕ → Datagram → Type 0
 IsSentIn f n d =
     (k : ℕ) × (k < n) × IsOf f.kept.client (f.kept.clock + (k + 1)) (flat_after f (Tick k)).kept.observations d
 
--- so is all that a device puts out in a tick
+-- so is all that a device outputs in a tick
 pub record SendsInTime (f : Machine) (n : ℕ) : Type 0 where
   pub datagrams : List Datagram
   pub sent : outputs_of f (Tick n) ≡ map send_of datagrams
@@ -184,7 +184,7 @@ pub record SendsInTime (f : Machine) (n : ℕ) : Type 0 where
 abbrev pub TicksSendAfterPmin : Type 0
 TicksSendAfterPmin = (f : Machine) (n : ℕ) → SendsInTime f n
 
--- behind each second no observation whose pmax has effect has a last message that is pmax seconds old
+-- after each second no observation whose pmax has effect has a last message that is pmax seconds old
 abbrev pub TicksSendBeforePmax : Type 0
 TicksSendBeforePmax =
     (f : Machine) (n : ℕ)

@@ -48,7 +48,7 @@ pub record KeepsRecords (old new : Machine) : Type 0 where
   pub next_id : new.kept.next_id ≡ old.kept.next_id
   pub recorded : new.recorded ≡ old.recorded
 
--- what a device keeps of a flat state behind an event: a tick ends the life of requests, and those are forgotten
+-- what a device keeps of a flat state after an event: a tick ends the life of requests, and those are forgotten
 abbrev pub remembered : Machine → Event → Machine
 remembered f (Recv server bytes) = f
 remembered f (Put path value) = f

@@ -1,4 +1,4 @@
--- What a device sends on a datagram, and the flat state behind it (RFC 7252 sections 4.2 and 4.3).
+-- What a device sends on a datagram, and the flat state after it (RFC 7252 sections 4.2 and 4.3).
 use Rattle.std.specs.Prelude.{◌≡◌, ◌≤◌, ℕ, ◌+◌, ◌*◌, ◌/◌, ◌%◌, ◌==◌, nat_le, nat_lt, ◌++◌, find, map, option_map, Bool}
 use Rattle.std.specs.Prelude.{false, not, ◌&&◌, ◌||◌, List, [], ◌∷◌, length, slice_index, Option, None, Some, Result}
 use Rattle.std.specs.Prelude.{Ok, Err, if◌then◌else◌}
@@ -37,7 +37,7 @@ use Rattle.device_notifications.specs.declared.datagram.Datagram.{Datagram}
 use Rattle.device_machine.specs.Observing.{Noted, noted}
 use Rattle.device_machine.specs.State.{Kept, Machine, Device, is_live, with_client, with_observations}
 
--- what is put out, and the flat state then
+-- what is output, and the flat state then
 pub record Reaction : Type 0 where
   pub outputs : List Output
   pub flat : Machine
@@ -130,7 +130,7 @@ abbrev pub record_of : Kept → ℕ → Message → Option (List ℕ) → Record
 record_of kept server m reply =
     record { server = server; kind = m.kind; mid = m.mid; second = kept.clock; reply = reply }
 
--- a request is answered and recorded, refusals included; this is kept then, and the device acts behind the reply
+-- a request is answered and recorded, refusals included; this is kept then, and the device acts after the reply
 abbrev pub on_fresh : Machine → ℕ → Message → Kept → Option Message → Option Deed → Reaction
 on_fresh f server m kept reply act =
     record {
@@ -209,11 +209,11 @@ abbrev pub on_datagram : Machine → ℕ → List ℕ → Result Message CoapFau
 on_datagram f server bytes (Ok m) = on_message f server m m.kind
 on_datagram f server bytes (Err fault) = on_noise f server bytes
 
--- what the observations do in so many seconds
+-- what the observations do in n seconds
 abbrev pub turn_in : Kept → ℕ → Turn
 turn_in kept count = seconds kept.client kept.clock count kept.next_id kept.observations
 
--- the flat state so many seconds later: the clock is set on, second by second, and the observations have their turns
+-- the flat state n seconds later: the clock is set on, second by second, and the observations have their turns
 abbrev pub later : Machine → ℕ → Machine
 later f count =
     record {
@@ -263,11 +263,11 @@ reaction_to f (Put path value) = on_put f (full_path path) value
 reaction_to f (Firmware code) = on_firmware f (firmware_after f.kept.client.store (Ended code))
 reaction_to f (Tick count) = on_tick f count
 
--- what a device in this flat state puts out on an event
+-- what a device in this flat state outputs on an event
 abbrev pub outputs_of : Machine → Event → List Output
 outputs_of f event = (reaction_to f event).outputs
 
--- the flat state behind an event
+-- the flat state after an event
 abbrev pub flat_after : Machine → Event → Machine
 flat_after f event = (reaction_to f event).flat
 

@@ -85,7 +85,7 @@ impl Device {
         self.machine.clock()
     }
 
-    /// Takes an event, and gives what the device puts out, in order.
+    /// Takes an event, and gives what the device outputs, in order.
     ///
     /// `Memory` leaves the device spent; `Spent` says that it was spent, and changes nothing.
     pub fn step(&mut self, event: &Event) -> Result<Outputs, StepFault>
@@ -110,7 +110,7 @@ impl Device {
         Ok(outputs)
     }
 
-    /// The attributes that servers set, lent; a spent device lends those that it was left with.
+    /// The attributes that servers set; a spent device gives those that it was left with.
     pub fn attributes(&self) -> &Attributes
         ensures shown { (f : Machine) → Shows self.now f → result.now ≡ f.kept.client.attributes }
         ensures left { result.now ≡ self.now.flat.kept.client.attributes }
@@ -118,7 +118,7 @@ impl Device {
         self.machine.attributes()
     }
 
-    /// The observations, lent, in the order of registration; a spent device lends those that it was
+    /// The observations, in the order of registration; a spent device gives those that it was
     /// left with.
     pub fn observations(&self) -> &Observations
         ensures shown { (f : Machine) → Shows self.now f → result.now ≡ f.kept.observations }
@@ -127,7 +127,7 @@ impl Device {
         self.machine.observations()
     }
 
-    /// The value at a path of three or four numbers, lent; a spent device lends the one that it was
+    /// The value at a path of three or four numbers; a spent device gives the one that it was
     /// left with.
     pub fn value(&self, path: &Path) -> Option<&Value>
         ensures shown { (f : Machine) → Shows self.now f → option_copied result ≡ value_in f.kept (full_path path.now) }

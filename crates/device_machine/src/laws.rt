@@ -28,7 +28,7 @@ pub fn refusals_change_nothing()
     ensures { RefusedChangesNothing }
 {}
 
-/// Behind a Read that cancels there is no observation of its server and token, and behind an empty
+/// After a Read that cancels there is no observation of its server and token, and after an empty
 /// Reset none of its server whose last message was a NON with its message ID (RFC 7641 section 3.6).
 pub fn ends_observations()
     ensures cancelled { CancelsEnd }
@@ -42,7 +42,7 @@ pub fn counts_registrations()
     ensures { RegistrationsCount }
 {}
 
-/// A tick of so many seconds, and one of so many more behind it, are one of all of them: the same
+/// A tick of n seconds, and one of m seconds after it, are one of n + m: the same
 /// outputs, and the same flat state then. So each law of a tick speaks of each second of a longer one.
 pub fn ticks_add()
     ensures { TicksAdd }
@@ -54,14 +54,14 @@ pub fn notifies_after_pmin()
     ensures { TicksSendAfterPmin }
 {}
 
-/// Behind each second of a tick no observation whose pmax has effect has a last message that is pmax
+/// After each second of a tick no observation whose pmax has effect has a last message that is pmax
 /// seconds old or older.
 pub fn notifies_before_pmax()
     ensures { TicksSendBeforePmax }
 {}
 
 /// Through a tick the Observe numbers of an observation's messages rise by one with each of them,
-/// modulo 2^24, and the observation notes the last; behind the message that ends it comes none.
+/// modulo 2^24, and the observation notes the last; after the message that ends it comes none.
 pub fn counts_notifications()
     ensures { TicksCount }
 {}

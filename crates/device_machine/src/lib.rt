@@ -1,4 +1,4 @@
-//! An emulated LwM2M device: the events that it takes and what it puts out.
+//! An emulated LwM2M device: the events that it takes and what it outputs.
 #![tactic(auto)]
 
 mod device;

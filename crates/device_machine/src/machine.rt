@@ -104,21 +104,21 @@ impl Machine {
         })
     }
 
-    /// The values and instances, lent.
+    /// The values and instances.
     pub(crate) fn store(&self) -> &Store
         ensures { result.now ≡ self.now.kept.client.store }
     {
         self.client.store()
     }
 
-    /// The attributes that servers set, lent.
+    /// The attributes that servers set.
     pub(crate) fn attributes(&self) -> &Attributes
         ensures { result.now ≡ self.now.kept.client.attributes }
     {
         self.client.attributes()
     }
 
-    /// The observations, lent.
+    /// The observations.
     pub(crate) fn observations(&self) -> &Observations
         ensures { result.now ≡ self.now.kept.observations }
     {

@@ -7,7 +7,7 @@ use octets::Bytes;
 use std::alloc::{AllocError, Global};
 use std::marker::Model;
 
-/// What a device puts out.
+/// What a device outputs.
 #[derive(Clone, Debug, Drop)]
 pub enum Output {
     /// A datagram is sent.
@@ -21,7 +21,7 @@ pub enum Output {
     Act(Act),
 }
 
-/// What a device puts out at one event, in order. Contracts see the list.
+/// What a device outputs at one event, in order. Contracts see the list.
 #[derive(Clone, Debug, Drop)]
 pub struct Outputs {
     items: Vec<Output>,
@@ -105,7 +105,7 @@ impl Outputs {
         })
     }
 
-    /// The outputs, lent, in order.
+    /// The outputs, in order.
     pub fn as_slice(&self) -> &[Output]
         ensures { result.now ≡ self.now }
     {

@@ -252,7 +252,7 @@ whole client clock n b t after =
     (seconds client clock n (second client clock t.next_id after).next_id
     (b.left ++ (t.left ++ (second client clock t.next_id after).left)))
 
--- it is so of so many seconds
+-- it is so of n seconds
 abbrev Rise : Client → ℕ → ℕ → Type 0
 Rise client clock n =
     (next_id : ℕ) (before after : List Observation) (o : Observation)

@@ -37,7 +37,7 @@ SendsAfterPmin =
     (client : Client) (clock next_id : ℕ) (os : List Observation)
     → AllByRecursion (IsOf client clock os) (second client clock next_id os).sent
 
--- and so is each datagram of so many seconds, in one of them, of an observation that was there then
+-- and so is each datagram of n seconds, in one of them, of an observation that was there then
 abbrev pub IsInOneOf : Client → ℕ → ℕ → ℕ → List Observation → Datagram → Type 0
 IsInOneOf client clock n next_id os d =
     (k : ℕ) × (k < n) × IsOf client (clock + (k + 1)) (seconds client clock k next_id os).left d
@@ -144,14 +144,14 @@ pub record RisesByOne (o : Observation) (others : List Observation) (sent : List
   pub counts : Counts o others o.number sent last
   pub is_left : IsLeft o others last left
 
--- so it is through so many seconds, of each of the observations
+-- so it is through n seconds, of each of the observations
 abbrev pub SecondsCountObserveNumbers : Type 0
 SecondsCountObserveNumbers =
     (client : Client) (clock n next_id : ℕ) (before after : List Observation) (o : Observation)
     → RisesByOne o (before ++ after) (seconds client clock n next_id (before ++ o ∷ after)).sent
     (seconds client clock n next_id (before ++ o ∷ after)).left
 
--- so many seconds, and so many more after them, are all of them
+-- n seconds, and m seconds after them, are n + m seconds
 abbrev pub SecondsAdd : Type 0
 SecondsAdd =
     (client : Client) (clock a b next_id : ℕ) (os : List Observation)

@@ -37,7 +37,7 @@ pub record Stops (client : Client) (clock : ℕ) (all : List Observation) (befor
   pub inside : place < length os
   pub progress : Progress client clock all before os place now
 
--- so many of the seconds have passed: with what has been sent, and what still will be, stands what all of them send;
+-- some of the seconds have passed: with what has been sent, and what still will be, stands what all of them send;
 -- and so with what is left
 pub record Elapsed (client : Client) (clock count : ℕ) (all : List Observation) (before : Outbox) (passed : ℕ)
     (os : List Observation) (now : Outbox) : Type 0 where

@@ -90,7 +90,7 @@ second client clock next_id (o ∷ os) =
 abbrev pub and_then : Turn → Turn → Turn
 and_then a b = record { sent = a.sent ++ b.sent; left = b.left; next_id = b.next_id }
 
--- what they do in so many seconds, where the clock shows this before: it goes up by one, then each of them has its turn
+-- what they do in n seconds, where the clock shows this before: it goes up by one, then each of them has its turn
 abbrev pub seconds : Client → ℕ → ℕ → ℕ → List Observation → Turn
 seconds client clock zero next_id os = quiet next_id os
 seconds client clock (suc n) next_id os =

@@ -39,7 +39,7 @@ pub fn counts_message_ids()
     ensures { CountsMessageIds }
 {}
 
-/// So many seconds, and so many more after them, are all of them.
+/// n seconds, and m seconds after them, are n + m seconds.
 pub fn seconds_add()
     ensures { SecondsAdd }
 {}

@@ -73,7 +73,7 @@ pub fn second(
     Ok(())
 }
 
-/// What the observations do in so many seconds, where the clock shows `clock` before the first of
+/// What the observations do in n seconds, where the clock shows `clock` before the first of
 /// them: it goes up by one, then each has its turn. Nothing else changes. Want of memory, which only an
 /// observation can have, leaves them half done: one second stops, and those after it are still to come.
 pub fn seconds(

@@ -44,7 +44,7 @@ use Rattle.device_requests.specs.Laws.{operation_lines, lines_by, lines_on, requ
 abbrev Says : Answer → List (Bool × Code) → Type 0
 Says answer lines = first_line lines ≡ Some answer.code
 
--- lines with one behind them that always applies
+-- lines with one after them that always applies
 ended : (lines : List (Bool × Code)) (code : Code) → first_line (lines ++ (true, code) ∷ [])
     ≡ Some (unwrap_or (first_line lines) code)
 ended [] code = refl

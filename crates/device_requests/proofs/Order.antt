@@ -39,7 +39,7 @@ use Rattle.device_requests.specs.Request.{outcome_of, request_by, request_on}
 use Rattle.device_requests.specs.Write.{can_be_written, event_of, exceeds, is_target, mode_at, turn_lines, write_lines}
 use Rattle.device_requests.proofs.Answering.{says}
 
--- lines that decide alike, behind others
+-- lines that decide alike, after others
 alike : (lines xs ys : List (Bool × Code)) → first_line xs ≡ first_line ys
     → first_line (lines ++ xs) ≡ first_line (lines ++ ys)
 alike [] xs ys h = h

@@ -43,7 +43,7 @@ too_long (Some (Instance o i)) n ns h = cc
 too_long (Some (Resource o i r)) n ns h = cc
 too_long (Some (Part o i r p)) n ns h = refl
 
--- a number behind four
+-- a number after four
 pub finished-long : (p : Option Path) (m : Option ℕ) (n : ℕ) (rest : Option (List ℕ)) → m ≡ Some n
     → path_from (numbers_in p ++ n ∷ []) ≡ None → finished p (one_more m rest) ≡ None
 finished-long p m n None e h = rw e refl

@@ -47,7 +47,7 @@ fault_of before level o os true e h =
     ∙ ap spelled (fault_first before level o.value (queries_of os) first.0 first.1)
 fault_of before level o os false e h = let k = rw (skipped o [] e) at h in cc
 
--- the option at an index, and those behind it
+-- the option at an index, and those after it
 pub read_at : (before c : List Change) (level : Level) (options : List Opt) (i : ℕ) (o : Opt) → i < length options → o
     ≡ get_or options i o
     → spelled (changes_of before level (queries_of (o ∷ []))) ≡ Some c

@@ -47,7 +47,7 @@ bare code = record { code = code; location = None; format = None; payload = []; 
 abbrev pub content : ℕ → List ℕ → Answer
 content format payload = record { code = Content; location = None; format = Some format; payload = payload; act = None }
 
--- Changed, behind which the device may act
+-- Changed, after which the device may act
 abbrev pub done : Option Act → Answer
 done act = record { code = Changed; location = None; format = None; payload = []; act = act }
 

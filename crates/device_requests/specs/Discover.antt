@@ -70,7 +70,7 @@ name_text Gt = codes "gt"
 name_text Lt = codes "lt"
 name_text St = codes "st"
 
--- the digits of thousandths below 1,000 behind a point, with no needless zero
+-- the digits of thousandths below 1,000 after a point, with no needless zero
 abbrev pub fraction_text : ℕ → List ℕ
 fraction_text f =
     if f == 0 then []
@@ -125,13 +125,13 @@ attributes_text m server inherits path =
     ++ (shown_attribute m server inherits path name.Lt
     ++ shown_attribute m server inherits path name.St)))
 
--- what stands behind a link's target: `;dim=N` for a multiple resource that is held, and the server's attributes
+-- what stands after a link's target: `;dim=N` for a multiple resource that is held, and the server's attributes
 abbrev pub behind : Client → ℕ → Bool → Path → List ℕ
 behind client server inherits path =
     dimension_text (dimension client.catalogue client.store path)
     ++ attributes_text client.attributes server inherits path
 
--- a link: its target in angle brackets, and what stands behind it
+-- a link: its target in angle brackets, and what stands after it
 abbrev pub link : Client → ℕ → Bool → Path → List ℕ
 link client server inherits path = 60 ∷ path_text path ++ 62 ∷ behind client server inherits path
 

@@ -1,4 +1,4 @@
--- What an Execute answers and changes, and what the device does behind it (OMA LwM2M 1.1 Core, Execute).
+-- What an Execute answers and changes, and what the device does after it (OMA LwM2M 1.1 Core, Execute).
 use Rattle.std.specs.Prelude.{◌≡◌, ◌↔◌, ℕ, ◌==◌, Bool, true, false, not, ◌&&◌, List, [], ◌∷◌, pos, Option, None, Some}
 use Rattle.std.specs.Prelude.{is_some, if◌then◌else◌}
 use Rattle.std.specs.Option.{unwrap_or}

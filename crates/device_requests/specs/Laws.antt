@@ -98,7 +98,7 @@ RefusalKeeps =
     (client : Client) (server : ℕ) (m : Message) → is_refusal (outcome_of client server m).answer.code ≡ true
     → (outcome_of client server m).client ≡ client
 
--- a code alone, with neither option nor payload, behind which the device does not act
+-- a code alone, with neither option nor payload, after which the device does not act
 pub record IsCodeAlone (answer : Answer) : Type 0 where
   pub location : answer.location ≡ None
   pub format : answer.format ≡ None

@@ -116,7 +116,7 @@ values_written mode catalogue stored (Part o i r n) (One given) =
     resource_written mode (definition_of catalogue o r) stored (resource_place o i r) given
 values_written mode catalogue stored path values = stored
 
--- the store behind a Write that is not refused
+-- the store after a Write that is not refused
 abbrev pub written : Mode → List ObjectDef → Stored → Path → Option NewValues → Stored
 written mode catalogue stored path None = stored
 written mode catalogue stored path (Some values) = values_written mode catalogue stored path values
@@ -177,7 +177,7 @@ abbrev pub write_unless : Option Code → Client → Stored → Outcome
 write_unless (Some code) client stored = answered client (bare code)
 write_unless None client stored = record { answer = bare Changed; client = with_stored client stored }
 
--- the store behind a Write that is not refused: a Package is not kept, it goes to the firmware, and so does a Package
+-- the store after a Write that is not refused: a Package is not kept, it goes to the firmware, and so does a Package
 -- URI
 abbrev pub left : Mode → Client → Path → Option NewValues → Option FirmwareEvent → Stored
 left mode client path values (Some event) = unwrap_or (firmware_after client.store event) client.store

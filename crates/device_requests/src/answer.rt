@@ -90,7 +90,7 @@ pub struct Answer {
     pub format: Option<u16>,
     /// The payload.
     pub payload: Bytes,
-    /// What the device does behind the reply, or none.
+    /// What the device does after the reply, or none.
     pub act: Option<Act>,
 }
 
@@ -128,7 +128,7 @@ impl Answer {
         }
     }
 
-    /// Changed, behind which the device may act.
+    /// Changed, after which the device may act.
     pub(crate) fn done(alloc: Global, act: Option<Act>) -> Answer
         ensures { result ≡ done act }
     {

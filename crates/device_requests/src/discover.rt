@@ -65,7 +65,7 @@ fn name_text(name: Name) -> &'static str
     }
 }
 
-/// The digits of thousandths below 1,000 behind a point, with no needless zero.
+/// The digits of thousandths below 1,000 after a point, with no needless zero.
 fn fraction_text(alloc: Global, fraction: u64) -> Result<String, AllocError>
     ensures { IfOk result (λ t. string_bytes t ≡ fraction_text fraction) }
 {
@@ -194,7 +194,7 @@ fn put_attributes(
     put_shown(alloc, text, attributes, server, inherits, path, Name::St)
 }
 
-/// What stands behind the target of a link.
+/// What stands after the target of a link.
 fn put_behind(
     alloc: Global,
     text: &mut Vec<u8>,
@@ -210,7 +210,7 @@ fn put_behind(
     put_attributes(alloc, text, client.attributes(), server, inherits, path)
 }
 
-/// A link, behind what is there.
+/// A link, after what is there.
 fn put_link(
     alloc: Global,
     text: &mut Vec<u8>,
@@ -228,7 +228,7 @@ fn put_link(
     put_behind(alloc, text, client, server, inherits, path)
 }
 
-/// A comma and a link, behind what is there.
+/// A comma and a link, after what is there.
 fn put_next(
     alloc: Global,
     text: &mut Vec<u8>,

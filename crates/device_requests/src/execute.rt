@@ -66,7 +66,7 @@ fn is_untimely(store: &Store, path: Path) -> bool
     is_resource(FIRMWARE_UPDATE, UPDATE, path) && !takes(store, &FirmwareEvent::Update)
 }
 
-/// What the device does behind the reply.
+/// What the device does after the reply.
 fn act_of(path: Path) -> Option<Act>
     ensures { result ≡ act_of path }
 {

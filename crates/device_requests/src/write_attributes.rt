@@ -83,7 +83,7 @@ fn annotates_at(rights: Rights, path: Path) -> bool
     }
 }
 
-/// These changes with that of an option behind them, where it is a query, or none where it has a
+/// These changes with that of an option after them, where it is a query, or none where it has a
 /// fault.
 fn with_option(changes: Changes, level: Level, option: &Opt) -> Result<Option<Changes>, AllocError>
     ensures read { IfOk result (λ c. c ≡ spelled (changes_of changes level (queries_of (option.now ∷ [])))) }

@@ -29,7 +29,7 @@ impl Accounts {
         }
     }
 
-    /// The accounts, lent.
+    /// The accounts.
     pub(crate) fn as_slice(&self) -> &[u16]
         ensures { result.now ≡ self.now }
     {

@@ -271,7 +271,7 @@ impl Template {
         }
     }
 
-    /// The Short Server IDs of the accounts, lent, by ascending number.
+    /// The Short Server IDs of the accounts, by ascending number.
     ///
     /// As every other part of a template, they are what accepted additions made.
     pub fn accounts(&self) -> &[u16]
@@ -289,14 +289,14 @@ impl Template {
         self.accounts.to_vec()
     }
 
-    /// The objects that the class knows, lent.
+    /// The objects that the class knows.
     pub fn catalog(&self) -> &Catalog
         ensures { result.now ≡ self.now.catalogue }
     {
         &self.catalog
     }
 
-    /// The instances and values that were added, lent.
+    /// The instances and values that were added.
     pub fn store(&self) -> &Store
         ensures { result.now ≡ self.now.store }
     {

@@ -85,7 +85,7 @@ ordered_joined R [] ys h k across = k
 ordered_joined R (x ∷ xs) ys h k across =
     (all_joined (R x) xs ys h.0 across.0, ordered_joined R xs ys h.1 k across.1)
 
--- lists one behind another, where those of related elements are related
+-- lists one after another, where those of related elements are related
 pub ordered_flat : {W X : Type 0} (S : W → W → Type 0) (R : X → X → Type 0) (P : W → X → Type 0) (f : W → List X)
     → ((w : W) → Ordered R (f w)) → ((w : W) → AllByRecursion (P w) (f w))
     → ((v w : W) (x y : X) → S v w → P v x → P w y → R x y) → (ws : List W) → Ordered S ws

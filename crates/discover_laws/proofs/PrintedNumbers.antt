@@ -61,7 +61,7 @@ behind_point n w f part small says short e =
       e,
     )
 
--- the digits a, b and c behind the point, of which the last may be left out where they are 0
+-- the digits a, b and c after the point, of which the last may be left out where they are 0
 tenths : (n w a : ℕ) → w < 10 ^ 15 → a < 10 → n ≡ w * 1000 + a * 100 → IsThousandths n (decimal w ++ 46 ∷ decimal a)
 tenths n w a small h e =
     subst (λ t. IsThousandths n (decimal w ++ 46 ∷ t)) (sym (decimal_digit a h))

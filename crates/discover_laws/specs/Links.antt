@@ -41,7 +41,7 @@ is_value_char c =
 abbrev pub AreChars : (ℕ → Bool) → List ℕ → Type 0
 AreChars test text = (0 < length text) × (list_all test text ≡ true)
 
--- parameters, each a name and its value: `;name=value` one behind another
+-- parameters, each a name and its value: `;name=value` one after another
 abbrev pub AreParameters : List ℕ → List (List ℕ × List ℕ) → Type 0
 AreParameters text [] = text ≡ []
 AreParameters text (p ∷ ps) =
@@ -53,13 +53,13 @@ pub record PathLink : Type 0 where
   pub path : Path
   pub parameters : List (List ℕ × List ℕ)
 
--- a link: its path between `<` and `>`, and its parameters behind it
+-- a link: its path between `<` and `>`, and its parameters after it
 abbrev pub IsLink : List ℕ → PathLink → Type 0
 IsLink text l =
     (behind : List ℕ) × (text ≡ 60 ∷ path_text l.path ++ 62 ∷ behind) × IsPath l.path
     × AreParameters behind l.parameters
 
--- further links, each behind a comma
+-- further links, each after a comma
 abbrev pub AreMoreLinks : List ℕ → List PathLink → Type 0
 AreMoreLinks text [] = text ≡ []
 AreMoreLinks text (l ∷ ls) =

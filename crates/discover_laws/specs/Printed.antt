@@ -15,7 +15,7 @@ use Rattle.device_requests.specs.Request.{outcome_of}
 use Rattle.device_requests.specs.WriteAttributes.{level_at}
 
 -- the numbers that an attribute may have: pmin and pmax are seconds, at most 2,147,483,647; the others are thousandths,
--- with at most 15 digits before the point and 3 behind it, and st is above 0
+-- with at most 15 digits before the point and 3 after it, and st is above 0
 abbrev pub IsAttributeNumber : Name → ℤ → Type 0
 IsAttributeNumber Pmin z = (n : ℕ) × (z ≡ pos n) × (n < 2147483648)
 IsAttributeNumber Pmax z = (n : ℕ) × (z ≡ pos n) × (n < 2147483648)

@@ -52,7 +52,7 @@ made_within s a b run complete =
 
 -- ---- outputs
 
--- what the first k steps of a device put out
+-- what the first k steps of a device output
 abbrev outs : Scenario → ℕ → ℕ → List (List Output)
 outs s d zero = []
 outs s d (suc k) = outs s d k ++ out_at s d k ∷ []
@@ -85,7 +85,7 @@ outputs_are s d es run =
     run_keeps s (λ l. outputs_by d l ≡ outs s d (made_by d l)) refl
     (λ l e before same fits. outs_push s d l e fits same (cases_eq e.device d)) es run
 
--- two complete runs have as many entries of each device, and these put out the same
+-- two complete runs have as many entries of each device, and these output the same
 pub same_made : (s : Scenario) (a b : List Entry) → IsComplete s a → IsComplete s b → (d : ℕ) → IsSame d a b
 same_made s a b x y d =
     let made : made_by d a ≡ made_by d b = omega (arith, made_within s a b x.run y d, made_within s b a y.run x d) in
@@ -106,7 +106,7 @@ outs_alike s t d e class steps one other (suc k) =
     ∙ ap (λ o. outs t e k ++ o ∷ [])
     (out_of_row s d class steps one k ∙ sym (out_of_row t e class steps other k))
 
--- in runs of two scenarios, in which they have as many entries, they put out the same
+-- in runs of two scenarios, in which they have as many entries, they output the same
 pub alike : (s t : Scenario) (a b : List Entry) (d e : ℕ) (class : Template) (steps : List Step) → IsRun s a
     → IsRun t b → IsRowOf s d class steps → IsRowOf t e class steps → made_by d a ≡ made_by e b
     → outputs_by d a ≡ outputs_by e b

@@ -1,4 +1,4 @@
--- What a fleet keeps, behind one entry more.
+-- What a fleet keeps, after one entry more.
 use Rattle.std.proofs.Common.{◌≡◌, ℕ, zero, suc, ◌+◌, ◌<◌, ◌≤◌, eqb, Bool, true, false, ◌⊎◌, inl, inr, List, [], ◌∷◌}
 use Rattle.std.proofs.Common.{◌++◌, length, get_or, None, Some, slice_get, slice_index, slice_set, replicate, refl, sym}
 use Rattle.std.proofs.Common.{ap, subst, ◌∙◌, arith, add-one, get_or-set_same, get_or-set_other}
@@ -34,7 +34,7 @@ get-set_other (z ∷ zs) zero (suc j) y h = refl
 get-set_other (z ∷ zs) (suc i) zero y h = refl
 get-set_other (z ∷ zs) (suc i) (suc j) y h = get-set_other zs i j y (λ e. h (ap suc e))
 
--- ---- the posts behind a step
+-- ---- the posts after a step
 
 pub posts_length : (posts : List ℕ) (step : Step) → length (posts_after posts step) ≡ length posts
 posts_length posts (Event event) = refl
@@ -129,7 +129,7 @@ parked_push s es devices worker d old new step parked was at shows =
           got class steps row (cases_eq d i);
     }
 
--- what a device puts out at its next step
+-- what a device outputs at its next step
 pub puts_out : (s : Scenario) (d k : ℕ) (step : Step) (out : List Output) → IsStep s d k step
     → ((class : Template) (steps : List Step) → IsRowOf s d class steps
     → out ≡ step_outputs (state_at class steps k) step) → out ≡ out_at s d k
@@ -261,7 +261,7 @@ fleet_push s es new made posts posts_then devices worker d at place step old
       parked = λ h. parked_push s es devices worker d old then step r.parked r.was r.at shows;
     }))))
 
--- what a step puts out in the device's row
+-- what a step outputs in the device's row
 pub row_puts_out : (s : Scenario) (d k : ℕ) (class : Template) (steps : List Step) (outputs : List Output)
     → IsRowOf s d class steps → PutsOut (start class) steps k outputs
     → out_at s d k ≡ outputs

@@ -121,7 +121,7 @@ keeps_apart s es wake d group g n was below at q =
     let m : slice_index wake group ≤ d =
     subst (λ i. slice_index wake i ≤ d) (sym q) (was.marked g n at) in omega (arith, m, below)
 
--- below the cursor behind the step the devices are blocked
+-- below the cursor after the step the devices are blocked
 still_blocked : (s : Scenario) (es : List Entry) (e : Entry) (wake : List ℕ) (o : Option Step)
     → step_at s e.device e.step ≡ o
     → ((d : ℕ) → d < e.device → IsBlocked s es wake d) → (d : ℕ) → d < cursor_after wake o e.device
@@ -268,7 +268,7 @@ arrives s low wake v way past =
 
 -- ---- the steps that are left
 
--- of each row d behind its first m d steps
+-- of each row d after its first m d steps
 abbrev pub left : (ℕ → ℕ) → List Row → ℕ
 left m [] = 0
 left m (r ∷ rs) = (length r.steps - m 0) + left (λ d. m (suc d)) rs

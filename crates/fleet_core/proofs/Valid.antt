@@ -104,7 +104,7 @@ takes_step s d k step x is shows =
     not_refused x (state_at is.class is.steps k) step (shows is.class is.steps is.row) is.range
     (omega (arith, clock, early))
 
--- ---- the state behind one step more
+-- ---- the state after one step more
 
 after_push : (f : Machine) (steps : List Step) (step : Step)
     → state_after f (steps ++ step ∷ []) ≡ step_after (state_after f steps) step
@@ -136,7 +136,7 @@ posted_within classes g m [] good = omega arith
 posted_within classes g m (r ∷ rs) good =
     omega (arith, posts_in_within g (m 0) r.steps, good.0.count, posted_within classes g (λ d. m (suc d)) rs good.1)
 
--- a run makes at most so many posts
+-- a run makes at most n posts
 pub posts_within : (s : Scenario) (g : ℕ) (es : List Entry) → IsValid s → IsRun s es → posts_of s g es ≤ 16777216
 posts_within s g es valid run =
     omega (arith, posts_are s g es run, posted_within s.classes g (λ d. made_by d es) s.rows valid.each, valid.rows)

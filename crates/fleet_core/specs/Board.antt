@@ -10,7 +10,7 @@ use Rattle.scenario_image.specs.Play.{start, state_at, IsRowOf}
 use Rattle.trace_file.specs.declared.entry.Entry.{Entry}
 use Rattle.fleet_core.specs.Run.{made_by, posts_of, entry_of, Fits, IsRun}
 
--- what contracts see of a fleet: the scenario, the entries, and whether want of memory has spent it
+-- what contracts see of a fleet: the scenario, the entries, and whether a lack of memory has spent it
 pub record Seen : Type 0 where
   pub scenario : Scenario
   pub entries : List Entry
@@ -25,7 +25,7 @@ pub record IsBoard (s : Scenario) (es : List Entry) (made posts : List ℕ) : Ty
   pub made_is : (d : ℕ) → d < length s.rows → slice_index made d ≡ made_by d es
   pub posts_is : (g : ℕ) → g < 256 → slice_index posts g ≡ posts_of s g es
 
--- each device shows the state behind the steps that it has made
+-- each device shows the state after the steps that it has made
 pub record AreParked (s : Scenario) (es : List Entry) (devices : List Device) : Type 0 where
   pub each : (d : ℕ) (x : Device) → slice_get devices d ≡ Some x → (class : Template) (steps : List Step)
       → IsRowOf s d class steps
@@ -47,7 +47,7 @@ pub record AreStarted (s : Scenario) (devices : List Device) : Type 0 where
 abbrev pub ShowsAfter : Scenario → ℕ → ℕ → Device → Type 0
 ShowsAfter s d k x = (class : Template) (steps : List Step) → IsRowOf s d class steps → Shows x (state_at class steps k)
 
--- the posts to each group behind a step
+-- the posts to each group after a step
 abbrev pub posts_after : List ℕ → Step → List ℕ
 posts_after posts (Event event) = posts
 posts_after posts (Post group) = slice_set posts group (slice_index posts group + 1)

@@ -4,7 +4,7 @@ use Rattle.std.specs.Prelude.{ℕ, List, min, Option, None, Some, slice_index, s
 use Rattle.scenario_image.specs.declared.step.Step.{Step}
 use Rattle.scenario_image.specs.declared.step.Step.TheVariants.{Event, Post, Need}
 
--- behind a post a device may be able to go that waits for its group, so none below the group's mark; behind another
+-- after a post a device may be able to go that waits for its group, so none below the group's mark; after another
 -- step of a device none that couldn't before
 abbrev pub cursor_after : List ℕ → Option Step → ℕ → ℕ
 cursor_after wake None low = low
@@ -12,7 +12,7 @@ cursor_after wake (Some (Event event)) low = low
 cursor_after wake (Some (Post group)) low = min low (slice_index wake group)
 cursor_after wake (Some (Need group count)) low = low
 
--- behind a post the cursor is at the group's mark or below it, so that the group needs none
+-- after a post the cursor is at the group's mark or below it, so that the group needs none
 abbrev pub marks_after : List ℕ → Option Step → List ℕ
 marks_after wake None = wake
 marks_after wake (Some (Event event)) = wake

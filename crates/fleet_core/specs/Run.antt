@@ -21,7 +21,7 @@ steps_in (Some row) = row.steps
 abbrev pub step_in : List Row → ℕ → ℕ → Option Step
 step_in rows d k = slice_get (steps_in (slice_get rows d)) k
 
--- step k of a device, counted from 0; none where the device has no row, and behind its last step
+-- step k of a device, counted from 0; none where the device has no row, and after its last step
 abbrev pub step_at : Scenario → ℕ → ℕ → Option Step
 step_at s d k = step_in s.rows d k
 
@@ -37,7 +37,7 @@ abbrev pub outputs_in_row : Scenario → Option Row → ℕ → List Output
 outputs_in_row s None k = []
 outputs_in_row s (Some row) k = outputs_with (slice_get s.classes row.class) row.steps k
 
--- what step k of a device puts out, in the state behind its first k steps
+-- what step k of a device outputs, in the state after its first k steps
 abbrev pub out_at : Scenario → ℕ → ℕ → List Output
 out_at s d k = outputs_in_row s (slice_get s.rows d) k
 
@@ -63,7 +63,7 @@ posts_of s g es = count_by (λ e. is_post g (step_at s e.device e.step)) es
 
 -- ---- runs
 
--- where each group has so many posts, a need has its own
+-- where each group has n posts, a need has its own
 abbrev pub IsMet : (ℕ → ℕ) → Step → Type 0
 IsMet posts (Event event) = Unit {0}
 IsMet posts (Post group) = Unit {0}
@@ -79,7 +79,7 @@ pub record Fits (s : Scenario) (before : List Entry) (e : Entry) : Type 0 where
   pub outputs : e.outputs ≡ out_at s e.device e.step
   pub met : IsMet (λ g. posts_of s g before) step
 
--- a run: each entry may come behind those before it
+-- a run: each entry may come after those before it
 pub record IsRun (s : Scenario) (es : List Entry) : Type 0 where
   pub along : Along (Fits s) [] es
 
@@ -99,18 +99,18 @@ pub record IsSerial (s : Scenario) (es : List Entry) : Type 0 where
   pub complete : IsComplete s es
   pub along : Along (IsLowest s) [] es
 
--- what the device's entries put out, entry by entry
+-- what the device's entries output, entry by entry
 abbrev pub outputs_by : ℕ → List Entry → List (List Output)
 outputs_by d es = map (λ e. e.outputs) (filter (λ e. e.device == d) es)
 
--- the device has as many entries in both, and they put out the same
+-- the device has as many entries in both, and they output the same
 pub record IsSame (d : ℕ) (a b : List Entry) : Type 0 where
   pub made : made_by d a ≡ made_by d b
   pub outputs : outputs_by d a ≡ outputs_by d b
 
 -- ---- the next entry
 
--- where each group has so many posts, the step is there, and may be taken
+-- where each group has n posts, the step is there, and may be taken
 abbrev pub may_pass : (ℕ → ℕ) → Option Step → Bool
 may_pass posts None = false
 may_pass posts (Some (Event event)) = true

@@ -12,7 +12,7 @@ use std::marker::Model;
 use trace_file::{Entries, Entry};
 
 /// The devices of a scenario, and the entries that they have made: a run. Contracts see the scenario, the entries, and
-/// whether want of memory has spent the fleet.
+/// whether a lack of memory has spent the fleet.
 #[derive(Drop)]
 pub struct Fleet<'a> {
     alloc: Global,
@@ -56,7 +56,7 @@ impl<'a> Fleet<'a> {
         })
     }
 
-    /// The step that the device makes next, lent; none behind the last one of its row.
+    /// The step that the device makes next; none after the last one of its row.
     pub fn next_step(&self, device: u16) -> Option<&'a Step>
         ensures { option_copied result ≡ step_at self.now.scenario device (made_by device self.now.entries) }
     {
@@ -90,7 +90,7 @@ impl<'a> Fleet<'a> {
         self.is_enabled(device)
     }
 
-    /// The entries so far, lent, in order: a run of the scenario.
+    /// The entries so far, in order: a run of the scenario.
     pub fn entries(&self) -> &[Entry]
         ensures entries { result.now ≡ self.now.entries }
         ensures run { IsRun self.now.scenario self.now.entries }

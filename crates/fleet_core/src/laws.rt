@@ -16,7 +16,7 @@ ghost use Rattle.fleet_core.specs.Board.{AreStarted, ShowsAfter};
 ghost use Rattle.fleet_core.specs.Blocks.{AreOf};
 ghost use Rattle.fleet_core.specs.Waiting.{is_waiting};
 
-/// Two complete runs of a scenario have as many entries of each device, and these put out the same, one after another;
+/// Two complete runs of a scenario have as many entries of each device, and these output the same, one after another;
 /// and no run has more entries of a device than a complete one.
 pub fn runs_agree()
     ensures same { (s : Scenario) (a : List Entry) (b : List Entry) → IsComplete s a → IsComplete s b → (d : ℕ)
@@ -34,15 +34,15 @@ pub fn runs_grow()
     ensures can { (s : Scenario) (es : List Entry) (d : ℕ) → (is_enabled s es d ≡ true) ↔ CanGo s es d }
 {}
 
-/// What an entry of a run puts out is what the step puts out in the device's row.
+/// What an entry of a run outputs is what the step outputs in the device's row.
 pub fn outputs_are_the_rows()
     ensures { (s : Scenario) (d : ℕ) (k : ℕ) (class : Template) (steps : List Step) (outputs : List Output)
         → IsRowOf s d class steps → PutsOut (start class) steps k outputs
         → out_at s d k ≡ outputs }
 {}
 
-/// What a device puts out depends on its class and its steps alone: in runs of two scenarios, in which devices of the
-/// same class with the same steps have as many entries, these put out the same, whatever other devices there are.
+/// What a device outputs depends on its class and its steps alone: in runs of two scenarios, in which devices of the
+/// same class with the same steps have as many entries, these output the same, whatever other devices there are.
 pub fn devices_stand_alone()
     ensures { (s : Scenario) (t : Scenario) (a : List Entry) (b : List Entry) (d : ℕ) (e : ℕ) (class : Template)
         (steps : List Step) → IsRun s a → IsRun t b → IsRowOf s d class steps → IsRowOf t e class steps

@@ -1,4 +1,4 @@
-//! One step of one device, and the posts behind it.
+//! One step of one device, and the posts after it.
 
 ghost use Rattle.std.specs.Prelude.{◌≡◌, ℕ, ◌+◌, ◌^◌, ◌<◌, List, false, Some, length, slice_get, slice_index, IfOk};
 ghost use Rattle.std.specs.Prelude.{OnOk, IfSome};
@@ -53,7 +53,7 @@ pub fn start_devices(alloc: Global, scenario: &Scenario) -> Result<Vec<Device>, 
     Ok(devices)
 }
 
-/// Lets a device take a step that it does not refuse, and gives what it puts out.
+/// Lets a device take a step that it does not refuse, and gives what it outputs.
 pub(crate) fn perform(
     alloc: Global,
     device: &mut Device,

@@ -26,7 +26,7 @@ fn add_entry(fleet: &mut Fleet, device: u16) -> Result<(), AllocError>
     }
 }
 
-/// The cursor behind a step of the device at it. A post may let a device go that waits for its group, so the cursor
+/// The cursor after a step of the device at it. A post may let a device go that waits for its group, so the cursor
 /// goes back to the group's mark, which is taken away. Another step lets none go that couldn't.
 fn cursor_after(wake: &mut Vec<u16>, step: Option<&Step>, low: u16) -> u16
     requires groups { length wake.old.items ≡ 256 }

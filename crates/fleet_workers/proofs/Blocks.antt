@@ -58,7 +58,7 @@ own_block w x y job adds put =
     append_cancel_left x.entries adds.added job.entries (sym adds.entries ∙ ap (λ t. t.entries) put) in
     own_all w job.entries (subst (AllByRecursion (λ e. e.worker ≡ w)) same adds.by_worker)
 
--- after a block the worker has it behind its own entries
+-- after a block the worker has it after its own entries
 pub own_put : (w : ℕ) (old block new : List Entry) → IsPut w old block new → own_entries w block ≡ block
     → own_entries w new ≡ own_entries w old ++ block
 own_put w old block new put all =

@@ -12,7 +12,7 @@ abbrev pub own_entries : ℕ → List Entry → List Entry
 own_entries worker es = filter (λ e. e.worker == worker) es
 
 -- the block was made after these entries, which the worker had seen: with them it is a run. It has at least one entry
--- and at most so many, all of one device and under the worker's number; and fewer only where the device can't step then
+-- and at most `batch`, all of one device and under the worker's number; fewer only where the device can't step then
 pub record IsBlock (s : Scenario) (worker batch : ℕ) (seen block : List Entry) : Type 0 where
   pub run : IsRun s (seen ++ block)
   pub least : 1 ≤ length block

@@ -92,7 +92,7 @@ pub fn claimed<R: Wait>(
     }
 }
 
-/// The job after at most so many steps, or nothing if memory ran out.
+/// The job after at most n steps, or nothing if memory ran out.
 pub fn advanced(pass: &Pass<Trace>, scenario: &Scenario, batch: u32, mut job: Job) -> Option<Job>
     requires knows { Knows (pass_view pass.now) job }
     requires ready { job.spent ≡ false }
@@ -135,7 +135,7 @@ pub fn stopped<R: Wait>(rt: &R, lock: &TicketLock<Trace>, pass: Pass<Trace>) -> 
     stop_trace(rt, lock, pass)
 }
 
-/// Claims, makes at most so many steps, and puts them: whether they were this many of this device.
+/// Claims, makes at most n steps, and puts them: whether they were this many of this device.
 pub fn makes<R: Wait>(
     rt: &R,
     lock: &TicketLock<Trace>,

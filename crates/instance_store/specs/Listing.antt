@@ -21,6 +21,6 @@ lowest_in (Part o i r p) = record { object = o; instance = i; resource = r; part
 abbrev pub listed_in : Path → List (FullPath × Value) → List (FullPath × Value)
 listed_in path es = filter (λ e. lies_in path e.0) (map.entries (map.from_entries {R = path_cmp} es))
 
--- the pairs of full paths and lent values, as pairs of full paths and values
+-- the pairs of full paths and borrowed values, as pairs of full paths and values
 abbrev pub shown_pairs : List (FullPath × Bor Value) → List (FullPath × Value)
 shown_pairs pairs = map_list (λ p. (p.0, p.1.now)) pairs

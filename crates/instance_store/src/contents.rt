@@ -12,7 +12,7 @@ use object_defs::{FullPath, InstancePath};
 use std::alloc::{AllocError, Global};
 use std::collections::BTreeMap;
 
-/// All values, lent, with their full paths, in the order of these.
+/// All values, with their full paths, in the order of these.
 pub(crate) fn all_pairs<'a>(
     alloc: Global,
     values: &'a BTreeMap<FullPath, Value>,

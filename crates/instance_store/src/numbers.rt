@@ -35,7 +35,7 @@ impl Numbers {
         }
     }
 
-    /// The numbers, lent, ascending.
+    /// The numbers, ascending.
     pub(crate) fn as_slice(&self) -> &[u16]
         ensures { result.now ≡ map.keys self.now }
     {

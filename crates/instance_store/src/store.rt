@@ -74,7 +74,7 @@ impl Store {
         self.clone()
     }
 
-    /// The value at a full path, lent.
+    /// The value at a full path.
     pub fn get(&self, path: FullPath) -> Option<&Value>
         ensures { option_copied result ≡ value_at self.now path }
     {
@@ -216,7 +216,7 @@ impl Store {
         Ok(())
     }
 
-    /// The values at or below a path, lent, with their full paths, in the order of these.
+    /// The values at or below a path, with their full paths, in the order of these.
     pub fn values_in(&self, path: Path) -> Result<Vec<(FullPath, &Value)>, AllocError>
         ensures { IfOk result (λ v. shown_pairs v.items ≡ values_in self.now path) }
     {
@@ -276,7 +276,7 @@ impl Store {
         parts_in(self.alloc, &self.values, path)
     }
 
-    /// All values, lent, with their full paths, in the order of these.
+    /// All values, with their full paths, in the order of these.
     pub fn values(&self) -> Result<Vec<(FullPath, &Value)>, AllocError>
         ensures { IfOk result (λ v. shown_pairs v.items ≡ map.entries self.now.values) }
     {
@@ -290,7 +290,7 @@ impl Store {
         all_places(self.alloc, &self.instances)
     }
 
-    /// The numbers of an object's instances, lent, ascending.
+    /// The numbers of an object's instances, ascending.
     pub fn instances(&self, object: u16) -> &[u16]
         ensures { result.now ≡ instances_of self.now object }
     {

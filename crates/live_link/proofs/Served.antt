@@ -23,13 +23,13 @@ use Rattle.live_link.proofs.Sent.{carries_both}
 
 -- ---- one step more
 
--- the state behind one step more
+-- the state after one step more
 state_push : (f : Machine) (steps : List Step) (step : Step)
     → state_after f (steps ++ step ∷ []) ≡ step_after (state_after f steps) step
 state_push f [] step = refl
 state_push f (s ∷ steps) step = state_push (step_after f s) steps step
 
--- what steps put out, with one step more
+-- what steps output, with one step more
 pub sent_push : (f : Machine) (steps : List Step) (step : Step)
     → sent_by f (steps ++ step ∷ []) ≡ sent_by f steps ++ packets_in (step_outputs (state_after f steps) step)
 sent_push f [] step = append-nil (packets_in (step_outputs f step))
@@ -67,7 +67,7 @@ told_more handed asked sent gone failures refusals =
     let r = zero-add refusals in
     cc
 
--- the step was taken, and all that it put out was sent
+-- the step was taken, and all that it output was sent
 pub step_served : (first : Device) (before : Option Traffic) (handed : List Packet) (asked : ℕ) (device newer : Device)
     (steps more : List Step) (sent noted : List Packet) (between after : Option Traffic) (event : Happening)
     (gone : List Packet) → IsServing first before handed asked device steps sent between → IsLiveStep (Event event)
@@ -101,7 +101,7 @@ sent_at SendFault gone all sent (failed, rest, e) =
 sent_at Memory gone all sent (rest, e) = (rest, ap (λ l. sent ++ l) e ∙ sym (append_assoc sent gone rest))
 sent_at Spent gone all sent h = absurd h
 
--- the step was taken, and what it put out was not all sent
+-- the step was taken, and what it output was not all sent
 pub step_cut : (end : LiveEnd) (first : Device) (before : Option Traffic) (handed : List Packet) (asked : ℕ)
     (device : Device) (steps more : List Step) (sent noted : List Packet) (between after : Option Traffic)
     (event : Happening) (all : List Packet) → IsServing first before handed asked device steps sent between

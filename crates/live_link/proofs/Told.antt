@@ -1,4 +1,4 @@
--- What is known of a wire behind a session.
+-- What is known of a wire after a session.
 use Rattle.std.proofs.Common.{◌≡◌, ◌+◌, ◌++◌, Option, None, Some, ap}
 use Rattle.live_link.specs.Wire.{Traffic, Carries, WhereTold}
 

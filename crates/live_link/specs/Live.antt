@@ -53,7 +53,7 @@ IsLiveStep (Event (Tick seconds)) = (1 ≤ seconds) × (seconds ≤ 86400)
 IsLiveStep (Post group) = ⊥
 IsLiveStep (Need group count) = ⊥
 
--- ---- what they put out
+-- ---- what they output
 
 -- the datagram that an output sends
 abbrev pub packet_in : Output → Option Packet
@@ -64,12 +64,12 @@ packet_in (Act deed) = None
 abbrev pub packets_in : List Output → List Packet
 packets_in outputs = filter_map packet_in outputs
 
--- the datagrams that steps put out, one step after another, of a device that is in this flat state before them
+-- the datagrams that steps output, one step after another, of a device that is in this flat state before them
 abbrev pub sent_by : Machine → List Step → List Packet
 sent_by f [] = []
 sent_by f (step ∷ steps) = packets_in (step_outputs f step) ++ sent_by (step_after f step) steps
 
--- of what was put out this was sent, where the session ended so: all, or all before the one that failed
+-- of what was output this was sent, where the session ended so: all, or all before the one that failed
 abbrev pub IsSentAt : LiveEnd → List Packet → List Packet → Type 0
 IsSentAt Turns sent all = sent ≡ all
 IsSentAt ReceiveFault sent all = sent ≡ all
@@ -93,14 +93,14 @@ pub record IsHeardAt (end : LiveEnd) (heard handed : List Packet) : Type 0 where
   pub handed_is : handed ≡ heard ++ unheard
   pub few : length unheard ≤ most_refused end
 
--- so many seconds pass at each reading: those from the first reading to this one, without those that have passed
+-- n seconds pass at each reading: those from the first reading to this one, without those that have passed
 -- before, and at most a day. Where the clock stood or went back, none pass
 pub record ArePassed (readings seconds : List ℕ) : Type 0 where
   pub count : length seconds ≡ length readings
   pub each : (k : ℕ) → k < length readings → slice_index seconds k
       ≡ min 86400 (slice_index readings k - (slice_index readings 0 + sum (take k seconds)))
 
--- the seconds that pass, where some do, are those of the ticks, and at most so many more
+-- the seconds that pass, where some do, are those of the ticks, and at most that many more
 pub record AreTickedAt (end : LiveEnd) (ticks readings : List ℕ) : Type 0 where
   pub seconds : List ℕ
   pub passed : ArePassed readings seconds
@@ -108,7 +108,7 @@ pub record AreTickedAt (end : LiveEnd) (ticks readings : List ℕ) : Type 0 wher
   pub ticks_are : filter (nat_lt 0) seconds ≡ ticks ++ unticked
   pub few : length unticked ≤ most_refused end
 
--- so many readings, or calls of `receive`, were made of so many turns
+-- this many readings, or calls of `receive`, were made of n turns
 abbrev pub IsCountAt : LiveEnd → ℕ → ℕ → Type 0
 IsCountAt Turns turns count = count ≡ turns
 IsCountAt ReceiveFault turns count = count ≤ turns
@@ -139,7 +139,7 @@ abbrev pub end_at : StepFault → LiveEnd
 end_at faults.Memory = Memory
 end_at faults.Spent = Spent
 
--- behind the steps a tick would take the device's clock past its last second
+-- after the steps a tick would take the device's clock past its last second
 pub record IsAtLastSecond (f : Machine) (steps : List Step) : Type 0 where
   pub seconds : ℕ
   pub within : seconds ≤ 86400

@@ -39,8 +39,8 @@ pub record AreCutShort (end : LiveEnd) (all old new : List Packet) (before after
 
 -- ---- the steps
 
--- a session that this device began, on a wire that told this, goes on: so much was handed out by so many calls, and
--- the device has taken these steps, and all that they put out was sent
+-- a session that this device began, on a wire that told this, goes on: this much was handed out by this many calls, and
+-- the device has taken these steps, and all that they output was sent
 pub record IsServing (first : Device) (before : Option Traffic) (handed : List Packet) (asked : ℕ)
     (device : Device) (steps : List Step) (sent : List Packet) (after : Option Traffic) : Type 0 where
   pub shows : (f : Machine) → Shows first f → Shows device (state_after f steps)
@@ -100,7 +100,7 @@ pub record IsBroken (end : LiveEnd) (first : Device) (before : Option Traffic) (
   pub heard : IsHeardAt end (heard_by steps) handed
   pub spent : (f : Machine) → Shows first f → end ≡ Spent → IsAtLastSecond f steps
 
--- so many turns were made
+-- n turns were made
 pub record IsUnderWay (first : Device) (before : Option Traffic) (read_before : Option (List ℕ)) (turns : ℕ)
     (device : Device) (counted : Option ℕ) (steps : List Step) (sent : List Packet) (after : Option Traffic)
     (read_after : Option (List ℕ)) : Type 0 where
@@ -110,7 +110,7 @@ pub record IsUnderWay (first : Device) (before : Option Traffic) (read_before : 
   pub read : AreRead read_before read_after readings
   pub timed : IsTimed readings counted (ticks_of steps)
 
--- the session is over, behind at most so many turns
+-- the session is over, after at most n turns
 pub record IsOver (end : LiveEnd) (first : Device) (before : Option Traffic) (read_before : Option (List ℕ)) (turns : ℕ)
     (steps : List Step) (sent : List Packet) (after : Option Traffic) (read_after : Option (List ℕ)) : Type 0 where
   pub handed : List Packet

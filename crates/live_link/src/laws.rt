@@ -8,8 +8,8 @@ ghost use Rattle.scenario_image.specs.Play.{outputs_in, PutsOut};
 ghost use Rattle.scenario_image.specs.Scenario.{is_in_range};
 ghost use Rattle.live_link.specs.Live.{packets_in, sent_by, IsLiveStep};
 
-/// A session is the row of a scenario: where its steps are played back, as `play` does, they put out the datagrams that
-/// the session put out, and in this order; and all its steps are in the range of a scenario's.
+/// A session is the row of a scenario: where its steps are played back, as `play` does, they output the datagrams that
+/// the session output, and in this order; and all its steps are in the range of a scenario's.
 pub fn sessions_are_rows()
     ensures played { (f : Machine) (steps : List Step) (all : List (Option (List Output)))
         → length all ≡ length steps

@@ -24,7 +24,7 @@ pub enum Receipt {
 #[derive(Drop)]
 pub struct ScriptedWire {
     alloc: Global,
-    /// What the calls of `receive` give, one after another; behind them, nothing has arrived.
+    /// What the calls of `receive` give, one after another; after them, nothing has arrived.
     receipts: Vec<Receipt>,
     next: usize,
     /// The wire fails at the call of `send` of this number, counted from 0.
@@ -213,7 +213,7 @@ impl Wire for ScriptedWire {
 /// A clock in memory.
 #[derive(Drop)]
 pub struct ScriptedClock {
-    /// What it shows, one reading after another; behind them, 0.
+    /// What it shows, one reading after another; after them, 0.
     readings: Vec<u64>,
     next: usize,
     /// The script was at its end, and nothing is told since.

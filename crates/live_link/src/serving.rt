@@ -166,7 +166,7 @@ impl Serving {
     }
 }
 
-/// Makes so many turns, or stops at the first that is cut short.
+/// Makes n turns, or stops at the first that is cut short.
 fn make_turns<W: Wire, C: Seconds>(
     alloc: Global,
     wire: &mut W,
@@ -192,7 +192,7 @@ fn make_turns<W: Wire, C: Seconds>(
     serving.into_session(LiveEnd::Turns)
 }
 
-/// Puts a device on a wire, for so many turns: in each the clock is read, the seconds that passed are a tick of the
+/// Puts a device on a wire, for n turns: in each the clock is read, the seconds that passed are a tick of the
 /// device, and what has then arrived on the wire is received. What the device outputs is sent before it goes on.
 ///
 /// The first reading sets the start. At most a day passes in a turn, and the rest in later ones; where the clock went
@@ -204,7 +204,7 @@ pub fn serve<W: Wire, C: Seconds>(
     device: Device,
     turns: u32,
 ) -> LiveSession
-    // What was sent is what the wire took in, and of what the steps put out it is all, or all before the failure.
+    // What was sent is what the wire took in, and of what the steps output it is all, or all before the failure.
     ensures sent { WhereTold (λ before after. after.taken ≡ before.taken ++ result.sent.items)
         (W.told wire.old) (W.told wire.new) }
     ensures put_out { (f : Machine) → Shows device f
@@ -217,7 +217,7 @@ pub fn serve<W: Wire, C: Seconds>(
         × IsCountAt result.end turns (length readings) × AreRead (C.read clock.old) (C.read clock.new) readings }
     ensures live { AllByRecursion IsLiveStep result.steps.items }
 
-    // It ends behind all turns, or for a reason.
+    // It ends after all turns, or for a reason.
     ensures asked { (asked : ℕ) × IsCountAt result.end turns asked
         × WhereTold (λ before after. after.asked ≡ before.asked + asked) (W.told wire.old) (W.told wire.new) }
     ensures failures { WhereTold (λ before after. after.failures ≡ before.failures + failures_at result.end)

@@ -84,7 +84,7 @@ impl UdpWire {
         Ok(self.accounts.get(place).copied())
     }
 
-    /// The datagram of so many bytes in the buffer; none where it is too long, or its sender has no account.
+    /// The datagram of n bytes in the buffer; none where it is too long, or its sender has no account.
     fn take_datagram(
         &mut self,
         count: usize,

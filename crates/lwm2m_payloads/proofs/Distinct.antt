@@ -25,7 +25,7 @@ pub joined_none : {A : Type 0} (key : A → ℕ) (xs : List A) → joined key xs
 joined_none key [] = refl
 joined_none key (a ∷ xs) = ap (front key (Some a)) (joined_none key xs)
 
--- one element more behind the first
+-- one element more after the first
 pub joined_more : {A : Type 0} (key : A → ℕ) (xs : List A) (a : A) (others : Option (List A))
     → joined key xs (front key (Some a) others) ≡ joined key (xs ++ a ∷ []) others
 joined_more key [] a others = refl
@@ -74,7 +74,7 @@ clash_at key b a xs others true e has any later =
     (subst (λ n. HasKey key n (joined key xs others)) is (all_keep key (key a) xs others has))
 clash_at key b a xs others false e has any later = ap (front key (Some b)) (later any)
 
--- a key that is there before and behind
+-- a key that is there before and after
 pub clash : {A : Type 0} (key : A → ℕ) (xs : List A) (a : A) (others : Option (List A)) → HasKey key (key a) others
     → list_any (λ c. key c == key a) xs ≡ true → joined key xs others ≡ None
 clash key [] a others has any = absurd cc

@@ -93,7 +93,7 @@ part_commutes q a r p (more (multi i parts) (more t nodes)) =
     ≡ part_behind r p (if b then more (multi q (more a parts)) (more t nodes)
     else more (multi q (more a none)) (more (multi i parts) (more t nodes)))) [ true ↦ refl | false ↦ refl ]
 
--- a value before others commutes with one behind them
+-- a value before others commutes with one after them
 commutes : (q : ℕ) (m : Option ℕ) (w : Value) (r : ℕ) (n : Option ℕ) (v : Value) (nodes : Trees)
     → before_value q m w (value_behind r n v nodes) ≡ value_behind r n v (before_value q m w nodes)
 commutes q None w r n v nodes = behind_other r n v q (bytes_of w) nodes
@@ -121,7 +121,7 @@ multi_after : (r : ℕ) (p : Tree) (parts : Trees)
     → part_after r p (multi r parts) ≡ more (multi r (with_last parts p)) none
 multi_after r p parts = let same : (r == r) ≡ true = grind (arith, nat_tests) in rw same refl
 
--- a part behind records whose last one is the Multiple Resource of its resource
+-- a part after records whose last one is the Multiple Resource of its resource
 pub part_taken : (nodes : Trees) (last : Tree) (r : ℕ) (p : Tree) (parts : Trees) → last ≡ multi r parts
     → with_last nodes (multi r (with_last parts p)) ≡ part_behind r p (with_last nodes last)
 part_taken none last r p parts e = sym (ap (part_after r p) e ∙ multi_after r p parts)

@@ -1,4 +1,4 @@
--- What a store has at a full path behind a change of one resource.
+-- What a store has at a full path after a change of one resource.
 use Rattle.std.proofs.Common.{◌≡◌, ℕ, ◌==◌, Bool, true, false, cond, not, ◌&&◌, Ordering, Option, None, Some, refl, sym}
 use Rattle.std.proofs.Common.{ap, ◌∙◌, arith, if◌then◌else◌}
 use Rattle.std.specs.Option.{is_some}

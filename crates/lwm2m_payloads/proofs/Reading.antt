@@ -19,7 +19,7 @@ over_text (c ∷ cs) u h =
     let parts = and_parts (is_text_byte c) (list_all is_text_byte cs) h in
     ap (λ b. run (cond b Text (cond (eqb c 39) Quote Nowhere)) (cs ++ 39 ∷ u)) parts.0 ∙ over_text cs u parts.1
 
--- a place behind which an argument begins
+-- a place after which an argument begins
 abbrev Begins : Place → Type 0
 Begins p = (c : ℕ) → step p c ≡ cond (is_digit c) Digit Nowhere
 

@@ -1,4 +1,4 @@
--- A resource that has 32 parts at most behind a Write has 32 at most while its parts are set.
+-- A resource that has 32 parts at most after a Write has 32 at most while its parts are set.
 use Rattle.std.proofs.Common.{◌≡◌, ℕ, suc, ◌+◌, ◌≤◌, ◌==◌, Bool, true, false, not, ◌&&◌, ◌||◌, List, [], ◌∷◌, ◌++◌}
 use Rattle.std.proofs.Common.{length, map as map_list, Option, Some, refl, sym, ap, subst, ◌∙◌, arith, true≢false}
 use Rattle.std.proofs.Common.{nat_lt, nat_le, if◌then◌else◌}

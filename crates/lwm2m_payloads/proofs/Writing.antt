@@ -1,4 +1,4 @@
--- Values that are set one after the other: one more is set behind the others.
+-- Values that are set one after the other: one more is set after the others.
 use Rattle.std.proofs.Common.{◌≡◌, ℕ, List, [], ◌∷◌, ◌++◌, refl, if◌then◌else◌}
 use Rattle.lwm2m_values.specs.declared.value.Value.{Value}
 use Rattle.object_defs.specs.Path.{part_of}

@@ -86,7 +86,7 @@ single_more : (v : Value) (k : Option ℕ) (x : Option Value)
 single_more v None x = refl
 single_more v (Some n) x = refl
 
--- behind a change of one resource
+-- after a change of one resource
 pub at_given : (mode : Mode) (g : Given) (stored : Stored) (p : ResourcePath) (q : FullPath) → GivenOnce g
     → value_at (with_given mode stored p g) q
     ≡ (if lies_in (resource_path p) q then value_with mode g q.part (value_at stored q) else value_at stored q)
@@ -157,7 +157,7 @@ first_or_later mode resources a given q x true is h =
     (not_named given a.resource q.resource same h)
 first_or_later mode resources a given q x false is h = refl
 
--- behind several
+-- after several
 pub at_assignments : (mode : Mode) (resources : List ResourceDef) (given : List Assignment) (stored : Stored)
     (place : InstancePath) (q : FullPath) → EachOnce given
     → value_at (with_assignments mode resources stored place given) q
@@ -195,7 +195,7 @@ lost_cases false true false x = refl
 lost_cases false false true x = refl
 lost_cases false false false x = refl
 
--- behind what Replace takes away
+-- after what Replace takes away
 pub at_lost : (resources : List ResourceDef) (given : List Assignment) (stored : Stored) (place : InstancePath)
     (q : FullPath) → value_at (without_lost resources stored place given) q
     ≡ (if lies_in (instance_path place) q then (if is_taken_away resources given q.resource then None
@@ -228,7 +228,7 @@ at_lost (d ∷ resources) given stored place q =
       | false ↦ elim lost as (λ l. (if l then x else x) ≡ x) [ true ↦ refl | false ↦ refl ]
     ])
 
--- behind a Write of an instance
+-- after a Write of an instance
 pub at_written : (mode : Mode) (resources : List ResourceDef) (stored : Stored) (place : InstancePath)
     (given : List Assignment) (q : FullPath) → EachOnce given
     → value_at (instance_written mode resources stored place given) q

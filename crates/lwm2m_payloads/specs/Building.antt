@@ -5,12 +5,12 @@ use Rattle.lwm2m_values.specs.declared.value.Value.{Value}
 use Rattle.lwm2m_values.specs.Reading.{value_of_bytes}
 use Rattle.lwm2m_values.specs.Tree.{Tree, Trees, instance, multi, part, single, none, more}
 
--- a record behind others
+-- a record after others
 abbrev pub with_last : Trees → Tree → Trees
 with_last none t = more t none
 with_last (more s nodes) t = more s (with_last nodes t)
 
--- a part behind a record: in it, where it is the Multiple Resource of this number, else in one of its own
+-- a part after a record: in it, where it is the Multiple Resource of this number, else in one of its own
 abbrev pub part_after : ℕ → Tree → Tree → Trees
 part_after r p (multi q parts) =
     if r == q then more (multi q (with_last parts p)) none else more (multi q parts) (more (multi r (more p none)) none)
@@ -18,7 +18,7 @@ part_after r p (instance i inner) = more (instance i inner) (more (multi r (more
 part_after r p (part n bytes) = more (part n bytes) (more (multi r (more p none)) none)
 part_after r p (single q bytes) = more (single q bytes) (more (multi r (more p none)) none)
 
--- a part behind records
+-- a part after records
 abbrev pub part_behind : ℕ → Tree → Trees → Trees
 part_behind r p none = more (multi r (more p none)) none
 part_behind r p (more t none) = part_after r p t

@@ -55,7 +55,7 @@ without_lost (d ∷ ds) stored place given =
     without_lost ds (if is_lost given d then without_values stored (resource_path (resource_of place d.id)) else stored)
     place given
 
--- an instance behind a Write
+-- an instance after a Write
 abbrev pub instance_written : Mode → List ResourceDef → Stored → InstancePath → List Assignment → Stored
 instance_written Replace resources stored place given =
     with_assignments Replace resources (without_lost resources stored place given) place given
@@ -65,7 +65,7 @@ instance_written Update resources stored place given = with_assignments Update r
 abbrev pub is_other : PartList → ℕ → Bool
 is_other parts n = not (list_any (λ e. e.0 == n) parts)
 
--- how many parts a resource has behind a change
+-- how many parts a resource has after a change
 abbrev pub parts_behind : Mode → Stored → ResourcePath → PartList → ℕ
 parts_behind Replace stored p parts = length parts
 parts_behind Update stored p parts = length parts + length (filter (is_other parts) (parts_of stored p))

@@ -32,7 +32,7 @@ is_shown resources p = is_shown_as p.part (resource_in resources p.resource)
 abbrev pub shown_in : Stored → List ResourceDef → Path → Pairs
 shown_in stored resources place = filter (λ e. is_shown resources e.0) (values_in stored place)
 
--- a part before the records behind it: in the Multiple Resource of its resource, where this comes next, else in one of
+-- a part before the records after it: in the Multiple Resource of its resource, where this comes next, else in one of
 -- its own
 abbrev pub before_part : ℕ → Tree → Trees → Trees
 before_part r p (more (multi q parts) nodes) =

@@ -48,7 +48,7 @@ values_listed resources (more (multi r inner) nodes) =
 values_listed resources (more (instance i inner) nodes) = None
 values_listed resources (more (part n bytes) nodes) = None
 
--- good values, each of the kind of its resource
+-- valid values, each of the kind of its resource
 abbrev pub AreOfTheirKinds : List ResourceDef → Pairs → Type 0
 AreOfTheirKinds resources [] = Unit {0}
 AreOfTheirKinds resources (e ∷ es) =

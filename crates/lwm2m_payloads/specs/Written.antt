@@ -1,4 +1,4 @@
--- What stands at each full path of an instance behind a Write (OMA LwM2M 1.1 Core, Write: Replace and Partial Update).
+-- What stands at each full path of an instance after a Write (OMA LwM2M 1.1 Core, Write: Replace and Partial Update).
 use Rattle.std.specs.Prelude.{◌≡◌, ℕ, ◌==◌, false, ◌&&◌, Bool, List, [], ◌∷◌, Option, None, Some, find, option_map}
 use Rattle.std.specs.Prelude.{if◌then◌else◌}
 use Rattle.std.specs.List.{list_any}
@@ -36,7 +36,7 @@ left_of mode (Single value) before = before
 left_of Replace (Parts parts) before = None
 left_of Update (Parts parts) before = before
 
--- a value behind a change of its resource
+-- a value after a change of its resource
 abbrev pub value_with : Mode → Given → Option ℕ → Option Value → Option Value
 value_with mode given number before = option_or (value_given given number) (left_of mode given before)
 
@@ -48,7 +48,7 @@ abbrev pub unnamed : Mode → List ResourceDef → List Assignment → ℕ → O
 unnamed Replace resources given r before = if is_taken_away resources given r then None else before
 unnamed Update resources given r before = before
 
--- a value behind a Write of its instance, by what its resource is given
+-- a value after a Write of its instance, by what its resource is given
 abbrev pub value_by : Mode → List ResourceDef → Option Assignment → Option ℕ → Option Value → Option Value
 value_by mode resources None number before = before
 value_by mode resources (Some a) number before =

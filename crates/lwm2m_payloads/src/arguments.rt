@@ -13,7 +13,7 @@ enum Place {
     Digit,
     /// A digit and `=`.
     Equals,
-    /// A quote, and what is read of the text behind it.
+    /// A quote, and what is read of the text after it.
     Text,
     /// A text's last quote.
     Quote,

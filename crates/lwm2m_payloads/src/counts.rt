@@ -19,7 +19,7 @@ fn count_others(store: &Store, path: ResourcePath, parts: &Parts) -> Result<usiz
     Ok(held.as_slice().iter().filter(|n| !parts.has(**n)).count())
 }
 
-/// How many parts a resource has behind a change, or the greatest `usize`.
+/// How many parts a resource has after a change, or the greatest `usize`.
 fn count_behind(
     mode: Mode,
     store: &Store,
@@ -36,7 +36,7 @@ fn count_behind(
     }
 }
 
-/// Whether a resource would have more than 32 parts (this profile's limit) behind a change. Only the parts that it has,
+/// Whether a resource would have more than 32 parts (this profile's limit) after a change. Only the parts that it has,
 /// and keeps under Update, are counted in memory.
 pub fn is_too_many(
     mode: Mode,
@@ -71,7 +71,7 @@ fn exceeds(
     is_too_many(mode, store, path, &assignment.given)
 }
 
-/// Whether some resource of an instance would have more than 32 parts (this profile's limit) behind a Write.
+/// Whether some resource of an instance would have more than 32 parts (this profile's limit) after a Write.
 pub fn has_too_many(
     mode: Mode,
     resources: &[ResourceDef],

@@ -5,7 +5,7 @@ ghost use Rattle.lwm2m_payloads.specs.Changes.{is_kept_as, resource_of};
 
 use object_defs::{InstancePath, ResourceDef, ResourcePath};
 
-/// The definition of the resource of this number, lent.
+/// The definition of the resource of this number.
 pub(crate) fn definition_in(resources: &[ResourceDef], id: u16) -> Option<&ResourceDef>
     ensures { option_copied result ≡ resource_in resources.now id }
 {

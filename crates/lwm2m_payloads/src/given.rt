@@ -52,7 +52,7 @@ impl Parts {
         }
     }
 
-    /// Adds a part behind the others.
+    /// Adds a part after the others.
     pub(crate) fn push(&mut self, part: (u16, Value)) -> Result<(), AllocError>
         ensures { OnOk result (self.new ≡ self.old ++ part ∷ []) }
     {
@@ -67,7 +67,7 @@ impl Parts {
         self.items
     }
 
-    /// The parts, lent, in the order in which they were given.
+    /// The parts, in the order in which they were given.
     pub fn as_slice(&self) -> &[(u16, Value)]
         ensures { result.now ≡ self.now }
     {
@@ -128,7 +128,7 @@ impl Assignments {
         }
     }
 
-    /// Adds an assignment behind the others, which are to other resources.
+    /// Adds an assignment after the others, which are to other resources.
     pub(crate) fn push(&mut self, assignment: Assignment) -> Result<(), AllocError>
         requires { list_any (λ a. a.resource == assignment.resource) self.old ≡ false }
         ensures { OnOk result (self.new ≡ self.old ++ assignment ∷ []) }
@@ -145,7 +145,7 @@ impl Assignments {
         self.items
     }
 
-    /// The assignments, lent, in the order in which they were given.
+    /// The assignments, in the order in which they were given.
     pub fn as_slice(&self) -> &[Assignment]
         ensures { result.now ≡ self.now }
     {

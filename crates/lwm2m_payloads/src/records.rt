@@ -66,7 +66,7 @@ fn push_part(
     Ok(())
 }
 
-/// Adds a value's record behind those of the values before it.
+/// Adds a value's record after those of the values before it.
 fn push_value(
     alloc: Global,
     nodes: &mut Vec<Node>,

@@ -40,7 +40,7 @@ fn lone_record(
     given_by(alloc, definition, node)
 }
 
-/// What the payload of a Write gives to a resource (OMA LwM2M 1.1 Core, data formats): a good value of its kind in
+/// What the payload of a Write gives to a resource (OMA LwM2M 1.1 Core, data formats): a valid value of its kind in
 /// plain text or application/octet-stream, or in TLV a record of its number, alone. None where it gives nothing.
 pub fn resource_given(
     alloc: Global,
@@ -117,7 +117,7 @@ fn part_record(
     }
 }
 
-/// What the payload of a Write gives to a part of a multiple resource (OMA LwM2M 1.1 Core, data formats): a good value
+/// What the payload of a Write gives to a part of a multiple resource (OMA LwM2M 1.1 Core, data formats): a valid value
 /// of its kind in plain text or application/octet-stream, or in TLV a Resource Instance of the part's number, alone or
 /// as the one of a Multiple Resource of the resource's number. None where it gives nothing.
 pub fn part_given(

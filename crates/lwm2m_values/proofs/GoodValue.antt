@@ -1,4 +1,4 @@
--- The test of a value's limits tells a good value.
+-- The test of a value's limits tells a valid value.
 use Rattle.std.proofs.Common.{◌≡◌, ℕ, zero, suc, List, [], ◌∷◌, length, ℤ, pos, negsuc, true, FitsSigned, Option, Some}
 use Rattle.std.proofs.Common.{None, refl, sym, ap, ◌∙◌, arith, ltb-true, leb-true, lt-ltb, le-leb, w64}
 use Rattle.std.proofs.lemmas.Str.{IsUtf8-from_is_utf8, is_utf8-from_IsUtf8}

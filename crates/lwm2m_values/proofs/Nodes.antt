@@ -10,7 +10,7 @@ use Rattle.lwm2m_values.specs.Tree.{Trees, tree_of, trees_of}
 use Rattle.lwm2m_values.specs.Tlv.{IsHead, IsCut, IsNodes, IsFront, Holds, HasFault, is_allowed, inside, cut, nesting}
 use Rattle.lwm2m_values.specs.Tlv.{within}
 
--- one more record behind those that were read
+-- one more record after those that were read
 IsNodes-push : (nodes : List Node) (node : Node) (level : Around) (front head content : List ℕ) (kind : RecordType)
     (id : ℕ) → IsNodes (trees_of nodes) level front → IsHead head kind id (length content)
     → is_allowed level kind ≡ true → Holds (tree_of node) kind id content

@@ -1,4 +1,4 @@
--- Bytes are those of one good value of each kind, and the shortest bytes of a value are bytes of it, with none shorter.
+-- Bytes are those of one valid value of each kind, and the shortest bytes of a value are bytes of it; none are shorter.
 use Rattle.std.proofs.Common.{◌≡◌, ℕ, ◌<◌, ◌≤◌, ◌%◌, ◌^◌, List, [], ◌∷◌, ◌++◌, length, take, drop, get_or, ℤ, pos}
 use Rattle.std.proofs.Common.{negsuc, cond, eqb, ltb-true, inl, inr, Bool, true, false, refl, sym, ap, ◌∙◌, FitsSigned}
 use Rattle.std.proofs.Common.{arith}
@@ -29,7 +29,7 @@ pub bits_64 : (z : ℤ) → FitsSigned w64 z → cast_unsigned w64 z < 2 ^ 64
 bits_64 (pos n) fits = omega (arith, fits.sfits)
 bits_64 (negsuc n) fits = omega (arith, fits.sfits)
 
--- the number that so many bytes are
+-- the number that n bytes are
 small_mod : (n : ℕ) → n < 256 → n % 256 ≡ n
 small_mod n small = omega arith
 

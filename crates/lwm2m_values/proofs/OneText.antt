@@ -1,4 +1,4 @@
--- A plain text has one good value of each kind, and the shortest text of a value is a text of it.
+-- A plain text has one valid value of each kind, and the shortest text of a value is a text of it.
 use Rattle.std.proofs.Common.{◌≡◌, ℕ, ◌<◌, ◌^◌, List, [], ◌∷◌, ◌++◌, get_or, ℤ, pos, negsuc, neg_ℤ, inl, inr, Bool}
 use Rattle.std.proofs.Common.{true, false, refl, sym, ap, subst, ◌∙◌, Option, Some, None, unwrap_or, suc, FitsSigned}
 use Rattle.std.proofs.Common.{w64, arith}

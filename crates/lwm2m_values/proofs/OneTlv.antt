@@ -126,7 +126,7 @@ not_both _ _ _ (within level inner bytes nodes kind id head content rest e p h a
     stops f nodes level bytes _ q p (end_within level inner kind id head content rest h is_inner
     (not_both inner content e w)) (record_long head content rest kind id h)
 
--- two ends behind whole records are one place
+-- two ends after whole records are one place
 one_place : (f g : Trees) (level : Around) (bytes r s : List ℕ) → IsFront level bytes f r → IsFront level bytes g s
     → IsEnd level r → IsEnd level s → r ≡ s
 one_place f g level bytes r s p q u v = (one_front f g level p.0 q.0 r s p.1 q.1 (sym p.2 ∙ q.2) u v).1

@@ -47,7 +47,7 @@ number_of_text [] = None
 number_of_text (c ∷ cs) =
     if list_all (λ d. nat_lt (digit_value d) 10) (c ∷ cs) then Some (digits_value 10 (c ∷ cs)) else None
 
--- the number that such digits write, alone or behind a minus sign
+-- the number that such digits write, alone or after a minus sign
 abbrev pub signed_of_text : List ℕ → Option ℤ
 signed_of_text [] = None
 signed_of_text (c ∷ cs) =
@@ -59,7 +59,7 @@ flag_by off on [] = None
 flag_by off on (b ∷ []) = if b == off then Some false else (if b == on then Some true else None)
 flag_by off on (b ∷ c ∷ bytes) = None
 
--- the two numbers before and behind the first colon
+-- the two numbers before and after the first colon
 abbrev pub pair_of_text : List ℕ → Option (ℕ × ℕ)
 pair_of_text t =
     option_zip (number_of_text (before_first (λ c. c == 58) t)) (number_of_text (after_first (λ c. c == 58) t))
@@ -77,11 +77,11 @@ spelled_by_text kind.Opaque t = option_map Opaque (opaque_of_text t)
 spelled_by_text kind.Moment t = option_map Moment (signed_of_text t)
 spelled_by_text kind.Link t = option_map (λ p. Link p.0 p.1) (pair_of_text t)
 
--- the good value of this kind that the plain text spells, where there is one (OMA LwM2M 1.1 Core, plain text)
+-- the valid value of this kind that the plain text spells, where there is one (OMA LwM2M 1.1 Core, plain text)
 unfoldable pub value_of_text : ValueKind → List ℕ → Option Value
 value_of_text kind text = if_good (spelled_by_text kind text)
 
--- the width of an Integer of so many bytes
+-- the width of an Integer of n bytes
 abbrev pub width_of : ℕ → Option Width
 width_of n = if n == 1 then Some w8 else (if n == 2 then Some w16
     else (if n == 4 then Some w32 else (if n == 8 then Some w64 else None)))
@@ -106,7 +106,7 @@ spelled_by_bytes kind.Opaque b = Some (Opaque b)
 spelled_by_bytes kind.Moment b = option_map Moment (integer_of_bytes b)
 spelled_by_bytes kind.Link b = option_map (λ p. Link p.0 p.1) (pair_of_bytes b)
 
--- the good value of this kind with these bytes, as TLV has them, where there is one (OMA LwM2M 1.1 Core, data types)
+-- the valid value of this kind with these bytes, as TLV has them, where there is one (OMA LwM2M 1.1 Core, data types)
 unfoldable pub value_of_bytes : ValueKind → List ℕ → Option Value
 value_of_bytes kind bytes = if_good (spelled_by_bytes kind bytes)
 
@@ -124,19 +124,19 @@ id_width first = 1 + first / 32 % 2
 abbrev pub size_width : ℕ → ℕ
 size_width first = first / 8 % 4
 
--- the length of the content, by the bytes behind the identifier
+-- the length of the content, by the bytes after the identifier
 abbrev pub size_of : ℕ → List ℕ → ℕ
 size_of first behind =
     if size_width first == 0 then first % 8 else number_from_digits 256 (take (size_width first) behind)
 
--- a record: its type, its identifier, its content, and what stands behind it
+-- a record: its type, its identifier, its content, and what stands after it
 pub record Record : Type 0 where
   pub kind : RecordType
   pub id : ℕ
   pub content : List ℕ
   pub rest : List ℕ
 
--- the record of this first byte, with the bytes behind its head
+-- the record of this first byte, with the bytes after its head
 abbrev pub record_of : ℕ → List ℕ → RecordType → Record
 record_of first rest kind =
     let behind = drop (id_width first) rest in
@@ -173,7 +173,7 @@ with_tree None nodes = None
 with_tree (Some t) None = None
 with_tree (Some t) (Some nodes) = Some (more t nodes)
 
--- the trees of a record, where it may stand there, and of what stands behind it
+-- the trees of a record, where it may stand there, and of what stands after it
 abbrev pub nodes_from : (Around → List ℕ → Option Trees) → Around → Option Record → Option Trees
 nodes_from within level None = None
 nodes_from within level (Some r) =

@@ -64,7 +64,7 @@ abbrev mutual
   Holds (part i bytes) kind id content = (kind ≡ Part) × (i ≡ id) × (bytes ≡ content)
   Holds (single i bytes) kind id content = (kind ≡ Single) × (i ≡ id) × (bytes ≡ content)
 
-  -- the bytes are the records of these trees, each in any spelling, one behind the other, and each may stand there
+  -- the bytes are the records of these trees, each in any spelling, one after the other, and each may stand there
   pub IsNodes : Trees → Around → List ℕ → Type 0
   IsNodes none level bytes = bytes ≡ []
   IsNodes (more node nodes) level bytes =
@@ -77,11 +77,11 @@ abbrev mutual
 abbrev pub IsTlv : Trees → List ℕ → Type 0
 IsTlv nodes bytes = IsNodes nodes Top bytes
 
--- the bytes begin with the records of these trees, and this is behind them
+-- the bytes begin with the records of these trees, and this is after them
 abbrev pub IsFront : Around → List ℕ → Trees → List ℕ → Type 0
 IsFront level bytes nodes rest = (front : List ℕ) × IsNodes nodes level front × (bytes ≡ front ++ rest)
 
--- Behind whole records stands the first fault from the left: a record that is cut, one that may not stand there, or one
+-- After whole records stands the first fault from the left: a record that is cut, one that may not stand there, or one
 -- with a fault in its content.
 pub data HasFault : Around → List ℕ → TlvFault → Type 0 where
   cut : (level : Around) (bytes : List ℕ) (nodes : Trees) (rest : List ℕ) → IsFront level bytes nodes rest

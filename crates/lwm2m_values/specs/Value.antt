@@ -45,7 +45,7 @@ holds_bytes kind.Opaque = true
 holds_bytes kind.Moment = false
 holds_bytes kind.Link = false
 
--- a good value: one within the limits of its kind (OMA LwM2M 1.1 Core, data types; the two lengths are this profile's)
+-- a valid value: one within the limits of its kind (OMA LwM2M 1.1 Core, data types; the two lengths are this profile's)
 abbrev pub IsGood : Value → Type 0
 IsGood (Text t) = IsUtf8 t × (length t ≤ 255)
 IsGood (Whole z) = FitsSigned w64 z
@@ -64,7 +64,7 @@ is_integer n (Some (negsuc _)) = false
 abbrev pub IsDecimal : ℕ → List ℕ → Type 0
 IsDecimal n t = IsNumeral 10 t × (digits_value 10 t ≡ n)
 
--- such digits, alone or behind a minus sign
+-- such digits, alone or after a minus sign
 abbrev pub IsSigned : ℤ → List ℕ → Type 0
 IsSigned z t = ((n : ℕ) × IsDecimal n t × (z ≡ pos n))
     ⊎ ((n : ℕ) × (digits : List ℕ) × (t ≡ 45 ∷ digits) × IsDecimal n digits × (z ≡ neg_ℤ (pos n)))

@@ -4,7 +4,7 @@ use thiserror::Error;
 /// Why bytes or a text were not read as a value.
 #[derive(Clone, Copy, Debug, PartialEq, Eq, Error)]
 pub enum ValueFault {
-    /// No good value of the kind is spelled so.
+    /// No valid value of the kind is spelled so.
     #[error("not a value of its kind")]
     BadValue,
     /// Memory ran out.

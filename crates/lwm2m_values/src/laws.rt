@@ -9,7 +9,7 @@ ghost use Rattle.lwm2m_values.specs.Tlv.{IsTlv, HasFault, IsWritable, shortest_t
 ghost use Rattle.lwm2m_values.specs.Value.{kind_of, IsGood, IsText, text_of, IsBytesOf, bytes_of};
 ghost use Rattle.lwm2m_values.specs.Reading.{value_of_text, value_of_bytes, nodes_of_bytes};
 
-/// The laws of plain texts. A text has one good value of each kind, and the text that is written of a good value is
+/// The laws of plain texts. A text has one valid value of each kind, and the text that is written of a valid value is
 /// a text of it, so it is read again. What `value_of_text` computes of a kind and a text is that value.
 pub fn one_text_value()
     ensures written { (v : Value) → IsGood v → IsText v (text_of v) }
@@ -20,7 +20,7 @@ pub fn one_text_value()
     ensures reads_written { (v : Value) → IsGood v → value_of_text (kind_of v) (text_of v) ≡ Some v }
 {}
 
-/// The laws of values' bytes. Bytes are those of one good value of each kind; the bytes that are written of a good
+/// The laws of values' bytes. Bytes are those of one valid value of each kind; the bytes that are written of a valid
 /// value are bytes of it, so they are read again; and no bytes of a value are shorter. What `value_of_bytes` computes
 /// of a kind and bytes is that value.
 pub fn one_value_of_bytes()

@@ -34,7 +34,7 @@ pub(crate) fn signed_of(text: &[u8]) -> Option<i64>
     text.parse::<i64>().ok()
 }
 
-/// The texts before and behind the first colon.
+/// The texts before and after the first colon.
 fn halves_of(text: &[u8]) -> Option<(&str, &str)>
     ensures found { IfSome result (λ p. text.now ≡ p.0.now ++ 58 ∷ p.1.now) }
     ensures only { (a b : List ℕ) → AllDigits 10 a → AllDigits 10 b → text.now ≡ a ++ 58 ∷ b

@@ -63,7 +63,7 @@ fn opaque_of(alloc: Global, text: &[u8]) -> Result<Bytes, ValueFault>
     Ok(Bytes::from_vec(bytes))
 }
 
-/// The good value of this kind whose plain text this is, by the kind.
+/// The valid value of this kind whose plain text this is, by the kind.
 fn good_of(alloc: Global, kind: ValueKind, text: &[u8]) -> Result<Value, ValueFault>
     ensures found { IfOk result (λ v. IsGood v × (kind_of v ≡ kind) × IsText v text.now) }
     ensures only { (v : Value) → IsGood v → kind_of v ≡ kind → IsText v text.now
@@ -90,7 +90,7 @@ fn good_of(alloc: Global, kind: ValueKind, text: &[u8]) -> Result<Value, ValueFa
     }
 }
 
-/// The good value of this kind whose plain text this is.
+/// The valid value of this kind whose plain text this is.
 pub fn read_text(alloc: Global, kind: ValueKind, text: &[u8]) -> Result<Value, ValueFault>
     ensures found { IfOk result (λ v. IsGood v × (kind_of v ≡ kind) × IsText v text.now) }
     // There is no other such value, and where there is one it is read, unless memory runs out.
@@ -120,7 +120,7 @@ fn shortest_text(alloc: Global, value: &Value) -> Result<Bytes, AllocError>
     Ok(Bytes::from_vec(text.into_bytes()))
 }
 
-/// The shortest plain text of a value: no needless sign, no needless zero. Of a good value it is read again.
+/// The shortest plain text of a value: no needless sign, no needless zero. Of a valid value it is read again.
 #[tactic(auto, using(crate::proofs::OneText::text_written))]
 pub fn write_text(alloc: Global, value: &Value) -> Result<Bytes, AllocError>
     ensures shortest { IfOk result (λ b. b ≡ text_of value.now) }

@@ -6,7 +6,7 @@ ghost use Rattle.lwm2m_values.specs.Tlv.{IsHead, IsCut};
 
 use crate::level::{RecordType, type_of};
 
-/// A record at the front of bytes: its type, its identifier, its content, and the bytes behind it.
+/// A record at the front of bytes: its type, its identifier, its content, and the bytes after it.
 #[derive(Drop)]
 pub(crate) struct Record<'a> {
     pub(crate) kind: RecordType,

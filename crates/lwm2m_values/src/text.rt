@@ -36,7 +36,7 @@ impl Text {
         Text { text }
     }
 
-    /// The text, lent.
+    /// The text.
     pub fn as_str(&self) -> &str
         ensures { result.now ≡ self.now }
     {

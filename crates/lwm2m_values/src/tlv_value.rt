@@ -40,7 +40,7 @@ fn halves_of(bytes: &[u8]) -> Option<(u16, u16)>
     }
 }
 
-/// The good value of this kind with these bytes, by the kind.
+/// The valid value of this kind with these bytes, by the kind.
 fn good_of(alloc: Global, kind: ValueKind, bytes: &[u8]) -> Result<Value, ValueFault>
     ensures found { IfOk result (λ v. IsGood v × (kind_of v ≡ kind) × IsBytesOf v bytes.now) }
     ensures only { (v : Value) → IsGood v → kind_of v ≡ kind → IsBytesOf v bytes.now
@@ -73,7 +73,7 @@ fn good_of(alloc: Global, kind: ValueKind, bytes: &[u8]) -> Result<Value, ValueF
     }
 }
 
-/// The good value of this kind with these bytes, as TLV has them.
+/// The valid value of this kind with these bytes, as TLV has them.
 pub fn value_of(alloc: Global, kind: ValueKind, bytes: &[u8]) -> Result<Value, ValueFault>
     ensures found { IfOk result (λ v. IsGood v × (kind_of v ≡ kind) × IsBytesOf v bytes.now) }
     // There is no other such value, and where there is one it is read, unless memory runs out.
@@ -83,7 +83,7 @@ pub fn value_of(alloc: Global, kind: ValueKind, bytes: &[u8]) -> Result<Value, V
         → ¬ (IsBytesOf v bytes.now)) }
     ensures reading { MatchResult result (λ v. value_of_bytes kind bytes.now ≡ Some v)
         (λ f. f ≢ Memory → value_of_bytes kind bytes.now ≡ None) }
-    // Memory runs out for a Text or an Opaque alone, whose bytes are those of a good value.
+    // Memory runs out for a Text or an Opaque alone, whose bytes are those of a valid value.
     ensures fixed { holds_bytes kind ≡ false → IfErr result (λ f. f ≡ BadValue) }
     ensures bad { value_of_bytes kind bytes.now ≡ None → result ≡ Err BadValue }
 {
@@ -106,7 +106,7 @@ fn shortest_bytes(alloc: Global, value: &Value) -> Result<Bytes, AllocError>
     }
 }
 
-/// The shortest bytes of a value, as TLV has them. Of a good value they are read again.
+/// The shortest bytes of a value, as TLV has them. Of a valid value they are read again.
 #[tactic(auto, using(crate::proofs::OneBytes::bytes_written))]
 pub fn bytes_of(alloc: Global, value: &Value) -> Result<Bytes, AllocError>
     ensures shortest { IfOk result (λ b. b ≡ shortest_bytes_of value.now) }

@@ -88,7 +88,7 @@ code_name code =
     else (if code / 32 == 5 then name_in server_errors (code % 32)
     else None)))
 
--- a name behind a space, where there is one
+-- a name after a space, where there is one
 abbrev pub behind_space : Option (List ℕ) → List ℕ
 behind_space None = []
 behind_space (Some name) = codes " " ++ name

@@ -25,12 +25,12 @@ uri_byte b = if is_unescaped b then b ∷ [] else codes "%" ++ hex_word (b ∷ [
 abbrev pub uri_text : List ℕ → List ℕ
 uri_text value = flat_map uri_byte value
 
--- an option of this number, behind one of the number `before`, whose value is a number: the first of its number, of at
--- most so many bytes; another one is treated like an unrecognized option (RFC 7252 sections 5.4.3 and 5.4.5)
+-- an option of this number, after one of the number `before`, whose value is a number: the first of its number, of at
+-- most n bytes; another one is treated like an unrecognized option (RFC 7252 sections 5.4.3 and 5.4.5)
 abbrev pub is_recognized : ℕ → ℕ → ℕ → Opt → Bool
 is_recognized number most before o = o.number == number && (not (before == number) && nat_le (length o.value) most)
 
--- a segment of a path, behind the option of the number `before`; the first one has words before it
+-- a segment of a path, after the option of the number `before`; the first one has words before it
 abbrev pub segment_text : List ℕ → ℕ → Opt → List ℕ
 segment_text lead before o = (if before == o.number then [] else lead) ++ codes "/" ++ uri_text o.value
 
@@ -38,7 +38,7 @@ segment_text lead before o = (if before == o.number then [] else lead) ++ codes 
 abbrev pub plain_option : Opt → List ℕ
 plain_option o = codes ", option " ++ decimal o.number ++ codes " " ++ hex_word o.value
 
--- an option behind one of the number `before`; the Content-Format stands before the payload
+-- an option after one of the number `before`; the Content-Format stands before the payload
 abbrev pub option_text : ℕ → Opt → List ℕ
 option_text before o =
     if o.number == uri_path_option then segment_text (codes ", ") before o
@@ -49,12 +49,12 @@ option_text before o =
     else (if is_recognized content_format_option 2 before o then []
     else plain_option o)))))
 
--- options in their order, the first of them behind one of the number `before`
+-- options in their order, the first of them after one of the number `before`
 abbrev pub options_text : ℕ → List Opt → List ℕ
 options_text before [] = []
 options_text before (o ∷ os) = option_text before o ++ options_text o.number os
 
--- the Content-Format among options, the first of them behind one of the number `before`
+-- the Content-Format among options, the first of them after one of the number `before`
 abbrev pub format_in : ℕ → List Opt → Option ℕ
 format_in before [] = None
 format_in before (o ∷ os) =

@@ -22,7 +22,7 @@ abbrev pub payload_text : ℕ → List ℕ → List ℕ
 payload_text format payload =
     if (format == 0 || format == 40) && is_utf8 payload then quoted_word payload else hex_word payload
 
--- a Content-Format, and the payload behind it where there is one
+-- a Content-Format, and the payload after it where there is one
 abbrev pub formatted_payload : ℕ → List ℕ → List ℕ
 formatted_payload format [] = format_text format
 formatted_payload format (b ∷ bs) = format_text format ++ codes " " ++ payload_text format (b ∷ bs)

@@ -16,7 +16,7 @@ use coap_codec::{Opt, uint};
 use scenario_words::hex_word;
 use std::alloc::{AllocError, Global};
 
-/// Whether an option behind one of the number `before` is understood as a number.
+/// Whether an option after one of the number `before` is understood as a number.
 fn is_recognized(number: u16, most: usize, before: u16, option: &Opt) -> bool
     ensures { result ≡ is_recognized number most before option.now }
 {
@@ -81,7 +81,7 @@ fn put_plain_option(alloc: Global, out: &mut String, option: &Opt) -> Result<(),
     write!(out, ", option {number} {value}")
 }
 
-/// Writes an option that stands behind one of the number `before`.
+/// Writes an option that stands after one of the number `before`.
 fn put_option(alloc: Global, out: &mut String, before: u16, option: &Opt) -> Result<(), AllocError>
     ensures { OnOk result (string_bytes out.new ≡ string_bytes out.old ++ option_text before option.now) }
 {

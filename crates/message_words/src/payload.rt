@@ -47,7 +47,7 @@ fn payload_text(alloc: Global, format: u32, payload: &[u8]) -> Result<String, Al
     }
 }
 
-/// Writes a Content-Format, and the payload behind it where there is one.
+/// Writes a Content-Format, and the payload after it where there is one.
 fn put_formatted(
     alloc: Global,
     out: &mut String,

@@ -101,7 +101,7 @@ plain_change before level (Some n) text =
     neither (list_any (is_of n) before) (Err fault.Repeated) (change_to level n (target_of n text)) (λ h. cc)
     (plain_target level n (target_of n text))
 
--- want of memory is no fault of a query
+-- a lack of memory is no fault of a query
 pub reading_is_plain : (before : List Change) (level : Level) (q : List ℕ)
     → reading_of before level q ≢ Err fault.Memory
 reading_is_plain before level q = plain_change before level (name_of (name_part q)) (number_part q)

@@ -28,7 +28,7 @@ spellings =
 abbrev pub name_of : List ℕ → Option Name
 name_of text = lookup (bytes_eq text) spellings
 
--- the texts before and behind the first `=`; with none, all of it and nothing
+-- the texts before and after the first `=`; with none, all of it and nothing
 abbrev pub equals_sign : List ℕ → Option ℕ
 equals_sign query = position (λ c. c == 61) query
 
@@ -53,11 +53,11 @@ digits_of most text = cond (are_digits text && nat_le (length text) most) (Some 
 abbrev pub seconds_of : List ℕ → Option ℕ
 seconds_of text = cond (are_digits text && nat_lt (digits_value 10 text) 2147483648) (Some (digits_value 10 text)) None
 
--- the thousandths that 1 to 3 digits behind a point are
+-- the thousandths that 1 to 3 digits after a point are
 abbrev pub fraction_of : List ℕ → Option ℕ
 fraction_of text = option_map (λ n. n * 10 ^ (3 - length text)) (digits_of 3 text)
 
--- the thousandths that 1 to 15 digits are, with a fraction behind a point or none
+-- the thousandths that 1 to 15 digits are, with a fraction after a point or none
 abbrev pub unsigned_from : List ℕ → Option ℕ → Option ℕ
 unsigned_from text None = option_map (λ n. n * 1000) (digits_of 15 text)
 unsigned_from text (Some point) =
@@ -67,7 +67,7 @@ unsigned_from text (Some point) =
 abbrev pub unsigned_of : List ℕ → Option ℕ
 unsigned_of text = unsigned_from text (position (λ c. c == 46) text)
 
--- the same behind a minus sign or none
+-- the same after a minus sign or none
 abbrev pub thousandths_of : List ℕ → Option ℤ
 thousandths_of text =
     cond (slice_index text 0 == 45) (option_map (λ n. neg_ℤ (pos n)) (unsigned_of (drop 1 text)))
@@ -120,11 +120,11 @@ change_of before level None text = Err fault.UnknownName
 change_of before level (Some n) text =
     if list_any (is_of n) before then Err fault.Repeated else change_to level n (target_of n text)
 
--- the change that a query spells behind these changes, or its fault
+-- the change that a query spells after these changes, or its fault
 abbrev pub reading_of : List Change → Level → List ℕ → Result Change QueryFault
 reading_of before level query = change_of before level (name_of (name_part query)) (number_part query)
 
--- the changes that queries spell behind these, from the left, or the first fault
+-- the changes that queries spell after these, from the left, or the first fault
 abbrev pub changes_of : List Change → Level → List (List ℕ) → Result (List Change) QueryFault
 changes_of before level [] = Ok before
 changes_of before level (q ∷ qs) =

@@ -64,7 +64,7 @@ fn seconds_of(text: &[u8]) -> Option<i64>
     }
 }
 
-/// The thousandths that 1 to 3 digits behind a point are.
+/// The thousandths that 1 to 3 digits after a point are.
 fn fraction_of(text: &[u8]) -> Option<u64>
     ensures value { result ≡ fraction_of text.now }
     ensures fits { IfSome result (λ n. n < 10 ^ 18) }
@@ -77,7 +77,7 @@ fn fraction_of(text: &[u8]) -> Option<u64>
     }
 }
 
-/// The thousandths that 1 to 15 digits are, with a point and 1 to 3 digits behind them or not.
+/// The thousandths that 1 to 15 digits are, with a point and 1 to 3 digits after them or not.
 fn unsigned_of(text: &[u8]) -> Option<i64>
     ensures { result ≡ option_map pos (unsigned_of text.now) }
 {
@@ -102,7 +102,7 @@ fn negative(text: &[u8]) -> Option<i64>
     Some(-number)
 }
 
-/// The thousandths that such a text is, behind a minus sign or without one.
+/// The thousandths that such a text is, after a minus sign or without one.
 fn thousandths_of(text: &[u8]) -> Option<i64>
     ensures { result ≡ thousandths_of text.now }
 {

@@ -183,7 +183,7 @@ fn remove_at(entries: &mut IndexMap<Key, Observation>, place: usize)
     entries.shift_remove_index(place);
 }
 
-/// The observation at a place, lent.
+/// The observation at a place.
 fn observation_at(entries: &IndexMap<Key, Observation>, place: usize) -> Option<&Observation>
     ensures { option_copied result ≡ slice_get (values entries.now) place }
 {
@@ -343,7 +343,7 @@ impl Observations {
         self.len() == 0
     }
 
-    /// The observation at a place, lent. Its token has 8 bytes at most, and its Observe number is
+    /// The observation at a place. Its token has 8 bytes at most, and its Observe number is
     /// below 2^24.
     pub fn at(&self, place: usize) -> Option<&Observation>
         ensures value { option_copied result ≡ slice_get self.now place }

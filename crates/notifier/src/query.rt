@@ -34,7 +34,7 @@ fn name_part(query: &[u8]) -> &[u8]
     }
 }
 
-/// The text behind the first `=`.
+/// The text after the first `=`.
 fn number_part(query: &[u8]) -> Option<&[u8]>
     ensures { option_copied result ≡ number_part query.now }
 {
@@ -82,7 +82,7 @@ fn has_change(changes: &[Change], name: Name) -> bool
     changes.iter().any(|change| change.name == name)
 }
 
-/// The change of this name, by the text behind its `=`.
+/// The change of this name, by the text after its `=`.
 fn change_of(
     before: &[Change],
     level: Level,
@@ -103,7 +103,7 @@ fn change_of(
     }
 }
 
-/// The change that a query spells behind these, or its fault.
+/// The change that a query spells after these, or its fault.
 fn reading_of(before: &[Change], level: Level, query: &[u8]) -> Result<Change, QueryFault>
     ensures { result ≡ reading_of before.now level query.now }
 {
@@ -138,14 +138,14 @@ impl Changes {
         }
     }
 
-    /// The changes, lent.
+    /// The changes.
     pub fn as_slice(&self) -> &[Change]
         ensures { result.now ≡ self.now }
     {
         self.items.as_slice()
     }
 
-    /// Adds the change that one query spells, `name=number` or `name`, behind these.
+    /// Adds the change that one query spells, `name=number` or `name`, after these.
     #[tactic(auto, using(crate::proofs::QueryLaws::reading_is_plain))]
     pub fn add_query(&mut self, query: &[u8], level: Level) -> Result<(), QueryFault>
         ensures ok { OnOk result (changes_of self.old level (query.now ∷ []) ≡ Ok self.new) }

@@ -51,7 +51,7 @@ impl Catalog {
         })
     }
 
-    /// The definitions of the objects, lent: by ascending number, and the resources of each.
+    /// The definitions of the objects by ascending number, and the resources of each.
     pub fn objects(&self) -> &[ObjectDef]
         ensures value { result.now ≡ self.now }
         ensures order { IsInOrder self.now }
@@ -59,14 +59,14 @@ impl Catalog {
         self.objects.as_slice()
     }
 
-    /// The definition of the object of this number, lent.
+    /// The definition of the object of this number.
     pub fn object(&self, id: u16) -> Option<&ObjectDef>
         ensures { option_copied result ≡ object_of self.now id }
     {
         self.objects.iter().find(|o| o.id == id)
     }
 
-    /// The definition of a resource of an object, lent.
+    /// The definition of a resource of an object.
     pub fn resource(&self, object: u16, id: u16) -> Option<&ResourceDef>
         ensures { option_copied result ≡ definition_of self.now object id }
     {

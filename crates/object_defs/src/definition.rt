@@ -140,7 +140,7 @@ impl Resources {
         Ok(())
     }
 
-    /// The definitions, lent, by ascending number.
+    /// The definitions, by ascending number.
     pub fn as_slice(&self) -> &[ResourceDef]
         ensures { result.now ≡ self.now }
     {
@@ -168,7 +168,7 @@ impl ObjectDef {
         }
     }
 
-    /// The definition of the resource of this number, lent.
+    /// The definition of the resource of this number.
     pub fn resource(&self, id: u16) -> Option<&ResourceDef>
         ensures { option_copied result ≡ resource_in self.now.resources id }
     {

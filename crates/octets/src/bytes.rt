@@ -52,7 +52,7 @@ impl Bytes {
         self.items
     }
 
-    /// The bytes, lent.
+    /// The bytes.
     pub fn as_slice(&self) -> &[u8]
         ensures { result.now ≡ self.now }
     {

@@ -37,7 +37,7 @@ gap_quote b bs s c q = gap_byte b bs s c ∙ ap (λ t. onto_first b (scan (cond 
 gap_plain : (b : ℕ) (bs : List ℕ) → b ≢ 32 → b ≢ 35 → b ≢ 34 → scan gap (b ∷ bs) ≡ onto_first b (scan plain bs)
 gap_plain b bs s c q = gap_byte b bs s c ∙ ap (λ t. onto_first b (scan (cond t quoted plain) bs)) (ne_eqb b 34 q)
 
--- what stands behind a word, and the words there
+-- what stands after a word, and the words there
 
 abbrev Ends : List ℕ → List (List ℕ) → Type 0
 Ends behind ws = ((behind ≡ []) × (ws ≡ [])) ⊎ ((rest : List ℕ) × (behind ≡ 32 ∷ rest) × AreWords rest ws)

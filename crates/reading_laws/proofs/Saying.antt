@@ -152,7 +152,7 @@ new_to n (d ∷ ds) h =
     ap (λ b. b || list_any (is_of n) ds) (ne_eqb (rank d.name) (rank n) (λ e. h.0 (same_rank d.name n e)))
     ∙ new_to n ds h.1
 
--- one query behind others
+-- one query after others
 
 target_by : (level : Level) (n : Name) (o : Option (Option ℤ)) (b : Bool) (c : Change) → stands_at n level ≡ b
     → change_to level n o ≡ Ok c → (n ≡ c.name) × (o ≡ Some c.number) × (stands_at n level ≡ true)

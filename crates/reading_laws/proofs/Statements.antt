@@ -275,7 +275,7 @@ request_by w ws y (Some k) e h =
     let is : says.Request b.0.0 b.0.1 ≡ y = cc (b.2) in
     subst (λ s. IsSaidBy s (w ∷ ws)) is (k, ws, ap (λ x. x ∷ ws) (keyword_read w k e), b.1)
 
--- behind the keyword of a mnemonic stand the words of one
+-- after the keyword of a mnemonic stand the words of one
 by_keyword : (k : Keyword) (ws : List (List ℕ))
     → statement_of (keyword_word k ∷ ws) ≡ some (mnemonic_at k ws >>= requested)
 by_keyword (keyword.Request verb.Read) ws = refl

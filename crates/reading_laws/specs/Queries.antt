@@ -20,14 +20,14 @@ name_text Gt = codes "gt"
 name_text Lt = codes "lt"
 name_text St = codes "st"
 
--- 1 to 15 digits that write whole thousands, and nothing more; or behind them a point and 1 to 3 digits more
+-- 1 to 15 digits that write whole thousands, and nothing more; or after them a point and 1 to 3 digits more
 abbrev pub IsThousandths : ℕ → List ℕ → Type 0
 IsThousandths n text =
     ((w : ℕ) × IsDecimal w text × (length text ≤ 15) × (n ≡ w * 1000))
     ⊎ ((w : ℕ) × (f : ℕ) × (whole : List ℕ) × (part : List ℕ) × (text ≡ whole ++ 46 ∷ part) × IsDecimal w whole
     × (length whole ≤ 15) × IsDecimal f part × (length part ≤ 3) × (n ≡ w * 1000 + f * 10 ^ (3 - length part)))
 
--- the same, behind a minus sign or none
+-- the same, after a minus sign or none
 abbrev pub IsSignedThousandths : ℤ → List ℕ → Type 0
 IsSignedThousandths z text =
     ((n : ℕ) × IsThousandths n text × (z ≡ pos n))
@@ -57,7 +57,7 @@ QueriesAreSaid = (level : Level) (query : List ℕ) (c : Change) → (reading_of
 abbrev pub IsNew : Name → List Change → Type 0
 IsNew n before = AllByRecursion (λ d. d.name ≢ n) before
 
--- behind those changes each query says one of these, and its name is not there before
+-- after those changes each query says one of these, and its name is not there before
 abbrev pub AreSaid : List Change → Level → List (List ℕ) → List Change → Type 0
 AreSaid before level [] cs = cs ≡ []
 AreSaid before level (q ∷ qs) [] = ⊥
@@ -71,7 +71,7 @@ ChangesAreSaid =
 abbrev pub Names : Name → List ℕ → Type 0
 Names n query = (query ≡ name_text n) ⊎ ((text : List ℕ) × (query ≡ name_text n ++ 61 ∷ text))
 
--- what is wrong with a query behind those changes: no known name; or a name that is there before; or a number that is
+-- what is wrong with a query after those changes: no known name; or a name that is there before; or a number that is
 -- not one of its name; or a level at which the name does not stand
 abbrev pub IsFault : List Change → Level → List ℕ → QueryFault → Type 0
 IsFault before level q fault.UnknownName = (n : Name) → Names n q → ⊥

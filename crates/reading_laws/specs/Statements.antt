@@ -21,7 +21,7 @@ use Rattle.scenario_statements.specs.declared.statement.Statement.TheVariants as
 use Rattle.scenario_statements.specs.Grammar.{statement_of}
 use Rattle.scenario_statements.specs.Spelling.{IsWithin, ops_word}
 
--- this word, behind that of its kind, says a value
+-- this word, after that of its kind, says a value
 abbrev pub IsValueWord : Value → List ℕ → Type 0
 IsValueWord (value.Text t) w = IsQuoted w t
 IsValueWord (value.Whole z) w = (w ≡ signed_decimal z) × FitsSigned w64 z
@@ -44,7 +44,7 @@ abbrev pub mandatory_word : Bool → List ℕ
 mandatory_word true = codes "mandatory"
 mandatory_word false = codes "optional"
 
--- these words say this mnemonic: its keyword, and the words that are read behind it
+-- these words say this mnemonic: its keyword, and the words that are read after it
 abbrev pub IsAsked : ℕ → Mnemonic → List (List ℕ) → Type 0
 IsAsked server m ws =
     (keyword : Keyword) × (others : List (List ℕ)) × (ws ≡ keyword_word keyword ∷ others)

@@ -49,7 +49,7 @@ is_equal Less h = cc
 is_equal Equal h = refl
 is_equal Greater h = cc
 
--- behind an insertion
+-- after an insertion
 pub behind : (s : Stored) (p q : FullPath) (v : Value)
     → value_at (with_value s p v) q ≡ cond (eq_by_cmp path_cmp q p) (Some v) (value_at s q)
 behind s p q v = map.get-insert path_total s.values p v q

@@ -59,7 +59,7 @@ leaves client mode path payload format =
     let values = option_and_then (values_given client.catalogue path payload) format in
     left (mode_at mode path) client path values (event_of path values)
 
--- the format of a Write, and the store behind it
+-- the format of a Write, and the store after it
 pub record Comes (client : Client) (server : ℕ) (mode : Mode) (path : Path) (number : Option ℕ) (payload : List ℕ)
     : Type 0 where
   pub format : Format

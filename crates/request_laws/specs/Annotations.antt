@@ -11,7 +11,7 @@ use Rattle.device_requests.specs.declared.answer.Code.TheVariants.{Changed}
 use Rattle.device_requests.specs.Client.{Client}
 use Rattle.device_requests.specs.WriteAttributes.{attributes_outcome, level_at}
 
--- the number of an attribute behind changes: that of the last change of its name, which may unset it
+-- the number of an attribute after changes: that of the last change of its name, which may unset it
 abbrev pub changed_by : List Change → Name → Option ℤ → Option ℤ
 changed_by [] n before = before
 changed_by (c ∷ changes) n before = changed_by changes n (if rank c.name == rank n then c.number else before)

@@ -33,7 +33,7 @@ pub record IsSame (old new : Stored) (p : InstancePath) : Type 0 where
   pub there : has_instance new p ≡ has_instance old p
   pub values : (q : FullPath) → instance_in q ≡ p → value_at new q ≡ value_at old q
 
--- the new instance is there, and in it what the payload gives and is kept, as behind a Write that replaces; with two
+-- the new instance is there, and in it what the payload gives and is kept, as after a Write that replaces; with two
 -- accounts or more there is one of Access Control that refers to it; all else is as it was
 pub record IsCreated (client : Client) (server o : ℕ) (payload : List ℕ) (outcome : Outcome) : Type 0 where
   pub born : Newborn

@@ -43,7 +43,7 @@ pub fn deletes_take_what_belongs()
     ensures { DeletesTake }
 {}
 
-/// Behind a Write there is what was given, where it can be read; Replace takes away what was not given, Partial Update
+/// After a Write there is what was given, where it can be read; Replace takes away what was not given, Partial Update
 /// leaves it; nothing else changes.
 pub fn writes_are_kept()
     ensures instances { InstancesAreWritten }

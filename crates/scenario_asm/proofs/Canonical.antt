@@ -16,7 +16,7 @@ use Rattle.scenario_asm.specs.Denotes.AreSaid.{done, blank, stated}
 use Rattle.scenario_asm.specs.Text.{assembled}
 use Rattle.scenario_asm.proofs.Denoting.{denotes_so, wordless}
 
--- statements behind others
+-- statements after others
 pub lead_append : (d e f : Draft) (xs ys : List Statement) → Lead d xs e → Lead e ys f → Lead d (xs ++ ys) f
 lead_append d e f [] ys l m = subst (λ x. Lead x ys f) (sym l) m
 lead_append d e f (x ∷ xs) ys l m = (l.0, l.1, lead_append l.0 e f xs ys l.2 m)

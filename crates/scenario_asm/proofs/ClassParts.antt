@@ -1,4 +1,4 @@
--- What accepted additions put into a class has numbers of 16 bits, and good values.
+-- What accepted additions put into a class has numbers of 16 bits, and valid values.
 use Rattle.std.proofs.Common.{◌≡◌, ℕ, ◌≤◌, ◌<◌, Bool, true, false, ◌&&◌, leb, List, [], ◌∷◌, length, None, refl, sym}
 use Rattle.std.proofs.Common.{subst, ◌∙◌, arith}
 use Rattle.std.specs.Prelude.{not, ◌==◌, nat_le, is_some}

@@ -70,7 +70,7 @@ taken_is : (o : Option TemplateFault) → is_taken o ≡ true → o ≡ None
 taken_is None h = refl
 taken_is (Some f) h = absurd cc
 
--- items that are added one after another, each behind those before it
+-- items that are added one after another, each after those before it
 items_lead : {A : Type 0} (say : A → Statement) (part : List A → Layout A) (state : List A → Template)
     (P : List A → Type 0) (s : Scenario) (o : Option ℕ)
     → ((before : List A) (a : A) → P before → (part before).Good a

@@ -9,7 +9,7 @@ use Rattle.scenario_asm.specs.declared.fault.AsmFault.{AsmFault}
 use Rattle.scenario_asm.specs.Draft.{Draft, nothing}
 use Rattle.scenario_asm.specs.Text.{IsReached, assembled, at_line, line_after, lines_after, then_lines, whole, whole_of}
 
--- one more than the bytes that are left, and nothing behind the last line
+-- one more than the bytes that are left, and nothing after the last line
 abbrev pub bytes_left : Option (List ℕ) → ℕ
 bytes_left None = 0
 bytes_left (Some bytes) = suc (length bytes)
@@ -74,7 +74,7 @@ taken_line text first left more n d e so_far cut taken = record {
   taken = taken_more so_far.done first 0 nothing d e so_far.taken taken;
 }
 
--- the line behind those that were taken
+-- the line after those that were taken
 pub reached_here : (text first : List ℕ) (left more : List (List ℕ)) (n : ℕ) (d : Draft) → HasTaken text left n d
     → left ≡ first ∷ more → IsReached text (n + 1)
 reached_here text first left more n d so_far cut = record {

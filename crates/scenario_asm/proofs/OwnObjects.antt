@@ -1,4 +1,4 @@
--- The objects of a class's own stand behind the base objects, and have numbers that words can say.
+-- The objects of a class's own stand after the base objects, and have numbers that words can say.
 use Rattle.std.proofs.Common.{◌≡◌, ℕ, ◌≤◌, ◌<◌, Bool, true, false, cond, eqb, ltb, leb, List, [], ◌∷◌, ◌++◌, Option}
 use Rattle.std.proofs.Common.{None, refl, ap, ◌∙◌, arith}
 use Rattle.std.specs.Prelude.{option_map}
@@ -19,7 +19,7 @@ use Rattle.scenario_asm.proofs.Each.{chosen, each_inserted}
 abbrev pub IsOwn : ObjectDef → Type 0
 IsOwn o = IsWithin 10241 32768 o.id × AllByRecursion (λ d. d.id < 65536) o.resources
 
--- the base objects, and behind them such objects
+-- the base objects, and after them such objects
 pub record HasOwn (catalogue : List ObjectDef) : Type 0 where
   pub own : List ObjectDef
   pub are : catalogue ≡ base ++ own

@@ -122,7 +122,7 @@ does_fit : (m : Mnemonic) → IsGood m → fits_mnemonic m ≡ true
 does_fit (mnemonic.Request r) good = good.fits
 does_fit (mnemonic.Reset mid) good = refl
 
--- what stands before a step, and behind it
+-- what stands before a step, and after it
 abbrev here : List Template → List Row → ℕ → List Step → Draft
 here cs rows class past = shut (script cs (rows ++ row_with class past ∷ []))
 

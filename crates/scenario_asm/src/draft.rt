@@ -329,7 +329,7 @@ impl Draft {
         }
     }
 
-    /// The scenario that was stated, behind so many lines.
+    /// The scenario that was stated, after n lines.
     pub(crate) fn finish(mut self, lines: usize) -> Result<Scenario, AsmFault>
         ensures made { MatchResult result (λ s. whole self ≡ Ok s) (λ f. f.cause ≢ Memory → whole self ≡ Err f) }
         ensures refused { (f : AsmFault) → whole self ≡ Err f → result ≡ Err f }

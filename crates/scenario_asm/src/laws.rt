@@ -15,7 +15,7 @@ pub fn statements_are_sayable()
     ensures { (s : Scenario) → IsScenario s → AllByRecursion IsSayable (statements s) }
 {}
 
-/// The lines of a canonical text are those of its statements, behind whose last LF one more stands, which is empty;
+/// The lines of a canonical text are those of its statements, after whose last LF one more stands, which is empty;
 /// so what they say is these statements, and scenarios that are written alike say the same.
 pub fn canonical_lines()
     ensures lines { (s : Scenario) → IsScenario s → lines (printed s) ≡ map line_of (statements s) ++ [] ∷ [] }

@@ -18,7 +18,7 @@ use scenario_statements::Statement;
 use std::alloc::{AllocError, Global};
 
 /// The canonical text of a scenario: a line for each statement, its words with one space between each two, and an LF
-/// behind the last line too. A datagram that a mnemonic denotes is written as that mnemonic, any other as `recv`.
+/// after the last line too. A datagram that a mnemonic denotes is written as that mnemonic, any other as `recv`.
 #[tactic(auto, using(crate::proofs::Round::text_again))]
 pub fn disassemble(alloc: Global, scenario: &Scenario) -> Result<String, AllocError>
     ensures text { IfOk result (λ t. string_bytes t ≡ printed scenario.now) }

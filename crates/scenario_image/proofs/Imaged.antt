@@ -52,7 +52,7 @@ pub few_classes : (known : List Template) → classes.Good known → length know
 unfolding classes
 few_classes known h = let below : length known < 257 = ltb-true (length known) 257 h.0.1 in omega arith
 
--- classes and rows that were read, one behind the other
+-- classes and rows that were read, one after the other
 pub read_valid : (known lent : List Template) (rs : List Row) (bytes rest behind : List ℕ) → IsBytes bytes
     → lent ≡ known → classes.read bytes ≡ Ok (known, rest) → (rows lent).read rest ≡ Ok (rs, behind)
     → IsValid (script_of known rs)

@@ -18,7 +18,7 @@ use Rattle.scenario_image.specs.declared.step.Step.TheVariants.{Event, Post, Nee
 use Rattle.scenario_image.specs.Play.{step_after, step_outputs, state_after, PutsOut, is_step_refused, shown, IsStopped}
 use Rattle.scenario_image.specs.Play.{IsLeft, is_event, outputs_in}
 
--- so many of the steps are not refused behind those before them
+-- the first n steps are not refused after those before them
 abbrev pub AreTaken : Machine → List Step → ℕ → Type 0
 AreTaken f steps n =
     (k : ℕ) (s : Step) → slice_get (take n steps) k ≡ Some s
@@ -28,7 +28,7 @@ AreTaken f steps n =
 abbrev pub IsDeaf : Device → List Step → Type 0
 IsDeaf device steps = (device.spent ≡ true) × (list_any is_event steps ≡ false)
 
--- a device has taken the first n of these steps, and this is what they put out
+-- a device has taken the first n of these steps, and this is what they output
 pub record IsPlayed (old new : Device) (steps : List Step) (n : ℕ) (all : List (Option (List Output))) : Type 0 where
   pub count : length all ≡ n
   pub shows : (f : Machine) → Shows old f → Shows new (state_after f (take n steps))
@@ -38,7 +38,7 @@ pub record IsPlayed (old new : Device) (steps : List Step) (n : ℕ) (all : List
   pub taken : (f : Machine) → Shows old f → AreTaken f steps n
   pub deaf : old.spent ≡ true → IsDeaf new (take n steps)
 
--- the state behind one step more
+-- the state after one step more
 pub after_push : (f : Machine) (steps : List Step) (step : Step)
     → state_after f (steps ++ step ∷ []) ≡ step_after (state_after f steps) step
 after_push f [] step = refl

@@ -36,7 +36,7 @@ unfolding classes
 few_good list few good =
     ((number_good w16 (length list) (omega (arith, few)), lt-ltb (length list) 257 (omega (arith, few))), good)
 
--- the rows of a valid scenario have bytes behind its classes
+-- the rows of a valid scenario have bytes after its classes
 pub valid_rows : (s : Scenario) → IsValid s → (rows s.classes).Good s.rows
 valid_rows s valid = rows_good s.classes s.rows valid.classes valid.rows valid.each
 

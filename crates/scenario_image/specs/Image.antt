@@ -17,7 +17,7 @@ classes = counted (at_most 256 (number w16)) (λ before. class)
 abbrev pub script_of : List Template → List Row → Scenario
 script_of classes rows = record { classes = classes; rows = rows }
 
--- behind the classes: rows of devices of these
+-- after the classes: rows of devices of these
 abbrev pub behind_classes : List Template → Layout Scenario
 behind_classes known = last (λ s. s.rows) (script_of known) (rows known)
 

@@ -1,4 +1,4 @@
--- The states of a row's device, and what each of its steps puts out.
+-- The states of a row's device, and what each of its steps outputs.
 use Rattle.std.specs.Prelude.{◌≡◌, ◌≤◌, ◌⊎◌, ℕ, Bool, IsTrue, true, false, List, [], ◌∷◌, length, take, Option, None}
 use Rattle.std.specs.Prelude.{Some, slice_get}
 use Rattle.device_template.specs.Template.{Template}
@@ -14,24 +14,24 @@ use Rattle.scenario_image.specs.Scenario.{Scenario}
 abbrev pub start : Template → Machine
 start class = record { kept = start_of class; recorded = [] }
 
--- what a step puts out: an event what the device does, a post and a need nothing
+-- what a step outputs: an event what the device does, a post and a need nothing
 abbrev pub step_outputs : Machine → Step → List Output
 step_outputs f (Event event) = outputs_of f event
 step_outputs f (Post group) = []
 step_outputs f (Need group count) = []
 
--- the flat state behind a step: a post and a need change nothing
+-- the flat state after a step: a post and a need change nothing
 abbrev pub step_after : Machine → Step → Machine
 step_after f (Event event) = flat_after f event
 step_after f (Post group) = f
 step_after f (Need group count) = f
 
--- the flat state behind steps, one after another
+-- the flat state after steps, one after another
 abbrev pub state_after : Machine → List Step → Machine
 state_after f [] = f
 state_after f (step ∷ steps) = state_after (step_after f step) steps
 
--- the flat state of a device of the class behind its first k steps
+-- the flat state of a device of the class after its first k steps
 abbrev pub state_at : Template → List Step → ℕ → Machine
 state_at class steps k = state_after (start class) (take k steps)
 
@@ -57,7 +57,7 @@ is_step_refused device (Need group count) = false
 abbrev pub shown : Machine → Device
 shown f = record { spent = false; flat = living f }
 
--- one of the steps, of a device that is in this flat state before step 0, is refused behind those before it
+-- one of the steps, of a device that is in this flat state before step 0, is refused after those before it
 pub record IsStopped (f : Machine) (steps : List Step) : Type 0 where
   pub place : ℕ
   pub step : Step
@@ -70,7 +70,7 @@ is_event (Event event) = true
 is_event (Post group) = false
 is_event (Need group count) = false
 
--- what was put out, nothing where the device was not asked
+-- what was output, nothing where the device was not asked
 abbrev pub outputs_in : Option (List Output) → List Output
 outputs_in None = []
 outputs_in (Some outputs) = outputs

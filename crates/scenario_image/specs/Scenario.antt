@@ -168,13 +168,13 @@ step_fault s step = if not (is_in_range step) then Some Range else fault_in s.cl
 abbrev pub one_row : Template → List Step → Scenario
 one_row class steps = record { classes = class ∷ []; rows = record { class = 0; steps = steps } ∷ [] }
 
--- so many of the steps are taken, each behind those before it
+-- the first n steps are taken, each after those before it
 abbrev pub AreTaken : Template → List Step → ℕ → Type 0
 AreTaken class steps n =
     (k : ℕ) (step : Step) → k < n → slice_get steps k ≡ Some step
     → step_fault (one_row class (take k steps)) step ≡ None
 
--- the first step that is refused behind those before it is refused so
+-- the first step that is refused after those before it is refused so
 pub record IsFirstRefusal (class : Template) (steps : List Step) (fault : ScenarioFault) : Type 0 where
   pub place : ℕ
   pub step : Step

@@ -42,7 +42,7 @@ impl Items for Classes {
     }
 }
 
-/// The classes of a scenario, and the bytes behind them.
+/// The classes of a scenario, and the bytes after them.
 #[tactic(auto, unfolding(crate::specs::Image::classes))]
 fn classes_at(alloc: Global, bytes: &[u8]) -> Result<(Vec<Template>, &[u8]), ReadError>
     ensures { Gives (λ x. (x.0.items, x.1.now)) result (classes.read bytes.now) }
@@ -51,7 +51,7 @@ fn classes_at(alloc: Global, bytes: &[u8]) -> Result<(Vec<Template>, &[u8]), Rea
     items_at(&Classes, alloc, usize::from(count), rest)
 }
 
-/// The classes and the rows, and the bytes behind them.
+/// The classes and the rows, and the bytes after them.
 #[tactic(auto, unfolding(crate::specs::Image::lists))]
 fn lists_at(alloc: Global, bytes: &[u8]) -> Result<(Scenario, &[u8]), ReadError>
     ensures { Gives (λ x. (x.0, x.1.now)) result (lists.read bytes.now) }
@@ -61,7 +61,7 @@ fn lists_at(alloc: Global, bytes: &[u8]) -> Result<(Scenario, &[u8]), ReadError>
     Ok((Scenario::of_parts(alloc, classes, rows), rest))
 }
 
-/// The bytes behind the mark and the version.
+/// The bytes after the mark and the version.
 fn header_at(bytes: &[u8]) -> Result<&[u8], ReadError>
     ensures read { Gives (λ rest. (tt, rest.now)) result (header.read bytes.now) }
     ensures no_memory { IfErr result (λ e. e ≢ errors.Memory) }
@@ -77,7 +77,7 @@ fn header_at(bytes: &[u8]) -> Result<&[u8], ReadError>
     Ok(rest)
 }
 
-/// How many classes there are, behind the mark and the version, and the bytes behind it.
+/// How many classes there are, after the mark and the version, and the bytes after it.
 #[tactic(auto, unfolding(crate::specs::Image::front))]
 fn front_at(bytes: &[u8]) -> Result<(u16, &[u8]), ReadError>
     ensures read { Gives (λ x. (x.0, x.1.now)) result (front.read bytes.now) }
@@ -177,7 +177,7 @@ fn put_image(out: &mut Vec<u8>, scenario: &Scenario) -> Result<(), AllocError>
     Ok(())
 }
 
-/// The image of the scenario. Every scenario has one; nothing but want of memory is refused.
+/// The image of the scenario. Every scenario has one; it fails only where memory runs out.
 pub fn save(alloc: Global, scenario: &Scenario) -> Result<Vec<u8>, AllocError>
     ensures image { IfOk result (λ v. IsImage v.items scenario.now) }
     ensures again { IfOk result (λ v. read_all image v.items ≡ Ok scenario.now) }

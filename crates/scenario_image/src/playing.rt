@@ -11,7 +11,7 @@ use crate::step::Step;
 use device_machine::{Device, Outputs, StepFault, Template};
 use std::alloc::{AllocError, Global};
 
-/// Lets a device take a step, and gives what it puts out: none at a post and a need, of which the device hears nothing.
+/// Lets a device take a step, and gives what it outputs: none at a post and a need, of which the device hears nothing.
 ///
 /// `Memory` leaves the device spent; `Spent` says that it was spent, and changes nothing.
 pub fn take_step(device: &mut Device, step: &Step) -> Result<Option<Outputs>, StepFault>
@@ -34,7 +34,7 @@ pub fn take_step(device: &mut Device, step: &Step) -> Result<Option<Outputs>, St
     }
 }
 
-/// Keeps what was put out behind the others.
+/// Keeps what was output after the others.
 fn keep(all: &mut Vec<Option<Outputs>>, outputs: Option<Outputs>) -> Result<(), AllocError>
     ensures { OnOk result (all.new.items ≡ all.old.items ++ outputs ∷ []) }
 {
@@ -42,9 +42,9 @@ fn keep(all: &mut Vec<Option<Outputs>>, outputs: Option<Outputs>) -> Result<(), 
     Ok(())
 }
 
-/// Lets a device take steps, one after another, and gives what each puts out.
+/// Lets a device take steps, one after another, and gives what each outputs.
 ///
-/// `Spent` says that the device refuses one of them behind those before it: a spent one refuses each event. After an
+/// `Spent` says that the device refuses one of them after those before it: a spent one refuses each event. After an
 /// `Err` the device has taken some of them, or is spent.
 pub fn take_steps(
     alloc: Global,
@@ -69,9 +69,9 @@ pub fn take_steps(
     Ok(all)
 }
 
-/// Lets a new device of the class take steps, and gives the device and what each step puts out.
+/// Lets a new device of the class take steps, and gives the device and what each step outputs.
 ///
-/// `Spent` says that the device refuses one of them behind those before it.
+/// `Spent` says that the device refuses one of them after those before it.
 pub fn play(
     alloc: Global,
     class: &Template,

@@ -133,7 +133,7 @@ fn held_at<'a>(
     }
 }
 
-/// A step of a class with these accounts, and the bytes behind it.
+/// A step of a class with these accounts, and the bytes after it.
 #[tactic(auto, unfolding(crate::specs::Layout::step))]
 pub fn step_at<'a>(
     alloc: Global,
@@ -173,7 +173,7 @@ impl<'a> Items for Steps<'a> {
     }
 }
 
-/// The steps of a row of a class with these accounts, at most 4,096, and the bytes behind them.
+/// The steps of a row of a class with these accounts, at most 4,096, and the bytes after them.
 #[tactic(auto, unfolding(crate::specs::Layout::steps))]
 pub fn steps_at<'a>(
     alloc: Global,

@@ -45,7 +45,7 @@ impl Row {
         self.class
     }
 
-    /// The steps, lent, in order.
+    /// The steps, in order.
     pub(crate) fn steps(&self) -> &[Step]
         ensures { result.now ≡ self.now.steps }
     {

@@ -19,7 +19,7 @@ use byte_layout::{
 use device_machine::Template;
 use std::alloc::{AllocError, Global};
 
-/// The accounts of the class at this place, lent; none where there is no such class.
+/// The accounts of the class at this place; none where there is no such class.
 fn accounts_of(classes: &[Template], class: u16) -> &[u16]
     ensures { result.now ≡ accounts_of classes.now class }
 {
@@ -42,7 +42,7 @@ fn class_number_at<'a>(classes: &[Template], bytes: &'a [u8]) -> Result<(u16, &'
     Ok((class, rest))
 }
 
-/// The row of a device of one of these classes, and the bytes behind it.
+/// The row of a device of one of these classes, and the bytes after it.
 #[tactic(auto, unfolding(crate::specs::Layout::row))]
 pub(crate) fn row_at<'a>(
     alloc: Global,
@@ -96,7 +96,7 @@ impl<'a> PutItems for Rows<'a> {
     }
 }
 
-/// The rows of devices of these classes, at most 4,096, and the bytes behind them.
+/// The rows of devices of these classes, at most 4,096, and the bytes after them.
 #[tactic(auto, unfolding(crate::specs::Layout::rows))]
 pub(crate) fn rows_at<'a>(
     alloc: Global,

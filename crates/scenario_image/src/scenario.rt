@@ -88,7 +88,7 @@ impl Scenario {
         None
     }
 
-    /// Adds a class behind those that there are.
+    /// Adds a class after those that there are.
     ///
     /// `Limit`: a scenario has at most 256 classes. A class that was refused is dropped.
     pub fn add_class(&mut self, class: Template) -> Result<(), ScenarioFault>
@@ -116,7 +116,7 @@ impl Scenario {
         None
     }
 
-    /// Adds the row of a device of the class at this place, without a step, behind those that there are.
+    /// Adds the row of a device of the class at this place, without a step, after those that there are.
     ///
     /// `Missing` (there is no such class), then `Limit`: a scenario has at most 4,096 rows.
     pub fn add_row(&mut self, class: u16) -> Result<(), ScenarioFault>
@@ -173,21 +173,21 @@ impl Scenario {
         Ok(())
     }
 
-    /// The class at this place, lent.
+    /// The class at this place.
     pub fn class(&self, class: u16) -> Option<&Template>
         ensures { option_copied result ≡ slice_get self.now.classes class }
     {
         self.classes.get(usize::from(class))
     }
 
-    /// The classes, lent, in order.
+    /// The classes, in order.
     pub(crate) fn all_classes(&self) -> &[Template]
         ensures { result.now ≡ self.now.classes }
     {
         self.classes.as_slice()
     }
 
-    /// The rows, lent, in order.
+    /// The rows, in order.
     pub(crate) fn all_rows(&self) -> &[Row]
         ensures lent { result.now ≡ self.now.rows }
         ensures valid { IsValid self.now }
@@ -224,7 +224,7 @@ impl Scenario {
         total
     }
 
-    /// The row of a device, lent: the place of its class, and its steps in order.
+    /// The row of a device: the place of its class, and its steps in order.
     pub fn row(&self, device: u16) -> Option<(u16, &[Step])>
         ensures { option_map (λ r. record { class = r.0; steps = r.1.now }) result ≡ slice_get self.now.rows device }
     {

@@ -12,7 +12,7 @@ use std::alloc::Global;
 impl Scenario {
     /// A scenario of this class alone, with one device, whose row has these steps.
     ///
-    /// The first step that `add_step` refuses behind those before it is refused as there.
+    /// The first step that `add_step` refuses after those before it is refused as there.
     pub fn single(
         alloc: Global,
         class: Template,

@@ -12,9 +12,9 @@ use object_defs::Path;
 pub enum Step {
     /// The device takes an event.
     Event(Event),
-    /// The device posts to a board's group. Its state stays, and it puts out nothing.
+    /// The device posts to a board's group. Its state stays, and it outputs nothing.
     Post(u8),
-    /// The device waits until there are so many posts to a group, 1 to 1,000,000. Its state stays, and it puts out
+    /// The device waits until there are n posts to a group, 1 to 1,000,000. Its state stays, and it outputs
     /// nothing.
     Need(u8, u32),
 }

@@ -1,4 +1,4 @@
--- Lists in which one item stands between two parts, and items that are each good behind those before them.
+-- Lists in which one item stands between two parts, and items that are each good after those before them.
 use Rattle.std.proofs.Common.{◌≡◌, ℕ, suc, ◌+◌, ◌<◌, ◌≤◌, Bool, true, false, cond, not, ◌||◌, eqb, ltb, List, [], ◌∷◌}
 use Rattle.std.proofs.Common.{◌++◌, map, length, find, None, Some, refl, sym, ap, subst, ◌∙◌, append_assoc}
 use Rattle.std.proofs.Common.{length-append, arith}
@@ -91,7 +91,7 @@ shorter xs front a back e =
     let m : length xs ≡ length front + suc (length back) = ap length e ∙ length-append front (a ∷ back) in
     omega (arith, m)
 
--- ---- items that are each good behind those before them
+-- ---- items that are each good after those before them
 
 pub each_good : {A : Type 0} (part : List A → Layout A) (all before xs : List A) → all ≡ before ++ xs
     → ((front : List A) (a : A) (back : List A) → all ≡ front ++ a ∷ back → (part front).Good a)

@@ -64,7 +64,7 @@ none_found number n (x ∷ xs) h =
     let p = both_true (ltb (number x) n) (list_all (λ y. nat_lt (number y) n) xs) h in
     ap (λ b. cond b (Some x) (find (λ y. eqb (number y) n) xs)) (other (number x) n p.0) ∙ none_found number n xs p.1
 
--- a definition that may stand behind so few is not refused
+-- a definition that may stand after so few is not refused
 fits_lines : (a b c : Bool) → a ≡ true → b ≡ false → c ≡ false
     → first_line ((not a, catalog.IdRange) ∷ (b, catalog.Duplicate) ∷ (c, catalog.TooMany) ∷ []) ≡ None
 fits_lines true false false h i j = refl
@@ -85,7 +85,7 @@ not_refused_at c id before d vendor found good short =
     (sound before d good) (ap is_some (none_found (λ r. r.id) d.id before (is_above before d good)))
     (few (length before) short))
 
--- only want of memory is left
+-- only a lack of memory is left
 pub only_memory : (f : TemplateFault) (left : ℕ) → (f ≢ faults.Memory → ⊥) → refusal f left ≡ errors.Memory
 only_memory faults.Memory left h = refl
 only_memory faults.Range left h = absurd (h (λ (e : faults.Range ≡ faults.Memory). cc))
@@ -98,7 +98,7 @@ pub with_definitions-push : (c : List ObjectDef) (id : ℕ) (ds : List ResourceD
 with_definitions-push c id [] d = refl
 with_definitions-push c id (e ∷ ds) d = with_definitions-push (with_resource c id e) id ds d
 
--- the object behind one more definition
+-- the object after one more definition
 pub found_on : (c : List ObjectDef) (id : ℕ) (before : List ResourceDef) (d : ResourceDef)
     → object_of c id ≡ Some (defined id before) → (resource before).Good d
     → object_of (with_resource c id d) id ≡ Some (defined id (before ++ d ∷ []))

@@ -63,7 +63,7 @@ flags_again (suc (suc zero)) below = refl
 flags_again (suc (suc (suc zero))) below = refl
 flags_again (suc (suc (suc (suc n)))) below = absurd (omega arith)
 
--- behind the operations, and behind the flags
+-- after the operations, and after the flags
 abbrev flags_and_kind : ℕ → Ops → Layout ResourceDef
 flags_and_kind n o =
     split (λ r. flags_of r.multiple r.mandatory) (judged BadField (flags_fit o) (number w8))

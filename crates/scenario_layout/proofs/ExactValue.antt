@@ -50,7 +50,7 @@ part_number_exact =
     (λ n good. behind_flag_exact n)
     (λ n good o h. flag_agrees n good.1 o h)
 
--- a path behind its first two numbers, and behind its first
+-- a path after its first two numbers, and after its first
 abbrev resource_on : ℕ → ℕ → Layout FullPath
 resource_on o i = split (λ p. p.resource) (number w16) (λ r. last (λ p. p.part) (path_of o i r) part_number)
 

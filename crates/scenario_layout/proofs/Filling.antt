@@ -29,7 +29,7 @@ use Rattle.scenario_layout.proofs.Ordered.{from_entries_of, insert_end}
 
 -- ---- what an item's test says
 
--- an item that passes is read behind the others
+-- an item that passes is read after the others
 pub passed : {A : Type 0} (test : A → Bool) (p : Layout A) (before : List A) (bytes : List ℕ) (a : A) (rest : List ℕ)
     → p.read bytes ≡ Ok (a, rest) → test a ≡ true
     → grown before ((judged BadField test p).read bytes) ≡ Ok (before ++ a ∷ [], rest)
@@ -113,7 +113,7 @@ all_mapped : {X Y : Type 0} (f : X → Y) (p : Y → Bool) (xs : List X)
 all_mapped f p [] = refl
 all_mapped f p (x ∷ xs) = ap (λ b. p (f x) && b) (all_mapped f p xs)
 
--- the test of an instance behind those of the class
+-- the test of an instance after those of the class
 abbrev pub instance_test : Template → InstancePath → Bool
 instance_test c p =
     list_all (λ q. is_lt (instance_cmp q p)) (instances_in c)
@@ -146,7 +146,7 @@ instance_fits c p h g =
     ap (λ b. b && is_taken (instance_fault (with_instances c (instances_in c)) p)) h
     ∙ taken_none _ (ap (λ k. instance_fault k p) (sym (instances_itself c)) ∙ g)
 
--- the instances behind an addition
+-- the instances after an addition
 pub instance_added : (c : Template) (p : InstancePath)
     → list_all (λ q. is_lt (instance_cmp q p)) (instances_in c) ≡ true
     → instances_in (with_store c (with_instance c.store p)) ≡ instances_in c ++ p ∷ []

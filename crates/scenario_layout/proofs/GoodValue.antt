@@ -70,7 +70,7 @@ held_good (values.Opaque b) good = (opaque_good b good.1, refl)
 held_good (values.Moment z) good = (signed64_good z good, refl)
 held_good (values.Link o i) good = (number_good w16 o good.0, (number_good w16 i good.1, refl))
 
--- a good value has bytes wherever its kind fits
+-- a valid value has bytes wherever its kind fits
 pub value_good : (wanted : Option ValueKind) (v : Value) → IsGood v → fits wanted (kind_of v) ≡ true
     → (value wanted).Good v
 unfolding value
@@ -102,7 +102,7 @@ held_is_good (values.Opaque b) h bytes = good_opaque b h.0 (front_bytes (opaque.
 held_is_good (values.Moment z) h bytes = signed64_fits z h.0
 held_is_good (values.Link o i) h bytes = (number_below w16 o h.0, number_below w16 i h.1.0)
 
--- what has bytes, and spells bytes, is a good value whose kind fits
+-- what has bytes, and spells bytes, is a valid value whose kind fits
 pub good_value : (wanted : Option ValueKind) (v : Value) → (value wanted).Good v → IsBytes ((value wanted).spell v)
     → IsGood v × (fits wanted (kind_of v) ≡ true)
 unfolding value

@@ -10,7 +10,7 @@ use Rattle.byte_layout.proofs.Loop.{IsLeft, starts, goes_on, ends, is_done}
 use Rattle.device_template.specs.Template.{Template}
 use Rattle.scenario_layout.specs.Growing.{grown}
 
--- what was read behind the others
+-- what was read after the others
 grown_ok : {A : Type 0} (before : List A) (r : Result (A × List ℕ) Break) (after : List A) (rest : List ℕ)
     → grown before r ≡ Ok (after, rest) → (a : A) × (r ≡ Ok (a, rest)) × (after ≡ before ++ a ∷ [])
 grown_ok {A} before (Ok x) after rest e =
@@ -45,7 +45,7 @@ grows_no_more part e front count i bytes total lt h so_far =
 
 module _ {A : Type 0} (part : Template → List A → Layout A) (items : Template → List A)
     (put : Template → List A → Template) where
-  -- behind the items that the class t has more than c, so many are left
+  -- after the items that the class t has more than c, this many are left
   abbrev pub IsFilled : Template → Template → ℕ → List ℕ → Result (List A × List ℕ) Break → Type 0
   IsFilled c t left bytes total = IsLeft (part c) (items t) left bytes total × (t ≡ put c (items t))
 

@@ -17,7 +17,7 @@ use Rattle.scenario_layout.specs.Class.{objects_in, with_objects, defined, objec
 use Rattle.scenario_layout.proofs.ExactClass.{object_id_exact}
 use Rattle.scenario_layout.proofs.Defined.{found_end, defined_end}
 
--- the catalogue behind a new object
+-- the catalogue after a new object
 catalogue_on : (c u : Template) (id : ℕ) → c ≡ with_objects c (objects_in c)
     → u ≡ with_objects c (objects_in c ++ new_object id ∷ []) → u.catalogue ≡ c.catalogue ++ new_object id ∷ []
 catalogue_on c u id itself made =
@@ -42,7 +42,7 @@ list_good : (ds : List ResourceDef) → resources.Good ds → (each resource (le
 unfolding resources
 list_good ds good = good.1
 
--- the class behind the object and its definitions
+-- the class after the object and its definitions
 pub object_behind : (c u v : Template) (id : ℕ) (ds : List ResourceDef) → c ≡ with_objects c (objects_in c)
     → list_all (λ o. nat_lt o.id id) c.catalogue ≡ true → resources.Good ds
     → u ≡ with_objects c (objects_in c ++ new_object id ∷ [])

@@ -83,7 +83,7 @@ module _ {K X : Type 0} {R : K → K → Ordering} where
         ap (λ r. by_order r ((k, v) ∷ e ∷ es) ((e.0, v) ∷ es) (e ∷ put R k v es)) (greater total k e.0 p.0)
         ∙ ap (λ t. e ∷ t) (put_end k v es p.1)
 
-    -- a key behind all goes to the end
+    -- a key after all goes to the end
     pub insert_end : (m : FinMap R X) (k : K) (v : X) → list_all (λ e. is_lt (R e.0 k)) (finite.entries m) ≡ true
         → finite.entries (finite.insert m k v) ≡ finite.entries m ++ (k, v) ∷ []
     insert_end m k v h = finite.entries-insert total m k v ∙ put_end k v (finite.entries m) h
@@ -107,13 +107,13 @@ module _ {A K : Type 0} {R : K → K → Ordering} (total : IsTotalOrder R) (key
       no_end true = refl
       no_end false = refl
 
-  -- an item behind all of them is the last
+  -- an item after all of them is the last
   pub last_push : (items : List A) (a : A) → list_all (λ b. is_lt (R (key b) (key a))) items ≡ true
       → IsLast R key (items ++ a ∷ []) (Some (key a))
   last_push items a h =
       λ j. all_push (λ b. is_lt (R (key b) j)) items a ∙ last_test (key a) j items (is_lt (R (key a) j)) refl h
 
--- items, each of which stands behind those before it, ascend
+-- items, each of which stands after those before it, ascend
 module _ {A K X : Type 0} (R : K → K → Ordering) (as_entry : A → K × X) (part : List A → Layout A)
     (behind : (before : List A) (a : A) → (part before).Good a
     → list_all (λ b. is_lt (R (as_entry b).0 (as_entry a).0)) before ≡ true) where

@@ -11,7 +11,7 @@ use Rattle.std.specs.FinMap.Entries.{put, by_order, below_all, is_sorted, find}
 use Rattle.scenario_layout.proofs.Between.{IsOneMore, behind_head, all_of}
 use Rattle.scenario_layout.proofs.Ordered.{both_true, and_true, true_is, greater}
 
--- each key is below those behind it
+-- each key is below those after it
 abbrev pub Ascends : {A K : Type 0} → (K → K → Ordering) → (A → K) → List A → Type 0
 Ascends R key [] = Unit {0}
 Ascends R key (a ∷ items) = AllByRecursion (λ b. is_lt (R (key a) (key b)) ≡ true) items × Ascends R key items
@@ -69,7 +69,7 @@ module _ {A K : Type 0} (R : K → K → Ordering) (key : A → K) where
       (front_below front a back h.1)
 
 module _ {K X : Type 0} {R : K → K → Ordering} (total : IsTotalOrder R) where
-  -- a key behind all is not found
+  -- a key after all is not found
   pub none_behind : (k : K) (es : List (K × X)) → list_all (λ e. is_lt (R e.0 k)) es ≡ true → find R k es ≡ None
   none_behind k [] h = refl
   none_behind k (e ∷ es) h =

@@ -1,4 +1,4 @@
--- Values behind their paths, written one after another, as a loop does over pairs of a path and a lent value.
+-- Values after their paths, written one after another, as a loop does over pairs of a path and a borrowed value.
 use Rattle.std.proofs.Common.{◌≡◌, ℕ, ◌+◌, ◌<◌, ◌≤◌, List, [], ◌∷◌, ◌++◌, All, Bor, length, take, get_or, sym, ap}
 use Rattle.std.proofs.Common.{subst, ◌∙◌, append_assoc, take_all}
 use Rattle.std.proofs.Math.ListN.{get_or-map}

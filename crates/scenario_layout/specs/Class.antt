@@ -21,7 +21,7 @@ use Rattle.device_template.specs.Template.{account_fault, object_fault, instance
 
 -- ---- what is written of a class, each in ascending order
 
--- the objects of the class's own: those behind the base objects
+-- the objects of the class's own: those after the base objects
 abbrev pub objects_in : Template → List ObjectDef
 objects_in c = drop (length base) c.catalogue
 
@@ -77,7 +77,7 @@ object c before = split (λ o. o.id) (object_id c before) (λ id. last (λ o. o.
 unfoldable pub objects : Template → Layout (List ObjectDef)
 objects c = counted (at_most 11 (number w8)) (object c)
 
--- an instance behind those before it, which the class takes
+-- an instance after those before it, which the class takes
 unfoldable pub instance : Template → List InstancePath → Layout InstancePath
 instance c before =
     judged BadField (λ p. list_all (λ q. is_lt (instance_cmp q p)) before
@@ -86,7 +86,7 @@ instance c before =
 unfoldable pub instances : Template → Layout (List InstancePath)
 instances c = counted (number w16) (instance c)
 
--- the path of a value, behind those before it, at which the class takes values of some kind
+-- the path of a value, after those before it, at which the class takes values of some kind
 unfoldable pub value_path : Template → List (FullPath × Value) → Layout FullPath
 value_path c before =
     judged BadField (λ p. list_all (λ e. is_lt (path_cmp e.0 p)) before

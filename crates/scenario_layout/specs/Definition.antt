@@ -42,7 +42,7 @@ abbrev pub definition : ℕ → Ops → ℕ → ValueKind → ResourceDef
 definition n o flags k =
     record { id = n; ops = o; multiple = flags == 1 || flags == 3; mandatory = nat_lt 1 flags; kind = k }
 
--- what stands behind the number of a resource: operations, flags, kind
+-- what stands after the number of a resource: operations, flags, kind
 abbrev pub behind_id : ℕ → Layout ResourceDef
 behind_id n = split (λ r. r.ops) ops (λ o. split (λ r. flags_of r.multiple r.mandatory)
     (judged BadField (flags_fit o) (number w8))

@@ -14,20 +14,20 @@ use Rattle.object_defs.specs.declared.definition.ResourceDef.{ResourceDef}
 use Rattle.device_template.specs.declared.fault.TemplateFault.{TemplateFault}
 use Rattle.device_template.specs.declared.fault.TemplateFault.TheVariants as faults
 
--- the items before, and the one that is read behind them
+-- the items before, and the one that is read after them
 abbrev pub grown : {A : Type 0} → List A → Result (A × List ℕ) Break → Result (List A × List ℕ) Break
 grown before r = r >>= λ x. Ok (before ++ x.0 ∷ [], x.1)
 
--- behind this key, where there is one
+-- after this key, where there is one
 abbrev pub is_behind : {K : Type 0} → (K → K → Ordering) → Option K → K → Bool
 is_behind R None k = true
 is_behind R (Some last) k = is_lt (R last k)
 
--- what stands behind this key stands behind that of each item, and the other way round
+-- what stands after this key stands after that of each item, and the other way round
 abbrev pub IsLast : {A K : Type 0} → (K → K → Ordering) → (A → K) → List A → Option K → Type 0
 IsLast R key items last = (k : _) → list_all (λ a. is_lt (R (key a) k)) items ≡ is_behind R last k
 
--- why an item was not read that a class did not take, so many bytes from the end
+-- why an item was not read that a class did not take, n bytes from the end
 abbrev pub refusal : TemplateFault → ℕ → ReadError
 refusal faults.Memory left = errors.Memory
 refusal faults.Range left = errors.Fault (BadField left)

@@ -97,7 +97,7 @@ text = judged BadField is_utf8 (sized (number w8))
 unfoldable pub opaque : Layout (List ℕ)
 opaque = sized (at_most 1024 (number w16))
 
--- what stands behind the number of a kind
+-- what stands after the number of a kind
 abbrev pub of_kind : ValueKind → Layout Value
 of_kind kinds.Text = last bytes_in (λ t. values.Text t) text
 of_kind kinds.Whole = last number_in (λ z. values.Whole z) (signed w64)

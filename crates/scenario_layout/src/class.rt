@@ -23,7 +23,7 @@ use device_template::Template;
 use std::alloc::Global;
 pub use writing::put_class;
 
-/// A class at the front of the bytes, and the bytes behind it; else the first break from the left, or `Memory`.
+/// A class at the front of the bytes, and the bytes after it; else the first break from the left, or `Memory`.
 ///
 /// No room is made for more than is read, so a count that is too large for the bytes costs nothing before it is Cut.
 #[tactic(auto, unfolding(crate::specs::Class::class))]
@@ -36,7 +36,7 @@ pub fn class_at(alloc: Global, bytes: &[u8]) -> Result<(Template, &[u8]), ReadEr
     Ok((template, rest))
 }
 
-/// Adds what stands behind the accounts to a class that has nothing else yet.
+/// Adds what stands after the accounts to a class that has nothing else yet.
 #[tactic(auto, unfolding(crate::specs::Class::behind_accounts))]
 fn behind_accounts_at<'a>(
     alloc: Global,

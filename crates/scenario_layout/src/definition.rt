@@ -97,7 +97,7 @@ fn flags_of(r: ResourceDef) -> u8
     u8::from(r.multiple) + 2 * u8::from(r.mandatory)
 }
 
-/// What stands behind the number of a resource.
+/// What stands after the number of a resource.
 fn definition_at(id: u16, bytes: &[u8]) -> Result<(ResourceDef, &[u8]), ReadError>
     ensures read { Gives (λ x. (x.0, x.1.now)) result ((behind_id id).read bytes.now) }
     ensures no_memory { IfErr result (λ e. e ≢ Memory) }

@@ -26,7 +26,7 @@ pub fn exact_layouts()
     ensures class { IsExact class }
 {}
 
-/// What has bytes: paths of numbers below 65,536; good values whose kind fits, and only those, if what they spell is
+/// What has bytes: paths of numbers below 65,536; valid values whose kind fits, and only those, if what they spell is
 /// bytes; and definitions whose number is above those before them, an executable one single and of the kind Text.
 pub fn what_has_bytes()
     ensures place { (p : InstancePath) → p.object < 65536 → p.instance < 65536 → place.Good p }

@@ -128,7 +128,7 @@ type_again Non = refl
 token_again : (t : List ℕ) → length t ≤ 8 → token_from t ≡ Some t
 token_again t h = ap (λ b. cond b (Some t) None) (le-leb (length t) 8 h)
 
--- behind the path, the action and the token
+-- after the path, the action and the token
 abbrev with_token : RequestType → ℕ → Path → Action → Option (List ℕ) → Option Mnemonic
 with_token k mid p a t =
     option_map (λ t. mnemonic.Request (record { kind = k; mid = mid; token = t; path = p; action = a })) t

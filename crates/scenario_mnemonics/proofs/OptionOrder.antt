@@ -30,7 +30,7 @@ lower n k [] h t = tt
 lower n k (o ∷ os) h t =
     (record { ascends = omega (arith, h, t.0.ascends); in_range = t.0.in_range; fits = t.0.fits }, t.1)
 
--- options of one number, behind one of no greater number and before others
+-- options of one number, after one of no greater number and before others
 list_then : (n k : ℕ) (vs : List (List ℕ)) (tail : List Opt) → n ≤ k → k < 65536 → AllByRecursion Short vs
     → IsOptionList k tail → IsOptionList n (options_with k vs ++ tail)
 list_then n k [] tail h small short t = lower n k tail h t

@@ -138,7 +138,7 @@ pub keyword_again : (k : Keyword) → keyword_named (keyword_word k) ≡ Some k
 keyword_again (keyword.Request v) = verb_again v
 keyword_again keyword.Reset = refl
 
--- words with a space before each, behind a word, are words joined by spaces
+-- words with a space before each, after a word, are words joined by spaces
 pub joined : (w : List ℕ) (ws : List (List ℕ)) → w ++ spaced ws ≡ join_with_byte 32 (w ∷ ws)
 joined w [] = append-nil w
 joined w (v ∷ ws) = ap (λ t. w ++ 32 ∷ t) (joined v ws)

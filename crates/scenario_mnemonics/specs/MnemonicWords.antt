@@ -115,7 +115,7 @@ format_of w =
 abbrev pub short_token : List ℕ → Result (List ℕ) Cause
 short_token bs = if nat_le (length bs) 8 then Ok bs else Err Token
 
--- a token in hex, and the words behind it
+-- a token in hex, and the words after it
 abbrev pub token_at : List (List ℕ) → Result (List ℕ × List (List ℕ)) Cause
 token_at ws = do
   b ← word_by bytes_of ws
@@ -161,7 +161,7 @@ abbrev pub queries_at : List (List ℕ) → Result (List (List ℕ)) Cause
 queries_at [] = Err Missing
 queries_at (w ∷ ws) = formed_queries (w ∷ ws)
 
--- what stands behind the path
+-- what stands after the path
 abbrev pub action_at : Verb → List (List ℕ) → Result Action Cause
 action_at verb.Read ws = format_at ws >>= (λ f. Ok (act.Read f))
 action_at verb.Observe ws = format_at ws >>= (λ f. Ok (act.Observe f))
@@ -181,7 +181,7 @@ said h a = (
   mnemonic.Request (record { kind = h.kind; mid = h.mid; token = h.token; path = h.path; action = a }),
 )
 
--- the words behind a keyword: a server, and the mnemonic that it sends
+-- the words after a keyword: a server, and the mnemonic that it sends
 abbrev pub mnemonic_at : Keyword → List (List ℕ) → Result (ℕ × Mnemonic) Cause
 mnemonic_at (keyword.Request v) ws = do
   h ← head_at ws
@@ -193,7 +193,7 @@ mnemonic_at keyword.Reset ws = do
   e ← ended m.1
   Ok (s.0, mnemonic.Reset m.0)
 
--- the words behind the path, as they are written
+-- the words after the path, as they are written
 abbrev pub details : Action → List (List ℕ)
 details (act.Read f) = format_word f ∷ []
 details (act.Observe f) = format_word f ∷ []
@@ -206,7 +206,7 @@ details (act.Create f b) = format_word f ∷ hex_word b ∷ []
 details (act.Attr qs) = qs
 details (act.Exec b) = hex_word b ∷ []
 
--- the words behind the keyword, as they are written
+-- the words after the keyword, as they are written
 abbrev pub behind_keyword : ℕ → Mnemonic → List (List ℕ)
 behind_keyword server (mnemonic.Request r) =
     decimal server ∷ type_word r.kind ∷ decimal r.mid ∷ hex_word r.token ∷ path_text r.path ∷ details r.action

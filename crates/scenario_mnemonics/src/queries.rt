@@ -37,7 +37,7 @@ impl Queries {
         Some(Queries { items })
     }
 
-    /// The queries, lent; they are well formed.
+    /// The queries; they are well formed.
     pub fn as_slice(&self) -> &[Bytes]
         ensures queries { result.now ≡ self.now }
         ensures formed { are_queries self.now ≡ true }

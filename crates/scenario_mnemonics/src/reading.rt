@@ -33,7 +33,7 @@ fn type_of(alloc: Global, word: &[u8]) -> Result<RequestType, Cause>
     }
 }
 
-/// The first word as a type, and the line behind it.
+/// The first word as a type, and the line after it.
 fn request_type(alloc: Global, line: &[u8]) -> Result<(RequestType, &[u8]), Cause>
     ensures { Gives (λ x. (x.0, words x.1.now)) result (word_by type_of (words line.now)) }
 {
@@ -58,7 +58,7 @@ fn format_of(alloc: Global, word: &[u8]) -> Result<Format, Cause>
     }
 }
 
-/// The first word as a format, and the line behind it.
+/// The first word as a format, and the line after it.
 fn format(alloc: Global, line: &[u8]) -> Result<(Format, &[u8]), Cause>
     ensures { Gives (λ x. (x.0, words x.1.now)) result (word_by format_of (words line.now)) }
 {
@@ -74,7 +74,7 @@ fn short_token(bytes: Bytes) -> Result<Token, Cause>
     Token::new(bytes).ok_or(Cause::Token)
 }
 
-/// The first word as a token, and the line behind it.
+/// The first word as a token, and the line after it.
 fn token(alloc: Global, line: &[u8]) -> Result<(Token, &[u8]), Cause>
     ensures { Gives (λ x. (x.0, words x.1.now)) result (token_at (words line.now)) }
 {
@@ -83,7 +83,7 @@ fn token(alloc: Global, line: &[u8]) -> Result<(Token, &[u8]), Cause>
     Ok((token, line))
 }
 
-/// The first words of a request, and the line behind them.
+/// The first words of a request, and the line after them.
 fn head(alloc: Global, line: &[u8]) -> Result<(Head, &[u8]), Cause>
     ensures { Gives (λ x. (x.0, words x.1.now)) result (head_at (words line.now)) }
 {
@@ -167,7 +167,7 @@ fn queries(alloc: Global, line: &[u8]) -> Result<Queries, Cause>
     queries_of(words)
 }
 
-/// The words behind the path.
+/// The words after the path.
 fn action(alloc: Global, verb: Verb, line: &[u8]) -> Result<Action, Cause>
     ensures { Gives (λ a. a) result (action_at verb (words line.now)) }
 {
@@ -224,7 +224,7 @@ fn reset(line: &[u8]) -> Result<(u16, Mnemonic), Cause>
     Ok((server as u16, Mnemonic::Reset(mid as u16)))
 }
 
-/// The line behind a keyword, to its end, as a server from 1 to 65534 and the mnemonic that it sends. Words are read
+/// The line after a keyword, to its end, as a server from 1 to 65534 and the mnemonic that it sends. Words are read
 /// from the left, and the first fault is answered: `Missing` (no word), `Token` (the wrong form, a token of more
 /// than 8 bytes, a query that no word can say, or a word too many), `UnknownWord` (a type or a format), `Range` (a
 /// number), or `Memory`. That the path has as many numbers as it needs is not looked at: [`Mnemonic::fits`].

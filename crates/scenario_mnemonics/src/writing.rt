@@ -90,7 +90,7 @@ fn put_queries(out: &mut String, queries: &[Bytes]) -> Result<(), AllocError>
     Ok(())
 }
 
-/// Writes the words behind the path.
+/// Writes the words after the path.
 fn put_details(alloc: Global, out: &mut String, action: &Action) -> Result<(), AllocError>
     ensures { OnOk result (string_bytes out.new ≡ string_bytes out.old ++ spaced (details action.now)) }
 {
@@ -123,7 +123,7 @@ fn put_request(alloc: Global, out: &mut String, request: &Request) -> Result<(),
     put_details(alloc, out, &request.action)
 }
 
-/// Writes the words behind the keyword.
+/// Writes the words after the keyword.
 fn put_words(
     alloc: Global,
     out: &mut String,

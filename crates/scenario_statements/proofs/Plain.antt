@@ -54,7 +54,7 @@ not_quote b bs large =
     gap_byte b bs (λ e. omega arith) (λ e. omega arith)
     ∙ ap (λ t. onto_first b (scan (cond t quoted plain) bs)) (ne_eqb b 34 (λ e. omega arith))
 
--- a bare word, and what stands behind the space that ends it
+-- a bare word, and what stands after the space that ends it
 pub word_then : (w rest : List ℕ) → is_bare w ≡ true → words (w ++ 32 ∷ rest) ≡ w ∷ words rest
 word_then [] rest h = cc
 word_then (b ∷ w) rest h =

@@ -35,7 +35,7 @@ use Rattle.scenario_statements.proofs.Plain.{is_shown, bare_shown, spaced_shown,
 abbrev requested : ℕ × Mnemonic → Result Statement Cause
 requested m = Ok (says.Request m.0 m.1)
 
--- behind the keyword of a mnemonic stand the words of one
+-- after the keyword of a mnemonic stand the words of one
 by_keyword : (k : Keyword) (ws : List (List ℕ))
     → statement_of (keyword_word k ∷ ws) ≡ some (mnemonic_at k ws >>= requested)
 by_keyword (keyword.Request verb.Read) ws = refl

@@ -1,4 +1,4 @@
--- What the words of a line say: a keyword, and the words that stand behind it, from the left. Each fault is the first
+-- What the words of a line say: a keyword, and the words that stand after it, from the left. Each fault is the first
 -- one.
 use Rattle.std.specs.Prelude.{ℕ, Bool, true, false, List, [], ◌∷◌, Option, None, Some, Result, Ok, Err, codes}
 use Rattle.std.specs.Prelude.{if◌then◌else◌}
@@ -29,7 +29,7 @@ abbrev pub one_of : List ℕ → List ℕ → List ℕ → Result Bool Cause
 one_of first second w =
     if bytes_eq w first then Ok true else (if bytes_eq w second then Ok false else Err (name_fault w))
 
--- one number from low to high, and no word behind it
+-- one number from low to high, and no word after it
 abbrev pub only_number : ℕ → ℕ → List (List ℕ) → Result ℕ Cause
 only_number low high ws = do
   n ← word_by (number_of low high) ws
@@ -92,7 +92,7 @@ abbrev pub request : Option Keyword → List ℕ → List (List ℕ) → Result 
 request None w ws = Err (name_fault w)
 request (Some keyword) w ws = mnemonic_at keyword ws >>= (λ m. Ok (says.Request m.0 m.1))
 
--- what a line about a device says, by its keyword and the words behind it
+-- what a line about a device says, by its keyword and the words after it
 abbrev pub of_device : List ℕ → List (List ℕ) → Result Statement Cause
 of_device w ws =
     if bytes_eq w (codes "device") then (only_number 0 65535 ws >>= (λ n. Ok (says.Device n)))
@@ -103,7 +103,7 @@ of_device w ws =
     else (if bytes_eq w (codes "post") then (only_number 0 255 ws >>= (λ n. Ok (says.Post n)))
     else (if bytes_eq w (codes "need") then need ws else request (keyword_named w) w ws))))))
 
--- what a line says, by its keyword and the words behind it
+-- what a line says, by its keyword and the words after it
 abbrev pub statement_by : List ℕ → List (List ℕ) → Result Statement Cause
 statement_by w ws =
     if bytes_eq w (codes "scenario") then (only_number 1 1 ws >>= (λ n. Ok says.Scenario))

@@ -25,7 +25,7 @@ fn ops_named(alloc: Global, word: &[u8]) -> Result<Ops, Cause>
     }
 }
 
-/// The first word of the line as the operations of a resource, and the line behind it.
+/// The first word of the line as the operations of a resource, and the line after it.
 pub(crate) fn ops(alloc: Global, line: &[u8]) -> Result<(Ops, &[u8]), Cause>
     ensures { Gives (λ x. (x.0, words x.1.now)) result (word_by ops_named (words line.now)) }
 {
@@ -46,7 +46,7 @@ fn one_of(alloc: Global, first: &str, second: &str, word: &[u8]) -> Result<bool,
     }
 }
 
-/// Whether the first word of the line is the first of two names, of which it has to be one, and the line behind it.
+/// Whether the first word of the line is the first of two names, of which it has to be one, and the line after it.
 pub(crate) fn choice<'a>(
     alloc: Global,
     first: &str,

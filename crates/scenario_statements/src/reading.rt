@@ -1,4 +1,4 @@
-//! The statement of a line: its keyword, and a reader for the words behind each keyword.
+//! The statement of a line: its keyword, and a reader for the words after each keyword.
 
 ghost use Rattle.std.specs.Prelude.{◌≡◌, ◌≤◌, IfOk};
 ghost use Rattle.scenario_words.specs.Words.{words};
@@ -17,7 +17,7 @@ use scenario_words::{
 };
 use std::alloc::Global;
 
-/// One number, and no word behind it.
+/// One number, and no word after it.
 fn only_number(line: &[u8], low: u64, high: u64) -> Result<u64, Cause>
     ensures read { Reads (λ n. n) result (only_number low high (words line.now)) }
     ensures range { IfOk result (λ n. n ≤ high) }
@@ -110,7 +110,7 @@ fn request(alloc: Global, keyword: &[u8], line: &[u8]) -> Result<Statement, Caus
     Ok(Statement::Request { server, mnemonic })
 }
 
-/// What a line about a device says, by its keyword and the line behind it.
+/// What a line about a device says, by its keyword and the line after it.
 fn of_device(alloc: Global, keyword: &[u8], line: &[u8]) -> Result<Statement, Cause>
     ensures { Gives (λ s. s) result (of_device keyword.now (words line.now)) }
 {
@@ -137,7 +137,7 @@ fn of_device(alloc: Global, keyword: &[u8], line: &[u8]) -> Result<Statement, Ca
     }
 }
 
-/// What a line says, by its keyword and the line behind it.
+/// What a line says, by its keyword and the line after it.
 fn statement_by(alloc: Global, keyword: &[u8], line: &[u8]) -> Result<Statement, Cause>
     ensures { Gives (λ s. s) result (statement_by keyword.now (words line.now)) }
 {
@@ -167,7 +167,7 @@ fn statement_by(alloc: Global, keyword: &[u8], line: &[u8]) -> Result<Statement,
 /// What a line of scenario text says: the statement of its words, or none where it has no word.
 ///
 /// Words are read from the left, and each fault is the first: `Missing` (a word is absent), `Token` (a word of the
-/// wrong form), `UnknownWord`, `Range` (a number outside its range), and behind the last `Token` (a word too many).
+/// wrong form), `UnknownWord`, `Range` (a number outside its range), and after the last `Token` (a word too many).
 /// Nothing is said of what fits together.
 pub fn read_statement(alloc: Global, line: &[u8]) -> Result<Option<Statement>, Cause>
     ensures { Gives (λ s. s) result (statement_of (words line.now)) }

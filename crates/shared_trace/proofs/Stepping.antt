@@ -88,7 +88,7 @@ pub place_room : (s : Scenario) (w d : ℕ) (front es : List Entry) (x : Device)
     → step_at s d k ≡ Some step → k + 1 < 4294967296
 place_room s w d front es x counts groups k n step g at = omega (arith, place_below s d k step g.task.valid at)
 
--- ---- the tables behind a step
+-- ---- the tables after a step
 
 post_at : (counts : List ℕ) (group g : ℕ) → group < length counts → (group ≡ g) ⊎ (group ≡ g → ⊥)
     → slice_index (set counts group (slice_index counts group + 1)) g ≡ slice_index counts g + one (eqb group g)
@@ -126,7 +126,7 @@ grouped_within groups (Post group) n all within = all-push (λ h. h < n) groups 
 grouped_within groups (Need group count) n all within =
     subst (AllByRecursion (λ h. h < n)) (sym (append-nil groups)) all
 
--- ---- the job behind a step
+-- ---- the job after a step
 
 -- a step of a job, and what came of it
 pub record IsMade (s : Scenario) (w d : ℕ) (front es : List Entry) (counts groups : List ℕ) (k : ℕ) (step : Step)

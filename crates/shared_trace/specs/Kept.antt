@@ -66,8 +66,8 @@ abbrev pub AreIdle : (ℕ → ℕ) → List Station → ℕ → Type 0
 AreIdle posts stations first =
     (i : ℕ) (x : Station) → i < first → slice_get stations i ≡ Some x → is_ready posts x ≡ false
 
--- after posts to these groups a ready device is looked for behind those at the ends of their rows, and without any
--- behind those that were not ready, and from the device that is parked on
+-- after posts to these groups a ready device is looked for after those at the ends of their rows, and without any
+-- after those that were not ready, and from the device that is parked on
 abbrev pub LooksFrom : ℕ → ℕ → ℕ → List ℕ → ℕ → Type 0
 LooksFrom first low d groups i = (i ≡ low) ⊎ ((groups ≡ []) × (i ≤ first) × (i ≤ d))
 

@@ -142,7 +142,7 @@ pub(crate) fn first_left(stations: &[Station], low: usize) -> Option<usize>
     None
 }
 
-/// How many devices from the first on are at the ends of their rows. At least `low` are, if there are so many.
+/// How many devices from the first on are at the ends of their rows. At least `low` are, if there are that many.
 pub(crate) fn count_ended(stations: &[Station], low: usize) -> usize
     requires { AreEnded stations.now low }
     ensures { AreEnded stations.now result }

@@ -206,7 +206,7 @@ refused_at_first text line =
 
 -- ---- later lines change nothing
 
--- the lines of another text, of which so many are the same
+-- the lines of another text, of which the first n are the same
 same_front : (before : List (List ℕ)) (here : List ℕ) (behind others : List (List ℕ))
     → take (length before + 1) others ≡ take (length before + 1) (before ++ here ∷ behind)
     → others ≡ before ++ here ∷ drop (length before + 1) others

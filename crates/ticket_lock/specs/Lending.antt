@@ -12,6 +12,6 @@ abbrev pub with_value : {T E S O : Type 0} → Held T E S O → T → Held T E S
 with_value h x = record h { value = x }
 
 module _ (T E S O : RattleType) (g : Ghosts T.Denot E.Denot S.Denot O.Denot) where
-  -- the holder ends with the last value behind r. `named 1` is the place of its lifetime in the signature
+  -- the holder ends with the last value after r. `named 1` is the place of its lifetime in the signature
   abbrev pub LendsValue : MutBor (Held T.Denot E.Denot S.Denot O.Denot) → MutBor T.Denot → Fml
   LendsValue h r = Lends (the_row (record { mir = named 1; lft = [] }) T E S O g) T h r (with_value h.now)

@@ -81,7 +81,7 @@ pub output_list_exact : IsExact output_list
 unfolding output_list
 output_list_exact = counted_exact (number w32) (λ before. output) long_exact (λ before. output_exact)
 
--- what stands behind a worker's number, and behind a device's
+-- what stands after a worker's number, and after a device's
 abbrev behind_device : ℕ → ℕ → Layout Entry
 behind_device w d = split (λ e. e.step) (number w32) (λ s. last (λ e. e.outputs) (entry_of w d s) output_list)
 

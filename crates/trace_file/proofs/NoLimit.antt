@@ -115,7 +115,7 @@ output_list_free : IsFree output_list
 unfolding output_list
 output_list_free = counted_free output output_free
 
--- what stands behind a worker's number, and behind a device's
+-- what stands after a worker's number, and after a device's
 abbrev behind_device : ℕ → ℕ → Layout Entry
 behind_device w d = split (λ e. e.step) (number w32) (λ s. last (λ e. e.outputs) (entry_of w d s) output_list)
 

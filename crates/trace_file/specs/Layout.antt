@@ -59,7 +59,7 @@ datagram = split server_in (number w16) (λ server. last bytes_in (λ bytes. out
 abbrev pub acted : Layout Output
 acted = last act_in (λ a. outputs.Act a) act
 
--- what stands behind the number of a kind: 1 a datagram, any other an act
+-- what stands after the number of a kind: 1 a datagram, any other an act
 abbrev pub of_kind : ℕ → Layout Output
 of_kind zero = acted
 of_kind (suc zero) = datagram
@@ -69,7 +69,7 @@ of_kind (suc (suc n)) = acted
 unfoldable pub output : Layout Output
 output = split output_kind (judged BadField (λ n. n == 1 || n == 2) (number w8)) of_kind
 
--- four bytes of count, and so many outputs
+-- four bytes of count, and that many outputs
 unfoldable pub output_list : Layout (List Output)
 output_list = counted (number w32) (λ before. output)
 
@@ -84,7 +84,7 @@ entry = split (λ e. e.worker) (number w16)
     (λ w. split (λ e. e.device) (number w16)
     (λ d. split (λ e. e.step) (number w32) (λ s. last (λ e. e.outputs) (entry_of w d s) output_list)))
 
--- four bytes of count, and so many entries
+-- four bytes of count, and that many entries
 unfoldable pub entry_list : Layout (List Entry)
 entry_list = counted (number w32) (λ before. entry)
 

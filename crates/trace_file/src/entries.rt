@@ -44,7 +44,7 @@ impl Entries {
         items
     }
 
-    /// The entries, lent, in order.
+    /// The entries, in order.
     pub fn as_slice(&self) -> &[Entry]
         ensures { result.now ≡ self.now }
     {
@@ -58,7 +58,7 @@ impl Entries {
         self.items.len()
     }
 
-    /// Adds an entry behind the others. Where memory runs out, the entries stay as they were, and the new one is
+    /// Adds an entry after the others. Where memory runs out, the entries stay as they were, and the new one is
     /// dropped.
     pub fn push(&mut self, entry: Entry) -> Result<(), AllocError>
         ensures ok { OnOk result (self.new ≡ self.old ++ entry ∷ []) }

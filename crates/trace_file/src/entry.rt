@@ -3,7 +3,7 @@ ghost use Rattle.std.specs.Prelude.{◌≡◌, IfOk};
 use device_machine::Outputs;
 use std::alloc::AllocError;
 
-/// A step of a run: which worker made it, of which device, which of its steps it was, and what the device put out.
+/// A step of a run: which worker made it, of which device, which of its steps it was, and what the device output.
 #[derive(Clone, Debug, Drop)]
 pub struct Entry {
     /// The number of the worker; any.
@@ -12,7 +12,7 @@ pub struct Entry {
     pub device: u16,
     /// Which of the device's steps it was, from 0.
     pub step: u32,
-    /// What the device put out, in order.
+    /// What the device output, in order.
     pub outputs: Outputs,
 }
 

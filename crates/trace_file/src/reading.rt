@@ -142,7 +142,7 @@ fn entries_at(alloc: Global, bytes: &[u8]) -> Result<(Entries, &[u8]), ReadError
     Ok((Entries::from_vec(items), rest))
 }
 
-/// The bytes behind the mark and the version.
+/// The bytes after the mark and the version.
 fn header_at(bytes: &[u8]) -> Result<&[u8], ReadError>
     ensures read { Gives (λ rest. (tt, rest.now)) result (header.read bytes.now) }
     ensures no_memory { IfErr result (λ e. e ≢ errors.Memory) }
@@ -158,7 +158,7 @@ fn header_at(bytes: &[u8]) -> Result<&[u8], ReadError>
     Ok(rest)
 }
 
-/// How many entries there are, and the numbers of the first of them, behind the mark and the version.
+/// How many entries there are, and the numbers of the first of them, after the mark and the version.
 #[tactic(auto, unfolding(crate::specs::Layout::front))]
 fn front_at(bytes: &[u8]) -> Result<((u32, &[u8]), &[u8]), ReadError>
     ensures read { Gives (λ x. ((x.0.0, x.0.1.now), x.1.now)) result (front.read bytes.now) }

@@ -43,7 +43,7 @@ pub few_seconds : (s : Scenario) (d : ℕ) (steps : List Step) → IsValid s →
 few_seconds s d steps valid are =
     subst (λ l. sum_by step_seconds l < 2 ^ 64) (sym are) (omega (arith, short_row s.classes s.rows d valid.each))
 
--- the second behind one step more
+-- the second after one step more
 pub next_second : (steps : List Step) (at : ℕ) (step : Step) (second more : ℕ) → at < length steps
     → step ≡ get_or steps at step → second ≡ sum_by step_seconds (take at steps) → more ≡ step_seconds step
     → second + more ≡ sum_by step_seconds (take (at + 1) steps)

@@ -40,7 +40,7 @@ fn token_of(message: &Message) -> Result<Bytes, AllocError>
     ensures value { IfOk result (λ t. t ≡ message.now.token) }
     ensures short { IfOk result (λ t. length t ≤ 8) }
 {
-    // the options are lent with the word that the message is well formed
+    // the options come with the promise that the message is well formed
     let _options = message.options();
     message.token().clone()
 }

@@ -100,7 +100,7 @@ pub(super) fn again(
 }
 
 impl Machine {
-    /// Forgets, behind an event, the recorded requests that no longer live. Only a tick can end a
+    /// Forgets, after an event, the recorded requests that no longer live. Only a tick can end a
     /// request's life.
     pub(crate) fn forget(&mut self, event: &Event)
         ensures { self.new ≡ remembered self.old event.now }

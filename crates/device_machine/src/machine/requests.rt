@@ -41,7 +41,7 @@ impl Machine {
         ensures grows { OnErr result
             (is_some (reply_to self.now.kept.next_id message.now message.now.kind number answer) ≡ true) }
     {
-        // A message whose options are lent is known to be well formed.
+        // A message whose options are borrowed is known to be well formed.
         let _options = message.options();
         let (kind, mid) = match message.kind() {
             Kind::Con => (Kind::Ack, message.mid()),

@@ -109,7 +109,7 @@ fn put_values(
     Ok(())
 }
 
-/// The objects of the class's own, lent: those behind the five base objects.
+/// The objects of the class's own: those after the five base objects.
 fn own_objects(class: &Template) -> &[ObjectDef]
     ensures { result.now ≡ objects_in class.now }
 {

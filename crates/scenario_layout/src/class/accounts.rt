@@ -10,7 +10,7 @@ use crate::class::refusal::refusal;
 use byte_layout::{Break, ReadError, u8_at_most, u16_at};
 use device_template::Template;
 
-/// Adds the accounts at the front of the bytes to an empty class, and gives the bytes behind them.
+/// Adds the accounts at the front of the bytes to an empty class, and gives the bytes after them.
 #[tactic(auto, unfolding(crate::specs::Class::accounts))]
 pub(crate) fn accounts_at<'a>(
     template: &mut Template,

@@ -12,7 +12,7 @@ use byte_layout::{Break, ReadError, u16_at};
 use device_template::Template;
 use object_defs::InstancePath;
 
-/// Adds the instances at the front of the bytes to a class that has none, and gives the bytes behind them.
+/// Adds the instances at the front of the bytes to a class that has none, and gives the bytes after them.
 #[tactic(auto, unfolding(crate::specs::Class::instances))]
 pub(crate) fn instances_at<'a>(
     template: &mut Template,
@@ -47,7 +47,7 @@ fn instances_each<'a>(
     Ok(rest)
 }
 
-/// Adds the instance at the front of the bytes, behind the last one.
+/// Adds the instance at the front of the bytes, after the last one.
 #[tactic(auto, unfolding(crate::specs::Class::instance))]
 fn instance_at<'a>(
     template: &mut Template,

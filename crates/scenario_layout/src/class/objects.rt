@@ -18,7 +18,7 @@ use device_template::Template;
 use object_defs::ObjectDef;
 use std::alloc::Global;
 
-/// Adds the objects at the front of the bytes to a class that has none of its own, and gives the bytes behind them.
+/// Adds the objects at the front of the bytes to a class that has none of its own, and gives the bytes after them.
 #[tactic(auto, unfolding(crate::specs::Class::objects))]
 pub(crate) fn objects_at<'a>(
     alloc: Global,

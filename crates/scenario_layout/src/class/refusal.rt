@@ -4,7 +4,7 @@ ghost use Rattle.scenario_layout.specs.Growing.{refusal};
 use byte_layout::{Break, ReadError};
 use device_template::TemplateFault;
 
-/// Why an item was not read that a class did not take, so many bytes from the end.
+/// Why an item was not read that a class did not take, n bytes from the end.
 pub(crate) fn refusal(fault: TemplateFault, left: usize) -> ReadError
     ensures { result ≡ refusal fault left }
 {

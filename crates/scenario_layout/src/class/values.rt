@@ -21,7 +21,7 @@ use lwm2m_values::ValueKind;
 use object_defs::{FullPath, Path};
 use std::alloc::Global;
 
-/// Adds the values at the front of the bytes to a class that has none, and gives the bytes behind them.
+/// Adds the values at the front of the bytes to a class that has none, and gives the bytes after them.
 #[tactic(auto, unfolding(crate::specs::Class::values))]
 pub(crate) fn values_at<'a>(
     alloc: Global,
@@ -57,7 +57,7 @@ fn values_each<'a>(
     Ok(rest)
 }
 
-/// Adds the value at the front of the bytes, behind the last one.
+/// Adds the value at the front of the bytes, after the last one.
 #[tactic(auto, unfolding(crate::specs::Class::entry))]
 fn entry_at<'a>(
     alloc: Global,
@@ -79,7 +79,7 @@ fn entry_at<'a>(
     Ok((path, after))
 }
 
-/// The path at the front of the bytes, behind the last one, and the kind of the values that are taken there.
+/// The path at the front of the bytes, after the last one, and the kind of the values that are taken there.
 #[tactic(auto, unfolding(crate::specs::Class::value_path))]
 fn value_path_at<'a>(
     template: &Template,

@@ -39,7 +39,7 @@ pub fn put_class(out: &mut Vec<u8>, template: &Template) -> Result<(), AllocErro
     put_values(out, &pairs)
 }
 
-/// The objects of a class's own, behind the five base objects.
+/// The objects of a class's own, after the five base objects.
 fn own_objects(catalog: &Catalog) -> &[ObjectDef]
     ensures { result.now ≡ drop (length base) catalog.now }
 {

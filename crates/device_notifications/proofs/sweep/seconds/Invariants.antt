@@ -1,4 +1,4 @@
--- So many seconds have passed; without observations there are none.
+-- n seconds have passed; without observations there are none.
 use Rattle.std.proofs.Common.{◌≡◌, []}
 use Rattle.device_notifications.specs.Progress.{Elapsed}
 use Rattle.device_notifications.proofs.sweep.seconds.Given as goal

@@ -1,4 +1,4 @@
--- What is left without the instances behind the index is left without all.
+-- What is left without the instances after the index is left without all.
 use Rattle.std.proofs.Common.{◌≡◌, not, filter, drop}
 use Rattle.instance_store.specs.Stored.{has_instance}
 use Rattle.device_requests.specs.Delete.{without_controls}

@@ -1,4 +1,4 @@
--- What the options behind the index add to the path so far is the path of all.
+-- What the options after the index add to the path so far is the path of all.
 use Rattle.std.proofs.Common.{◌≡◌, drop}
 use Rattle.device_requests.specs.Options.{segments_of, path_of, numbers_of}
 use Rattle.device_requests.proofs.Paths.{finished}

@@ -1,4 +1,4 @@
--- So many turns were made.
+-- n turns were made.
 use Rattle.live_link.specs.Serving.{IsUnderWay}
 use Rattle.live_link.proofs.serving.make_turns.Given as goal
 

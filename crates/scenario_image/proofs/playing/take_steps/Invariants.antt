@@ -1,4 +1,4 @@
--- The device shows the state behind the steps before the index, and what they put out is kept.
+-- The device shows the state after the steps before the index, and what they output is kept.
 use Rattle.scenario_image.proofs.Played.{IsPlayed}
 use Rattle.scenario_image.proofs.playing.take_steps.Given as goal
 
