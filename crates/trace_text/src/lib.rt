@@ -5,8 +5,10 @@
 mod clock;
 mod laws;
 mod lines;
+mod selection;
 mod steps;
 mod transcript;
 
-pub use laws::{parts_join, runs_have_steps, seconds_are_shown};
-pub use transcript::{Transcript, trace_text};
+pub use laws::{all_are_selected, parts_join, runs_have_steps, seconds_are_shown};
+pub use selection::{Selection, SelectionFault};
+pub use transcript::{Transcript, selected_text, trace_text};
