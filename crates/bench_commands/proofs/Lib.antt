@@ -8,5 +8,6 @@ mod LimitedReading
 pub mod Lines
 pub mod Streams
 pub mod Told
+pub mod Traced
 pub mod Turns
 pub mod Unread

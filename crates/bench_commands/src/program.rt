@@ -15,10 +15,12 @@ use crate::output::Output;
 use crate::refusal::Refusal;
 use crate::status::Status;
 use crate::telling::tell;
+use crate::traces::show;
 use bench_words::{Asked, Job, read};
 use std::alloc::Global;
 use std::sync::Wait;
 use std::thread::Threads;
+use trace_text::Selection;
 
 /// Does what the words ask for, of which the first is the program's name. The file of the answer is made, and then its
 /// lines go to `output`; or the lines of `input` are answered there; or a fault's line goes there, and what it is about
@@ -131,6 +133,16 @@ fn answer_to_job<'a, R: Threads + Wait + Sync, F: Files, I: Input, O: Output>(
             trace,
         } => Ok(Some(answers::run(rt, alloc, image, workers, batch, trace, files)?)),
         Job::Check { image, trace } => Ok(Some(answers::check(alloc, image, trace, files)?)),
+        Job::Show {
+            image,
+            trace,
+            device,
+            from,
+            to,
+        } => {
+            let selection = Selection { device, from, to };
+            Ok(Some(show(alloc, image, trace, selection, files)?))
+        }
         Job::Debug { image, trace } => debug(alloc, image, trace, files, input, output),
     }
 }
