@@ -86,6 +86,7 @@ impl<'a> Transcript<'a> {
 }
 
 /// The text of a trace: that of each entry, in their order.
+#[tactic(auto, using(crate::proofs::Parts::whole))]
 pub fn trace_text(
     alloc: Global,
     scenario: &Scenario,
@@ -93,13 +94,12 @@ pub fn trace_text(
 ) -> Result<String, AllocError>
     ensures { IfOk result (λ t. string_bytes t ≡ trace_text scenario.now entries.now) }
 {
-    let mut transcript = Transcript::new(alloc, scenario)?;
-    let mut out = String::new(alloc);
-    for (number, entry) in entries.iter().enumerate() {
-        let text = transcript.entry_text(number, entry)?;
-        out.push_str(text.as_str())?;
-    }
-    Ok(out)
+    let all = Selection {
+        device: None,
+        from: None,
+        to: None,
+    };
+    text_of(alloc, scenario, entries, all)
 }
 
 /// The text of those entries of a trace that are asked for, in their order, each with its number in the whole trace.
