@@ -3,12 +3,14 @@
 #![tactic(auto)]
 
 mod clock;
+mod clocks;
 mod laws;
 mod lines;
 mod selection;
 mod steps;
 mod transcript;
 
+pub use clocks::Clocks;
 pub use laws::{all_are_selected, parts_join, runs_have_steps, seconds_are_shown};
 pub use selection::{Selection, SelectionFault};
 pub use transcript::{Transcript, selected_text, trace_text};
