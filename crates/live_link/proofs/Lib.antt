@@ -6,3 +6,4 @@ pub mod Served
 pub mod Stepped
 pub mod Told
 pub mod Turned
+pub mod Starting

@@ -3,10 +3,12 @@
 #![tactic(auto)]
 
 mod clock;
+mod datagrams;
 mod laws;
 mod lines;
 mod steps;
 mod transcript;
 
+pub use datagrams::{arrival_text, sent_text};
 pub use laws::{parts_join, runs_have_steps, seconds_are_shown};
 pub use transcript::{Transcript, trace_text};
