@@ -42,6 +42,11 @@ fault_word (faults.Template fault) = template_word fault
 fault_word faults.Workers = codes "workers"
 fault_word faults.Batch = codes "batch"
 fault_word faults.Spent = codes "spent"
+fault_word faults.NoDevice = codes "no device"
+fault_word faults.PastEnd = codes "past end"
+fault_word faults.Range = codes "range"
+fault_word faults.TooLong = codes "too long"
+fault_word faults.Bind = codes "bind"
 
 -- the place of a fault of bytes, in bytes from 0
 abbrev pub place_of : Fault → Option ℕ

@@ -36,6 +36,16 @@ pub enum Fault {
     Batch,
     /// A run ended since the lock had no ticket left.
     Spent,
+    /// A scenario has no device of a number.
+    NoDevice,
+    /// The entries of a trace end before a number.
+    PastEnd,
+    /// A number that is to be the last one is below the first one.
+    Range,
+    /// A datagram is too long for a capture.
+    TooLong,
+    /// A UDP port could not be had.
+    Bind,
 }
 
 impl fmt::Display for Fault {
@@ -92,6 +102,11 @@ fn word_of(fault: Fault) -> &'static str
         Fault::Workers => "workers",
         Fault::Batch => "batch",
         Fault::Spent => "spent",
+        Fault::NoDevice => "no device",
+        Fault::PastEnd => "past end",
+        Fault::Range => "range",
+        Fault::TooLong => "too long",
+        Fault::Bind => "bind",
     }
 }
 
