@@ -1,5 +1,5 @@
 //! A wire whose datagrams are printed as they go over it, for a person who watches.
-ghost use Rattle.std.specs.Prelude.{◌≡◌, IfErr, OnErr, OnOk};
+ghost use Rattle.std.specs.Prelude.{IfErr, OnOk};
 ghost use Rattle.std.specs.Io.KnownBytes.{Appends};
 ghost use Rattle.bench_commands.specs.Files.{IsFailure};
 ghost use Rattle.bench_commands.specs.Live.{told_while};
@@ -8,8 +8,8 @@ ghost use Rattle.trace_text.specs.Datagrams.{arrival_text, sent_text};
 use crate::files::FileFault;
 use crate::output::Output;
 use live_link::{Packet, Wire, WireFault};
-use octets::Bytes;
 use std::alloc::Global;
+use trace_text::{arrival_text, sent_text};
 
 /// Another wire, which fails as well where a datagram can't be printed. It tells what the other tells, until then.
 #[derive(Drop)]
@@ -54,5 +54,35 @@ pub fn show_sent<O: Output>(
     match sent_text(alloc, server, bytes) {
         Ok(text) => output.print(text.as_str()),
         Err(_) => Err(FileFault::Memory),
+    }
+}
+
+impl<W: Wire + Drop, O: Output> Wire for ShownWire<'_, W, O> {
+    ghost told = { λ w. told_while w.fault (W.told w.wire) };
+
+    #[tactic(auto, using(crate::proofs::Shown::passed_on, crate::proofs::Shown::silent))]
+    fn receive(&mut self) -> Result<Option<Packet>, WireFault> {
+        let Some(packet) = self.wire.receive()? else {
+            return Ok(None);
+        };
+        match show_arrival(self.alloc, &packet, self.output) {
+            Ok(()) => Ok(Some(packet)),
+            Err(fault) => {
+                self.fault = Some(fault);
+                Err(WireFault::Failed)
+            }
+        }
+    }
+
+    #[tactic(auto, using(crate::proofs::Shown::passed_on, crate::proofs::Shown::silent))]
+    fn send(&mut self, server: u16, bytes: &[u8]) -> Result<(), WireFault> {
+        self.wire.send(server, bytes)?;
+        match show_sent(self.alloc, server, bytes, self.output) {
+            Ok(()) => Ok(()),
+            Err(fault) => {
+                self.fault = Some(fault);
+                Err(WireFault::Failed)
+            }
+        }
     }
 }
