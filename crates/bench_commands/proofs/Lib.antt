@@ -10,5 +10,6 @@ pub mod Live
 pub mod Shown
 pub mod Streams
 pub mod Told
+pub mod Traced
 pub mod Turns
 pub mod Unread

@@ -22,6 +22,7 @@ use Rattle.bench_commands.specs.Live.{IsLiveDone, IsLiveFault}
 use Rattle.bench_commands.specs.Refusals.{IsTold}
 use Rattle.bench_commands.specs.Status.{text_status}
 use Rattle.bench_commands.specs.Texts.{IsTextFault}
+use Rattle.bench_commands.specs.Traces.{IsShowDone, IsShowRefused}
 use Rattle.bench_commands.specs.declared.answer.Answer.{Answer}
 use Rattle.bench_commands.specs.declared.fault.Fault.{Fault}
 use Rattle.bench_commands.specs.declared.fault.Fault.TheVariants.{Memory}
@@ -38,6 +39,8 @@ IsDone holds (jobs.Dis input) status text made = IsDisDone holds input.now statu
 IsDone holds (jobs.Run image workers batch trace) status text made =
     IsRunDone holds image.now (option_map (λ p. p.now) trace) status text made
 IsDone holds (jobs.Check image trace) status text made = IsCheckDone holds image.now trace.now status text made
+IsDone holds (jobs.Show image trace device from to) status text made =
+    IsShowDone holds image.now trace.now (record { device = device; from = from; to = to }) status text made
 IsDone holds (jobs.Debug image trace) status text made = IsDebugRefused holds image.now trace.now status text made
 
 -- a job is refused for this fault
@@ -48,6 +51,8 @@ IsRefusedJob holds fails (jobs.Dis input) fault = IsImageFault holds fails input
 IsRefusedJob holds fails (jobs.Run image workers batch trace) fault =
     IsRunRefused holds fails image.now workers batch fault
 IsRefusedJob holds fails (jobs.Check image trace) fault = IsCheckRefused holds fails image.now trace.now fault
+IsRefusedJob holds fails (jobs.Show image trace device from to) fault =
+    IsShowRefused holds fails image.now trace.now (record { device = device; from = from; to = to }) fault
 IsRefusedJob holds fails (jobs.Debug image trace) fault = IsCheckRefused holds fails image.now trace.now fault
 
 -- what words are answered with; a text on how to use the program is printed as it is

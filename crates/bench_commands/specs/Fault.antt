@@ -16,9 +16,12 @@ use Rattle.scenario_image.specs.declared.fault.ScenarioFault.{ScenarioFault}
 use Rattle.scenario_image.specs.declared.fault.ScenarioFault.TheVariants as session
 use Rattle.fleet_workers.specs.declared.fleet.RunFault.{RunFault}
 use Rattle.fleet_workers.specs.declared.fleet.RunFault.TheVariants as runs
+use Rattle.trace_text.specs.declared.selection.SelectionFault.{SelectionFault}
+use Rattle.trace_text.specs.declared.selection.SelectionFault.TheVariants as selection
 use Rattle.bench_commands.specs.declared.fault.Fault.{Fault}
 use Rattle.bench_commands.specs.declared.fault.Fault.TheVariants.{Hex, Memory, Read, Write, Layout, Text, TooLarge}
-use Rattle.bench_commands.specs.declared.fault.Fault.TheVariants.{Template, Workers, Batch, Spent, Session}
+use Rattle.bench_commands.specs.declared.fault.Fault.TheVariants.{Template, Workers, Batch, Spent, NoDevice, PastEnd}
+use Rattle.bench_commands.specs.declared.fault.Fault.TheVariants.{Range, Session}
 
 -- the fault of a text that could not be read as hex: a lack of memory is not the text's fault
 abbrev pub hex_fault : FromHexError → Fault
@@ -71,6 +74,13 @@ run_fault (runs.Memory entries) = Memory
 run_fault (runs.Spent entries) = Spent
 run_fault runs.Workers = Workers
 run_fault runs.Batch = Batch
+
+-- the fault of entries that a trace does not have: a lack of memory is not the trace's fault
+abbrev pub selection_fault : SelectionFault → Fault
+selection_fault selection.NoDevice = NoDevice
+selection_fault selection.PastEnd = PastEnd
+selection_fault selection.Range = Range
+selection_fault selection.Memory = Memory
 
 -- what may befall a text that is printed, or a file that is made: a lack of memory, or that it was not taken
 abbrev pub IsWritingFault : Type 0 → Fault → Type 0

@@ -13,4 +13,5 @@ pub mod Runs
 pub mod RunAnswer
 pub mod Status
 pub mod Texts
+pub mod Traces
 pub mod Unread

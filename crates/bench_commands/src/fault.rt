@@ -11,6 +11,7 @@ use scenario_words::{Cause, cause_words};
 use std::alloc::{AllocError, AllocFailed};
 use std::fmt;
 use trace_file::WriteFault;
+use trace_text::SelectionFault;
 
 /// Why the program could not do what its words ask for. It prints as the fault's name.
 #[derive(Clone, Copy, Debug, PartialEq, Eq)]
@@ -269,6 +270,22 @@ impl From<RunFault> for Fault {
             RunFault::Spent(_) => Fault::Spent,
             RunFault::Workers => Fault::Workers,
             RunFault::Batch => Fault::Batch,
+        }
+    }
+}
+
+impl From<SelectionFault> for Fault {
+    ghost use Rattle.std.specs.Prelude.{◌≡◌};
+    ghost use Rattle.bench_commands.specs.Fault.{selection_fault};
+
+    ghost from_gives = { λ fault e. e ≡ selection_fault fault };
+
+    fn from(fault: SelectionFault) -> Fault {
+        match fault {
+            SelectionFault::NoDevice => Fault::NoDevice,
+            SelectionFault::PastEnd => Fault::PastEnd,
+            SelectionFault::Range => Fault::Range,
+            SelectionFault::Memory => Fault::Memory,
         }
     }
 }

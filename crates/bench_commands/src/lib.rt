@@ -23,6 +23,7 @@ mod status;
 mod system;
 mod telling;
 pub mod texts;
+pub mod traces;
 
 pub use answer::{Answer, NewFile, deliver};
 pub use conversation::converse;

@@ -15,12 +15,14 @@ use crate::output::Output;
 use crate::refusal::Refusal;
 use crate::status::Status;
 use crate::telling::tell;
+use crate::traces::show;
 use bench_words::{Asked, Job, read};
 use std::alloc::Global;
 use std::net::Net;
 use std::rt::Clock;
 use std::sync::Wait;
 use std::thread::Threads;
+use trace_text::Selection;
 
 /// Does what the words ask for, of which the first is the program's name. The file of the answer is made, and then its
 /// lines go to `output`; or the lines of `input` are answered there; or a device goes on at a UDP port; or a fault's line
@@ -111,6 +113,16 @@ pub fn answer_to<'a, R: Threads + Wait + Sync, F: Files, I: Input, O: Output>(
             trace,
         } => Ok(Some(answers::run(rt, alloc, image, workers, batch, trace, files)?)),
         Job::Check { image, trace } => Ok(Some(answers::check(alloc, image, trace, files)?)),
+        Job::Show {
+            image,
+            trace,
+            device,
+            from,
+            to,
+        } => {
+            let selection = Selection { device, from, to };
+            Ok(Some(show(alloc, image, trace, selection, files)?))
+        }
         Job::Debug { image, trace } => debug(alloc, image, trace, files, input, output),
     }
 }

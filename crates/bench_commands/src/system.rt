@@ -33,12 +33,13 @@ pub fn start<
     I: Input,
     E: Output,
 >(rt: &R, input: &mut I, errors: &mut E) -> ExitCode {
+    let alloc = rt.alloc();
     let words = words_of(rt);
     conclude(
         rt,
-        rt.alloc(),
+        alloc,
         words,
-        &mut SystemFiles { rt },
+        &mut SystemFiles { rt, alloc },
         input,
         &mut io::writer(rt),
         errors,

@@ -78,11 +78,14 @@ check_app = with_rule (with_rule (new_app (codes "check")) (needed (codes "IMAGE
 abbrev pub with_trace : App → App
 with_trace a = with_rule (with_rule a (needed (codes "IMAGE"))) (needed (codes "TRACE"))
 
+-- `[--from N] [--to N]`
+abbrev pub with_range : App → App
+with_range a =
+    with_rule (with_rule a (optional_number (codes "from") 4294967295)) (optional_number (codes "to") 4294967295)
+
 -- `show IMAGE TRACE [--device N] [--from N] [--to N]`
 abbrev pub show_app : App
-show_app =
-    with_rule (with_rule (with_rule (with_trace (new_app (codes "show"))) (optional_number (codes "device") 65535))
-    (optional_number (codes "from") 4294967295)) (optional_number (codes "to") 4294967295)
+show_app = with_range (with_rule (with_trace (new_app (codes "show"))) (optional_number (codes "device") 65535))
 
 -- `pcap IMAGE TRACE OUT`
 abbrev pub pcap_app : App

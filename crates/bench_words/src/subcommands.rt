@@ -3,7 +3,7 @@ ghost use Rattle.std.specs.Prelude.{◌≡◌, codes, false, true, IfOk};
 ghost use Rattle.clap.specs.Words.{app_of, new_app, rule_of, with_rule, with_subcommand};
 ghost use Rattle.bench_words.specs.Words.{asm_app, batch, bench_app, check_app, debug_app, dis_app, file, flag, live_app};
 ghost use Rattle.bench_words.specs.Words.{needed, needed_number, one_app, optional_number, pcap_app, run_app, show_app};
-ghost use Rattle.bench_words.specs.Words.{with_port, with_settings, with_trace, workers};
+ghost use Rattle.bench_words.specs.Words.{with_port, with_range, with_settings, with_trace, workers};
 
 use crate::help;
 use clap::{Arg, ArgAction, Command, value_parser};
@@ -155,7 +155,17 @@ fn show_command<'a>(alloc: Global) -> Result<Command<'a>, AllocError>
 {
     let about = "Prints the trace of a run as text";
     let run = with_trace(alloc, described(alloc, "show", about, help::SHOW))?;
-    run.arg(optional_small(alloc, "device").help("The device whose entries alone are printed"))?
+    let of_device = run.arg(optional_small(alloc, "device").help(
+        "The device whose entries alone are printed",
+    ))?;
+    with_range(alloc, of_device)
+}
+
+/// Adds the words for a part of a trace.
+fn with_range<'a>(alloc: Global, command: Command<'a>) -> Result<Command<'a>, AllocError>
+    ensures { IfOk result (λ c. app_of c ≡ with_range (app_of command.entry)) }
+{
+    command
         .arg(optional_number(alloc, "from").help("The first number that is printed"))?
         .arg(optional_number(alloc, "to").help("The last number that is printed"))
 }

@@ -3,3 +3,4 @@ pub mod Lines
 pub mod Text
 pub mod Clocks
 pub mod Datagrams
+pub mod Selection

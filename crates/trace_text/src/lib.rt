@@ -6,9 +6,11 @@ mod clock;
 mod datagrams;
 mod laws;
 mod lines;
+mod selection;
 mod steps;
 mod transcript;
 
 pub use datagrams::{arrival_text, sent_text};
-pub use laws::{parts_join, runs_have_steps, seconds_are_shown};
-pub use transcript::{Transcript, trace_text};
+pub use laws::{all_are_selected, parts_join, runs_have_steps, seconds_are_shown};
+pub use selection::{Selection, SelectionFault};
+pub use transcript::{Transcript, selected_text, trace_text};

@@ -1,12 +1,14 @@
 //! A trace as text, entry by entry.
 
-ghost use Rattle.std.specs.Prelude.{◌≡◌, IfOk};
+ghost use Rattle.std.specs.Prelude.{◌≡◌, IfErr, IfOk};
 ghost use Rattle.std.specs.String.{string_bytes};
 ghost use Rattle.trace_text.specs.Seconds.{second_at};
+ghost use Rattle.trace_text.specs.Selection.{IsSelectable, IsSelectionFault, selected_text};
 ghost use Rattle.trace_text.specs.Text.{entry_text, trace_text};
 
 use crate::clock::{Clock, START, clock_before, row_steps};
 use crate::lines::{entry_line, put_arrival, put_outputs};
+use crate::selection::{Selection, SelectionFault};
 use crate::steps::step_words;
 use fleet_core::step_of;
 use scenario_image::Scenario;
@@ -84,6 +86,7 @@ impl<'a> Transcript<'a> {
 }
 
 /// The text of a trace: that of each entry, in their order.
+#[tactic(auto, using(crate::proofs::Parts::whole))]
 pub fn trace_text(
     alloc: Global,
     scenario: &Scenario,
@@ -91,11 +94,46 @@ pub fn trace_text(
 ) -> Result<String, AllocError>
     ensures { IfOk result (λ t. string_bytes t ≡ trace_text scenario.now entries.now) }
 {
+    let all = Selection {
+        device: None,
+        from: None,
+        to: None,
+    };
+    text_of(alloc, scenario, entries, all)
+}
+
+/// The text of those entries of a trace that are asked for, in their order, each with its number in the whole trace.
+pub fn selected_text(
+    alloc: Global,
+    scenario: &Scenario,
+    entries: &[Entry],
+    selection: Selection,
+) -> Result<String, SelectionFault>
+    ensures selectable { IfOk result (λ _. IsSelectable scenario.now selection entries.now) }
+    ensures text { IfOk result (λ t. string_bytes t ≡ selected_text scenario.now selection entries.now) }
+    ensures refused { IfErr result (IsSelectionFault scenario.now selection entries.now) }
+{
+    selection.check(scenario, entries)?;
+    let text = text_of(alloc, scenario, entries, selection)?;
+    Ok(text)
+}
+
+/// The text of the selected entries, which may be none.
+fn text_of(
+    alloc: Global,
+    scenario: &Scenario,
+    entries: &[Entry],
+    selection: Selection,
+) -> Result<String, AllocError>
+    ensures { IfOk result (λ t. string_bytes t ≡ selected_text scenario.now selection entries.now) }
+{
     let mut transcript = Transcript::new(alloc, scenario)?;
     let mut out = String::new(alloc);
     for (number, entry) in entries.iter().enumerate() {
-        let text = transcript.entry_text(number, entry)?;
-        out.push_str(text.as_str())?;
+        if selection.has(number, entry) {
+            let text = transcript.entry_text(number, entry)?;
+            out.push_str(text.as_str())?;
+        }
     }
     Ok(out)
 }
