@@ -27,6 +27,7 @@ untold class turns session before after read_before read_after served =
       read_count = served.read_count;
       read = tt;
       live = served.live;
+      in_turns = served.in_turns;
       asked = served.asked;
       asked_count = served.asked_count;
       asked_so = tt;

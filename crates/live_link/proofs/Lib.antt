@@ -1,4 +1,5 @@
 pub mod Clock
+pub mod Ordered
 pub mod Rows
 pub mod Scripted
 pub mod Sent

@@ -7,8 +7,8 @@ use Rattle.live_link.specs.declared.packet.Packet.{Packet}
 use Rattle.live_link.specs.declared.session.LiveEnd.TheVariants.{Spent}
 use Rattle.live_link.specs.declared.session.LiveSession.{LiveSession}
 use Rattle.live_link.specs.Wire.{Traffic, AreRead, WhereTold}
-use Rattle.live_link.specs.Live.{failures_at, heard_by, most_refusals, sent_by, ticks_of, AreTickedAt, IsAtLastSecond}
-use Rattle.live_link.specs.Live.{IsCountAt, IsHeardAt, IsLiveStep, IsSentAt}
+use Rattle.live_link.specs.Live.{failures_at, heard_by, most_refusals, sent_by, ticks_of, AreInTurns, AreTickedAt}
+use Rattle.live_link.specs.Live.{IsAtLastSecond, IsCountAt, IsHeardAt, IsLiveStep, IsSentAt}
 use Rattle.live_link.specs.Served.{IsServed}
 
 pub served : (class : Template) (turns : ℕ) (session : LiveSession) (before after : Option Traffic)
@@ -19,7 +19,7 @@ pub served : (class : Template) (turns : ℕ) (session : LiveSession) (before af
     × WhereTold (λ old new. new.handed ≡ old.handed ++ handed) before after)
     → ((readings : List ℕ) × AreTickedAt session.end (ticks_of session.steps.items) readings
     × IsCountAt session.end turns (length readings) × AreRead read_before read_after readings)
-    → AllByRecursion IsLiveStep session.steps.items
+    → AllByRecursion IsLiveStep session.steps.items → AreInTurns turns session.steps.items
     → ((asked : ℕ) × IsCountAt session.end turns asked
     × WhereTold (λ old new. new.asked ≡ old.asked + asked) before after)
     → WhereTold (λ old new. new.failures ≡ old.failures + failures_at session.end) before after
@@ -27,8 +27,8 @@ pub served : (class : Template) (turns : ℕ) (session : LiveSession) (before af
     × WhereTold (λ old new. new.refusals ≡ old.refusals + refusals) before after)
     → (session.end ≡ Spent → IsAtLastSecond (start class) session.steps.items)
     → IsServed class turns session before after read_before read_after
-served class turns session before after read_before read_after sent put_out heard ticked live asked failures refusals
-    spent =
+served class turns session before after read_before read_after sent put_out heard ticked live in_turns asked failures
+    refusals spent =
     record {
       sent = sent;
       put_out = put_out;
@@ -40,6 +40,7 @@ served class turns session before after read_before read_after sent put_out hear
       read_count = ticked.1.1.0;
       read = ticked.1.1.1;
       live = live;
+      in_turns = in_turns;
       asked = asked.0;
       asked_count = asked.1.0;
       asked_so = asked.1.1;

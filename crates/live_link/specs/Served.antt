@@ -7,8 +7,8 @@ use Rattle.live_link.specs.declared.packet.Packet.{Packet}
 use Rattle.live_link.specs.declared.session.LiveEnd.TheVariants.{Spent}
 use Rattle.live_link.specs.declared.session.LiveSession.{LiveSession}
 use Rattle.live_link.specs.Wire.{Traffic, AreRead, WhereTold}
-use Rattle.live_link.specs.Live.{failures_at, heard_by, most_refusals, sent_by, ticks_of, AreTickedAt, IsAtLastSecond}
-use Rattle.live_link.specs.Live.{IsCountAt, IsHeardAt, IsLiveStep, IsSentAt}
+use Rattle.live_link.specs.Live.{failures_at, heard_by, most_refusals, sent_by, ticks_of, AreInTurns, AreTickedAt}
+use Rattle.live_link.specs.Live.{IsAtLastSecond, IsCountAt, IsHeardAt, IsLiveStep, IsSentAt}
 
 -- a device of this class was served for at most n turns, over a wire that told this before and after, and a clock
 pub record IsServed (class : Template) (turns : ℕ) (session : LiveSession) (before after : Option Traffic)
@@ -25,6 +25,7 @@ pub record IsServed (class : Template) (turns : ℕ) (session : LiveSession) (be
   pub read_count : IsCountAt session.end turns (length readings)
   pub read : AreRead read_before read_after readings
   pub live : AllByRecursion IsLiveStep session.steps.items
+  pub in_turns : AreInTurns turns session.steps.items
   -- it ended after all turns, or for a reason
   pub asked : ℕ
   pub asked_count : IsCountAt session.end turns asked
