@@ -8,9 +8,9 @@ ghost use Rattle.device_machine.specs.declared.event.Event.TheVariants.{Tick};
 ghost use Rattle.scenario_image.specs.declared.step.Step.TheVariants.{Event as event_step};
 ghost use Rattle.live_link.specs.declared.packet.Packet.{Packet};
 ghost use Rattle.live_link.specs.Wire.{AreRead, Traffic, WhereTold};
-ghost use Rattle.live_link.specs.Live.{failures_at, heard_by, heard_steps, most_refusals, sent_by, tick_steps, ticks_of};
-ghost use Rattle.live_link.specs.Live.{turn_steps, AreInTurns, AreTickedAt, IsAtLastSecond, IsCountAt, IsHeardAt, IsLiveStep};
-ghost use Rattle.live_link.specs.Live.{IsSentAt, Turn};
+ghost use Rattle.live_link.specs.Live.{failures_at, heard_by, heard_steps, most_refusals, sent_by, tick_steps};
+ghost use Rattle.live_link.specs.Live.{ticks_of, turn_steps, AreInTurns, AreTickedAt, IsAtLastSecond, IsCountAt};
+ghost use Rattle.live_link.specs.Live.{IsHeardAt, IsLiveStep, IsSentAt, Turn};
 ghost use Rattle.live_link.specs.Serving.{IsBroken, IsCutShort, IsNotedAt, IsOver, IsServing, IsTimed, IsUnderWay};
 
 use crate::packet::Packet;

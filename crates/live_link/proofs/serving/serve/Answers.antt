@@ -41,7 +41,8 @@ pub returns-clause-refusals : goal.returns-clause-refusals
 returns-clause-refusals g c = (
   c.make_turns.ensures.over.cut.refusals,
   c.make_turns.ensures.over.cut.few,
-  told_refusals (g.W.Wire.told c.args.wire.now) (g.W.Wire.told c.make_turns.new.wire) _ c.make_turns.ensures.over.cut.told,
+  told_refusals (g.W.Wire.told c.args.wire.now) (g.W.Wire.told c.make_turns.new.wire) _
+  c.make_turns.ensures.over.cut.told,
 )
 
 pub returns-clause-spent : goal.returns-clause-spent
