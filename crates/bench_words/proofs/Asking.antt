@@ -1,7 +1,9 @@
 -- What the words ask for: a subcommand whose value is missing asks for nothing.
 use Rattle.std.proofs.Common.{◌≡◌, ◌≢◌, ◌⊎◌, ◌↔◌, IsTrue, Bool, true, false, not, ◌&&◌, List, [], None, codes, rules}
-use Rattle.std.proofs.Common.{refl, inl, inr, ap, subst}
-use Rattle.clap.specs.Words.{App, HasKind, IsAmong, Row, Text as Word, fault_of, first_of, is_simple_and_free, kind_of}
+use Rattle.std.proofs.Common.{Some, refl, inl, inr, sym, ap, subst, ◌∙◌}
+use Rattle.clap.specs.Words.{App, HasKind, HasMatchesOf, IsAmong, Row, Text as Word, fault_of, first_of, is_simple}
+use Rattle.clap.specs.Words.{is_simple_and_free, kind_of, subcommand_of, subcommand_rows_of}
+use Rattle.clap.specs.declared.parser.matches.ArgMatches.{ArgMatches}
 use Rattle.clap.specs.declared.error.Error.{Error}
 use Rattle.clap.specs.declared.error.kind.ErrorKind.TheVariants as kind
 use Rattle.bench_words.specs.declared.words.Job.{Job}
@@ -9,8 +11,8 @@ use Rattle.bench_words.specs.declared.words.Job.TheVariants as jobs
 use Rattle.bench_words.specs.declared.words.Live.{Live}
 use Rattle.bench_words.specs.declared.words.Asked.{Asked}
 use Rattle.bench_words.specs.declared.words.Asked.TheVariants as asked
-use Rattle.bench_words.specs.Words.{AsksFor, AsksToLive, IsRefusedAs, LacksLive, LacksRun, MayAskFor, bench_app}
-use Rattle.bench_words.specs.Words.{refusals}
+use Rattle.bench_words.specs.Words.{AsksFor, AsksNothing, AsksToLive, IsReadAs, IsRefusedAs, LacksLive, LacksRun}
+use Rattle.bench_words.specs.Words.{MayAskFor, bench_app, refusals}
 
 pub no_one : (rows : List Row) (job : Job) → first_of (codes "HEX") rows ≡ None → AsksFor (codes "one", rows) job → ⊥
 no_one rows (jobs.One hex) none asks = search rules
@@ -168,3 +170,30 @@ unfolding refusals
 taken_whole app words same kinds =
     let simple : is_simple_and_free app ≡ true = ap is_simple_and_free same in
     subst (λ a. fault_of a words ≡ []) same (kinds simple)
+
+-- the subcommand that was found is that of the words
+same_subcommand : (app : App) (words : List Word) (m : ArgMatches) → app ≡ bench_app → HasMatchesOf app words m
+    → subcommand_rows_of m ≡ subcommand_of bench_app words
+same_subcommand app words m same matches =
+    let simple : is_simple app ≡ true = ap is_simple same in
+    subst (λ a. subcommand_rows_of m ≡ subcommand_of a words) same (matches simple).1
+
+-- what is made of words that were taken
+pub asked_as : (app : App) (words : List Word) (m : ArgMatches) (wanted : Asked) → app ≡ bench_app
+    → HasMatchesOf app words m → (is_simple_and_free app ≡ true → fault_of app words ≡ [])
+    → (p : Word × List Row) × (subcommand_rows_of m ≡ Some p) × MayAskFor p wanted → IsReadAs words wanted
+asked_as app words m (asked.Job job) same matches kinds (p, at, asks) = (
+  taken_whole app words same kinds,
+  record { found = p; entered = sym (same_subcommand app words m same matches) ∙ at; asks = asks },
+)
+asked_as app words m (asked.Live live) same matches kinds (p, at, asks) = (
+  taken_whole app words same kinds,
+  record { found = p; entered = sym (same_subcommand app words m same matches) ∙ at; asks = asks },
+)
+asked_as app words m (asked.Text text is_mistake) same matches kinds (p, at, asks) = absurd asks
+
+pub asked_nothing : (app : App) (words : List Word) (m : ArgMatches) → app ≡ bench_app → HasMatchesOf app words m
+    → ((p : Word × List Row) (wanted : Asked) → subcommand_rows_of m ≡ Some p → MayAskFor p wanted → ⊥)
+    → AsksNothing words
+asked_nothing app words m same matches none =
+    λ wanted is. none is.found wanted (same_subcommand app words m same matches ∙ is.entered) is.asks

@@ -1,9 +1,10 @@
 //! The subcommands of the program and their arguments, as `clap` takes them.
 ghost use Rattle.std.specs.Prelude.{◌≡◌, codes, false, true, IfOk};
 ghost use Rattle.clap.specs.Words.{app_of, new_app, rule_of, with_rule, with_subcommand};
-ghost use Rattle.bench_words.specs.Words.{asm_app, batch, bench_app, check_app, debug_app, dis_app, file, flag, live_app};
-ghost use Rattle.bench_words.specs.Words.{needed, needed_number, one_app, optional_number, pcap_app, run_app, show_app};
-ghost use Rattle.bench_words.specs.Words.{with_port, with_range, with_settings, with_trace, workers};
+ghost use Rattle.bench_words.specs.Words.{asm_app, batch, bench_app, check_app, debug_app, dis_app, file, flag};
+ghost use Rattle.bench_words.specs.Words.{live_app, needed, needed_number, one_app, optional_number, pcap_app};
+ghost use Rattle.bench_words.specs.Words.{run_app, show_app, with_port, with_range, with_settings, with_trace};
+ghost use Rattle.bench_words.specs.Words.{workers};
 
 use crate::help;
 use clap::{Arg, ArgAction, Command, value_parser};

@@ -149,7 +149,7 @@ fn asked_of<'a>(found: &ArgMatches<'a>) -> Option<Asked<'a>>
     }
 }
 
-#[tactic(auto, using(crate::proofs::Asking::not_live, crate::proofs::Asking::no_job, crate::proofs::Asking::no_live))]
+#[tactic(auto, using(crate::proofs::Asking::not_live, crate::proofs::Asking::no_job))]
 fn asked_in<'a>(name: &str, found: &ArgMatches<'a>) -> Option<Asked<'a>>
     ensures some { IfSome result (MayAskFor (name.now, rows_of (found_of found.now))) }
     ensures none { IfNone result ((asked : AskedData) → MayAskFor (name.now, rows_of (found_of found.now)) asked

@@ -1,8 +1,8 @@
 //! Which entries of a trace are asked for, and why a trace may not have them.
 
 ghost use Rattle.std.specs.Prelude.{◌≡◌, IfErr, OnOk};
-ghost use Rattle.trace_text.specs.Selection.{IsSelectable, IsSelectionFault, is_below, is_from, is_ordered, is_selected};
-ghost use Rattle.trace_text.specs.Selection.{is_up_to, is_wanted};
+ghost use Rattle.trace_text.specs.Selection.{IsSelectable, IsSelectionFault, is_below, is_from, is_ordered};
+ghost use Rattle.trace_text.specs.Selection.{is_selected, is_up_to, is_wanted};
 
 use scenario_image::Scenario;
 use std::alloc::AllocError;
