@@ -6,6 +6,8 @@ pub mod Ended
 pub mod Faults
 mod LimitedReading
 pub mod Lines
+pub mod Live
+pub mod Shown
 pub mod Streams
 pub mod Told
 pub mod Traced

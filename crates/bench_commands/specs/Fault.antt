@@ -12,6 +12,8 @@ use Rattle.trace_file.specs.declared.fault.WriteFault.{WriteFault}
 use Rattle.trace_file.specs.declared.fault.WriteFault.TheVariants as trace
 use Rattle.device_template.specs.declared.fault.TemplateFault.{TemplateFault}
 use Rattle.device_template.specs.declared.fault.TemplateFault.TheVariants as template
+use Rattle.scenario_image.specs.declared.fault.ScenarioFault.{ScenarioFault}
+use Rattle.scenario_image.specs.declared.fault.ScenarioFault.TheVariants as session
 use Rattle.fleet_workers.specs.declared.fleet.RunFault.{RunFault}
 use Rattle.fleet_workers.specs.declared.fleet.RunFault.TheVariants as runs
 use Rattle.trace_pcap.specs.declared.fault.PcapFault.{PcapFault}
@@ -21,7 +23,7 @@ use Rattle.trace_text.specs.declared.selection.SelectionFault.TheVariants as sel
 use Rattle.bench_commands.specs.declared.fault.Fault.{Fault}
 use Rattle.bench_commands.specs.declared.fault.Fault.TheVariants.{Hex, Memory, Read, Write, Layout, Text, TooLarge}
 use Rattle.bench_commands.specs.declared.fault.Fault.TheVariants.{Template, Workers, Batch, Spent, NoDevice, PastEnd}
-use Rattle.bench_commands.specs.declared.fault.Fault.TheVariants.{Range, TooLong}
+use Rattle.bench_commands.specs.declared.fault.Fault.TheVariants.{Range, Session, TooLong}
 
 -- the fault of a text that could not be read as hex: a lack of memory is not the text's fault
 abbrev pub hex_fault : FromHexError → Fault
@@ -60,6 +62,13 @@ template_fault template.Missing = Template template.Missing
 template_fault template.Duplicate = Template template.Duplicate
 template_fault template.Full = Template template.Full
 template_fault template.Memory = Memory
+
+-- the fault of steps that are not the row of a scenario: a lack of memory is not theirs
+abbrev pub session_fault : ScenarioFault → Fault
+session_fault session.Range = Session session.Range
+session_fault session.Missing = Session session.Missing
+session_fault session.Limit = Session session.Limit
+session_fault session.Memory = Memory
 
 -- the fault of a run that the workers did not end
 abbrev pub run_fault : RunFault → Fault

@@ -7,6 +7,7 @@ pub mod Fault
 pub mod FaultLine
 pub mod Files
 pub mod Jobs
+pub mod Live
 pub mod Refusals
 pub mod Runs
 pub mod RunAnswer

@@ -1,11 +1,12 @@
 ghost use Rattle.std.specs.Prelude.{◌≡◌};
-ghost use Rattle.bench_commands.specs.FaultLine.{fault_word, layout_word, template_word};
+ghost use Rattle.bench_commands.specs.FaultLine.{fault_word, layout_word, session_word, template_word};
 
 use byte_layout::LayoutFault;
 use device_machine::TemplateFault;
 use fleet_workers::RunFault;
 use hex::FromHexError;
 use scenario_asm::AsmFault;
+use scenario_image::ScenarioFault;
 use scenario_words::{Cause, cause_words};
 use std::alloc::{AllocError, AllocFailed};
 use std::fmt;
@@ -48,6 +49,8 @@ pub enum Fault {
     TooLong,
     /// A UDP port could not be had.
     Bind,
+    /// What a device did is not the row of a scenario.
+    Session(ScenarioFault),
 }
 
 impl fmt::Display for Fault {
@@ -109,6 +112,7 @@ fn word_of(fault: Fault) -> &'static str
         Fault::Range => "range",
         Fault::TooLong => "too long",
         Fault::Bind => "bind",
+        Fault::Session(fault) => session_word(fault),
     }
 }
 
@@ -135,6 +139,17 @@ fn template_word(fault: TemplateFault) -> &'static str
         TemplateFault::Duplicate => "duplicate",
         TemplateFault::Full => "full",
         TemplateFault::Memory => "memory",
+    }
+}
+
+fn session_word(fault: ScenarioFault) -> &'static str
+    ensures { result.now ≡ session_word fault }
+{
+    match fault {
+        ScenarioFault::Range => "range",
+        ScenarioFault::Missing => "missing",
+        ScenarioFault::Limit => "limit",
+        ScenarioFault::Memory => "memory",
     }
 }
 
@@ -212,6 +227,20 @@ impl From<AsmFault> for Fault {
         match fault.cause {
             Cause::Memory => Fault::Memory,
             _ => Fault::Text(fault),
+        }
+    }
+}
+
+impl From<ScenarioFault> for Fault {
+    ghost use Rattle.std.specs.Prelude.{◌≡◌};
+    ghost use Rattle.bench_commands.specs.Fault.{session_fault};
+
+    ghost from_gives = { λ fault e. e ≡ session_fault fault };
+
+    fn from(fault: ScenarioFault) -> Fault {
+        match fault {
+            ScenarioFault::Memory => Fault::Memory,
+            _ => Fault::Session(fault),
         }
     }
 }

@@ -4,6 +4,7 @@ ghost use Rattle.std.specs.String.{string_bytes};
 ghost use Rattle.bench_commands.specs.Refusals.{IsAbout, about_line, plain_line};
 
 use crate::fault::Fault;
+use scenario_image::ScenarioFault;
 use std::alloc::{AllocError, Global};
 
 /// Why the program could not do what its words ask for, and which file or word is to blame.
@@ -85,6 +86,9 @@ fn named(alloc: Global, fault: Fault) -> Result<String, AllocError> {
         Fault::Range => String::from_str(alloc, "the last number is below the first one"),
         Fault::TooLong => String::from_str(alloc, "a datagram is too long for a packet"),
         Fault::Bind => String::from_str(alloc, "the port could not be had"),
+        Fault::Session(ScenarioFault::Limit) => {
+            String::from_str(alloc, "the session has more steps than a scenario may have")
+        }
         _ => format!(in alloc; "{fault}"),
     }
 }

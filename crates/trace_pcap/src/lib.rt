@@ -2,6 +2,7 @@
 //! UDP over IPv4. docs/use/files.md has the file in words.
 #![tactic(auto)]
 
+mod count;
 mod ends;
 mod fault;
 mod laws;
@@ -9,6 +10,7 @@ mod limit;
 mod pcap;
 mod writer;
 
+pub use count::packet_count;
 pub use fault::PcapFault;
 pub use laws::{one_trace, packets_have_datagrams, seconds_are_clocks};
 pub use pcap::trace_pcap;

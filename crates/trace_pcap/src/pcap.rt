@@ -58,11 +58,7 @@ fn put_entries(
 /// entry's step, from its server to the device, then each that the device sends. The time of a packet is the second of
 /// the device's clock after the step; its microseconds are the number of packets before it in the file, up to 999,999.
 /// `TooLong` comes exactly where a datagram has more than 65,507 bytes, and before memory is taken.
-pub fn trace_pcap(
-    alloc: Global,
-    scenario: &Scenario,
-    entries: &[Entry],
-) -> Result<Bytes, PcapFault>
+pub fn trace_pcap(alloc: Global, scenario: &Scenario, entries: &[Entry]) -> Result<Bytes, PcapFault>
     ensures written { IfOk result (λ b. IsCapture b (trace_packets scenario.now entries.now)) }
     ensures refused { IsErrOf result TooLong ↔ IsTrue (has_long scenario.now entries.now) }
 {

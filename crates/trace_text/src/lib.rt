@@ -4,6 +4,7 @@
 
 mod clock;
 mod clocks;
+mod datagrams;
 mod laws;
 mod lines;
 mod selection;
@@ -11,6 +12,7 @@ mod steps;
 mod transcript;
 
 pub use clocks::Clocks;
+pub use datagrams::{arrival_text, sent_text};
 pub use laws::{all_are_selected, parts_join, runs_have_steps, seconds_are_shown};
 pub use selection::{Selection, SelectionFault};
 pub use transcript::{Transcript, selected_text, trace_text};
