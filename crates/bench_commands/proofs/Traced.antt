@@ -26,7 +26,8 @@ use Rattle.bench_commands.specs.declared.fault.Fault.TheVariants.{Memory}
 use Rattle.bench_commands.specs.declared.status.Status.{Status}
 use Rattle.bench_commands.specs.declared.status.Status.TheVariants.{Done}
 
-no_run : (s : Scenario) (es : List Entry) (place : ℕ) (status : Status) (text : List ℕ) (made : List Made)
+-- the verdict that entries are no run
+pub no_run : (s : Scenario) (es : List Entry) (place : ℕ) (status : Status) (text : List ℕ) (made : List Made)
     → BreaksAt s es place → text ≡ verdict_line (verdicts.NotRun place)
     → status ≡ verdict_status (verdicts.NotRun place) → made ≡ [] → IsNoRun s es status text made
 no_run s es place status text made breaks said ended none =
@@ -34,12 +35,13 @@ no_run s es place status text made breaks said ended none =
 
 -- ---- show
 
--- the verdict that entries are no run
-pub unshown_run : (sel : Selection) (s : Scenario) (es : List Entry) (place : ℕ) (status : Status) (text : List ℕ)
-    (made : List Made) → BreaksAt s es place → text ≡ verdict_line (verdicts.NotRun place)
-    → status ≡ verdict_status (verdicts.NotRun place) → made ≡ [] → IsShownAs sel status text made s es
-unshown_run sel s es place status text made breaks said ended none =
-    inl (no_run s es place status text made breaks said ended none)
+pub unshown_run : (sel : Selection) (s : Scenario) (es : List Entry) (status : Status) (text : List ℕ)
+    (made : List Made) → IsNoRun s es status text made → IsShownAs sel status text made s es
+unshown_run sel s es status text made none = inl none
+
+pub shown_run : (sel : Selection) (s : Scenario) (es : List Entry) (status : Status) (text : List ℕ)
+    (made : List Made) → IsRunShown sel s es status text made → IsShownAs sel status text made s es
+shown_run sel s es status text made shown = inr shown
 
 pub run_shown : (sel : Selection) (s : Scenario) (es : List Entry) (status : Status) (text : List ℕ)
     (made : List Made) → IsRun s es → IsSelectable s sel es → text ≡ selected_text s sel es → status ≡ Done
@@ -81,12 +83,13 @@ unshown_trace holds fails image trace sel f s found h = inl (check_trace holds f
 
 -- ---- pcap
 
--- the verdict that entries are no run
-pub uncaptured_run : (output : List ℕ) (s : Scenario) (es : List Entry) (place : ℕ) (status : Status) (text : List ℕ)
-    (made : List Made) → BreaksAt s es place → text ≡ verdict_line (verdicts.NotRun place)
-    → status ≡ verdict_status (verdicts.NotRun place) → made ≡ [] → IsCapturedAs output status text made s es
-uncaptured_run output s es place status text made breaks said ended none =
-    inl (no_run s es place status text made breaks said ended none)
+pub uncaptured_run : (output : List ℕ) (s : Scenario) (es : List Entry) (status : Status) (text : List ℕ)
+    (made : List Made) → IsNoRun s es status text made → IsCapturedAs output status text made s es
+uncaptured_run output s es status text made none = inl none
+
+pub captured_run : (output : List ℕ) (s : Scenario) (es : List Entry) (status : Status) (text : List ℕ)
+    (made : List Made) → IsRunCaptured output s es status text made → IsCapturedAs output status text made s es
+captured_run output s es status text made captured = inr captured
 
 pub run_captured : (output bytes : List ℕ) (s : Scenario) (es : List Entry) (status : Status) (text : List ℕ)
     (made : List Made) → IsRun s es → IsCapture bytes (trace_packets s es)

@@ -1,13 +1,13 @@
 //! What the program answers to its words about the trace of a run: `show` and `pcap`. Where the trace is not a run, the
 //! answer is that of `check`.
-ghost use Rattle.std.specs.Prelude.{◌≡◌, length, IfErr, IfOk};
+ghost use Rattle.std.specs.Prelude.{◌≡◌, length, IfErr, IfNone, IfOk, IfSome};
 ghost use Rattle.std.specs.String.{string_bytes};
 ghost use Rattle.fleet_core.specs.Run.{IsRun};
 ghost use Rattle.bench_commands.specs.Answers.{files_of};
 ghost use Rattle.trace_pcap.specs.Packets.{trace_packets};
-ghost use Rattle.bench_commands.specs.Traces.{IsCapturedAs, IsPcapDone, IsPcapFault, IsPcapRefused, IsRunCaptured};
-ghost use Rattle.bench_commands.specs.Traces.{IsRunShown, IsShowDone, IsShowFault, IsShowRefused, IsShownAs};
-ghost use Rattle.bench_commands.specs.Traces.{packets_line};
+ghost use Rattle.bench_commands.specs.Traces.{IsCapturedAs, IsNoRun, IsPcapDone, IsPcapFault, IsPcapRefused};
+ghost use Rattle.bench_commands.specs.Traces.{IsRunCaptured, IsRunShown, IsShowDone, IsShowFault, IsShowRefused};
+ghost use Rattle.bench_commands.specs.Traces.{IsShownAs, packets_line};
 
 use crate::answer::{Answer, NewFile};
 use crate::fault::Fault;
@@ -22,6 +22,23 @@ use std::alloc::{AllocError, Global};
 use trace_file::Entry;
 use trace_pcap::{packet_count, trace_pcap};
 use trace_text::{Selection, selected_text};
+
+/// The answer that entries are not a run; none where they are one.
+#[tactic(auto, using(crate::proofs::Traced::no_run))]
+fn answer_no_run<'a>(
+    alloc: Global,
+    scenario: &Scenario,
+    entries: &[Entry],
+) -> Result<Option<Answer<'a>>, AllocError>
+    ensures no_run { IfOk result (λ o. IfSome o (λ a.
+        IsNoRun scenario.now entries.now a.status (string_bytes a.text) (files_of a.file))) }
+    ensures run { IfOk result (λ o. IfNone o (IsRun scenario.now entries.now)) }
+{
+    match check(alloc, scenario, entries)? {
+        Verdict::Run => Ok(None),
+        Verdict::NotRun(place) => Ok(Some(no_run(alloc, place)?)),
+    }
+}
 
 /// `show IMAGE TRACE [--device N] [--from N] [--to N]`: the text of those entries of a run that are asked for.
 #[tactic(auto, using(crate::proofs::Traced::shown_at, crate::proofs::Traced::unshown_at, crate::proofs::Traced::unshown_image, crate::proofs::Traced::unshown_trace))]
@@ -42,7 +59,7 @@ pub fn show<'a, F: Files>(
     Ok(show_trace(alloc, &scenario, entries.as_slice(), selection)?)
 }
 
-#[tactic(auto, using(crate::proofs::Traced::unshown_run, crate::proofs::Traced::unshown_memory))]
+#[tactic(auto, using(crate::proofs::Traced::unshown_run, crate::proofs::Traced::shown_run, crate::proofs::Traced::unshown_memory))]
 fn show_trace<'a>(
     alloc: Global,
     scenario: &Scenario,
@@ -53,9 +70,9 @@ fn show_trace<'a>(
         IsShownAs selection a.status (string_bytes a.text) (files_of a.file) scenario.now entries.now) }
     ensures refused { IfErr result (λ f. IsShowFault selection f scenario.now entries.now) }
 {
-    match check(alloc, scenario, entries)? {
-        Verdict::Run => show_run(alloc, scenario, entries, selection),
-        Verdict::NotRun(place) => Ok(no_run(alloc, place)?),
+    match answer_no_run(alloc, scenario, entries)? {
+        Some(answer) => Ok(answer),
+        None => show_run(alloc, scenario, entries, selection),
     }
 }
 
@@ -94,7 +111,7 @@ pub fn pcap<'a, F: Files>(
     Ok(capture_trace(alloc, &scenario, entries.as_slice(), output)?)
 }
 
-#[tactic(auto, using(crate::proofs::Traced::uncaptured_run, crate::proofs::Traced::uncaptured_memory))]
+#[tactic(auto, using(crate::proofs::Traced::uncaptured_run, crate::proofs::Traced::captured_run, crate::proofs::Traced::uncaptured_memory))]
 fn capture_trace<'a>(
     alloc: Global,
     scenario: &Scenario,
@@ -105,9 +122,9 @@ fn capture_trace<'a>(
         IsCapturedAs output.entry.now a.status (string_bytes a.text) (files_of a.file) scenario.now entries.now) }
     ensures refused { IfErr result (λ f. IsPcapFault f scenario.now entries.now) }
 {
-    match check(alloc, scenario, entries)? {
-        Verdict::Run => capture_run(alloc, scenario, entries, output),
-        Verdict::NotRun(place) => Ok(no_run(alloc, place)?),
+    match answer_no_run(alloc, scenario, entries)? {
+        Some(answer) => Ok(answer),
+        None => capture_run(alloc, scenario, entries, output),
     }
 }
 
