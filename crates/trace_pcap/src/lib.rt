@@ -1,5 +1,5 @@
-//! A trace as a capture file, which Wireshark, tshark and tcpdump open: each datagram that a device received or sent, as
-//! UDP over IPv4. docs/use/files.md has the file in words.
+//! A trace as a capture file, which Wireshark, tshark and tcpdump open: each datagram that a device received or sent,
+//! as UDP over IPv4. docs/use/files.md has the file in words.
 #![tactic(auto)]
 
 mod count;

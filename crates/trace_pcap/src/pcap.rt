@@ -54,9 +54,11 @@ fn put_entries(
     Ok(())
 }
 
-/// The capture file of entries of a scenario, in any order: a packet for each datagram, first the one that arrives in an
-/// entry's step, from its server to the device, then each that the device sends. The time of a packet is the second of
-/// the device's clock after the step; its microseconds are the number of packets before it in the file, up to 999,999.
+/// The capture file of entries of a scenario, in any order: a packet for each datagram, first the one that arrives in
+/// an entry's step, from its server to the device, then each that the device sends. The time of a packet is the second
+/// of the device's clock after the step; its microseconds are the number of packets before it in the file, up to
+/// 999,999.
+///
 /// `TooLong` comes exactly where a datagram has more than 65,507 bytes, and before memory is taken.
 pub fn trace_pcap(alloc: Global, scenario: &Scenario, entries: &[Entry]) -> Result<Bytes, PcapFault>
     ensures written { IfOk result (λ b. IsCapture b (trace_packets scenario.now entries.now)) }

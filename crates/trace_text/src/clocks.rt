@@ -8,8 +8,8 @@ use scenario_image::Scenario;
 use std::alloc::{AllocError, Global};
 use std::marker::Model;
 
-/// Tells the seconds of a scenario's devices. It keeps the latest one of each device, so that it looks at each step of a
-/// row once where it is asked in the order of a run. Contracts see the scenario.
+/// The seconds of a scenario's devices. The latest one of each device is kept, so that each step of a row is looked at
+/// once where they are asked for in the order of a run. Contracts see the scenario.
 #[derive(Drop)]
 pub struct Clocks<'a> {
     scenario: &'a Scenario,

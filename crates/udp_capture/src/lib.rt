@@ -9,5 +9,5 @@ mod laws;
 mod packet;
 
 pub use envelope::{Endpoint, Envelope};
-pub use laws::{one_capture, sums_are_all_ones};
+pub use laws::{known_checksum, one_capture, sums_are_all_ones};
 pub use packet::{MOST_PAYLOAD, put_file_header, put_packet};
