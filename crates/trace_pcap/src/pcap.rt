@@ -34,7 +34,8 @@ fn put_entry(
     let second = clocks.second_at(entry.device, entry.step as usize + 1);
     let step = step_of(scenario, entry.device, entry.step);
     writer.put_arrival(second, entry.device, step)?;
-    writer.put_outputs(second, entry.device, entry.outputs.as_slice())
+    writer.put_outputs(second, entry.device, entry.outputs.as_slice())?;
+    Ok(())
 }
 
 /// Writes the datagrams of entries, in their order. Where memory runs out, some of their bytes may have been written.
@@ -60,11 +61,7 @@ fn put_entries(
 /// 999,999.
 ///
 /// `TooLong` comes exactly where a datagram has more than 65,507 bytes, and before memory is taken.
-pub fn trace_pcap(
-    alloc: Global,
-    scenario: &Scenario,
-    entries: &[Entry],
-) -> Result<Bytes, PcapFault>
+pub fn trace_pcap(alloc: Global, scenario: &Scenario, entries: &[Entry]) -> Result<Bytes, PcapFault>
     ensures written { IfOk result (λ b. IsCapture b (trace_packets scenario.now entries.now)) }
     ensures refused { IsErrOf result TooLong ↔ IsTrue (has_long scenario.now entries.now) }
 {

@@ -1,0 +1,4 @@
+mod Long
+mod Along
+mod Fitting
+mod Read
