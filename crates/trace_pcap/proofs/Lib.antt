@@ -1,1 +1,5 @@
+mod Long
+mod Along
+mod Fitting
+mod Read
 pub mod Counted
