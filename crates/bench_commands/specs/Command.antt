@@ -22,7 +22,7 @@ use Rattle.bench_commands.specs.Live.{IsLiveDone, IsLiveFault}
 use Rattle.bench_commands.specs.Refusals.{IsTold}
 use Rattle.bench_commands.specs.Status.{text_status}
 use Rattle.bench_commands.specs.Texts.{IsTextFault}
-use Rattle.bench_commands.specs.Traces.{IsShowDone, IsShowRefused}
+use Rattle.bench_commands.specs.Traces.{IsPcapDone, IsPcapRefused, IsShowDone, IsShowRefused}
 use Rattle.bench_commands.specs.declared.answer.Answer.{Answer}
 use Rattle.bench_commands.specs.declared.fault.Fault.{Fault}
 use Rattle.bench_commands.specs.declared.fault.Fault.TheVariants.{Memory}
@@ -41,6 +41,8 @@ IsDone holds (jobs.Run image workers batch trace) status text made =
 IsDone holds (jobs.Check image trace) status text made = IsCheckDone holds image.now trace.now status text made
 IsDone holds (jobs.Show image trace device from to) status text made =
     IsShowDone holds image.now trace.now (record { device = device; from = from; to = to }) status text made
+IsDone holds (jobs.Pcap image trace output) status text made =
+    IsPcapDone holds image.now trace.now output.now status text made
 IsDone holds (jobs.Debug image trace) status text made = IsDebugRefused holds image.now trace.now status text made
 
 -- a job is refused for this fault
@@ -53,6 +55,8 @@ IsRefusedJob holds fails (jobs.Run image workers batch trace) fault =
 IsRefusedJob holds fails (jobs.Check image trace) fault = IsCheckRefused holds fails image.now trace.now fault
 IsRefusedJob holds fails (jobs.Show image trace device from to) fault =
     IsShowRefused holds fails image.now trace.now (record { device = device; from = from; to = to }) fault
+IsRefusedJob holds fails (jobs.Pcap image trace output) fault =
+    IsPcapRefused holds fails image.now trace.now fault
 IsRefusedJob holds fails (jobs.Debug image trace) fault = IsCheckRefused holds fails image.now trace.now fault
 
 -- what words are answered with; a text on how to use the program is printed as it is

@@ -16,12 +16,14 @@ use Rattle.scenario_image.specs.declared.fault.ScenarioFault.{ScenarioFault}
 use Rattle.scenario_image.specs.declared.fault.ScenarioFault.TheVariants as session
 use Rattle.fleet_workers.specs.declared.fleet.RunFault.{RunFault}
 use Rattle.fleet_workers.specs.declared.fleet.RunFault.TheVariants as runs
+use Rattle.trace_pcap.specs.declared.fault.PcapFault.{PcapFault}
+use Rattle.trace_pcap.specs.declared.fault.PcapFault.TheVariants as pcap
 use Rattle.trace_text.specs.declared.selection.SelectionFault.{SelectionFault}
 use Rattle.trace_text.specs.declared.selection.SelectionFault.TheVariants as selection
 use Rattle.bench_commands.specs.declared.fault.Fault.{Fault}
 use Rattle.bench_commands.specs.declared.fault.Fault.TheVariants.{Hex, Memory, Read, Write, Layout, Text, TooLarge}
 use Rattle.bench_commands.specs.declared.fault.Fault.TheVariants.{Template, Workers, Batch, Spent, NoDevice, PastEnd}
-use Rattle.bench_commands.specs.declared.fault.Fault.TheVariants.{Range, Session}
+use Rattle.bench_commands.specs.declared.fault.Fault.TheVariants.{Range, Session, TooLong}
 
 -- the fault of a text that could not be read as hex: a lack of memory is not the text's fault
 abbrev pub hex_fault : FromHexError → Fault
@@ -81,6 +83,11 @@ selection_fault selection.NoDevice = NoDevice
 selection_fault selection.PastEnd = PastEnd
 selection_fault selection.Range = Range
 selection_fault selection.Memory = Memory
+
+-- the fault of entries that got no capture
+abbrev pub pcap_fault : PcapFault → Fault
+pcap_fault pcap.TooLong = TooLong
+pcap_fault pcap.Memory = Memory
 
 -- what may befall a text that is printed, or a file that is made: a lack of memory, or that it was not taken
 abbrev pub IsWritingFault : Type 0 → Fault → Type 0

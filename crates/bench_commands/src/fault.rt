@@ -11,6 +11,7 @@ use scenario_words::{Cause, cause_words};
 use std::alloc::{AllocError, AllocFailed};
 use std::fmt;
 use trace_file::WriteFault;
+use trace_pcap::PcapFault;
 use trace_text::SelectionFault;
 
 /// Why the program could not do what its words ask for. It prints as the fault's name.
@@ -286,6 +287,20 @@ impl From<SelectionFault> for Fault {
             SelectionFault::PastEnd => Fault::PastEnd,
             SelectionFault::Range => Fault::Range,
             SelectionFault::Memory => Fault::Memory,
+        }
+    }
+}
+
+impl From<PcapFault> for Fault {
+    ghost use Rattle.std.specs.Prelude.{◌≡◌};
+    ghost use Rattle.bench_commands.specs.Fault.{pcap_fault};
+
+    ghost from_gives = { λ fault e. e ≡ pcap_fault fault };
+
+    fn from(fault: PcapFault) -> Fault {
+        match fault {
+            PcapFault::TooLong => Fault::TooLong,
+            PcapFault::Memory => Fault::Memory,
         }
     }
 }

@@ -15,7 +15,7 @@ use crate::output::Output;
 use crate::refusal::Refusal;
 use crate::status::Status;
 use crate::telling::tell;
-use crate::traces::show;
+use crate::traces::{pcap, show};
 use bench_words::{Asked, Job, read};
 use std::alloc::Global;
 use std::net::Net;
@@ -123,6 +123,11 @@ pub fn answer_to<'a, R: Threads + Wait + Sync, F: Files, I: Input, O: Output>(
             let selection = Selection { device, from, to };
             Ok(Some(show(alloc, image, trace, selection, files)?))
         }
+        Job::Pcap {
+            image,
+            trace,
+            output: path,
+        } => Ok(Some(pcap(alloc, image, trace, path, files)?)),
         Job::Debug { image, trace } => debug(alloc, image, trace, files, input, output),
     }
 }

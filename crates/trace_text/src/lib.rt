@@ -3,6 +3,7 @@
 #![tactic(auto)]
 
 mod clock;
+mod clocks;
 mod datagrams;
 mod laws;
 mod lines;
@@ -10,6 +11,7 @@ mod selection;
 mod steps;
 mod transcript;
 
+pub use clocks::Clocks;
 pub use datagrams::{arrival_text, sent_text};
 pub use laws::{all_are_selected, parts_join, runs_have_steps, seconds_are_shown};
 pub use selection::{Selection, SelectionFault};

@@ -18,7 +18,7 @@ pub(crate) fn entry_line(
     alloc: Global,
     number: usize,
     entry: &Entry,
-    second: u64,
+    second: u32,
     words: &str,
 ) -> Result<String, AllocError>
     ensures { IfOk result (λ t. string_bytes t ≡ entry_line number entry.now second words.now) }

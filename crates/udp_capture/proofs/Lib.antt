@@ -1,0 +1,5 @@
+mod Sums
+mod Words
+mod Headers
+mod Spelled
+
