@@ -31,6 +31,7 @@ use std::rt::Clock;
 
 /// A device of the row's class goes on for n turns, from its start, at a UDP port and by the machine's clock. Then the
 /// line of its session is printed, and then its steps are saved as a scenario, if they are to be.
+#[tactic(auto, using(crate::proofs::Live::live_done, crate::proofs::Live::image_refused, crate::proofs::Live::device_refused, crate::proofs::Live::port_refused, crate::proofs::Live::session_cut, crate::proofs::Live::session_lost))]
 pub fn live<'a, R: Net + Clock, F: Files, O: Output>(
     rt: &R,
     alloc: Global,
@@ -61,6 +62,7 @@ pub fn live<'a, R: Net + Clock, F: Files, O: Output>(
 }
 
 /// A copy of the class of a device's row.
+#[tactic(auto, using(crate::proofs::Live::class_at_row))]
 fn class_of(scenario: &Scenario, device: u16) -> Result<Template, Fault>
     ensures class { IfOk result (IsClassOf scenario.now device) }
     ensures refused { IfErr result (λ fault. (fault ≡ Fault.Memory)
@@ -89,6 +91,7 @@ fn bound<R: Net>(rt: &R, alloc: Global, class: &Template, port: u16) -> Result<U
 }
 
 /// The session of a device of this class on the wire. Where it is shown, each datagram is printed as it goes over it.
+#[tactic(auto, using(crate::proofs::Live::untold, crate::proofs::Live::is_shown, crate::proofs::Live::not_shown, crate::proofs::Live::unheld_memory, crate::proofs::Live::unheld_so))]
 fn hold<'a, W: Wire + Drop, C: Seconds, O: Output>(
     alloc: Global,
     wire: W,
@@ -109,6 +112,7 @@ fn hold<'a, W: Wire + Drop, C: Seconds, O: Output>(
     Ok(serve_class(alloc, &mut wire, clock, class, turns)?)
 }
 
+#[tactic(auto, using(crate::proofs::Live::untold, crate::proofs::Live::unheld_memory, crate::proofs::Live::unheld_written))]
 fn hold_shown<'a, W: Wire + Drop, C: Seconds, O: Output>(
     alloc: Global,
     wire: W,
@@ -159,6 +163,7 @@ pub fn session_line(
 }
 
 /// Prints the line of a session, and then saves its steps, if there is a path.
+#[tactic(auto, using(crate::proofs::Live::concluded, crate::proofs::Live::line_unprinted, crate::proofs::Live::steps_unsaved))]
 pub fn conclude_session<'a, F: Files, O: Output>(
     alloc: Global,
     save: Option<&'a str>,
@@ -179,6 +184,7 @@ pub fn conclude_session<'a, F: Files, O: Output>(
     Ok(Status::Done)
 }
 
+#[tactic(auto, using(crate::proofs::Delivered::unwritten))]
 fn print_session<'a, O: Output>(
     alloc: Global,
     session: &LiveSession,
@@ -215,6 +221,7 @@ fn save_session<'a, F: Files>(
 }
 
 /// Saves the steps of a device of this class as a scenario.
+#[tactic(auto, using(crate::proofs::Live::saved_at, crate::proofs::Live::not_fit, crate::proofs::Live::not_made))]
 fn save_at<'a, F: Files>(
     alloc: Global,
     path: &'a str,
@@ -231,6 +238,7 @@ fn save_at<'a, F: Files>(
 }
 
 /// The image of the steps of a device of this class, for the path.
+#[tactic(auto, using(crate::proofs::Live::unfit_memory, crate::proofs::Live::unfit_step))]
 fn session_file<'a>(
     alloc: Global,
     path: &'a str,

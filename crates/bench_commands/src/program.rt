@@ -25,8 +25,8 @@ use std::thread::Threads;
 use trace_text::Selection;
 
 /// Does what the words ask for, of which the first is the program's name. The file of the answer is made, and then its
-/// lines go to `output`; or the lines of `input` are answered there; or a device goes on at a UDP port, and its line goes
-/// there; or a fault's line goes there, and what it is about to `errors`.
+/// lines go to `output`; or the lines of `input` are answered there; or a device goes on at a UDP port, and its line
+/// goes there; or a fault's line goes there, and what it is about to `errors`.
 #[tactic(auto, using(crate::proofs::Ended::finished, crate::proofs::Ended::faulted))]
 pub fn command<R: Threads + Wait + Sync + Net + Clock, F: Files, I: Input, O: Output, E: Output>(
     rt: &R,
