@@ -2,4 +2,4 @@ mod Long
 mod Along
 mod Fitting
 mod Read
-pub mod Counted
+mod Counted
