@@ -141,7 +141,8 @@ pub multiple_again : (b : Bool) → one_of (codes "multiple") (codes "single") (
 multiple_again true = refl
 multiple_again false = refl
 
-pub mandatory_read : (w : List ℕ) (b : Bool) → one_of (codes "mandatory") (codes "optional") w ≡ Ok b → w ≡ mandatory_word b
+pub mandatory_read : (w : List ℕ) (b : Bool) → one_of (codes "mandatory") (codes "optional") w ≡ Ok b
+    → w ≡ mandatory_word b
 mandatory_read w b =
     by_name w (codes "mandatory") _ _ (Ok b) (w ≡ mandatory_word b) (is_word mandatory_word w true b)
     (by_name w (codes "optional") _ _ (Ok b) (w ≡ mandatory_word b) (is_word mandatory_word w false b) (λ h. cc))

@@ -1,12 +1,11 @@
 -- Words that stand where one of some names has to stand.
-use Rattle.std.proofs.Common.{◌≡◌, ◌≢◌, ℕ, ◌==◌, Bool, true, false, cond, List, [], ◌∷◌, Result, Ok, Err, inl, inr}
-use Rattle.std.proofs.Common.{refl, sym, ap, subst, ◌∙◌, arith, eq-eqb, eqb-true, ne_eqb}
+use Rattle.std.proofs.Common.{◌≡◌, ℕ, ◌==◌, Bool, true, false, cond, List, [], ◌∷◌, Result, Ok, Err, inl, inr}
+use Rattle.std.proofs.Common.{refl, sym, ap, ◌∙◌, arith, eq-eqb, ne_eqb}
 use Rattle.std.specs.Prelude.{codes, is_ok}
 use Rattle.std.specs.Char.{is_ascii_graphic}
-use Rattle.std.specs.List.{AllByRecursion, list_all}
+use Rattle.std.specs.List.{list_all}
 use Rattle.std.specs.Str.{bytes_eq}
 use Rattle.std.proofs.lemmas.Bool.Decides.{nat_tests}
-use Rattle.std.proofs.lemmas.Slice.Eq.{bytes_eq-Decides}
 use Rattle.lwm2m_values.specs.declared.kind.ValueKind.{ValueKind}
 use Rattle.lwm2m_values.specs.declared.kind.ValueKind.TheVariants as kind
 use Rattle.object_defs.specs.declared.definition.Ops.{Ops}
@@ -19,7 +18,7 @@ use Rattle.scenario_words.proofs.Pairs.{quoted_law}
 use Rattle.scenario_statements.specs.Grammar.{one_of, ops_named}
 use Rattle.scenario_statements.specs.Spelling.{IsWithin, ops_word}
 use Rattle.reading_laws.specs.Statements.{mandatory_word, multiple_word}
-use Rattle.reading_laws.specs.WrongWords.{IsFormed, IsGraphic, KindsAreNamed, MandatoryIsNamed, MultipleIsNamed}
+use Rattle.reading_laws.specs.WrongWords.{IsFormed, KindsAreNamed, MandatoryIsNamed, MultipleIsNamed}
 use Rattle.reading_laws.specs.WrongWords.{OperationsAreNamed}
 use Rattle.reading_laws.proofs.Refused.{Reads, each_said, each_tested, refused, same_cause, wrong}
 use Rattle.reading_laws.proofs.Statements.{kind_again, kind_read, mandatory_again, mandatory_read, multiple_again}

@@ -1,5 +1,5 @@
 -- Words that stand where a number, a path, a link, bytes or a text have to stand.
-use Rattle.std.proofs.Common.{◌≡◌, ◌≢◌, ◌⊎◌, ℕ, ◌+◌, ◌<◌, ◌≤◌, ◌^◌, ◌==◌, nat_le, nat_lt, ℤ, Bool, true, false, ◌&&◌}
+use Rattle.std.proofs.Common.{◌≡◌, ◌≢◌, ◌⊎◌, ℕ, ◌<◌, ◌≤◌, ◌^◌, ◌==◌, nat_le, nat_lt, ℤ, Bool, true, false, ◌&&◌}
 use Rattle.std.proofs.Common.{◌||◌, cond, List, [], ◌∷◌, ◌++◌, length, slice_index, Option, None, Some, Result, Ok, Err}
 use Rattle.std.proofs.Common.{inl, inr, refl, sym, ap, subst, ◌∙◌, arith, eq-eqb, eqb-true, ne_eqb, lt-ltb, ltb-true}
 use Rattle.std.proofs.Common.{w64, FitsSigned}
@@ -8,7 +8,7 @@ use Rattle.std.specs.Char.{is_ascii_digit}
 use Rattle.std.specs.Fmt.{decimal, signed_decimal}
 use Rattle.std.specs.Bool.{if◌then◌else◌}
 use Rattle.std.specs.Str.Parse.{digits_value}
-use Rattle.std.specs.List.{AllByRecursion, flat_map, join_with_byte, list_all, onto_first, slice_split}
+use Rattle.std.specs.List.{AllByRecursion, flat_map, join_with_byte, list_all, onto_first}
 use Rattle.std.proofs.lemmas.Bool.{and_from, and_parts, cases_eq, or_cases, or_left, or_right}
 use Rattle.std.proofs.lemmas.Bool.Decides.{nat_tests}
 use Rattle.std.proofs.lemmas.List.{append-nil}
@@ -25,13 +25,13 @@ use Rattle.scenario_words.specs.PathWord.{path_of_parts}
 use Rattle.scenario_words.specs.Quoted.{IsQuoted, text_of, unquoted, utf8_or_token}
 use Rattle.scenario_words.specs.Reading.{◌>>=◌}
 use Rattle.scenario_words.specs.Words.{parts}
-use Rattle.scenario_words.proofs.Digits.{minus_number, no_minus, plain_number}
+use Rattle.scenario_words.proofs.Digits.{minus_number, plain_number}
 use Rattle.scenario_words.proofs.NumberLaws.{integer_of-law, is_number-natural, number_of-law}
 use Rattle.scenario_words.proofs.Pairs.{hex_law, quoted_law}
 use Rattle.scenario_words.proofs.PathLaws.{link_law, path_law}
 use Rattle.scenario_statements.specs.Spelling.{IsWithin}
-use Rattle.reading_laws.specs.WrongWords.{BytesAreHex, IntegersFit, IsNatural, IsNumber, IsPair, IsSlashed, LinksArePairs}
-use Rattle.reading_laws.specs.WrongWords.{NumbersAreWithin, PathsAreSlashed, TextsAreQuoted}
+use Rattle.reading_laws.specs.WrongWords.{BytesAreHex, IntegersFit, IsNatural, IsNumber, IsPair, IsSlashed}
+use Rattle.reading_laws.specs.WrongWords.{LinksArePairs, NumbersAreWithin, PathsAreSlashed, TextsAreQuoted}
 use Rattle.reading_laws.proofs.Refused.{Reads, bind_err, each_said, each_tested, refused, same_cause, wrong}
 
 -- ---- numbers

@@ -33,14 +33,14 @@ use Rattle.scenario_mnemonics.specs.declared.verb.Keyword.TheVariants as keyword
 use Rattle.scenario_mnemonics.specs.MnemonicWords.{keyword_named, keyword_word, mnemonic_at}
 use Rattle.scenario_statements.specs.declared.statement.Statement.{Statement}
 use Rattle.scenario_statements.specs.declared.statement.Statement.TheVariants as says
-use Rattle.scenario_statements.specs.Grammar.{definition, instance as read_instance, need as read_need, of_device}
+use Rattle.scenario_statements.specs.Grammar.{definition, instance as read_instance, need as read_need}
 use Rattle.scenario_statements.specs.Grammar.{one_of, only_number, ops_named, recv as read_recv, request, some}
-use Rattle.scenario_statements.specs.Grammar.{statement_by, statement_of}
-use Rattle.scenario_statements.specs.Spelling.{IsWithin, ops_word}
-use Rattle.reading_laws.specs.Statements.{IsValueWord, mandatory_word, multiple_word}
-use Rattle.reading_laws.specs.WrongStatements.{AreWrong, AreWrongAsValue, AreWrongAtPath, HasForm, HasValueForm, IsKeyword}
-use Rattle.reading_laws.specs.WrongStatements.{IsRefused, IsRight, IsWrongAt, Leading, Place, WrongStatementsAreSaid}
-use Rattle.reading_laws.specs.WrongStatements.{leading_word, places_after, refusal_at}
+use Rattle.scenario_statements.specs.Grammar.{statement_by}
+use Rattle.scenario_statements.specs.Spelling.{IsWithin}
+use Rattle.reading_laws.specs.Statements.{IsValueWord}
+use Rattle.reading_laws.specs.WrongStatements.{AreWrong, AreWrongAsValue, AreWrongAtPath, HasValueForm}
+use Rattle.reading_laws.specs.WrongStatements.{IsKeyword, IsRefused, IsRight, IsWrongAt, Leading, Place}
+use Rattle.reading_laws.specs.WrongStatements.{WrongStatementsAreSaid, leading_word, places_after, refusal_at}
 use Rattle.reading_laws.specs.WrongStatements.Place.{number, operations, multiple, mandatory, kind_name, path, bytes}
 use Rattle.reading_laws.specs.WrongStatements.Place.{value}
 use Rattle.reading_laws.specs.WrongStatements.Leading.{scenario, class, account, object, def, instance, device, recv}
@@ -48,8 +48,9 @@ use Rattle.reading_laws.specs.WrongStatements.Leading.{tick, firmware, post, nee
 use Rattle.reading_laws.specs.WrongStatements.IsRefused.{after_leading, after_value, after_mnemonic, no_keyword}
 use Rattle.reading_laws.specs.WrongWords.{IsFormed, IsWrong}
 use Rattle.reading_laws.proofs.Refused.{refused, same_cause}
-use Rattle.reading_laws.proofs.Statements.{flag_read, keyword_read, kind_again, kind_read, mandatory_again, mandatory_read}
-use Rattle.reading_laws.proofs.Statements.{multiple_again, multiple_read, number_again, number_read, ops_again, ops_read}
+use Rattle.reading_laws.proofs.Statements.{flag_read, keyword_read, kind_again, kind_read, mandatory_again}
+use Rattle.reading_laws.proofs.Statements.{mandatory_read, multiple_again, multiple_read, number_again, number_read}
+use Rattle.reading_laws.proofs.Statements.{ops_again, ops_read}
 use Rattle.reading_laws.proofs.Statements.{value_again, value_read}
 use Rattle.reading_laws.proofs.WrongNames.{formed_said, formed_tested, kinds_named, mandatory_named, multiple_named}
 use Rattle.reading_laws.proofs.WrongNames.{operations_named}

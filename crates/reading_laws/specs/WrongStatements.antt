@@ -1,6 +1,6 @@
--- Why the words of a line of scenario text are refused: the first that is wrong in its place, from the left; else a word
--- is missing, or there is one too many.
-use Rattle.std.specs.Prelude.{◌≡◌, ◌↔◌, ◌⊎◌, ℕ, List, [], ◌∷◌, Err, codes}
+-- Why the words of a line of scenario text are refused: the first that is wrong in its place, from the left; else a
+-- word is missing, or there is one too many.
+use Rattle.std.specs.Prelude.{◌≡◌, ◌↔◌, ◌⊎◌, ℕ, Bool, List, [], ◌∷◌, Err, codes}
 use Rattle.std.specs.Fmt.{decimal}
 use Rattle.lwm2m_values.specs.Value.{kind_of}
 use Rattle.lwm2m_values.specs.declared.kind.ValueKind.{ValueKind}
@@ -9,7 +9,6 @@ use Rattle.lwm2m_values.specs.declared.value.Value.{Value}
 use Rattle.object_defs.specs.declared.definition.Ops.{Ops}
 use Rattle.object_defs.specs.declared.path.Path.{Path}
 use Rattle.object_defs.specs.Path.{path_text}
-use Rattle.std.specs.Prelude.{Bool}
 use Rattle.scenario_words.specs.declared.cause.Cause.{Cause}
 use Rattle.scenario_words.specs.declared.cause.Cause.TheVariants.{Missing, Range, Token, UnknownWord}
 use Rattle.scenario_words.specs.HexWord.{IsHex}

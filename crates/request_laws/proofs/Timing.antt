@@ -1,6 +1,6 @@
 -- What the firmware refuses for its State.
-use Rattle.std.proofs.Common.{◌≡◌, ℕ, Bool, true, false, not, ◌==◌, [], ◌∷◌, Option, None, Some, inl, inr, refl, sym, ap}
-use Rattle.std.proofs.Common.{◌∙◌}
+use Rattle.std.proofs.Common.{◌≡◌, ℕ, Bool, true, false, not, ◌==◌, [], ◌∷◌, Option, None, Some, inl, inr, refl, sym}
+use Rattle.std.proofs.Common.{ap, ◌∙◌}
 use Rattle.std.specs.Option.{is_some}
 use Rattle.std.proofs.lemmas.Bool.{ne_eqb}
 use Rattle.coap_codec.specs.Message.{Message}
