@@ -102,11 +102,11 @@ last_taken {A} read (w ∷ ws) y h =
     let same : (b.0, ws) ≡ y = cc (b.2) in
     (w, ap (λ (p : A × List (List ℕ)). w ∷ p.1) same, b.1 ∙ ap (λ (p : A × List (List ℕ)). Ok p.0) same)
 
-number_read : (low high n : ℕ) (w : List ℕ) → high < 2 ^ 64 → number_of low high w ≡ Ok n
+pub number_read : (low high n : ℕ) (w : List ℕ) → high < 2 ^ 64 → number_of low high w ≡ Ok n
     → (w ≡ decimal n) × IsWithin low high n
 number_read low high n w small h = let l = (number_of-law low high n w small).0 h in (l.0, (l.1, l.2))
 
-number_again : (low high n : ℕ) → high < 2 ^ 64 → IsWithin low high n → number_of low high (decimal n) ≡ Ok n
+pub number_again : (low high n : ℕ) → high < 2 ^ 64 → IsWithin low high n → number_of low high (decimal n) ≡ Ok n
 number_again low high n h k = (number_of-law low high n (decimal n) h).1 (refl, k.0, k.1)
 
 only_read : (low high n : ℕ) (ws : List (List ℕ)) → high < 2 ^ 64 → only_number low high ws ≡ Ok n
@@ -119,38 +119,39 @@ only_read low high n ws small h =
       subst (IsWithin low high) end.1 r.1,
     )
 
-ops_read : (w : List ℕ) (o : Ops) → ops_named w ≡ Ok o → w ≡ ops_word o
+pub ops_read : (w : List ℕ) (o : Ops) → ops_named w ≡ Ok o → w ≡ ops_word o
 ops_read w o =
     by_name w (codes "r") _ _ (Ok o) (w ≡ ops_word o) (is_word ops_word w R o)
     (by_name w (codes "w") _ _ (Ok o) (w ≡ ops_word o) (is_word ops_word w W o)
     (by_name w (codes "rw") _ _ (Ok o) (w ≡ ops_word o) (is_word ops_word w RW o)
     (by_name w (codes "e") _ _ (Ok o) (w ≡ ops_word o) (is_word ops_word w E o) (λ h. cc))))
 
-ops_again : (o : Ops) → ops_named (ops_word o) ≡ Ok o
+pub ops_again : (o : Ops) → ops_named (ops_word o) ≡ Ok o
 ops_again R = refl
 ops_again W = refl
 ops_again RW = refl
 ops_again E = refl
 
-multiple_read : (w : List ℕ) (b : Bool) → one_of (codes "multiple") (codes "single") w ≡ Ok b → w ≡ multiple_word b
+pub multiple_read : (w : List ℕ) (b : Bool) → one_of (codes "multiple") (codes "single") w ≡ Ok b → w ≡ multiple_word b
 multiple_read w b =
     by_name w (codes "multiple") _ _ (Ok b) (w ≡ multiple_word b) (is_word multiple_word w true b)
     (by_name w (codes "single") _ _ (Ok b) (w ≡ multiple_word b) (is_word multiple_word w false b) (λ h. cc))
 
-multiple_again : (b : Bool) → one_of (codes "multiple") (codes "single") (multiple_word b) ≡ Ok b
+pub multiple_again : (b : Bool) → one_of (codes "multiple") (codes "single") (multiple_word b) ≡ Ok b
 multiple_again true = refl
 multiple_again false = refl
 
-mandatory_read : (w : List ℕ) (b : Bool) → one_of (codes "mandatory") (codes "optional") w ≡ Ok b → w ≡ mandatory_word b
+pub mandatory_read : (w : List ℕ) (b : Bool) → one_of (codes "mandatory") (codes "optional") w ≡ Ok b
+    → w ≡ mandatory_word b
 mandatory_read w b =
     by_name w (codes "mandatory") _ _ (Ok b) (w ≡ mandatory_word b) (is_word mandatory_word w true b)
     (by_name w (codes "optional") _ _ (Ok b) (w ≡ mandatory_word b) (is_word mandatory_word w false b) (λ h. cc))
 
-mandatory_again : (b : Bool) → one_of (codes "mandatory") (codes "optional") (mandatory_word b) ≡ Ok b
+pub mandatory_again : (b : Bool) → one_of (codes "mandatory") (codes "optional") (mandatory_word b) ≡ Ok b
 mandatory_again true = refl
 mandatory_again false = refl
 
-kind_read : (w : List ℕ) (k : ValueKind) → kind_named w ≡ Ok k → w ≡ kind_word k
+pub kind_read : (w : List ℕ) (k : ValueKind) → kind_named w ≡ Ok k → w ≡ kind_word k
 kind_read w k =
     by_name w (codes "text") _ _ (Ok k) (w ≡ kind_word k) (is_word kind_word w kind.Text k)
     (by_name w (codes "integer") _ _ (Ok k) (w ≡ kind_word k) (is_word kind_word w kind.Whole k)
@@ -159,7 +160,7 @@ kind_read w k =
     (by_name w (codes "time") _ _ (Ok k) (w ≡ kind_word k) (is_word kind_word w kind.Moment k)
     (by_name w (codes "link") _ _ (Ok k) (w ≡ kind_word k) (is_word kind_word w kind.Link k) (λ h. cc))))))
 
-kind_again : (k : ValueKind) → kind_named (kind_word k) ≡ Ok k
+pub kind_again : (k : ValueKind) → kind_named (kind_word k) ≡ Ok k
 kind_again kind.Text = refl
 kind_again kind.Whole = refl
 kind_again kind.Flag = refl
@@ -172,7 +173,7 @@ kind_again kind.Link = refl
 abbrev IsOf : ValueKind → List ℕ → Value → Type 0
 IsOf k w v = (kind_of v ≡ k) × IsValueWord v w
 
-flag_read : (n : ℕ) (w : List ℕ) → w ≡ decimal n → n ≤ 1 → IsValueWord (value.Flag (n == 1)) w
+pub flag_read : (n : ℕ) (w : List ℕ) → w ≡ decimal n → n ≤ 1 → IsValueWord (value.Flag (n == 1)) w
 flag_read n w e h = elim (cases_eq n 1) [
   | inl one ↦ subst (λ m. IsValueWord (value.Flag m) w) (sym (eq-eqb n 1 one))
       (e ∙ ap decimal one ∙ decimal_digit 1 (lit< tt))
@@ -182,7 +183,7 @@ flag_read n w e h = elim (cases_eq n 1) [
       (e ∙ ap decimal none ∙ decimal_digit 0 (lit< tt))
 ]
 
-value_read : (k : ValueKind) (w : List ℕ) (v : Value) → value_of k w ≡ Ok v → IsOf k w v
+pub value_read : (k : ValueKind) (w : List ℕ) (v : Value) → value_of k w ≡ Ok v → IsOf k w v
 value_read kind.Text w v h =
     let b = bind_ok (text_of w) (λ t. Ok (value.Text t)) v h in
     let is : value.Text b.0 ≡ v = cc (b.2) in subst (IsOf kind.Text w) is (refl, (quoted_law w b.0).0 b.1)
@@ -205,7 +206,7 @@ value_read kind.Link w v h =
     let is : value.Link b.0.0 b.0.1 ≡ v = cc (b.2) in
     subst (IsOf kind.Link w) is (refl, (link_law w b.0.0 b.0.1).0 b.1)
 
-value_again : (v : Value) (w : List ℕ) → IsValueWord v w → value_of (kind_of v) w ≡ Ok v
+pub value_again : (v : Value) (w : List ℕ) → IsValueWord v w → value_of (kind_of v) w ≡ Ok v
 value_again (value.Text t) w h = ap (λ r. r >>= (λ x. Ok (value.Text x))) ((quoted_law w t).1 h)
 value_again (value.Whole z) w h = ap (λ r. r >>= (λ x. Ok (value.Whole x))) ((integer_of-law z w).1 h)
 value_again (value.Flag true) w h = ap (value_of kind.Flag) h
@@ -261,7 +262,7 @@ chosen_read w k None None e f h =
     by_name w (codes "reset") _ _ (Some k) (w ≡ keyword_word k) (is_some_word keyword_word w keyword.Reset k)
     (λ h. cc) h
 
-keyword_read : (w : List ℕ) (k : Keyword) → keyword_named w ≡ Some k → w ≡ keyword_word k
+pub keyword_read : (w : List ℕ) (k : Keyword) → keyword_named w ≡ Some k → w ≡ keyword_word k
 keyword_read w k h = chosen_read w k (bare_named w) (bringing_named w) refl refl h
 
 abbrev requested : ℕ × Mnemonic → Result Statement Cause
