@@ -1,5 +1,6 @@
-//! `add_class TEXT`, `add_row TEXT`, `add_step TEXT`: a scenario gets the first class of another one, a device of it and
-//! its first step. One that was refused memory is as before. `single TEXT`: a scenario of that class and its first row.
+//! `add_class TEXT`, `add_row TEXT`, `add_step TEXT`: a scenario gets the first class of another one, a device of it,
+//! and a first step. One that was refused memory is as before. `single TEXT`: a scenario of that class and its first
+//! row.
 use crate::given::Given;
 use crate::line::Line;
 use crate::marks::Marks;

@@ -1,6 +1,6 @@
 //! `commit TEXT DEVICES`: a commit for the last of these devices, after those for the others. A fleet that was refused
 //! memory is spent, and still returns its entries, which are as before, the next steps and the posts.
-use crate::given::Given;
+use crate::given::{Given, number_of};
 use crate::line::Line;
 use crate::marks::Marks;
 use fleet_core::{CommitFault, Fleet};
@@ -8,7 +8,7 @@ use std::alloc::AllocError;
 
 pub fn commit(given: &Given, marks: &mut Marks, line: &mut Line) -> Result<(), AllocError> {
     let mut fleet = fleet_before(given)?;
-    let device = device_of(given);
+    let device = last_device(given);
     if !commit_once(&mut fleet, device, marks, line)? {
         return add_shown(&fleet, device, line);
     }
@@ -20,11 +20,18 @@ pub fn commit(given: &Given, marks: &mut Marks, line: &mut Line) -> Result<(), A
     add_shown(&fleet, device, line)
 }
 
-fn device_of(given: &Given) -> u16 {
-    match given.words.split_whitespace().last() {
-        Some(word) => word.parse::<u16>().unwrap_or(0),
-        None => 0,
+/// The device that a word names.
+fn device_of(word: &str) -> u16 {
+    u16::try_from(number_of(word)).unwrap_or(0)
+}
+
+/// The device of the last commit.
+fn last_device(given: &Given) -> u16 {
+    let mut device = 0;
+    for word in given.words.split_whitespace() {
+        device = device_of(word);
     }
+    device
 }
 
 /// The fleet before the last of the commits.
@@ -32,7 +39,7 @@ fn fleet_before<'a>(given: &Given<'a>) -> Result<Fleet<'a>, AllocError> {
     let mut fleet = Fleet::new(given.alloc, given.scenario)?;
     let count = given.words.split_whitespace().count();
     for word in given.words.split_whitespace().take(count.saturating_sub(1)) {
-        match fleet.commit(1, word.parse::<u16>().unwrap_or(0)) {
+        match fleet.commit(1, device_of(word)) {
             Ok(()) => {}
             Err(_) => return Err(AllocError),
         }

@@ -20,10 +20,15 @@ impl Given<'_> {
     /// The word at this place, as a number; 0 where there is none.
     pub fn number(&self, place: usize) -> usize {
         match self.words.split_whitespace().nth(place) {
-            Some(word) => word.parse::<usize>().unwrap_or(0),
+            Some(word) => number_of(word) as usize,
             None => 0,
         }
     }
+}
+
+/// A word as a number; 0 if it is none.
+pub fn number_of(word: &str) -> u32 {
+    word.parse::<u32>().unwrap_or(0)
 }
 
 /// The scenario of a text; an empty one, if it is not a text of a scenario.

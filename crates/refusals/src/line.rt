@@ -1,9 +1,9 @@
-//! The line that says what came of a case.
+//! Lines of words.
 use byte_layout::LayoutFault;
 use device_machine::{Act, Output};
 use std::alloc::{AllocError, Global};
 
-/// Words, with a space between them.
+/// Words, with a space between those of a line: what came of a case, or all that is to be said.
 #[derive(Drop)]
 pub struct Line {
     alloc: Global,
@@ -26,17 +26,27 @@ impl Line {
 
     /// Adds words.
     pub fn add(&mut self, words: &str) -> Result<(), AllocError> {
-        if !self.text.is_empty() {
+        if !self.text.is_empty() && !self.text.ends_with('\n') {
             self.text.push(' ')?;
         }
         self.text.push_str(words)
     }
 
+    /// Adds a number.
+    pub fn add_number(&mut self, number: u64) -> Result<(), AllocError> {
+        let number = number.to_string(self.alloc)?;
+        self.add(number.as_str())
+    }
+
     /// Adds words and a number.
     pub fn add_count(&mut self, words: &str, number: u64) -> Result<(), AllocError> {
         self.add(words)?;
-        let number = number.to_string(self.alloc)?;
-        self.add(number.as_str())
+        self.add_number(number)
+    }
+
+    /// Ends the line: what is added from now on stands in another one.
+    pub fn end(&mut self) -> Result<(), AllocError> {
+        self.text.push('\n')
     }
 
     /// Adds bytes in hex.

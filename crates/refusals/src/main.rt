@@ -35,14 +35,8 @@ use table::{Case, Table};
 fn main(rt: HostRuntime) -> io::Result<ExitCode> {
     let alloc = rt.alloc();
     let text = io::read_to_string(alloc, rt.reader())?;
-    let mut report = String::new(alloc);
-    let status = match report_on(&rt, alloc, text.as_str(), &mut report) {
-        Ok(status) => status,
-        Err(AllocError) => {
-            rt.print("memory was refused outside of the call\n")?;
-            1
-        }
-    };
+    let mut report = Line::new(alloc);
+    let status = report_on(&rt, alloc, text.as_str(), &mut report)?;
     rt.print(report.as_str())?;
     Ok(ExitCode::from(status))
 }
@@ -53,13 +47,14 @@ fn report_on<R: Threads + Wait + Sync>(
     rt: &R,
     alloc: Global,
     text: &str,
-    report: &mut String,
+    report: &mut Line,
 ) -> Result<u8, AllocError>
     requires { IsSync R.row }
 {
     let mut table = Table::new(alloc);
     if let Some(number) = table.read(text)? {
-        writeln!(report, "line {number} can't be read")?;
+        report.add_count("line", u64::from(number))?;
+        report.add("can't be read\n")?;
         return Ok(2);
     }
     let mut differing: u32 = 0;
@@ -69,7 +64,9 @@ fn report_on<R: Threads + Wait + Sync>(
         }
     }
     let cases = table.cases.as_slice().len();
-    writeln!(report, "{cases} cases, {differing} differ")?;
+    report.add_number(cases as u64)?;
+    report.add_count("cases,", u64::from(differing))?;
+    report.add("differ\n")?;
     Ok(if cases == 0 {
         2
     } else if differing == 0 {
@@ -86,28 +83,37 @@ fn is_right<R: Threads + Wait + Sync>(
     alloc: Global,
     table: &Table,
     case: &Case,
-    report: &mut String,
+    report: &mut Line,
 ) -> Result<bool, AllocError>
     requires { IsSync R.row }
 {
     let mut marks = Marks::new(alloc, table.mode);
     let mut came = Line::new(alloc);
-    answer(rt, alloc, table, case, &mut marks, &mut came)?;
+    if answer(rt, alloc, table, case, &mut marks, &mut came).is_err() {
+        came.add("memory was refused outside of the call")?;
+    }
     if let Some(count) = marks.counted() {
-        writeln!(report, "counted {count}")?;
+        report.add_count("counted", u64::from(count))?;
+        report.end()?;
         return Ok(true);
     }
     if is_stated(case.stated.as_slice(), came.as_str()) == case.is_same {
         return Ok(true);
     }
-    let line = case.line;
-    let came = came.as_str();
-    writeln!(report, "line {line}: {came}")?;
+    report.add_count("line", u64::from(case.line))?;
+    report.add("came")?;
+    report.add(came.as_str())?;
+    report.end()?;
     Ok(false)
 }
 
 fn is_stated(stated: &[&str], came: &str) -> bool {
-    stated.iter().any(|line| *line == came)
+    for line in stated {
+        if *line == came {
+            return true;
+        }
+    }
+    false
 }
 
 /// Makes the call of a case.

@@ -1,5 +1,5 @@
-//! `put TEXT`: worker 1 makes the steps of two devices and puts them; the rest of the run follows. If the second `put` is
-//! refused memory, the job comes back, the trace's entries are as before, and it is put again.
+//! `put TEXT`: worker 1 makes the steps of two devices and puts them; the rest of the run follows. If the second `put`
+//! is refused memory, the job comes back, the trace's entries are as before, and it is put again.
 ghost use Rattle.std.specs.Prelude.{◌≡◌, Some, false};
 ghost use Rattle.ticket_lock.specs.Log.{Adds};
 ghost use Rattle.ticket_lock.specs.Names.{lock_id, pass_view, IsPass};

@@ -1,5 +1,5 @@
-//! `open TEXT [N]`, `forward TEXT AT N`, `back TEXT AT N`, `resume TEXT AT`, `add_break TEXT`: a debugger over the serial
-//! run of a scenario. One that was refused memory stands where it stood, and has its breakpoint.
+//! `open TEXT [N]`, `forward TEXT AT N`, `back TEXT AT N`, `resume TEXT AT`, `add_break TEXT`: a debugger over the
+//! serial run of a scenario. One that was refused memory stands where it stood, and has its breakpoint.
 use crate::given::Given;
 use crate::line::Line;
 use crate::marks::Marks;
