@@ -1,6 +1,6 @@
 -- What a device does on a datagram, as its record says it.
-use Rattle.std.proofs.Common.{◌≡◌, ℕ, ◌+◌, ◌-◌, ◌*◌, ◌/◌, ◌%◌, ◌<◌, ◌==◌, nat_le, nat_lt, Bool, true, false, ◌&&◌}
-use Rattle.std.proofs.Common.{◌⊎◌, inl, inr, List, [], ◌∷◌, ◌++◌, length, cond, slice_index, Option, None, Some}
+use Rattle.std.proofs.Common.{◌≡◌, ℕ, ◌-◌, ◌/◌, ◌%◌, ◌==◌, nat_le, Bool, true, false, ◌&&◌}
+use Rattle.std.proofs.Common.{◌⊎◌, inl, inr, List, [], ◌∷◌, ◌++◌, length, cond, Option, None, Some}
 use Rattle.std.proofs.Common.{option_map, Result, Ok, Err, refl, sym, ap, subst, ◌∙◌, arith, eq-eqb}
 use Rattle.std.specs.Bool.{if◌then◌else◌}
 use Rattle.std.specs.List.{AllByRecursion, find}
@@ -15,19 +15,18 @@ use Rattle.coap_codec.specs.declared.kind.Kind.TheVariants.{Con, Non, Ack, Rst}
 use Rattle.coap_codec.proofs.OneReading.{reading_of_spelled}
 use Rattle.coap_codec.proofs.Soundness.{AreBytes, spelled_from_reading}
 use Rattle.object_defs.specs.declared.path.Path.{Path}
-use Rattle.notifier.specs.Observed.{cancelled, number_for, registered, without_reset}
+use Rattle.notifier.specs.Observed.{cancelled, number_for, registered}
 use Rattle.notifier.specs.declared.observation.Observation.{Observation}
-use Rattle.device_requests.specs.Answer.{Outcome, is_content}
-use Rattle.device_requests.specs.Client.{Client, has_account}
+use Rattle.device_requests.specs.Answer.{is_content}
+use Rattle.device_requests.specs.Client.{has_account}
 use Rattle.device_requests.specs.Observe.{interest_of}
-use Rattle.device_requests.specs.Options.{has_unrecognized_critical}
 use Rattle.device_requests.specs.Request.{outcome_of}
 use Rattle.device_requests.specs.declared.answer.Answer.{Answer}
 use Rattle.device_requests.specs.declared.observe.Interest.{Interest}
 use Rattle.device_requests.specs.declared.observe.Interest.TheVariants.{Cancel, Register}
 use Rattle.device_machine.specs.Observing.{Noted, begun, lacks_place, noted, noted_by, unobserved}
 use Rattle.device_machine.specs.Reactions.{Reaction, acted, again, claimed_mid, claims_confirmable, is_request, is_same}
-use Rattle.device_machine.specs.Reactions.{kept_after, on_datagram, on_message, on_noise, on_outcome, on_request}
+use Rattle.device_machine.specs.Reactions.{kept_after, on_datagram, on_message, on_outcome, on_request}
 use Rattle.device_machine.specs.Reactions.{on_reset, reaction_to, record_of, repeat_of, reply_to, reset, response}
 use Rattle.device_machine.specs.Reactions.{sends, sent_to, silence}
 use Rattle.device_machine.specs.State.{Kept, Machine, is_live, lifetime, with_client, with_observations}
@@ -46,7 +45,7 @@ use Rattle.device_laws.specs.Receiving.IsArrival.{asks_again, asks}
 use Rattle.device_laws.specs.Receiving.RespondsBy.{piggybacks, sends_non, sends_none}
 use Rattle.device_laws.specs.Serving.{Observes, Replies, id_after}
 use Rattle.device_laws.specs.Serving.Observes.{asks_nothing, cancels, finds_no_place, is_refused, registers}
-use Rattle.device_laws.proofs.Served.{Serves, serves}
+use Rattle.device_laws.proofs.Served.{serves}
 
 -- ---- the first of a list that passes a test
 

@@ -21,9 +21,9 @@ use Rattle.notifier.specs.Attributes.{with_number, without_under, written}
 use Rattle.notifier.specs.Query.{changes_of}
 use Rattle.notifier.proofs.Keys.{key_exact, key_total}
 use Rattle.device_requests.specs.Client.{Client}
-use Rattle.device_requests.specs.Delete.{deleted, forgotten, taken_away, without_controls}
+use Rattle.device_requests.specs.Delete.{deleted, taken_away, without_controls}
 use Rattle.device_requests.specs.Request.{outcome_of}
-use Rattle.device_requests.specs.WriteAttributes.{agreed, attributes_given, level_at, spelled}
+use Rattle.device_requests.specs.WriteAttributes.{agreed, level_at, spelled}
 use Rattle.discover_laws.specs.Reached.{NumbersAgree}
 use Rattle.discover_laws.proofs.Becoming.{Becomes, becomes}
 use Rattle.discover_laws.proofs.Becoming.Becomes.{goes, is_set, stays}

@@ -1,7 +1,6 @@
 -- The attributes that servers set, in every state that a device can reach.
-use Rattle.std.proofs.Common.{◌≡◌, ℕ, ◌==◌, Bool, true, false, List, [], ◌∷◌, Option, None, Some, Result, Ok, Err, refl}
+use Rattle.std.proofs.Common.{ℕ, ◌==◌, Bool, true, false, List, [], ◌∷◌, Option, None, Some, Result, Ok, Err, refl}
 use Rattle.std.specs.Bool.{if◌then◌else◌}
-use Rattle.std.specs.FinMap as map
 use Rattle.coap_codec.specs.Message.{Message}
 use Rattle.coap_codec.specs.Reading.{reading_of}
 use Rattle.coap_codec.specs.declared.fault.CoapFault.{CoapFault}
