@@ -1,6 +1,6 @@
 -- What the firmware refuses for its State (OMA LwM2M 1.1 Core, Firmware Update), and which rule decides then. The case
 -- `Firmware update: Package and Package URI in a State that does not take them` shows it.
-use Rattle.std.specs.Prelude.{◌≡◌, ◌≢◌, ℕ, false, List, [], ◌∷◌, None, Some}
+use Rattle.std.specs.Prelude.{◌≡◌, ◌≢◌, ℕ, false, [], ◌∷◌, None, Some}
 use Rattle.coap_codec.specs.Message.{Message}
 use Rattle.object_defs.specs.Path.{object_in}
 use Rattle.object_defs.specs.declared.path.Path.{Path}
