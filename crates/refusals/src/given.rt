@@ -5,7 +5,7 @@ use scenario_words::Cause;
 use std::alloc::{AllocError, Global};
 
 /// What a case gives to its call.
-#[derive(Clone, Copy)]
+#[derive(Drop)]
 pub struct Given<'a> {
     pub alloc: Global,
     /// The text that the case names.
