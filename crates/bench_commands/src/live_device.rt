@@ -49,10 +49,11 @@ pub fn live<'a, R: Net + Clock, F: Files, O: Output>(
     let scenario = load_scenario(alloc, asked.image, files)?;
     let class = class_of(&scenario, asked.device)?;
     let wire = bound(rt, alloc, &class, asked.port)?;
+    let mut clock = MachineClock::new(rt);
     let session = hold(
         alloc,
         wire,
-        &mut MachineClock::new(rt),
+        &mut clock,
         &class,
         asked.turns,
         asked.show,
