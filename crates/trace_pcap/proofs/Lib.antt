@@ -1,1 +1,5 @@
-pub mod Counted
+mod Long
+mod Along
+mod Fitting
+mod Read
+mod Counted

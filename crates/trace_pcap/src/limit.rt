@@ -1,6 +1,6 @@
 //! Whether a trace has a datagram that no packet carries.
 
-ghost use Rattle.std.specs.Prelude.{◌≡◌, ℕ, length, nat_lt};
+ghost use Rattle.std.specs.Prelude.{◌≡◌, length, nat_lt};
 ghost use Rattle.std.specs.List.{list_any};
 ghost use Rattle.std.specs.Option.{option_copied};
 ghost use Rattle.udp_capture.specs.Capture.{most_payload};
@@ -19,10 +19,9 @@ fn is_long(bytes: &[u8]) -> bool
     MOST_PAYLOAD < bytes.len()
 }
 
-/// Whether a datagram arrives in the step that is so long.
+/// Whether a datagram arrives in the step that is so long, whatever the second and the device.
 fn has_long_arrival(step: Option<&Step>) -> bool
-    ensures { (second : ℕ) (device : ℕ) → result
-        ≡ list_any is_long (arrival second device (option_copied step.entry)) }
+    ensures { result ≡ list_any is_long (arrival 0 0 (option_copied step.entry)) }
 {
     match step {
         Some(Step::Event(Event::Recv { bytes, .. })) => is_long(bytes.as_slice()),
@@ -35,9 +34,9 @@ fn has_long_arrival(step: Option<&Step>) -> bool
     }
 }
 
-/// Whether the output is a datagram that is so long.
+/// Whether the output is a datagram that is so long, whatever the second and the device.
 fn is_long_output(output: &Output) -> bool
-    ensures { (second : ℕ) (device : ℕ) → result ≡ list_any is_long (sending second device output.now) }
+    ensures { result ≡ list_any is_long (sending 0 0 output.now) }
 {
     match output {
         Output::Send { bytes, .. } => is_long(bytes.as_slice()),
@@ -47,15 +46,9 @@ fn is_long_output(output: &Output) -> bool
 
 /// Whether one of the outputs is.
 fn has_long_output(outputs: &[Output]) -> bool
-    ensures { (second : ℕ) (device : ℕ) → result
-        ≡ list_any (λ o. list_any is_long (sending second device o)) outputs.now }
+    ensures { result ≡ list_any (λ o. list_any is_long (sending 0 0 o)) outputs.now }
 {
-    for output in outputs {
-        if is_long_output(output) {
-            return true;
-        }
-    }
-    false
+    outputs.iter().any(|output| is_long_output(output))
 }
 
 /// Whether a datagram of the entry is.

@@ -34,7 +34,8 @@ fn put_entry(
     let second = clocks.second_at(entry.device, entry.step as usize + 1);
     let step = step_of(scenario, entry.device, entry.step);
     writer.put_arrival(second, entry.device, step)?;
-    writer.put_outputs(second, entry.device, entry.outputs.as_slice())
+    writer.put_outputs(second, entry.device, entry.outputs.as_slice())?;
+    Ok(())
 }
 
 /// Writes the datagrams of entries, in their order. Where memory runs out, some of their bytes may have been written.

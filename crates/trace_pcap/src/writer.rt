@@ -86,7 +86,7 @@ impl Writer {
         device: u16,
         step: Option<&Step>,
     ) -> Result<(), AllocError>
-        requires { list_any is_long (arrival second device (option_copied step.entry)) ≡ false }
+        requires { list_any is_long (arrival second device (option_copied step)) ≡ false }
         ensures { OnOk result (Written self.old self.new (arrival second device (option_copied step.entry))) }
     {
         match step {

@@ -1,5 +1,4 @@
-mod Sums
-mod Words
+pub mod Sums
+pub mod Words
 mod Headers
-mod Spelled
-
+pub mod Spelled

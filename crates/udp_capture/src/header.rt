@@ -27,12 +27,7 @@ pub(crate) fn record_header(envelope: Envelope, len: u16) -> [u8; 16]
 
 /// The header of a packet of IPv4 of this total length, with this checksum.
 #[tactic(auto, unfolding(crate::specs::Packet::ip_header))]
-pub(crate) fn ip_header(
-    total: u16,
-    check: u16,
-    source: Endpoint,
-    destination: Endpoint,
-) -> [u8; 20]
+pub(crate) fn ip_header(total: u16, check: u16, source: Endpoint, destination: Endpoint) -> [u8; 20]
     ensures { result ≡ header_bytes (ip_header total check source destination) }
 {
     let [total0, total1] = total.to_be_bytes();
