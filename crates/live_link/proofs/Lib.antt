@@ -7,4 +7,4 @@ pub mod Served
 pub mod Stepped
 pub mod Told
 pub mod Turned
-pub mod Starting
+pub mod FromStart

@@ -143,7 +143,7 @@ impl Serving {
     }
 
     /// Makes a turn: seconds pass, and then a datagram is received, if one has arrived.
-    #[tactic(auto, using(crate::proofs::Ordered::tick_alone, crate::proofs::Ordered::tick_and_heard))]
+    #[tactic(auto, using(crate::proofs::Ordered::tick_alone))]
     fn turn<W: Wire, C: Seconds>(&mut self, wire: &mut W, clock: &mut C) -> Result<(), LiveEnd>
         ensures under_way { (first : Device) (before : Option Traffic) (read_before : Option (List ℕ)) (turns : ℕ)
             → IsUnderWay first before read_before turns self.old.device self.old.counted self.old.steps.items

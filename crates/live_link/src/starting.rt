@@ -11,7 +11,7 @@ use std::alloc::{AllocError, Global};
 
 /// Puts a device of this class on a wire, at its start, for n turns, as `serve` does. It fails only where no memory is
 /// left for the device, and then nothing went over the wire.
-#[tactic(auto, using(crate::proofs::Starting::served))]
+#[tactic(auto, using(crate::proofs::FromStart::served))]
 pub fn serve_class<W: Wire, C: Seconds>(
     alloc: Global,
     wire: &mut W,

@@ -42,7 +42,7 @@ returns-clause-refusals g c = (
   c.make_turns.ensures.over.cut.refusals,
   c.make_turns.ensures.over.cut.few,
   told_refusals (g.W.Wire.told c.args.wire.now) (g.W.Wire.told c.make_turns.new.wire) _
-  c.make_turns.ensures.over.cut.told,
+      c.make_turns.ensures.over.cut.told,
 )
 
 pub returns-clause-spent : goal.returns-clause-spent
