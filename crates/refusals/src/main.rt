@@ -1,6 +1,6 @@
 //! `refusals`: calls of the bench that may run out of memory. It reads cases from standard input, makes the call of
 //! each, and once more where memory was refused, and prints what differs from what is stated. docs/inside/refusals.md
-//! says how a case is written, and how each allocation is refused in turn.
+//! says how a case is written, and how each allocation is refused in turn, for which there are arguments.
 #![tactic(auto)]
 
 mod asking;
@@ -22,23 +22,37 @@ mod workers;
 
 ghost use Rattle.std.specs.Thread.{IsSync};
 
-use given::{Given, scenario_of};
+use given::{Given, number_of, scenario_of};
 use line::Line;
-use marks::Marks;
+use marks::{Marks, Mode};
 use std::alloc::{AllocError, Global};
-use std::io;
 use std::process::ExitCode;
 use std::sync::Wait;
 use std::thread::Threads;
+use std::{env, io};
 use table::{Case, Table};
 
 fn main(rt: HostRuntime) -> io::Result<ExitCode> {
     let alloc = rt.alloc();
+    let words = env::args(&rt)?.collect::<Vec<String>>(alloc)?;
+    let mode = mode_of(words.as_slice());
     let text = io::read_to_string(alloc, rt.reader())?;
     let mut report = Line::new(alloc);
-    let status = report_on(&rt, alloc, text.as_str(), &mut report)?;
+    let status = report_on(&rt, alloc, mode, text.as_str(), &mut report)?;
     rt.print(report.as_str())?;
     Ok(ExitCode::from(status))
+}
+
+/// What the arguments ask for: `boxes N`, `count before` or `count after`; with no argument there are no boxes.
+fn mode_of(words: &[String]) -> Mode {
+    let (Some(what), Some(word)) = (words.get(1), words.get(2)) else {
+        return Mode::Boxes(0);
+    };
+    match (what.as_str(), word.as_str()) {
+        ("count", "before") => Mode::CountBefore,
+        ("count", _) => Mode::CountAfter,
+        (_, count) => Mode::Boxes(number_of(count)),
+    }
 }
 
 /// Writes what is to be said of the cases of a text. Status 0: none differs; 1: one differs; 2: a line can't be read,
@@ -46,6 +60,7 @@ fn main(rt: HostRuntime) -> io::Result<ExitCode> {
 fn report_on<R: Threads + Wait + Sync>(
     rt: &R,
     alloc: Global,
+    mode: Mode,
     text: &str,
     report: &mut Line,
 ) -> Result<u8, AllocError>
@@ -59,7 +74,8 @@ fn report_on<R: Threads + Wait + Sync>(
     }
     let mut differing: u32 = 0;
     for case in table.cases.as_slice() {
-        if !is_right(rt, alloc, &table, case, report)? {
+        let mut marks = Marks::new(alloc, mode);
+        if !is_right(rt, alloc, &table, case, &mut marks, report)? {
             differing = differing.saturating_add(1);
         }
     }
@@ -83,13 +99,13 @@ fn is_right<R: Threads + Wait + Sync>(
     alloc: Global,
     table: &Table,
     case: &Case,
+    marks: &mut Marks,
     report: &mut Line,
 ) -> Result<bool, AllocError>
     requires { IsSync R.row }
 {
-    let mut marks = Marks::new(alloc, table.mode);
     let mut came = Line::new(alloc);
-    if answer(rt, alloc, table, case, &mut marks, &mut came).is_err() {
+    if answer(rt, alloc, table, case, marks, &mut came).is_err() {
         came.add("memory was refused outside of the call")?;
     }
     if let Some(count) = marks.counted() {

@@ -1,5 +1,4 @@
 //! The lines of a table of cases.
-use crate::marks::Mode;
 use std::alloc::{AllocError, Global};
 
 /// A text that cases name.
@@ -25,7 +24,6 @@ pub struct Case<'a> {
 #[derive(Drop)]
 pub struct Table<'a> {
     alloc: Global,
-    pub mode: Mode,
     pub texts: Vec<Text<'a>>,
     pub cases: Vec<Case<'a>>,
 }
@@ -35,7 +33,6 @@ impl<'a> Table<'a> {
     pub fn new(alloc: Global) -> Table<'a> {
         Table {
             alloc,
-            mode: Mode::Boxes(0),
             texts: Vec::new(alloc),
             cases: Vec::new(alloc),
         }
@@ -62,8 +59,6 @@ impl<'a> Table<'a> {
         match first {
             "text" => self.add_text(rest),
             "|" => self.add_line(rest),
-            "boxes" => Ok(self.set_boxes(rest)),
-            "count" => Ok(self.set_count(rest)),
             "case" => self.add_case(number, rest, true),
             "!case" => self.add_case(number, rest, false),
             // what comes where memory is refused; tools/refusals states it in the place of what else comes
@@ -86,23 +81,6 @@ impl<'a> Table<'a> {
         text.text.push_str(line)?;
         text.text.push('\n')?;
         Ok(true)
-    }
-
-    fn set_boxes(&mut self, words: &str) -> bool {
-        let Ok(count) = words.parse::<u32>() else {
-            return false;
-        };
-        self.mode = Mode::Boxes(count);
-        true
-    }
-
-    fn set_count(&mut self, words: &str) -> bool {
-        match words {
-            "before" => self.mode = Mode::CountBefore,
-            "after" => self.mode = Mode::CountAfter,
-            _ => return false,
-        }
-        true
     }
 
     fn add_case(&mut self, line: u32, words: &'a str, is_same: bool) -> Result<bool, AllocError> {
