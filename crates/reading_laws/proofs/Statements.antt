@@ -48,7 +48,7 @@ use Rattle.reading_laws.specs.Statements.{StatementsAreSaid}
 -- ---- words
 
 -- a reading by a name gave this: by this name, or by the others
-by_name : {A : Type 0} (w name : List ℕ) (r s : A) (x : A) (P : Type 0)
+pub by_name : {A : Type 0} (w name : List ℕ) (r s : A) (x : A) (P : Type 0)
     → (w ≡ name → r ≡ x → P) → (s ≡ x → P) → cond (bytes_eq w name) r s ≡ x → P
 by_name w name r s x P named other h = elim (cases_Bool (bytes_eq w name)) [
   | inl same ↦ named ((bytes_eq-Decides w name).0 same) (sym (ap (λ t. cond t r s) same) ∙ h)
@@ -59,7 +59,7 @@ by_name w name r s x P named other h = elim (cases_Bool (bytes_eq w name)) [
 abbrev ok_of : {A : Type 0} → A → Result A Cause
 ok_of x = Ok x
 
-is_word : {A : Type 0} (word : A → List ℕ) (w : List ℕ) (a b : A) → w ≡ word a → ok_of a ≡ ok_of b → w ≡ word b
+pub is_word : {A : Type 0} (word : A → List ℕ) (w : List ℕ) (a b : A) → w ≡ word a → ok_of a ≡ ok_of b → w ≡ word b
 is_word word w a b e h = let same : a ≡ b = cc in e ∙ ap word same
 
 is_some_word : {A : Type 0} (word : A → List ℕ) (w : List ℕ) (a b : A) → w ≡ word a → Some a ≡ Some b → w ≡ word b
