@@ -21,8 +21,8 @@ use Rattle.reading_laws.specs.Statements.{mandatory_word, multiple_word}
 use Rattle.reading_laws.specs.WrongWords.{IsFormed, KindsAreNamed, MandatoryIsNamed, MultipleIsNamed}
 use Rattle.reading_laws.specs.WrongWords.{OperationsAreNamed}
 use Rattle.reading_laws.proofs.Refused.{Reads, each_said, each_tested, refused, same_cause, is_wrong}
-use Rattle.reading_laws.proofs.Statements.{kind_again, kind_read, mandatory_again, mandatory_read, multiple_again}
-use Rattle.reading_laws.proofs.Statements.{multiple_read, ops_again, ops_read}
+use Rattle.reading_laws.proofs.ReadWords.{kind_again, kind_read, mandatory_again, mandatory_read, multiple_again}
+use Rattle.reading_laws.proofs.ReadWords.{multiple_read, ops_again, ops_read}
 
 -- ---- the form of a word
 

@@ -1,13 +1,12 @@
 -- Lines of scenario text that are refused for one of their words.
 use Rattle.std.proofs.Common.{◌≡◌, ◌↔◌, ◌⊎◌, ℕ, ◌<◌, ◌^◌, Bool, true, false, cond, List, [], ◌∷◌, Option, None, Some}
 use Rattle.std.proofs.Common.{Result, Ok, Err, inl, inr, refl, sym, ap, subst, ◌∙◌, arith, ◌==◌, ℤ, w64, lit<}
-use Rattle.std.proofs.Common.{FitsSigned, ◌≢◌, ◌≤◌, ◌&&◌, not, nat_le, nat_lt, length, eq-eqb, ne_eqb, le-leb, leb-true}
+use Rattle.std.proofs.Common.{FitsSigned, nat_le, nat_lt, length}
 use Rattle.std.proofs.Common.{lt-ltb}
 use Rattle.std.specs.Fmt.{decimal, signed_decimal}
 use Rattle.std.proofs.lemmas.Fmt.{decimal_digit}
 use Rattle.std.specs.Bool.{if◌then◌else◌}
 use Rattle.std.specs.Prelude.{codes}
-use Rattle.std.specs.Char.{is_ascii_graphic}
 use Rattle.std.specs.List.{AllByRecursion, list_all}
 use Rattle.std.specs.Str.{bytes_eq}
 use Rattle.std.proofs.lemmas.Bool.{and_from, and_parts, cases_Bool}
@@ -28,7 +27,7 @@ use Rattle.scenario_words.specs.PathWord.{link_of, link_word, path_of}
 use Rattle.scenario_words.specs.Quoted.{text_of}
 use Rattle.scenario_words.specs.Reading.{◌>>=◌, ended, word_by}
 use Rattle.scenario_words.specs.ValueWords.{is_formed, kind_named, kind_word, name_fault, value_at, value_of}
-use Rattle.scenario_words.proofs.PathLaws.{bind_ok, path_law}
+use Rattle.scenario_words.proofs.PathLaws.{path_law}
 use Rattle.scenario_words.proofs.Pairs.{hex_law}
 use Rattle.scenario_mnemonics.specs.declared.verb.Verb.TheVariants as verb
 use Rattle.scenario_mnemonics.specs.declared.verb.Keyword.{Keyword}
@@ -40,7 +39,6 @@ use Rattle.scenario_mnemonics.specs.declared.format.Format.{Format}
 use Rattle.scenario_mnemonics.specs.declared.format.Format.TheVariants as format
 use Rattle.scenario_mnemonics.specs.declared.action.Action.TheVariants as act
 use Rattle.scenario_mnemonics.specs.declared.head.Head.{Head}
-use Rattle.scenario_mnemonics.specs.declared.mnemonic.Mnemonic.{Mnemonic}
 use Rattle.scenario_mnemonics.specs.declared.mnemonic.Mnemonic.TheVariants as mnemonic
 use Rattle.scenario_mnemonics.specs.MnemonicWords.{action_at, content_at, format_at, format_of, format_word}
 use Rattle.scenario_mnemonics.specs.MnemonicWords.{keyword_named, keyword_word, mnemonic_at, payload_at, queries_at}
@@ -53,8 +51,9 @@ use Rattle.scenario_statements.specs.Grammar.{one_of, only_number, ops_named, re
 use Rattle.scenario_statements.specs.Grammar.{statement_by}
 use Rattle.scenario_statements.specs.Spelling.{IsWithin}
 use Rattle.reading_laws.specs.Statements.{IsValueWord}
+use Rattle.reading_laws.specs.Statements.{IsQueryWord}
 use Rattle.reading_laws.specs.WrongStatements.{AreWrong, AreWrongAfter, AreWrongAsDetails, AreWrongAsQueries}
-use Rattle.reading_laws.specs.WrongStatements.{AreWrongAsValue, HasValueForm, IsQueryWord, IsTooMany}
+use Rattle.reading_laws.specs.WrongStatements.{AreWrongAsValue, HasValueForm, IsTooMany}
 use Rattle.reading_laws.specs.WrongStatements.{IsKeyword, IsRefused, IsRight, IsWrongAt, Leading, Place}
 use Rattle.reading_laws.specs.WrongStatements.{WrongStatementsAreSaid, leading_word, places_after, refusal_at}
 use Rattle.reading_laws.specs.WrongStatements.Place.{number, operations, multiple, mandatory, kind_name, path, bytes}
@@ -65,12 +64,13 @@ use Rattle.reading_laws.specs.WrongStatements.Leading.{tick, firmware, post, nee
 use Rattle.reading_laws.specs.WrongStatements.IsRefused.{after_leading, after_value, after_mnemonic, no_keyword}
 use Rattle.reading_laws.specs.WrongWords.{IsFormed, IsWrong}
 use Rattle.reading_laws.proofs.Refused.{bind_err, each_said, each_tested, is_wrong, refused, same_cause}
-use Rattle.reading_laws.proofs.Statements.{by_name, flag_read, is_word, keyword_read, kind_again, kind_read}
-use Rattle.reading_laws.proofs.Statements.{mandatory_again}
-use Rattle.reading_laws.proofs.Statements.{mandatory_read, multiple_again, multiple_read, number_again, number_read}
-use Rattle.reading_laws.proofs.Statements.{ops_again, ops_read}
-use Rattle.reading_laws.proofs.Statements.{value_again, value_read}
-use Rattle.reading_laws.proofs.WrongNames.{by_names, graphic_said, graphic_tested, named_or, no_name}
+use Rattle.reading_laws.proofs.ReadWords.{flag_read, kind_again, kind_read, mandatory_again}
+use Rattle.reading_laws.proofs.ReadWords.{mandatory_read, multiple_again, multiple_read, number_again, number_read}
+use Rattle.reading_laws.proofs.ReadWords.{ops_again, ops_read, value_again, value_read}
+use Rattle.reading_laws.proofs.Mnemonics.{acted, format_again, format_read, headed, keyword_read}
+use Rattle.reading_laws.proofs.Mnemonics.{query_said, query_tested, read_token, token_again, token_read, token_word}
+use Rattle.reading_laws.proofs.Mnemonics.{type_again, type_read}
+use Rattle.reading_laws.proofs.WrongNames.{by_names, named_or, no_name}
 use Rattle.reading_laws.proofs.WrongNames.{formed_said, formed_tested, kinds_named, mandatory_named, multiple_named}
 use Rattle.reading_laws.proofs.WrongNames.{operations_named}
 use Rattle.reading_laws.proofs.WrongNumbers.{bytes_err, token_alone}
@@ -430,15 +430,6 @@ path_placed f =
 type_fault : (w : List ℕ) (e : Cause) → type_of w ≡ Err e → e ≡ name_fault w
 type_fault w e = named_or w (codes "con") Con _ e (named_or w (codes "non") Non _ e (no_name w e))
 
-type_read : (w : List ℕ) (t : RequestType) → type_of w ≡ Ok t → w ≡ type_word t
-type_read w t =
-    by_name w (codes "con") _ _ (Ok t) (w ≡ type_word t) (is_word type_word w Con t)
-    (by_name w (codes "non") _ _ (Ok t) (w ≡ type_word t) (is_word type_word w Non t) (λ h. cc))
-
-type_again : (t : RequestType) → type_of (type_word t) ≡ Ok t
-type_again Con = refl
-type_again Non = refl
-
 type_formed : (t : RequestType) → is_formed (type_word t) ≡ true
 type_formed Con = refl
 type_formed Non = refl
@@ -459,19 +450,6 @@ format_fault w e =
     named_or w (codes "any") format.Any _ e (named_or w (codes "text") format.Text _ e
     (named_or w (codes "opaque") format.Opaque _ e (named_or w (codes "tlv") format.Tlv _ e (no_name w e))))
 
-format_read : (w : List ℕ) (f : Format) → format_of w ≡ Ok f → w ≡ format_word f
-format_read w f =
-    by_name w (codes "any") _ _ (Ok f) (w ≡ format_word f) (is_word format_word w format.Any f)
-    (by_name w (codes "text") _ _ (Ok f) (w ≡ format_word f) (is_word format_word w format.Text f)
-    (by_name w (codes "opaque") _ _ (Ok f) (w ≡ format_word f) (is_word format_word w format.Opaque f)
-    (by_name w (codes "tlv") _ _ (Ok f) (w ≡ format_word f) (is_word format_word w format.Tlv f) (λ h. cc))))
-
-format_again : (f : Format) → format_of (format_word f) ≡ Ok f
-format_again format.Any = refl
-format_again format.Text = refl
-format_again format.Opaque = refl
-format_again format.Tlv = refl
-
 format_formed : (f : Format) → is_formed (format_word f) ≡ true
 format_formed format.Any = refl
 format_formed format.Text = refl
@@ -488,28 +466,6 @@ format_fills =
       right = λ w f h. (f, format_read w f h);
       again = λ w h. (h.0, ap format_of h.1 ∙ format_again h.0);
     }
-
--- a token, as one word is read
-abbrev read_token : List ℕ → Result (List ℕ) Cause
-read_token w = bytes_of w >>= short_token
-
-short_ok : (bs : List ℕ) (b : Bool) (t : List ℕ) → nat_le (length bs) 8 ≡ b
-    → (if b then taken bs else Err Token) ≡ Ok t → (bs ≡ t) × (length bs ≤ 8)
-short_ok bs true t e h = (cc, leb-true (length bs) 8 e)
-short_ok bs false t e h = cc
-
-token_read : (w t : List ℕ) → read_token w ≡ Ok t → IsRight token w
-token_read w t h =
-    let b = bind_ok (bytes_of w) short_token t h in
-    let s = short_ok b.0 (nat_le (length b.0) 8) t refl b.2 in
-    (b.0, (hex_law w b.0).0 b.1, s.1)
-
-token_again : (w : List ℕ) → IsRight token w → (t : List ℕ) × (read_token w ≡ Ok t)
-token_again w h = (
-  h.0,
-  ap (λ r. r >>= short_token) ((hex_law w h.0).1 h.1)
-      ∙ ap (λ b. if b then taken h.0 else Err Token) (le-leb (length h.0) 8 h.2),
-)
 
 short_err : (bs : List ℕ) (b : Bool) (e : Cause) → (if b then taken bs else Err Token) ≡ Err e → e ≡ Token
 short_err bs true e h = cc
@@ -541,18 +497,6 @@ placed_then read p ps after f g fills next ws cause =
     (AreWrong (p ∷ ps) after ws cause) (joined (word_by read ws) f g)
     (placed read p ps after (λ x. f x >>= g) fills next ws cause)
 
-abbrev beside : {A : Type 0} → List (List ℕ) → A → Result (A × List (List ℕ)) Cause
-beside ws x = Ok (x, ws)
-
-as_one : {A B : Type 0} (r : Result A Cause) (s : A → Result B Cause) (ws : List (List ℕ))
-    → ((r >>= beside ws) >>= (λ b. s b.0 >>= beside b.1)) ≡ ((r >>= s) >>= beside ws)
-as_one (Ok x) s ws = refl
-as_one (Err e) s ws = refl
-
-token_word : (ws : List (List ℕ)) → token_at ws ≡ word_by read_token ws
-token_word [] = refl
-token_word (w ∷ ws) = as_one (bytes_of w) short_token ws
-
 made : {A B : Type 0} (r : List (List ℕ) → Result A Cause) (W : List (List ℕ) → Cause → Type 0) (g : A → B)
     → Refuses r W → Refuses (λ ws. r ws >>= (λ x. Ok (g x))) W
 made r W g so ws cause = made_of (r ws) g cause (W ws cause) (so ws cause)
@@ -571,29 +515,6 @@ content_placed =
     (λ f. made payload_at (AreWrong (bytes ∷ []) IsTooMany) (λ b. (f, b)) payload_placed)
 
 -- ---- queries
-
-not_said : (n m : ℕ) → not (n == m) ≡ true → n ≢ m
-not_said n m h e = let no : false ≡ true = sym (ap not (eq-eqb n m e)) ∙ h in cc
-
-query_said : (w : List ℕ) → is_query w ≡ true → IsQueryWord w
-query_said [] h = cc
-query_said (b ∷ bs) h =
-    let t = and_parts (not (b == 35) && not (b == 34)) _ h in
-    let u = and_parts (not (b == 35)) (not (b == 34)) t.0 in
-    let v = and_parts (nat_le (length (b ∷ bs)) 255) (list_all is_ascii_graphic (b ∷ bs)) t.1 in (
-      not_said b 35 u.0,
-      not_said b 34 u.1,
-      leb-true (length (b ∷ bs)) 255 v.0,
-      each_said is_ascii_graphic (IsWithin 33 126) graphic_said (b ∷ bs) v.1,
-    )
-
-query_tested : (w : List ℕ) → IsQueryWord w → is_query w ≡ true
-query_tested [] h = absurd h
-query_tested (b ∷ bs) h =
-    and_from (not (b == 35) && not (b == 34)) _
-    (and_from (not (b == 35)) (not (b == 34)) (ap not (ne_eqb b 35 h.0)) (ap not (ne_eqb b 34 h.1)))
-    (and_from (nat_le (length (b ∷ bs)) 255) (list_all is_ascii_graphic (b ∷ bs))
-    (le-leb (length (b ∷ bs)) 255 h.2) (each_tested is_ascii_graphic (IsWithin 33 126) graphic_tested (b ∷ bs) h.3))
 
 queries_by : (qs : List (List ℕ)) (b : Bool) (cause : Cause) (good : Type 0) → (b ≡ true → good) → (good → b ≡ true)
     → ((if b then taken qs else Err Token) ≡ Err cause) ↔ ((good → ⊥) × (cause ≡ Token))
@@ -627,12 +548,6 @@ details_placed verb.Create =
     made content_at (AreWrong (format_name ∷ bytes ∷ []) IsTooMany) (λ c. act.Create c.0 c.1) content_placed
 details_placed verb.Attr = made queries_at AreWrongAsQueries (λ qs. act.Attr qs) queries_placed
 details_placed verb.Exec = made payload_at (AreWrong (bytes ∷ []) IsTooMany) (λ b. act.Exec b) payload_placed
-
-abbrev acted : Verb → Head × List (List ℕ) → Result (ℕ × Mnemonic) Cause
-acted v h = action_at v h.1 >>= (λ a. Ok (said h.0 a))
-
-abbrev headed : ℕ → RequestType → ℕ → List ℕ → Path → Head
-headed s k m t p = record { server = s; kind = k; mid = m; token = t; path = p }
 
 token_placed : (v : Verb) (s : ℕ) (k : RequestType) (m : ℕ)
     → Refuses (λ ws. (token_at ws >>= (λ t. word_by path_of t.1 >>= (λ p. Ok (headed s k m t.0 p.0, p.1)))) >>= acted v)

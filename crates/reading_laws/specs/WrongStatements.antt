@@ -1,6 +1,6 @@
 -- Why the words of a line of scenario text are refused: the first that is wrong in its place, from the left; else a
 -- word is missing, or there is one too many.
-use Rattle.std.specs.Prelude.{◌≡◌, ◌≢◌, ◌↔◌, ◌⊎◌, ℕ, ◌≤◌, Bool, List, [], ◌∷◌, length, Err, codes}
+use Rattle.std.specs.Prelude.{◌≡◌, ◌↔◌, ◌⊎◌, ℕ, ◌≤◌, Bool, List, [], ◌∷◌, length, Err, codes}
 use Rattle.std.specs.List.{AllByRecursion}
 use Rattle.std.specs.Fmt.{decimal}
 use Rattle.lwm2m_values.specs.Value.{kind_of}
@@ -25,7 +25,7 @@ use Rattle.scenario_mnemonics.specs.declared.format.Format.{Format}
 use Rattle.scenario_mnemonics.specs.MnemonicWords.{format_word, keyword_word, type_word}
 use Rattle.scenario_statements.specs.Grammar.{statement_of}
 use Rattle.scenario_statements.specs.Spelling.{IsWithin, ops_word}
-use Rattle.reading_laws.specs.Statements.{IsValueWord, mandatory_word, multiple_word}
+use Rattle.reading_laws.specs.Statements.{IsQueryWord, IsValueWord, mandatory_word, multiple_word}
 use Rattle.reading_laws.specs.WrongWords.{IsFormed, IsNumber, IsPair, IsSlashed, IsWrong}
 
 -- ---- the places of a line
@@ -110,12 +110,6 @@ abbrev pub AreWrongAsValue : List (List ℕ) → Cause → Type 0
 AreWrongAsValue [] cause = cause ≡ Missing
 AreWrongAsValue (w ∷ ws) cause =
     IsWrongAt kind_name w cause ⊎ ((k : ValueKind) × (w ≡ kind_word k) × AreWrong (value k ∷ []) IsTooMany ws cause)
-
--- a query: 1 to 255 bytes from 21 to 7E, of which the first is neither `#` nor a quote
-abbrev pub IsQueryWord : List ℕ → Type 0
-IsQueryWord [] = ⊥
-IsQueryWord (b ∷ bs) =
-    (b ≢ 35) × (b ≢ 34) × (length (b ∷ bs) ≤ 255) × AllByRecursion (IsWithin 33 126) (b ∷ bs)
 
 -- and of queries, one or more
 abbrev pub AreWrongAsQueries : List (List ℕ) → Cause → Type 0
