@@ -1,5 +1,7 @@
 pub mod Line
+mod Mnemonics
 pub mod Numbers
+mod ReadWords
 pub mod Saying
 pub mod Statements
 mod Refused

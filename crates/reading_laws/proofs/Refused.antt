@@ -55,9 +55,9 @@ wrong_refused r form allowed other cause test reads (inl h) =
 wrong_refused r form allowed other cause test reads (inr h) =
     formed_refused r form allowed other cause test reads h.0 h.1 h.2
 
-pub wrong : {A : Type 0} (r : Result A Cause) (form allowed : Type 0) (other cause : Cause) (test : Bool)
+pub is_wrong : {A : Type 0} (r : Result A Cause) (form allowed : Type 0) (other cause : Cause) (test : Bool)
     → Reads r form allowed other test → (r ≡ Err cause) ↔ IsWrong form allowed other cause
-wrong r form allowed other cause test reads =
+is_wrong r form allowed other cause test reads =
     (refused_by r form allowed other cause test reads, wrong_refused r form allowed other cause test reads)
 
 -- a step that was refused, or the next one

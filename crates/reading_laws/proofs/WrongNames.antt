@@ -20,16 +20,16 @@ use Rattle.scenario_statements.specs.Spelling.{IsWithin, ops_word}
 use Rattle.reading_laws.specs.Statements.{mandatory_word, multiple_word}
 use Rattle.reading_laws.specs.WrongWords.{IsFormed, KindsAreNamed, MandatoryIsNamed, MultipleIsNamed}
 use Rattle.reading_laws.specs.WrongWords.{OperationsAreNamed}
-use Rattle.reading_laws.proofs.Refused.{Reads, each_said, each_tested, refused, same_cause, wrong}
-use Rattle.reading_laws.proofs.Statements.{kind_again, kind_read, mandatory_again, mandatory_read, multiple_again}
-use Rattle.reading_laws.proofs.Statements.{multiple_read, ops_again, ops_read}
+use Rattle.reading_laws.proofs.Refused.{Reads, each_said, each_tested, refused, same_cause, is_wrong}
+use Rattle.reading_laws.proofs.ReadWords.{kind_again, kind_read, mandatory_again, mandatory_read, multiple_again}
+use Rattle.reading_laws.proofs.ReadWords.{multiple_read, ops_again, ops_read}
 
 -- ---- the form of a word
 
-graphic_said : (b : ℕ) → is_ascii_graphic b ≡ true → IsWithin 33 126 b
+pub graphic_said : (b : ℕ) → is_ascii_graphic b ≡ true → IsWithin 33 126 b
 graphic_said b h = (grind (arith, nat_tests), grind (arith, nat_tests))
 
-graphic_tested : (b : ℕ) → IsWithin 33 126 b → is_ascii_graphic b ≡ true
+pub graphic_tested : (b : ℕ) → IsWithin 33 126 b → is_ascii_graphic b ≡ true
 graphic_tested b h = grind (arith, nat_tests)
 
 was_ok : {A : Type 0} (r : Result A Cause) → is_ok r ≡ true → (x : A) × (r ≡ Ok x)
@@ -65,7 +65,7 @@ formed_tested (b ∷ bs) (inr h) =
 
 -- ---- what refuses a name
 
-named_or : {A : Type 0} (w name : List ℕ) (x : A) (s : Result A Cause) (e : Cause)
+pub named_or : {A : Type 0} (w name : List ℕ) (x : A) (s : Result A Cause) (e : Cause)
     → (s ≡ Err e → e ≡ name_fault w) → cond (bytes_eq w name) (Ok x) s ≡ Err e → e ≡ name_fault w
 named_or w name x s e rest h = by (bytes_eq w name) h
   where
@@ -73,14 +73,14 @@ named_or w name x s e rest h = by (bytes_eq w name) h
     by true k = cc
     by false k = rest k
 
-no_name : {A : Type 0} (w : List ℕ) (e : Cause) → refused {A = A} (name_fault w) ≡ Err e → e ≡ name_fault w
+pub no_name : {A : Type 0} (w : List ℕ) (e : Cause) → refused {A = A} (name_fault w) ≡ Err e → e ≡ name_fault w
 no_name w e h = sym (same_cause (name_fault w) e h)
 
 fault_when : (w : List ℕ) (b : Bool) → is_formed w ≡ b → name_fault w ≡ cond b UnknownWord Token
 fault_when w b h = ap (λ t. cond t UnknownWord Token) h
 
 -- a reading by names refuses what is none of them
-by_names : {A : Type 0} (r : Result A Cause) (w : List ℕ) (word : A → List ℕ)
+pub by_names : {A : Type 0} (r : Result A Cause) (w : List ℕ) (word : A → List ℕ)
     → ((x : A) → r ≡ Ok x → w ≡ word x) → ((x : A) → w ≡ word x → r ≡ Ok x)
     → ((x : A) → is_formed (word x) ≡ true) → ((e : Cause) → r ≡ Err e → e ≡ name_fault w)
     → Reads r (IsFormed w) ((x : A) × (w ≡ word x)) UnknownWord (is_formed w)
@@ -112,7 +112,7 @@ ops_fault w e =
 
 pub operations_named : OperationsAreNamed
 operations_named w cause =
-    wrong (ops_named w) (IsFormed w) ((o : Ops) × (w ≡ ops_word o)) UnknownWord cause (is_formed w)
+    is_wrong (ops_named w) (IsFormed w) ((o : Ops) × (w ≡ ops_word o)) UnknownWord cause (is_formed w)
     (by_names (ops_named w) w ops_word (ops_read w) (λ o e. ap ops_named e ∙ ops_again o) ops_formed (ops_fault w))
 
 kind_formed : (k : ValueKind) → is_formed (kind_word k) ≡ true
@@ -131,7 +131,7 @@ kind_fault w e =
 
 pub kinds_named : KindsAreNamed
 kinds_named w cause =
-    wrong (kind_named w) (IsFormed w) ((k : ValueKind) × (w ≡ kind_word k)) UnknownWord cause (is_formed w)
+    is_wrong (kind_named w) (IsFormed w) ((k : ValueKind) × (w ≡ kind_word k)) UnknownWord cause (is_formed w)
     (by_names (kind_named w) w kind_word (kind_read w) (λ k e. ap kind_named e ∙ kind_again k) kind_formed
     (kind_fault w))
 
@@ -150,13 +150,13 @@ one_fault first second w e =
 pub multiple_named : MultipleIsNamed
 multiple_named w cause =
     let read : List ℕ → Result Bool Cause = one_of (codes "multiple") (codes "single") in
-    wrong (read w) (IsFormed w) ((b : Bool) × (w ≡ multiple_word b)) UnknownWord cause (is_formed w)
+    is_wrong (read w) (IsFormed w) ((b : Bool) × (w ≡ multiple_word b)) UnknownWord cause (is_formed w)
     (by_names (read w) w multiple_word (multiple_read w) (λ b e. ap read e ∙ multiple_again b) multiple_formed
     (one_fault (codes "multiple") (codes "single") w))
 
 pub mandatory_named : MandatoryIsNamed
 mandatory_named w cause =
     let read : List ℕ → Result Bool Cause = one_of (codes "mandatory") (codes "optional") in
-    wrong (read w) (IsFormed w) ((b : Bool) × (w ≡ mandatory_word b)) UnknownWord cause (is_formed w)
+    is_wrong (read w) (IsFormed w) ((b : Bool) × (w ≡ mandatory_word b)) UnknownWord cause (is_formed w)
     (by_names (read w) w mandatory_word (mandatory_read w) (λ b e. ap read e ∙ mandatory_again b) mandatory_formed
     (one_fault (codes "mandatory") (codes "optional") w))

@@ -32,7 +32,7 @@ use Rattle.scenario_words.proofs.PathLaws.{link_law, path_law}
 use Rattle.scenario_statements.specs.Spelling.{IsWithin}
 use Rattle.reading_laws.specs.WrongWords.{BytesAreHex, IntegersFit, IsNatural, IsNumber, IsPair, IsSlashed}
 use Rattle.reading_laws.specs.WrongWords.{LinksArePairs, NumbersAreWithin, PathsAreSlashed, TextsAreQuoted}
-use Rattle.reading_laws.proofs.Refused.{Reads, bind_err, each_said, each_tested, refused, same_cause, wrong}
+use Rattle.reading_laws.proofs.Refused.{Reads, bind_err, each_said, each_tested, refused, same_cause, is_wrong}
 
 -- ---- numbers
 
@@ -134,7 +134,7 @@ number_reads low high w small =
 
 pub numbers_within : NumbersAreWithin
 numbers_within low high w cause small =
-    wrong (number_of low high w) (IsNumber w) ((n : ℕ) × IsWithin low high n × (w ≡ decimal n)) Range cause
+    is_wrong (number_of low high w) (IsNumber w) ((n : ℕ) × IsWithin low high n × (w ≡ decimal n)) Range cause
     (is_number w) (number_reads low high w small)
 
 integer_reads : (w : List ℕ)
@@ -152,7 +152,7 @@ integer_reads w =
 
 pub integers_fit : IntegersFit
 integers_fit w cause =
-    wrong (integer_of w) (IsNumber w) ((z : ℤ) × FitsSigned w64 z × (w ≡ signed_decimal z)) Range cause (is_number w)
+    is_wrong (integer_of w) (IsNumber w) ((z : ℤ) × FitsSigned w64 z × (w ≡ signed_decimal z)) Range cause (is_number w)
     (integer_reads w)
 
 -- ---- words that are cut at a byte
@@ -325,7 +325,7 @@ path_reads w =
 
 pub paths_slashed : PathsAreSlashed
 paths_slashed w cause =
-    wrong (path_of w) (IsSlashed w) ((p : Path) × IsPath p × (w ≡ path_text p)) Range cause (is_slashed (parts 47 w))
+    is_wrong (path_of w) (IsSlashed w) ((p : Path) × IsPath p × (w ≡ path_text p)) Range cause (is_slashed (parts 47 w))
     (path_reads w)
 
 -- ---- links
@@ -387,13 +387,13 @@ link_reads w =
 
 pub links_paired : LinksArePairs
 links_paired w cause =
-    wrong (link_of w) (IsPair w) ((o : ℕ) × (i : ℕ) × (o < 65536) × (i < 65536) × (w ≡ link_word o i)) Range cause
+    is_wrong (link_of w) (IsPair w) ((o : ℕ) × (i : ℕ) × (o < 65536) × (i < 65536) × (w ≡ link_word o i)) Range cause
     (is_pair (parts 58 w)) (link_reads w)
 
 -- ---- bytes and texts
 
 -- a reading that can only answer Token refuses just what it does not take
-token_alone : {A : Type 0} (r : Result A Cause) (cause : Cause) (taken : Type 0) → ((x : A) → r ≡ Ok x → taken)
+pub token_alone : {A : Type 0} (r : Result A Cause) (cause : Cause) (taken : Type 0) → ((x : A) → r ≡ Ok x → taken)
     → (taken → (x : A) × (r ≡ Ok x)) → ((e : Cause) → r ≡ Err e → e ≡ Token)
     → ((r ≡ Err cause) → (taken → ⊥) × (cause ≡ Token)) × ((taken → ⊥) × (cause ≡ Token) → (r ≡ Err cause))
 token_alone (Ok x) cause taken takes again only =
@@ -407,7 +407,7 @@ or_token_err : (o : Option (List ℕ)) (e : Cause) → or_token o ≡ Err e → 
 or_token_err None e h = sym (same_cause {A = List ℕ} Token e h)
 or_token_err (Some bs) e h = cc
 
-bytes_err : (w : List ℕ) (e : Cause) → bytes_of w ≡ Err e → e ≡ Token
+pub bytes_err : (w : List ℕ) (e : Cause) → bytes_of w ≡ Err e → e ≡ Token
 bytes_err w e h = by _ h
   where
     by : (b : Bool) → cond b (Ok []) (or_token (pairs w)) ≡ Err e → e ≡ Token

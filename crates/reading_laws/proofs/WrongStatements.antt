@@ -1,13 +1,15 @@
 -- Lines of scenario text that are refused for one of their words.
 use Rattle.std.proofs.Common.{◌≡◌, ◌↔◌, ◌⊎◌, ℕ, ◌<◌, ◌^◌, Bool, true, false, cond, List, [], ◌∷◌, Option, None, Some}
 use Rattle.std.proofs.Common.{Result, Ok, Err, inl, inr, refl, sym, ap, subst, ◌∙◌, arith, ◌==◌, ℤ, w64, lit<}
-use Rattle.std.proofs.Common.{FitsSigned}
+use Rattle.std.proofs.Common.{FitsSigned, nat_le, nat_lt, length}
+use Rattle.std.proofs.Common.{lt-ltb}
 use Rattle.std.specs.Fmt.{decimal, signed_decimal}
 use Rattle.std.proofs.lemmas.Fmt.{decimal_digit}
 use Rattle.std.specs.Bool.{if◌then◌else◌}
 use Rattle.std.specs.Prelude.{codes}
+use Rattle.std.specs.List.{AllByRecursion, list_all}
 use Rattle.std.specs.Str.{bytes_eq}
-use Rattle.std.proofs.lemmas.Bool.{cases_Bool}
+use Rattle.std.proofs.lemmas.Bool.{and_from, and_parts, cases_Bool}
 use Rattle.std.proofs.lemmas.Slice.Eq.{bytes_eq-Decides}
 use Rattle.lwm2m_values.specs.Value.{kind_of}
 use Rattle.lwm2m_values.specs.declared.kind.ValueKind.{ValueKind}
@@ -30,7 +32,18 @@ use Rattle.scenario_words.proofs.Pairs.{hex_law}
 use Rattle.scenario_mnemonics.specs.declared.verb.Verb.TheVariants as verb
 use Rattle.scenario_mnemonics.specs.declared.verb.Keyword.{Keyword}
 use Rattle.scenario_mnemonics.specs.declared.verb.Keyword.TheVariants as keyword
-use Rattle.scenario_mnemonics.specs.MnemonicWords.{keyword_named, keyword_word, mnemonic_at}
+use Rattle.scenario_mnemonics.specs.declared.verb.Verb.{Verb}
+use Rattle.scenario_mnemonics.specs.declared.request_type.RequestType.{RequestType}
+use Rattle.scenario_mnemonics.specs.declared.request_type.RequestType.TheVariants.{Con, Non}
+use Rattle.scenario_mnemonics.specs.declared.format.Format.{Format}
+use Rattle.scenario_mnemonics.specs.declared.format.Format.TheVariants as format
+use Rattle.scenario_mnemonics.specs.declared.action.Action.TheVariants as act
+use Rattle.scenario_mnemonics.specs.declared.head.Head.{Head}
+use Rattle.scenario_mnemonics.specs.declared.mnemonic.Mnemonic.TheVariants as mnemonic
+use Rattle.scenario_mnemonics.specs.MnemonicWords.{action_at, content_at, format_at, format_of, format_word}
+use Rattle.scenario_mnemonics.specs.MnemonicWords.{keyword_named, keyword_word, mnemonic_at, payload_at, queries_at}
+use Rattle.scenario_mnemonics.specs.MnemonicWords.{said, short_token, token_at, type_of, type_word}
+use Rattle.scenario_mnemonics.specs.Queries.{are_queries, is_query}
 use Rattle.scenario_statements.specs.declared.statement.Statement.{Statement}
 use Rattle.scenario_statements.specs.declared.statement.Statement.TheVariants as says
 use Rattle.scenario_statements.specs.Grammar.{definition, instance as read_instance, need as read_need}
@@ -38,22 +51,29 @@ use Rattle.scenario_statements.specs.Grammar.{one_of, only_number, ops_named, re
 use Rattle.scenario_statements.specs.Grammar.{statement_by}
 use Rattle.scenario_statements.specs.Spelling.{IsWithin}
 use Rattle.reading_laws.specs.Statements.{IsValueWord}
-use Rattle.reading_laws.specs.WrongStatements.{AreWrong, AreWrongAsValue, AreWrongAtPath, HasValueForm}
+use Rattle.reading_laws.specs.Statements.{IsQueryWord}
+use Rattle.reading_laws.specs.WrongStatements.{AreWrong, AreWrongAfter, AreWrongAsDetails, AreWrongAsQueries}
+use Rattle.reading_laws.specs.WrongStatements.{AreWrongAsValue, HasValueForm, IsTooMany}
 use Rattle.reading_laws.specs.WrongStatements.{IsKeyword, IsRefused, IsRight, IsWrongAt, Leading, Place}
 use Rattle.reading_laws.specs.WrongStatements.{WrongStatementsAreSaid, leading_word, places_after, refusal_at}
 use Rattle.reading_laws.specs.WrongStatements.Place.{number, operations, multiple, mandatory, kind_name, path, bytes}
+use Rattle.reading_laws.specs.WrongStatements.Place.{format_name, token, type_name}
 use Rattle.reading_laws.specs.WrongStatements.Place.{value}
 use Rattle.reading_laws.specs.WrongStatements.Leading.{scenario, class, account, object, def, instance, device, recv}
 use Rattle.reading_laws.specs.WrongStatements.Leading.{tick, firmware, post, need}
 use Rattle.reading_laws.specs.WrongStatements.IsRefused.{after_leading, after_value, after_mnemonic, no_keyword}
 use Rattle.reading_laws.specs.WrongWords.{IsFormed, IsWrong}
-use Rattle.reading_laws.proofs.Refused.{refused, same_cause}
-use Rattle.reading_laws.proofs.Statements.{flag_read, keyword_read, kind_again, kind_read, mandatory_again}
-use Rattle.reading_laws.proofs.Statements.{mandatory_read, multiple_again, multiple_read, number_again, number_read}
-use Rattle.reading_laws.proofs.Statements.{ops_again, ops_read}
-use Rattle.reading_laws.proofs.Statements.{value_again, value_read}
+use Rattle.reading_laws.proofs.Refused.{bind_err, each_said, each_tested, is_wrong, refused, same_cause}
+use Rattle.reading_laws.proofs.ReadWords.{flag_read, kind_again, kind_read, mandatory_again}
+use Rattle.reading_laws.proofs.ReadWords.{mandatory_read, multiple_again, multiple_read, number_again, number_read}
+use Rattle.reading_laws.proofs.ReadWords.{ops_again, ops_read, value_again, value_read}
+use Rattle.reading_laws.proofs.Mnemonics.{acted, format_again, format_read, headed, keyword_read}
+use Rattle.reading_laws.proofs.Mnemonics.{query_said, query_tested, read_token, token_again, token_read, token_word}
+use Rattle.reading_laws.proofs.Mnemonics.{type_again, type_read}
+use Rattle.reading_laws.proofs.WrongNames.{by_names, named_or, no_name}
 use Rattle.reading_laws.proofs.WrongNames.{formed_said, formed_tested, kinds_named, mandatory_named, multiple_named}
 use Rattle.reading_laws.proofs.WrongNames.{operations_named}
+use Rattle.reading_laws.proofs.WrongNumbers.{bytes_err, token_alone}
 use Rattle.reading_laws.proofs.WrongNumbers.{bytes_hex, integers_fit, links_paired, numbers_within, paths_slashed}
 use Rattle.reading_laws.proofs.WrongNumbers.{texts_quoted}
 
@@ -110,18 +130,19 @@ none_missing {B} cause = (
 
 -- the places of a reader: the first, and those of what reads on, whatever was read
 placed : {A B : Type 0} (read : List ℕ → Result A Cause) (p : Place) (ps : List Place)
-    (f : A × List (List ℕ) → Result B Cause) → Fills read p
-    → ((x : A) → Refuses (λ ws. f (x, ws)) (AreWrong ps)) → Refuses (λ ws. word_by read ws >>= f) (AreWrong (p ∷ ps))
-placed {A} {B} read p ps f fills next [] cause = none_missing {B = B} cause
-placed {A} {B} read p ps f fills next (w ∷ ws) cause =
-    here_or_later (read w) ws f cause (IsWrongAt p w cause) (λ x. AreWrong ps ws cause) (fills.wrong w cause)
-    (λ x. next x ws cause) (IsRight p w × AreWrong ps ws cause) (
+    (after : List (List ℕ) → Cause → Type 0) (f : A × List (List ℕ) → Result B Cause) → Fills read p
+    → ((x : A) → Refuses (λ ws. f (x, ws)) (AreWrong ps after))
+    → Refuses (λ ws. word_by read ws >>= f) (AreWrong (p ∷ ps) after)
+placed {A} {B} read p ps after f fills next [] cause = none_missing {B = B} cause
+placed {A} {B} read p ps after f fills next (w ∷ ws) cause =
+    here_or_later (read w) ws f cause (IsWrongAt p w cause) (λ x. AreWrong ps after ws cause) (fills.wrong w cause)
+    (λ x. next x ws cause) (IsRight p w × AreWrong ps after ws cause) (
       (λ t. (fills.right w t.0 t.1, t.2)),
       (λ t. let a = fills.again w t.0 in (a.0, a.1, t.1)),
     )
 
 -- no place is left
-all_placed : {B : Type 0} (y : B) → Refuses (λ ws. ended ws >>= (λ e. Ok y)) (AreWrong [])
+all_placed : {B : Type 0} (y : B) → Refuses (λ ws. ended ws >>= (λ e. Ok y)) IsTooMany
 all_placed {B} y [] cause = ((λ h. cc h), (λ h. absurd h))
 all_placed {B} y (w ∷ ws) cause = (
   (λ h. sym (same_cause {A = B} Token cause h)),
@@ -315,59 +336,59 @@ defined id ops more must kind =
     record { id = id; ops = ops; multiple = more; mandatory = must; kind = kind }
 
 only_placed : (f : ℕ → Statement) (low high : ℕ) → high < 2 ^ 64
-    → Refuses (λ ws. only_number low high ws >>= (λ n. Ok (f n))) (AreWrong (number low high ∷ []))
+    → Refuses (λ ws. only_number low high ws >>= (λ n. Ok (f n))) (AreWrong (number low high ∷ []) IsTooMany)
 only_placed f low high small ws cause =
-    made_of (only_number low high ws) f cause (AreWrong (number low high ∷ []) ws cause)
-    (placed (number_of low high) (number low high) [] (λ n. ended n.1 >>= (λ e. Ok n.0)) (number_fills low high small)
-    (λ n. all_placed n) ws cause)
+    made_of (only_number low high ws) f cause (AreWrong (number low high ∷ []) IsTooMany ws cause)
+    (placed (number_of low high) (number low high) [] IsTooMany (λ n. ended n.1 >>= (λ e. Ok n.0))
+    (number_fills low high small) (λ n. all_placed n) ws cause)
 
-definition_placed : Refuses definition (AreWrong (places_after def))
+definition_placed : Refuses definition (AreWrong (places_after def) IsTooMany)
 definition_placed =
-    placed (number_of 0 65535) (number 0 65535) (operations ∷ multiple ∷ mandatory ∷ kind_name ∷ []) (λ id.
+    placed (number_of 0 65535) (number 0 65535) (operations ∷ multiple ∷ mandatory ∷ kind_name ∷ []) IsTooMany (λ id.
     word_by ops_named id.1 >>= (λ ops. word_by (one_of (codes "multiple") (codes "single")) ops.1 >>= (λ more.
     word_by (one_of (codes "mandatory") (codes "optional")) more.1 >>= (λ must. word_by kind_named must.1 >>= (λ k.
     ended k.1 >>= (λ e. Ok (says.Def (defined id.0 ops.0 more.0 must.0 k.0))))))))
     (number_fills 0 65535 (omega arith)) (λ id.
-    placed ops_named operations (multiple ∷ mandatory ∷ kind_name ∷ []) (λ ops.
+    placed ops_named operations (multiple ∷ mandatory ∷ kind_name ∷ []) IsTooMany (λ ops.
     word_by (one_of (codes "multiple") (codes "single")) ops.1 >>= (λ more.
     word_by (one_of (codes "mandatory") (codes "optional")) more.1 >>= (λ must. word_by kind_named must.1 >>= (λ k.
     ended k.1 >>= (λ e. Ok (says.Def (defined id ops.0 more.0 must.0 k.0)))))))
     operations_fill (λ ops.
-    placed (one_of (codes "multiple") (codes "single")) multiple (mandatory ∷ kind_name ∷ []) (λ more.
+    placed (one_of (codes "multiple") (codes "single")) multiple (mandatory ∷ kind_name ∷ []) IsTooMany (λ more.
     word_by (one_of (codes "mandatory") (codes "optional")) more.1 >>= (λ must. word_by kind_named must.1 >>= (λ k.
     ended k.1 >>= (λ e. Ok (says.Def (defined id ops more.0 must.0 k.0))))))
     multiple_fills (λ more.
-    placed (one_of (codes "mandatory") (codes "optional")) mandatory (kind_name ∷ []) (λ must.
+    placed (one_of (codes "mandatory") (codes "optional")) mandatory (kind_name ∷ []) IsTooMany (λ must.
     word_by kind_named must.1 >>= (λ k. ended k.1 >>= (λ e. Ok (says.Def (defined id ops more must.0 k.0)))))
     mandatory_fills (λ must.
-    placed kind_named kind_name [] (λ k. ended k.1 >>= (λ e. Ok (says.Def (defined id ops more must k.0))))
+    placed kind_named kind_name [] IsTooMany (λ k. ended k.1 >>= (λ e. Ok (says.Def (defined id ops more must k.0))))
     kind_fills (λ k. all_placed (says.Def (defined id ops more must k)))))))
 
-instance_placed : Refuses read_instance (AreWrong (places_after instance))
+instance_placed : Refuses read_instance (AreWrong (places_after instance) IsTooMany)
 instance_placed =
-    placed (number_of 0 65535) (number 0 65535) (number 0 65534 ∷ [])
+    placed (number_of 0 65535) (number 0 65535) (number 0 65534 ∷ []) IsTooMany
     (λ o. word_by (number_of 0 65534) o.1 >>= (λ i. ended i.1 >>= (λ e.
     Ok (says.Instance (record { object = o.0; instance = i.0 })))))
     (number_fills 0 65535 (omega arith)) (λ o.
-    placed (number_of 0 65534) (number 0 65534) []
+    placed (number_of 0 65534) (number 0 65534) [] IsTooMany
     (λ i. ended i.1 >>= (λ e. Ok (says.Instance (record { object = o; instance = i.0 }))))
     (number_fills 0 65534 (omega arith))
     (λ i. all_placed (says.Instance (record { object = o; instance = i }))))
 
-need_placed : Refuses read_need (AreWrong (places_after need))
+need_placed : Refuses read_need (AreWrong (places_after need) IsTooMany)
 need_placed =
-    placed (number_of 0 255) (number 0 255) (number 1 1000000 ∷ [])
+    placed (number_of 0 255) (number 0 255) (number 1 1000000 ∷ []) IsTooMany
     (λ g. word_by (number_of 1 1000000) g.1 >>= (λ n. ended n.1 >>= (λ e. Ok (says.Need g.0 n.0))))
     (number_fills 0 255 (omega arith)) (λ g.
-    placed (number_of 1 1000000) (number 1 1000000) [] (λ n. ended n.1 >>= (λ e. Ok (says.Need g n.0)))
+    placed (number_of 1 1000000) (number 1 1000000) [] IsTooMany (λ n. ended n.1 >>= (λ e. Ok (says.Need g n.0)))
     (number_fills 1 1000000 (omega arith)) (λ n. all_placed (says.Need g n)))
 
-recv_placed : Refuses read_recv (AreWrong (places_after recv))
+recv_placed : Refuses read_recv (AreWrong (places_after recv) IsTooMany)
 recv_placed =
-    placed (number_of 1 65534) (number 1 65534) (bytes ∷ [])
+    placed (number_of 1 65534) (number 1 65534) (bytes ∷ []) IsTooMany
     (λ s. word_by bytes_of s.1 >>= (λ b. ended b.1 >>= (λ e. Ok (says.Recv s.0 b.0))))
     (number_fills 1 65534 (omega arith)) (λ s.
-    placed bytes_of bytes [] (λ b. ended b.1 >>= (λ e. Ok (says.Recv s b.0))) bytes_fill
+    placed bytes_of bytes [] IsTooMany (λ b. ended b.1 >>= (λ e. Ok (says.Recv s b.0))) bytes_fill
     (λ b. all_placed (says.Recv s b)))
 
 abbrev valued : (Value → Statement) → Value × List (List ℕ) → Result Statement Cause
@@ -391,27 +412,185 @@ value_placed f (w ∷ ws) cause =
     same_reading ((r >>= value_next) >>= valued f) (r >>= (λ k. value_next k >>= valued f)) cause
     (AreWrongAsValue (w ∷ ws) cause) (joined r value_next (valued f))
     (here_or_later (kind_named w) ws (λ k. value_next k >>= valued f) cause (IsWrongAt kind_name w cause)
-    (λ k. AreWrong (value k ∷ []) ws cause) (kinds_named w cause)
-    (λ k. placed (value_of k) (value k) [] (valued f) (value_fills k) (λ v. all_placed (f v)) ws cause)
-    ((k : ValueKind) × (w ≡ kind_word k) × AreWrong (value k ∷ []) ws cause) (
+    (λ k. AreWrong (value k ∷ []) IsTooMany ws cause) (kinds_named w cause)
+    (λ k. placed (value_of k) (value k) [] IsTooMany (valued f) (value_fills k) (λ v. all_placed (f v)) ws cause)
+    ((k : ValueKind) × (w ≡ kind_word k) × AreWrong (value k ∷ []) IsTooMany ws cause) (
       (λ t. (t.0, kind_read w t.0 t.1, t.2)),
       (λ t. (t.0, ap kind_named t.1 ∙ kind_again t.0, t.2)),
     ))
 
 path_placed : (f : Path → Value → Statement)
-    → Refuses (λ ws. word_by path_of ws >>= (λ p. value_at p.1 >>= valued (f p.0))) AreWrongAtPath
-path_placed f [] cause = none_missing {B = Statement} cause
-path_placed f (w ∷ ws) cause =
-    here_or_later (path_of w) ws (λ p. value_at p.1 >>= valued (f p.0)) cause (IsWrongAt path w cause)
-    (λ p. AreWrongAsValue ws cause) (paths_slashed w cause) (λ p. value_placed (f p) ws cause)
-    (IsRight path w × AreWrongAsValue ws cause) (
-      (λ t. (path_fills.right w t.0 t.1, t.2)),
-      (λ t. let a = path_fills.again w t.0 in (a.0, a.1, t.1)),
-    )
+    → Refuses (λ ws. word_by path_of ws >>= (λ p. value_at p.1 >>= valued (f p.0)))
+    (AreWrong (path ∷ []) AreWrongAsValue)
+path_placed f =
+    placed path_of path [] AreWrongAsValue (λ p. value_at p.1 >>= valued (f p.0)) path_fills (λ p. value_placed (f p))
+
+-- ---- mnemonics
+
+type_fault : (w : List ℕ) (e : Cause) → type_of w ≡ Err e → e ≡ name_fault w
+type_fault w e = named_or w (codes "con") Con _ e (named_or w (codes "non") Non _ e (no_name w e))
+
+type_formed : (t : RequestType) → is_formed (type_word t) ≡ true
+type_formed Con = refl
+type_formed Non = refl
+
+type_fills : Fills type_of type_name
+type_fills =
+    record {
+      wrong = λ w cause. is_wrong (type_of w) (IsFormed w) ((t : RequestType) × (w ≡ type_word t)) UnknownWord cause
+          (is_formed w)
+          (by_names (type_of w) w type_word (type_read w) (λ t e. ap type_of e ∙ type_again t) type_formed
+          (type_fault w));
+      right = λ w t h. (t, type_read w t h);
+      again = λ w h. (h.0, ap type_of h.1 ∙ type_again h.0);
+    }
+
+format_fault : (w : List ℕ) (e : Cause) → format_of w ≡ Err e → e ≡ name_fault w
+format_fault w e =
+    named_or w (codes "any") format.Any _ e (named_or w (codes "text") format.Text _ e
+    (named_or w (codes "opaque") format.Opaque _ e (named_or w (codes "tlv") format.Tlv _ e (no_name w e))))
+
+format_formed : (f : Format) → is_formed (format_word f) ≡ true
+format_formed format.Any = refl
+format_formed format.Text = refl
+format_formed format.Opaque = refl
+format_formed format.Tlv = refl
+
+format_fills : Fills format_of format_name
+format_fills =
+    record {
+      wrong = λ w cause. is_wrong (format_of w) (IsFormed w) ((f : Format) × (w ≡ format_word f)) UnknownWord cause
+          (is_formed w)
+          (by_names (format_of w) w format_word (format_read w) (λ f e. ap format_of e ∙ format_again f) format_formed
+          (format_fault w));
+      right = λ w f h. (f, format_read w f h);
+      again = λ w h. (h.0, ap format_of h.1 ∙ format_again h.0);
+    }
+
+short_err : (bs : List ℕ) (b : Bool) (e : Cause) → (if b then taken bs else Err Token) ≡ Err e → e ≡ Token
+short_err bs true e h = cc
+short_err bs false e h = sym (same_cause {A = List ℕ} Token e h)
+
+token_err : (w : List ℕ) (e : Cause) → read_token w ≡ Err e → e ≡ Token
+token_err w e h = elim (bind_err (bytes_of w) short_token e h) [
+  | inl here ↦ bytes_err w e here
+  | inr later ↦ short_err later.0 (nat_le (length later.0) 8) e later.2
+]
+
+token_fills : Fills read_token token
+token_fills =
+    record {
+      wrong = λ w cause. chained (token_alone (read_token w) cause (IsRight token w) (token_read w) (token_again w)
+          (token_err w))
+          (form_enough (IsRight token w) (IsRight token w) (refusal_at token) cause (λ h. h));
+      right = token_read;
+      again = token_again;
+    }
+
+-- what is made of the reading of a word, and of those after it, reads on
+placed_then : {A B C : Type 0} (read : List ℕ → Result A Cause) (p : Place) (ps : List Place)
+    (after : List (List ℕ) → Cause → Type 0) (f : A × List (List ℕ) → Result B Cause) (g : B → Result C Cause)
+    → Fills read p → ((x : A) → Refuses (λ ws. f (x, ws) >>= g) (AreWrong ps after))
+    → Refuses (λ ws. (word_by read ws >>= f) >>= g) (AreWrong (p ∷ ps) after)
+placed_then read p ps after f g fills next ws cause =
+    same_reading ((word_by read ws >>= f) >>= g) (word_by read ws >>= (λ x. f x >>= g)) cause
+    (AreWrong (p ∷ ps) after ws cause) (joined (word_by read ws) f g)
+    (placed read p ps after (λ x. f x >>= g) fills next ws cause)
+
+made : {A B : Type 0} (r : List (List ℕ) → Result A Cause) (W : List (List ℕ) → Cause → Type 0) (g : A → B)
+    → Refuses r W → Refuses (λ ws. r ws >>= (λ x. Ok (g x))) W
+made r W g so ws cause = made_of (r ws) g cause (W ws cause) (so ws cause)
+
+format_placed : Refuses format_at (AreWrong (format_name ∷ []) IsTooMany)
+format_placed =
+    placed format_of format_name [] IsTooMany (λ f. ended f.1 >>= (λ e. Ok f.0)) format_fills (λ f. all_placed f)
+
+payload_placed : Refuses payload_at (AreWrong (bytes ∷ []) IsTooMany)
+payload_placed =
+    placed bytes_of bytes [] IsTooMany (λ b. ended b.1 >>= (λ e. Ok b.0)) bytes_fill (λ b. all_placed b)
+
+content_placed : Refuses content_at (AreWrong (format_name ∷ bytes ∷ []) IsTooMany)
+content_placed =
+    placed format_of format_name (bytes ∷ []) IsTooMany (λ f. payload_at f.1 >>= (λ b. Ok (f.0, b))) format_fills
+    (λ f. made payload_at (AreWrong (bytes ∷ []) IsTooMany) (λ b. (f, b)) payload_placed)
+
+-- ---- queries
+
+queries_by : (qs : List (List ℕ)) (b : Bool) (cause : Cause) (good : Type 0) → (b ≡ true → good) → (good → b ≡ true)
+    → ((if b then taken qs else Err Token) ≡ Err cause) ↔ ((good → ⊥) × (cause ≡ Token))
+queries_by qs true cause good said tested = ((λ h. cc h), (λ h. absurd (h.0 (said refl))))
+queries_by qs false cause good said tested = (
+  (λ h. ((λ g. let no = tested g in cc no), sym (same_cause {A = List (List ℕ)} Token cause h))),
+  (λ h. ap (λ c. refused c) (sym h.1)),
+)
+
+queries_placed : Refuses queries_at AreWrongAsQueries
+queries_placed [] cause = none_missing {B = List (List ℕ)} cause
+queries_placed (w ∷ ws) cause =
+    queries_by (w ∷ ws) (are_queries (w ∷ ws)) cause (AllByRecursion IsQueryWord (w ∷ ws))
+    (λ h. each_said is_query IsQueryWord query_said (w ∷ ws)
+    (and_parts (nat_lt 0 (length (w ∷ ws))) (list_all is_query (w ∷ ws)) h).1)
+    (λ h. and_from (nat_lt 0 (length (w ∷ ws))) (list_all is_query (w ∷ ws))
+    (lt-ltb 0 (length (w ∷ ws)) (omega arith)) (each_tested is_query IsQueryWord query_tested (w ∷ ws) h))
+
+details_placed : (v : Verb) → Refuses (action_at v) (AreWrongAsDetails v)
+details_placed verb.Read = made format_at (AreWrong (format_name ∷ []) IsTooMany) (λ f. act.Read f) format_placed
+details_placed verb.Observe =
+    made format_at (AreWrong (format_name ∷ []) IsTooMany) (λ f. act.Observe f) format_placed
+details_placed verb.Cancel = made format_at (AreWrong (format_name ∷ []) IsTooMany) (λ f. act.Cancel f) format_placed
+details_placed verb.Discover = all_placed act.Discover
+details_placed verb.Delete = all_placed act.Delete
+details_placed verb.Write =
+    made content_at (AreWrong (format_name ∷ bytes ∷ []) IsTooMany) (λ c. act.Write c.0 c.1) content_placed
+details_placed verb.Update =
+    made content_at (AreWrong (format_name ∷ bytes ∷ []) IsTooMany) (λ c. act.Update c.0 c.1) content_placed
+details_placed verb.Create =
+    made content_at (AreWrong (format_name ∷ bytes ∷ []) IsTooMany) (λ c. act.Create c.0 c.1) content_placed
+details_placed verb.Attr = made queries_at AreWrongAsQueries (λ qs. act.Attr qs) queries_placed
+details_placed verb.Exec = made payload_at (AreWrong (bytes ∷ []) IsTooMany) (λ b. act.Exec b) payload_placed
+
+token_placed : (v : Verb) (s : ℕ) (k : RequestType) (m : ℕ)
+    → Refuses (λ ws. (token_at ws >>= (λ t. word_by path_of t.1 >>= (λ p. Ok (headed s k m t.0 p.0, p.1)))) >>= acted v)
+    (AreWrong (token ∷ path ∷ []) (AreWrongAsDetails v))
+token_placed v s k m ws cause =
+    let next : List ℕ × List (List ℕ) → Result (Head × List (List ℕ)) Cause =
+    λ t. word_by path_of t.1 >>= (λ p. Ok (headed s k m t.0 p.0, p.1)) in
+    same_reading ((token_at ws >>= next) >>= acted v) ((word_by read_token ws >>= next) >>= acted v) cause
+    (AreWrong (token ∷ path ∷ []) (AreWrongAsDetails v) ws cause)
+    (ap (λ r. (r >>= next) >>= acted v) (token_word ws))
+    (placed_then read_token token (path ∷ []) (AreWrongAsDetails v) next (acted v) token_fills (λ t.
+    placed_then path_of path [] (AreWrongAsDetails v) (λ p. Ok (headed s k m t p.0, p.1)) (acted v) path_fills (λ p.
+    made (action_at v) (AreWrongAsDetails v) (λ a. said (headed s k m t p) a) (details_placed v))) ws cause)
+
+request_placed : (v : Verb) → Refuses (mnemonic_at (keyword.Request v)) (AreWrongAfter (keyword.Request v))
+request_placed v =
+    placed_then (number_of 1 65534) (number 1 65534) (type_name ∷ number 0 65535 ∷ token ∷ path ∷ [])
+    (AreWrongAsDetails v) (λ s. word_by type_of s.1 >>= (λ k. word_by (number_of 0 65535) k.1 >>= (λ m.
+    token_at m.1 >>= (λ t. word_by path_of t.1 >>= (λ p. Ok (headed s.0 k.0 m.0 t.0 p.0, p.1)))))) (acted v)
+    (number_fills 1 65534 (omega arith)) (λ s.
+    placed_then type_of type_name (number 0 65535 ∷ token ∷ path ∷ []) (AreWrongAsDetails v) (λ k.
+    word_by (number_of 0 65535) k.1 >>= (λ m. token_at m.1 >>= (λ t. word_by path_of t.1 >>= (λ p.
+    Ok (headed s k.0 m.0 t.0 p.0, p.1))))) (acted v) type_fills (λ k.
+    placed_then (number_of 0 65535) (number 0 65535) (token ∷ path ∷ []) (AreWrongAsDetails v) (λ m.
+    token_at m.1 >>= (λ t. word_by path_of t.1 >>= (λ p. Ok (headed s k m.0 t.0 p.0, p.1)))) (acted v)
+    (number_fills 0 65535 (omega arith)) (λ m. token_placed v s k m)))
+
+reset_placed : Refuses (mnemonic_at keyword.Reset) (AreWrongAfter keyword.Reset)
+reset_placed =
+    placed (number_of 1 65534) (number 1 65534) (number 0 65535 ∷ []) IsTooMany
+    (λ s. word_by (number_of 0 65535) s.1 >>= (λ m. ended m.1 >>= (λ e. Ok (s.0, mnemonic.Reset m.0))))
+    (number_fills 1 65534 (omega arith)) (λ s.
+    placed (number_of 0 65535) (number 0 65535) [] IsTooMany
+    (λ m. ended m.1 >>= (λ e. Ok (s, mnemonic.Reset m.0))) (number_fills 0 65535 (omega arith))
+    (λ m. all_placed (s, mnemonic.Reset m)))
+
+mnemonic_placed : (k : Keyword) → Refuses (mnemonic_at k) (AreWrongAfter k)
+mnemonic_placed (keyword.Request v) = request_placed v
+mnemonic_placed keyword.Reset = reset_placed
 
 -- ---- the first word
 
-leading_placed : (l : Leading) → Refuses (statement_by (leading_word l)) (AreWrong (places_after l))
+leading_placed : (l : Leading) → Refuses (statement_by (leading_word l)) (AreWrong (places_after l) IsTooMany)
 leading_placed scenario = only_placed (λ n. says.Scenario) 1 1 (omega arith)
 leading_placed class = all_placed says.Class
 leading_placed account = only_placed (λ n. says.Account n) 1 65534 (omega arith)
@@ -490,8 +669,7 @@ requested_or : (w : List ℕ) (ws : List (List ℕ)) (cause : Cause) (o : Option
     → keyword_named w ≡ o → request o w ws ≡ Err cause → IsRefused w ws cause
 requested_or w ws cause (Some k) other e h =
     after_mnemonic k (keyword_read w k e)
-    ((made_of (mnemonic_at k ws) (λ m. says.Request m.0 m.1) cause (mnemonic_at k ws ≡ Err cause)
-    ((λ x. x), (λ x. x))).0 h)
+    ((made (mnemonic_at k) (AreWrongAfter k) (λ m. says.Request m.0 m.1) (mnemonic_placed k) ws cause).0 h)
 requested_or w ws cause None other e h =
     let none = not_keyword w other e in
     no_keyword none (named_wrong w cause (IsKeyword w) none (same_cause {A = Statement} (name_fault w) cause h))
@@ -599,7 +777,7 @@ refused_so w ws cause (after_value (inr e) h) =
     ap (λ x. statement_by x ws) e ∙ (path_placed (λ p v. says.Put p v) ws cause).1 h
 refused_so w ws cause (after_mnemonic k e h) =
     ap (λ x. statement_by x ws) e ∙ mnemonic_line k ws
-    ∙ ap (λ r. r >>= (λ m. Ok (says.Request m.0 m.1))) h
+    ∙ (made (mnemonic_at k) (AreWrongAfter k) (λ m. says.Request m.0 m.1) (mnemonic_placed k) ws cause).1 h
 refused_so w ws cause (no_keyword none h) =
     other_refused w ws none ∙ ap (λ c. refused c) (wrong_named w cause (IsKeyword w) h)
 

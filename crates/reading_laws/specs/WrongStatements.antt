@@ -1,6 +1,7 @@
 -- Why the words of a line of scenario text are refused: the first that is wrong in its place, from the left; else a
 -- word is missing, or there is one too many.
-use Rattle.std.specs.Prelude.{◌≡◌, ◌↔◌, ◌⊎◌, ℕ, Bool, List, [], ◌∷◌, Err, codes}
+use Rattle.std.specs.Prelude.{◌≡◌, ◌↔◌, ◌⊎◌, ℕ, ◌≤◌, Bool, List, [], ◌∷◌, length, Err, codes}
+use Rattle.std.specs.List.{AllByRecursion}
 use Rattle.std.specs.Fmt.{decimal}
 use Rattle.lwm2m_values.specs.Value.{kind_of}
 use Rattle.lwm2m_values.specs.declared.kind.ValueKind.{ValueKind}
@@ -16,23 +17,31 @@ use Rattle.scenario_words.specs.PathWord.{IsPath}
 use Rattle.scenario_words.specs.Quoted.{IsQuoted}
 use Rattle.scenario_words.specs.ValueWords.{kind_word}
 use Rattle.scenario_mnemonics.specs.declared.verb.Keyword.{Keyword}
-use Rattle.scenario_mnemonics.specs.MnemonicWords.{keyword_word, mnemonic_at}
+use Rattle.scenario_mnemonics.specs.declared.verb.Keyword.TheVariants as keyword
+use Rattle.scenario_mnemonics.specs.declared.verb.Verb.{Verb}
+use Rattle.scenario_mnemonics.specs.declared.verb.Verb.TheVariants as verb
+use Rattle.scenario_mnemonics.specs.declared.request_type.RequestType.{RequestType}
+use Rattle.scenario_mnemonics.specs.declared.format.Format.{Format}
+use Rattle.scenario_mnemonics.specs.MnemonicWords.{format_word, keyword_word, type_word}
 use Rattle.scenario_statements.specs.Grammar.{statement_of}
 use Rattle.scenario_statements.specs.Spelling.{IsWithin, ops_word}
-use Rattle.reading_laws.specs.Statements.{IsValueWord, mandatory_word, multiple_word}
+use Rattle.reading_laws.specs.Statements.{IsQueryWord, IsValueWord, mandatory_word, multiple_word}
 use Rattle.reading_laws.specs.WrongWords.{IsFormed, IsNumber, IsPair, IsSlashed, IsWrong}
 
 -- ---- the places of a line
 
--- what stands in a place: a number from low to high, one of some names, a path, bytes, or a value of a kind
+-- what stands in a place: a number from low to high, one of some names, a path, bytes, a token, or a value of a kind
 pub data Place : Type 0 where
   number : ℕ → ℕ → Place
   operations : Place
   multiple : Place
   mandatory : Place
   kind_name : Place
+  type_name : Place
+  format_name : Place
   path : Place
   bytes : Place
+  token : Place
   value : ValueKind → Place
 
 -- the words that are allowed there
@@ -42,8 +51,11 @@ IsRight operations w = (ops : Ops) × (w ≡ ops_word ops)
 IsRight multiple w = (b : Bool) × (w ≡ multiple_word b)
 IsRight mandatory w = (b : Bool) × (w ≡ mandatory_word b)
 IsRight kind_name w = (k : ValueKind) × (w ≡ kind_word k)
+IsRight type_name w = (t : RequestType) × (w ≡ type_word t)
+IsRight format_name w = (f : Format) × (w ≡ format_word f)
 IsRight path w = (p : Path) × IsPath p × (w ≡ path_text p)
 IsRight bytes w = (bs : List ℕ) × IsHex w bs
+IsRight token w = (bs : List ℕ) × IsHex w bs × (length bs ≤ 8)
 IsRight (value k) w = (v : Value) × (kind_of v ≡ k) × IsValueWord v w
 
 -- the form of a value's word
@@ -62,8 +74,11 @@ HasForm operations w = IsFormed w
 HasForm multiple w = IsFormed w
 HasForm mandatory w = IsFormed w
 HasForm kind_name w = IsFormed w
+HasForm type_name w = IsFormed w
+HasForm format_name w = IsFormed w
 HasForm path w = IsSlashed w
-HasForm bytes w = (bs : List ℕ) × IsHex w bs
+HasForm bytes w = IsRight bytes w
+HasForm token w = IsRight token w
 HasForm (value k) w = HasValueForm k w
 
 -- why a word of that form is refused
@@ -72,28 +87,56 @@ refusal_at operations = UnknownWord
 refusal_at multiple = UnknownWord
 refusal_at mandatory = UnknownWord
 refusal_at kind_name = UnknownWord
+refusal_at type_name = UnknownWord
+refusal_at format_name = UnknownWord
 refusal_at place = Range
 
 abbrev pub IsWrongAt : Place → List ℕ → Cause → Type 0
 IsWrongAt place w cause = IsWrong (HasForm place w) (IsRight place w) (refusal_at place) cause
 
--- the first wrong word where these places have to be filled, and no others
-abbrev pub AreWrong : List Place → List (List ℕ) → Cause → Type 0
-AreWrong [] [] cause = ⊥
-AreWrong [] (w ∷ ws) cause = cause ≡ Token
-AreWrong (p ∷ ps) [] cause = cause ≡ Missing
-AreWrong (p ∷ ps) (w ∷ ws) cause = IsWrongAt p w cause ⊎ (IsRight p w × AreWrong ps ws cause)
+-- no word may stand there
+abbrev pub IsTooMany : List (List ℕ) → Cause → Type 0
+IsTooMany [] cause = ⊥
+IsTooMany (w ∷ ws) cause = cause ≡ Token
+
+-- the first wrong word where these places have to be filled, or else what is wrong with the words after them
+abbrev pub AreWrong : List Place → (List (List ℕ) → Cause → Type 0) → List (List ℕ) → Cause → Type 0
+AreWrong [] after ws cause = after ws cause
+AreWrong (p ∷ ps) after [] cause = cause ≡ Missing
+AreWrong (p ∷ ps) after (w ∷ ws) cause = IsWrongAt p w cause ⊎ (IsRight p w × AreWrong ps after ws cause)
 
 -- the same of a kind, and a value of it
 abbrev pub AreWrongAsValue : List (List ℕ) → Cause → Type 0
 AreWrongAsValue [] cause = cause ≡ Missing
 AreWrongAsValue (w ∷ ws) cause =
-    IsWrongAt kind_name w cause ⊎ ((k : ValueKind) × (w ≡ kind_word k) × AreWrong (value k ∷ []) ws cause)
+    IsWrongAt kind_name w cause ⊎ ((k : ValueKind) × (w ≡ kind_word k) × AreWrong (value k ∷ []) IsTooMany ws cause)
 
--- and of a path before them
-abbrev pub AreWrongAtPath : List (List ℕ) → Cause → Type 0
-AreWrongAtPath [] cause = cause ≡ Missing
-AreWrongAtPath (w ∷ ws) cause = IsWrongAt path w cause ⊎ (IsRight path w × AreWrongAsValue ws cause)
+-- and of queries, one or more
+abbrev pub AreWrongAsQueries : List (List ℕ) → Cause → Type 0
+AreWrongAsQueries [] cause = cause ≡ Missing
+AreWrongAsQueries (w ∷ ws) cause = (AllByRecursion IsQueryWord (w ∷ ws) → ⊥) × (cause ≡ Token)
+
+-- ---- mnemonics
+
+-- what is wrong with the words after the path of a request
+abbrev pub AreWrongAsDetails : Verb → List (List ℕ) → Cause → Type 0
+AreWrongAsDetails verb.Read = AreWrong (format_name ∷ []) IsTooMany
+AreWrongAsDetails verb.Observe = AreWrong (format_name ∷ []) IsTooMany
+AreWrongAsDetails verb.Cancel = AreWrong (format_name ∷ []) IsTooMany
+AreWrongAsDetails verb.Discover = IsTooMany
+AreWrongAsDetails verb.Delete = IsTooMany
+AreWrongAsDetails verb.Write = AreWrong (format_name ∷ bytes ∷ []) IsTooMany
+AreWrongAsDetails verb.Update = AreWrong (format_name ∷ bytes ∷ []) IsTooMany
+AreWrongAsDetails verb.Create = AreWrong (format_name ∷ bytes ∷ []) IsTooMany
+AreWrongAsDetails verb.Attr = AreWrongAsQueries
+AreWrongAsDetails verb.Exec = AreWrong (bytes ∷ []) IsTooMany
+
+-- and with those after the keyword of a mnemonic: its server, and the message ID of a Reset; or type, message ID, token
+-- and path of a request, and its details
+abbrev pub AreWrongAfter : Keyword → List (List ℕ) → Cause → Type 0
+AreWrongAfter keyword.Reset = AreWrong (number 1 65534 ∷ number 0 65535 ∷ []) IsTooMany
+AreWrongAfter (keyword.Request v) =
+    AreWrong (number 1 65534 ∷ type_name ∷ number 0 65535 ∷ token ∷ path ∷ []) (AreWrongAsDetails v)
 
 -- ---- lines
 
@@ -146,12 +189,13 @@ IsKeyword w =
     ((l : Leading) × (w ≡ leading_word l)) ⊎ ((w ≡ codes "value") ⊎ ((w ≡ codes "put")
     ⊎ ((k : Keyword) × (w ≡ keyword_word k))))
 
--- a line is refused for this cause: by its first word, or by those after it; after that of a mnemonic by how they are
--- read
+-- a line is refused for this cause: by its first word, or by those after it
 pub data IsRefused (w : List ℕ) (ws : List (List ℕ)) (cause : Cause) : Type 0 where
-  after_leading : (l : Leading) → w ≡ leading_word l → AreWrong (places_after l) ws cause → IsRefused w ws cause
-  after_value : (w ≡ codes "value") ⊎ (w ≡ codes "put") → AreWrongAtPath ws cause → IsRefused w ws cause
-  after_mnemonic : (k : Keyword) → w ≡ keyword_word k → mnemonic_at k ws ≡ Err cause → IsRefused w ws cause
+  after_leading : (l : Leading) → w ≡ leading_word l → AreWrong (places_after l) IsTooMany ws cause
+      → IsRefused w ws cause
+  after_value : (w ≡ codes "value") ⊎ (w ≡ codes "put") → AreWrong (path ∷ []) AreWrongAsValue ws cause
+      → IsRefused w ws cause
+  after_mnemonic : (k : Keyword) → w ≡ keyword_word k → AreWrongAfter k ws cause → IsRefused w ws cause
   no_keyword : (IsKeyword w → ⊥) → IsWrong (IsFormed w) (IsKeyword w) UnknownWord cause → IsRefused w ws cause
 
 abbrev pub WrongStatementsAreSaid : Type 0

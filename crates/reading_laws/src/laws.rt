@@ -59,7 +59,7 @@ pub fn wrong_words_are_said()
 {}
 
 /// A line is refused for the first of its words that is wrong in its place, or because a word is missing
-/// or is one too many; after the keyword of a mnemonic as its words are read.
+/// or is one too many.
 pub fn wrong_statements_are_said()
     ensures { WrongStatementsAreSaid }
 {}
