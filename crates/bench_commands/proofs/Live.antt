@@ -1,6 +1,6 @@
 -- A device on UDP: what its session came to, put together from its parts.
 use Rattle.std.proofs.Common.{◌≡◌, ◌≢◌, ◌⊎◌, ℕ, Bool, true, false, List, [], ◌∷◌, Option, None, Some, inl, inr}
-use Rattle.std.proofs.Common.{refl, sym, subst, IfSome, option_map}
+use Rattle.std.proofs.Common.{refl, sym, subst, IfErr, IfSome, Result, Ok, Err, option_map}
 use Rattle.std.specs.Io.KnownBytes.{Appends}
 use Rattle.std.specs.Prelude.{slice_get}
 use Rattle.bench_words.specs.declared.words.Live.{Live}
@@ -24,6 +24,8 @@ use Rattle.bench_commands.specs.declared.fault.Fault.{Fault}
 use Rattle.bench_commands.specs.declared.fault.Fault.TheVariants as faults
 use Rattle.bench_commands.specs.declared.files.FileFault.{FileFault}
 use Rattle.bench_commands.specs.declared.files.FileFault.TheVariants as file
+use Rattle.bench_commands.specs.declared.refusal.Refusal.{Refusal}
+use Rattle.bench_commands.specs.declared.status.Status.{Status}
 
 -- ---- the session
 
@@ -213,3 +215,19 @@ session_lost holds fails file_refuses refuses taken_before between taken_after a
       shown = shown;
       why = why;
     }))
+
+-- the same of a conclusion that may have gone well
+pub session_lost_if : (holds : List ℕ → List ℕ → Type 0) (fails file_refuses refuses : List ℕ → Type 0)
+    (taken_before between taken_after : Option (List ℕ)) (asked : Live) (s : Scenario) (class : Template)
+    (session : LiveSession) (r : Result Status Refusal) → IsScenarioAt holds asked.image.now s
+    → IsClassOf s asked.device class → IsServed class asked.turns session None None None None
+    → IsShown asked.show taken_before between
+    → IfErr r (λ e. IsUnconcluded file_refuses refuses between taken_after (option_map (λ p. p.now) asked.save) class
+    session e.fault)
+    → IfErr r (λ e. IsLiveFault holds fails file_refuses refuses taken_before taken_after asked e.fault)
+session_lost_if holds fails file_refuses refuses taken_before between taken_after asked s class session (Ok status)
+    found row served shown why = tt
+session_lost_if holds fails file_refuses refuses taken_before between taken_after asked s class session (Err e) found
+    row served shown why =
+    session_lost holds fails file_refuses refuses taken_before between taken_after asked s class session e.fault found
+    row served shown why

@@ -60,9 +60,12 @@ end_name end.Memory = codes "memory"
 end_name end.Spent = codes "spent"
 
 -- `end NAME steps N sent M`
+abbrev pub named_line : List ℕ → ℕ → ℕ → List ℕ
+named_line name steps sent =
+    line (codes "end " ++ name ++ codes " steps " ++ decimal steps ++ codes " sent " ++ decimal sent)
+
 abbrev pub session_line : LiveEnd → ℕ → ℕ → List ℕ
-session_line ended steps sent =
-    line (codes "end " ++ end_name ended ++ codes " steps " ++ decimal steps ++ codes " sent " ++ decimal sent)
+session_line ended steps sent = named_line (end_name ended) steps sent
 
 -- how a session ended, how many steps its device took, and how many datagrams it sent
 abbrev pub line_of : LiveSession → List ℕ

@@ -6,9 +6,9 @@ ghost use Rattle.live_link.specs.Served.{IsServed};
 ghost use Rattle.scenario_image.specs.Image.{IsImage};
 ghost use Rattle.scenario_image.specs.Scenario.{one_row};
 ghost use Rattle.bench_commands.specs.Fault.{IsWritingFault};
-ghost use Rattle.bench_commands.specs.Live.{end_name, line_of, session_line, HasNoRow, IsClassOf, IsConcluded};
-ghost use Rattle.bench_commands.specs.Live.{IsLiveDone, IsLiveFault, IsSaveFault, IsSaved, IsSavedAt, IsShown};
-ghost use Rattle.bench_commands.specs.Live.{IsUnconcluded, IsUnfit, IsUnheld, IsUnsaved};
+ghost use Rattle.bench_commands.specs.Live.{end_name, line_of, named_line, session_line, HasNoRow, IsClassOf};
+ghost use Rattle.bench_commands.specs.Live.{IsConcluded, IsLiveDone, IsLiveFault, IsSaveFault, IsSaved, IsSavedAt};
+ghost use Rattle.bench_commands.specs.Live.{IsShown, IsUnconcluded, IsUnfit, IsUnheld, IsUnsaved};
 
 use crate::answer::{NewFile, make, unwritten};
 use crate::fault::Fault;
@@ -159,7 +159,12 @@ pub fn session_line(
 ) -> Result<String, AllocError>
     ensures { IfOk result (λ text. string_bytes text ≡ session_line end steps sent) }
 {
-    let name = end_name(end);
+    named_line(alloc, end_name(end), steps, sent)
+}
+
+fn named_line(alloc: Global, name: &str, steps: usize, sent: usize) -> Result<String, AllocError>
+    ensures { IfOk result (λ text. string_bytes text ≡ named_line name.now steps sent) }
+{
     format!(in alloc; "end {name} steps {steps} sent {sent}\n")
 }
 
