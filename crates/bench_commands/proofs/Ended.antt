@@ -4,10 +4,13 @@ use Rattle.std.specs.Io.KnownBytes.{Appends}
 use Rattle.std.specs.String.{string_bytes}
 use Rattle.bench_words.specs.Words.{IsReadAs}
 use Rattle.bench_words.specs.declared.words.Asked.{Asked}
+use Rattle.bench_words.specs.declared.words.Asked.TheVariants as asked
+use Rattle.bench_words.specs.declared.words.Live.{Live}
 use Rattle.bench_commands.specs.Answers.{IsUndelivered, files_of}
 use Rattle.bench_commands.specs.Command.{Ends, IsAnswerTo, IsAnswered, IsDebugCut, IsDebugged, IsFinished, IsRefused}
 use Rattle.bench_commands.specs.Command.{IsUnfinished}
 use Rattle.bench_commands.specs.Files.{Grows, Made}
+use Rattle.bench_commands.specs.Live.{IsLiveDone, IsLiveFault}
 use Rattle.bench_commands.specs.Refusals.{IsTold}
 use Rattle.bench_commands.specs.declared.answer.Answer.{Answer}
 use Rattle.bench_commands.specs.declared.fault.Fault.{Fault}
@@ -41,8 +44,10 @@ pub answered_if : {E : Type 0}
 answered_if holds made_before made_after input_before input_after taken_before between taken_after words asked answer
     (Ok status) read right unread silent ended made printed =
     inl (
-      answered_so holds made_before made_after taken_before taken_after words asked answer status read right made
-          (subst (λ t. Appends t taken_after (string_bytes answer.text)) silent printed) ended,
+      inl (
+          answered_so holds made_before made_after taken_before taken_after words asked answer status read right made
+          (subst (λ t. Appends t taken_after (string_bytes answer.text)) silent printed) ended
+          ),
       unread,
     )
 answered_if holds made_before made_after input_before input_after taken_before between taken_after words asked answer
@@ -58,6 +63,30 @@ pub conversed_so : (holds : List ℕ → List ℕ → Type 0) (made_before made_
 conversed_so holds made_before made_after input_before input_after taken_before taken_after words asked status read
     debugged ended none =
     inr (record { asked = asked; read = read; debugged = debugged; ended = ended }, none)
+
+-- a session was concluded
+pub lived : (holds : List ℕ → List ℕ → Type 0) (made_before made_after : Option (List Made))
+    (input_before input_after taken_before taken_after : Option (List ℕ)) (words : List (List ℕ)) (live : Live)
+    (status : Status) → IsReadAs words (asked.Live live)
+    → IsLiveDone holds made_before made_after taken_before taken_after live → status ≡ ends.Done
+    → input_after ≡ input_before
+    → IsFinished holds made_before made_after input_before input_after taken_before taken_after words status
+lived holds made_before made_after input_before input_after taken_before taken_after words live status read done ended
+    unread =
+    inl (inr (record { live = live; read = read; done = done; ended = ended }), unread)
+
+-- a session was not concluded
+pub live_lost : (holds : List ℕ → List ℕ → Type 0) (fails file_refuses : List ℕ → Type 0)
+    (made_before made_after : Option (List Made)) (input_fails : Type 0) (input_before input_after : Option (List ℕ))
+    (refuses : List ℕ → Type 0) (taken_before taken_after : Option (List ℕ)) (words : List (List ℕ)) (live : Live)
+    (fault : Fault) → IsReadAs words (asked.Live live)
+    → IsLiveFault holds fails file_refuses refuses taken_before taken_after live fault → input_after ≡ input_before
+    → made_after ≡ made_before
+    → IsUnfinished holds fails file_refuses made_before made_after input_fails input_before input_after refuses
+    taken_before taken_after words fault
+live_lost holds fails file_refuses made_before made_after input_fails input_before input_after refuses taken_before
+    taken_after words live fault read lost unread none =
+    inr (inr (record { live = live; read = read; lost = lost }, unread), none)
 
 pub no_memory : (holds : List ℕ → List ℕ → Type 0) (fails file_refuses : List ℕ → Type 0)
     (made_before made_after : Option (List Made)) (input_fails : Type 0) (input_before input_after : Option (List ℕ))
@@ -83,7 +112,7 @@ unanswered holds fails file_refuses made_before made_after input_fails input_bef
     inl (inl (inr (record { asked = asked; read = read; refused = refused }), none, silent), unread)
 unanswered holds fails file_refuses made_before made_after input_fails input_before input_after refuses taken_before
     taken_after words asked fault read (inr cut) none =
-    inr (record { asked = asked; read = read; cut = cut }, none)
+    inr (inl (record { asked = asked; read = read; cut = cut }), none)
 
 pub undelivered_so : (holds : List ℕ → List ℕ → Type 0) (fails file_refuses : List ℕ → Type 0)
     (made_before made_after : Option (List Made)) (input_fails : Type 0) (input_before input_after : Option (List ℕ))

@@ -41,6 +41,12 @@ reading_file holds fails broken path (faults.Template fault) h = absurd h
 reading_file holds fails broken path faults.Workers h = absurd h
 reading_file holds fails broken path faults.Batch h = absurd h
 reading_file holds fails broken path faults.Spent h = absurd h
+reading_file holds fails broken path faults.NoDevice h = absurd h
+reading_file holds fails broken path faults.PastEnd h = absurd h
+reading_file holds fails broken path faults.Range h = absurd h
+reading_file holds fails broken path faults.TooLong h = absurd h
+reading_file holds fails broken path faults.Bind h = absurd h
+reading_file holds fails broken path (faults.Session fault) h = absurd h
 
 -- a file whose bytes break off
 pub broken_at : (holds : List ℕ → List ℕ → Type 0) (fails : List ℕ → Type 0) (broken : List ℕ → LayoutFault → Type 0)
@@ -75,6 +81,12 @@ reading_text holds fails path (faults.Template fault) h = absurd h
 reading_text holds fails path faults.Workers h = absurd h
 reading_text holds fails path faults.Batch h = absurd h
 reading_text holds fails path faults.Spent h = absurd h
+reading_text holds fails path faults.NoDevice h = absurd h
+reading_text holds fails path faults.PastEnd h = absurd h
+reading_text holds fails path faults.Range h = absurd h
+reading_text holds fails path faults.TooLong h = absurd h
+reading_text holds fails path faults.Bind h = absurd h
+reading_text holds fails path (faults.Session fault) h = absurd h
 
 -- bytes that are no text
 pub no_text : (holds : List ℕ → List ℕ → Type 0) (fails : List ℕ → Type 0) (path bytes : List ℕ) → holds path bytes
@@ -125,6 +137,12 @@ unsaved_run s workers batch r right (faults.Template fault) h = absurd h
 unsaved_run s workers batch r right faults.Workers h = absurd h
 unsaved_run s workers batch r right faults.Batch h = absurd h
 unsaved_run s workers batch r right faults.Spent h = absurd h
+unsaved_run s workers batch r right faults.NoDevice h = absurd h
+unsaved_run s workers batch r right faults.PastEnd h = absurd h
+unsaved_run s workers batch r right faults.Range h = absurd h
+unsaved_run s workers batch r right faults.TooLong h = absurd h
+unsaved_run s workers batch r right faults.Bind h = absurd h
+unsaved_run s workers batch r right (faults.Session fault) h = absurd h
 
 -- a run that was refused, or not ended
 pub run_fault_is : (s : Scenario) (workers batch : ℕ) (f : RunFault) → (f ≡ runs.Workers → workers ≢ 2)
@@ -152,6 +170,12 @@ no_demo hex (faults.Template fault) h = tt
 no_demo hex faults.Workers h = absurd h
 no_demo hex faults.Batch h = absurd h
 no_demo hex faults.Spent h = absurd h
+no_demo hex faults.NoDevice h = absurd h
+no_demo hex faults.PastEnd h = absurd h
+no_demo hex faults.Range h = absurd h
+no_demo hex faults.TooLong h = absurd h
+no_demo hex faults.Bind h = absurd h
+no_demo hex (faults.Session fault) h = absurd h
 
 -- no memory is left
 pub text_memory : (holds : List ℕ → List ℕ → Type 0) (fails : List ℕ → Type 0) (path : List ℕ) (f : Fault)

@@ -6,7 +6,10 @@ pub mod Ended
 pub mod Faults
 mod LimitedReading
 pub mod Lines
+pub mod Live
+pub mod Shown
 pub mod Streams
 pub mod Told
+pub mod Traced
 pub mod Turns
 pub mod Unread

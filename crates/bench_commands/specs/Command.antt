@@ -12,14 +12,17 @@ use Rattle.bench_words.specs.declared.words.Asked.{Asked}
 use Rattle.bench_words.specs.declared.words.Asked.TheVariants as asked
 use Rattle.bench_words.specs.declared.words.Job.{Job}
 use Rattle.bench_words.specs.declared.words.Job.TheVariants as jobs
+use Rattle.bench_words.specs.declared.words.Live.{Live}
 use Rattle.bench_commands.specs.Answers.{IsUndelivered, files_of}
 use Rattle.bench_commands.specs.Debugging.{IsDebugCutAt, IsDebuggedAt}
 use Rattle.bench_commands.specs.Files.{Grows, Made}
 use Rattle.bench_commands.specs.Jobs.{IsAsmDone, IsCheckDone, IsCheckRefused, IsDebugRefused, IsDisDone, IsImageFault}
 use Rattle.bench_commands.specs.Jobs.{IsOneDone, IsOneFault, IsRunDone, IsRunRefused}
+use Rattle.bench_commands.specs.Live.{IsLiveDone, IsLiveFault}
 use Rattle.bench_commands.specs.Refusals.{IsTold}
 use Rattle.bench_commands.specs.Status.{text_status}
 use Rattle.bench_commands.specs.Texts.{IsTextFault}
+use Rattle.bench_commands.specs.Traces.{IsPcapDone, IsPcapRefused, IsShowDone, IsShowRefused}
 use Rattle.bench_commands.specs.declared.answer.Answer.{Answer}
 use Rattle.bench_commands.specs.declared.fault.Fault.{Fault}
 use Rattle.bench_commands.specs.declared.fault.Fault.TheVariants.{Memory}
@@ -36,6 +39,10 @@ IsDone holds (jobs.Dis input) status text made = IsDisDone holds input.now statu
 IsDone holds (jobs.Run image workers batch trace) status text made =
     IsRunDone holds image.now (option_map (λ p. p.now) trace) status text made
 IsDone holds (jobs.Check image trace) status text made = IsCheckDone holds image.now trace.now status text made
+IsDone holds (jobs.Show image trace device from to) status text made =
+    IsShowDone holds image.now trace.now (record { device = device; from = from; to = to }) status text made
+IsDone holds (jobs.Pcap image trace output) status text made =
+    IsPcapDone holds image.now trace.now output.now status text made
 IsDone holds (jobs.Debug image trace) status text made = IsDebugRefused holds image.now trace.now status text made
 
 -- a job is refused for this fault
@@ -46,16 +53,22 @@ IsRefusedJob holds fails (jobs.Dis input) fault = IsImageFault holds fails input
 IsRefusedJob holds fails (jobs.Run image workers batch trace) fault =
     IsRunRefused holds fails image.now workers batch fault
 IsRefusedJob holds fails (jobs.Check image trace) fault = IsCheckRefused holds fails image.now trace.now fault
+IsRefusedJob holds fails (jobs.Show image trace device from to) fault =
+    IsShowRefused holds fails image.now trace.now (record { device = device; from = from; to = to }) fault
+IsRefusedJob holds fails (jobs.Pcap image trace output) fault =
+    IsPcapRefused holds fails image.now trace.now fault
 IsRefusedJob holds fails (jobs.Debug image trace) fault = IsCheckRefused holds fails image.now trace.now fault
 
 -- what words are answered with; a text on how to use the program is printed as it is
 abbrev pub IsAnswerTo : (List ℕ → List ℕ → Type 0) → Asked → Status → List ℕ → List Made → Type 0
 IsAnswerTo holds (asked.Job job) status text made = IsDone holds job status text made
+IsAnswerTo holds (asked.Live live) status text made = ⊥
 IsAnswerTo holds (asked.Text help is_mistake) status text made =
     (status ≡ text_status is_mistake) × (text ≡ string_bytes help) × (made ≡ [])
 
 abbrev pub IsRefused : (List ℕ → List ℕ → Type 0) → (List ℕ → Type 0) → Asked → Fault → Type 0
 IsRefused holds fails (asked.Job job) fault = IsRefusedJob holds fails job fault
+IsRefused holds fails (asked.Live live) fault = ⊥
 IsRefused holds fails (asked.Text help is_mistake) fault = ⊥
 
 -- ---- what is not answered at once
@@ -78,12 +91,14 @@ abbrev pub IsDebugged : (List ℕ → List ℕ → Type 0) → Asked → Option 
     → Option (List ℕ) → Type 0
 IsDebugged holds (asked.Job job) input_before input_after taken_before taken_after =
     IsDebuggedJob holds job input_before input_after taken_before taken_after
+IsDebugged holds (asked.Live live) input_before input_after taken_before taken_after = ⊥
 IsDebugged holds (asked.Text help is_mistake) input_before input_after taken_before taken_after = ⊥
 
 abbrev pub IsDebugCut : (List ℕ → List ℕ → Type 0) → Type 0 → (List ℕ → Type 0) → Asked → Option (List ℕ)
     → Option (List ℕ) → Option (List ℕ) → Fault → Type 0
 IsDebugCut holds fails refuses (asked.Job job) input_before taken_before taken_after fault =
     IsCutJob holds fails refuses job input_before taken_before taken_after fault
+IsDebugCut holds fails refuses (asked.Live live) input_before taken_before taken_after fault = ⊥
 IsDebugCut holds fails refuses (asked.Text help is_mistake) input_before taken_before taken_after fault = ⊥
 
 -- ---- a command
@@ -141,17 +156,33 @@ pub record IsConversationLost (holds : List ℕ → List ℕ → Type 0) (fails 
   pub read : IsReadAs words asked
   pub cut : IsDebugCut holds fails refuses asked input_before taken_before taken_after fault
 
--- the words were answered, and nothing was read from standard input; or a conversation came to its end, and no file was
--- made
+-- the words ask for a device on UDP, whose session was concluded
+pub record IsLived (holds : List ℕ → List ℕ → Type 0) (made_before made_after : Option (List Made))
+    (taken_before taken_after : Option (List ℕ)) (words : List (List ℕ)) (status : Status) : Type 0 where
+  pub live : Live
+  pub read : IsReadAs words (asked.Live live)
+  pub done : IsLiveDone holds made_before made_after taken_before taken_after live
+  pub ended : status ≡ ends.Done
+
+-- the words ask for a device on UDP, and this fault kept it from a session or from its conclusion
+pub record IsLiveLost (holds : List ℕ → List ℕ → Type 0) (fails file_refuses refuses : List ℕ → Type 0)
+    (taken_before taken_after : Option (List ℕ)) (words : List (List ℕ)) (fault : Fault) : Type 0 where
+  pub live : Live
+  pub read : IsReadAs words (asked.Live live)
+  pub lost : IsLiveFault holds fails file_refuses refuses taken_before taken_after live fault
+
+-- the words were answered, or a session was concluded, and nothing was read from standard input; or a conversation
+-- came to its end, and no file was made
 abbrev pub IsFinished : (List ℕ → List ℕ → Type 0) → Option (List Made) → Option (List Made) → Option (List ℕ)
     → Option (List ℕ) → Option (List ℕ) → Option (List ℕ) → List (List ℕ) → Status → Type 0
 IsFinished holds made_before made_after input_before input_after taken_before taken_after words status =
-    (IsAnswered holds made_before made_after taken_before taken_after words status × (input_after ≡ input_before))
+    ((IsAnswered holds made_before made_after taken_before taken_after words status
+    ⊎ IsLived holds made_before made_after taken_before taken_after words status) × (input_after ≡ input_before))
     ⊎ (IsConversed holds input_before input_after taken_before taken_after words status
     × (made_after ≡ made_before))
 
--- there was no answer, or it was lost, and nothing was read from standard input; or a conversation was cut short, and
--- no file was made
+-- there was no answer, or it was lost, and nothing was read from standard input; or a conversation was cut short, or a
+-- session lost, and no file was made
 abbrev pub IsUnfinished : (List ℕ → List ℕ → Type 0) → (List ℕ → Type 0) → (List ℕ → Type 0) → Option (List Made)
     → Option (List Made) → Type 0 → Option (List ℕ) → Option (List ℕ) → (List ℕ → Type 0) → Option (List ℕ)
     → Option (List ℕ) → List (List ℕ) → Fault → Type 0
@@ -159,7 +190,8 @@ IsUnfinished holds fails file_refuses made_before made_after input_fails input_b
     taken_after words fault =
     (IsUndone holds fails file_refuses made_before made_after refuses taken_before taken_after words fault
     × (input_after ≡ input_before))
-    ⊎ (IsConversationLost holds input_fails refuses input_before taken_before taken_after words fault
+    ⊎ ((IsConversationLost holds input_fails refuses input_before taken_before taken_after words fault
+    ⊎ (IsLiveLost holds fails file_refuses refuses taken_before taken_after words fault × (input_after ≡ input_before)))
     × (made_after ≡ made_before))
 
 -- what the words ask for was not done, and that was told

@@ -12,11 +12,18 @@ use Rattle.trace_file.specs.declared.fault.WriteFault.{WriteFault}
 use Rattle.trace_file.specs.declared.fault.WriteFault.TheVariants as trace
 use Rattle.device_template.specs.declared.fault.TemplateFault.{TemplateFault}
 use Rattle.device_template.specs.declared.fault.TemplateFault.TheVariants as template
+use Rattle.scenario_image.specs.declared.fault.ScenarioFault.{ScenarioFault}
+use Rattle.scenario_image.specs.declared.fault.ScenarioFault.TheVariants as session
 use Rattle.fleet_workers.specs.declared.fleet.RunFault.{RunFault}
 use Rattle.fleet_workers.specs.declared.fleet.RunFault.TheVariants as runs
+use Rattle.trace_pcap.specs.declared.fault.PcapFault.{PcapFault}
+use Rattle.trace_pcap.specs.declared.fault.PcapFault.TheVariants as pcap
+use Rattle.trace_text.specs.declared.selection.SelectionFault.{SelectionFault}
+use Rattle.trace_text.specs.declared.selection.SelectionFault.TheVariants as selection
 use Rattle.bench_commands.specs.declared.fault.Fault.{Fault}
 use Rattle.bench_commands.specs.declared.fault.Fault.TheVariants.{Hex, Memory, Read, Write, Layout, Text, TooLarge}
-use Rattle.bench_commands.specs.declared.fault.Fault.TheVariants.{Template, Workers, Batch, Spent}
+use Rattle.bench_commands.specs.declared.fault.Fault.TheVariants.{Template, Workers, Batch, Spent, NoDevice, PastEnd}
+use Rattle.bench_commands.specs.declared.fault.Fault.TheVariants.{Range, Session, TooLong}
 
 -- the fault of a text that could not be read as hex: a lack of memory is not the text's fault
 abbrev pub hex_fault : FromHexError → Fault
@@ -56,12 +63,31 @@ template_fault template.Duplicate = Template template.Duplicate
 template_fault template.Full = Template template.Full
 template_fault template.Memory = Memory
 
+-- the fault of steps that are not the row of a scenario: a lack of memory is not theirs
+abbrev pub session_fault : ScenarioFault → Fault
+session_fault session.Range = Session session.Range
+session_fault session.Missing = Session session.Missing
+session_fault session.Limit = Session session.Limit
+session_fault session.Memory = Memory
+
 -- the fault of a run that the workers did not end
 abbrev pub run_fault : RunFault → Fault
 run_fault (runs.Memory entries) = Memory
 run_fault (runs.Spent entries) = Spent
 run_fault runs.Workers = Workers
 run_fault runs.Batch = Batch
+
+-- the fault of entries that a trace does not have: a lack of memory is not the trace's fault
+abbrev pub selection_fault : SelectionFault → Fault
+selection_fault selection.NoDevice = NoDevice
+selection_fault selection.PastEnd = PastEnd
+selection_fault selection.Range = Range
+selection_fault selection.Memory = Memory
+
+-- the fault of entries that got no capture
+abbrev pub pcap_fault : PcapFault → Fault
+pcap_fault pcap.TooLong = TooLong
+pcap_fault pcap.Memory = Memory
 
 -- what may befall a text that is printed, or a file that is made: a lack of memory, or that it was not taken
 abbrev pub IsWritingFault : Type 0 → Fault → Type 0

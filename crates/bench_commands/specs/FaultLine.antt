@@ -7,6 +7,8 @@ use Rattle.byte_layout.specs.declared.fault.LayoutFault.TheVariants.{Magic, Vers
 use Rattle.byte_layout.specs.declared.fault.LayoutFault.TheVariants as layout
 use Rattle.device_template.specs.declared.fault.TemplateFault.{TemplateFault}
 use Rattle.device_template.specs.declared.fault.TemplateFault.TheVariants as template
+use Rattle.scenario_image.specs.declared.fault.ScenarioFault.{ScenarioFault}
+use Rattle.scenario_image.specs.declared.fault.ScenarioFault.TheVariants as session
 use Rattle.debug_answers.specs.Lines.{line}
 use Rattle.bench_commands.specs.declared.fault.Fault.{Fault}
 use Rattle.bench_commands.specs.declared.fault.Fault.TheVariants as faults
@@ -29,6 +31,13 @@ template_word template.Duplicate = codes "duplicate"
 template_word template.Full = codes "full"
 template_word template.Memory = codes "memory"
 
+-- the word of a refusal of a session's steps
+abbrev pub session_word : ScenarioFault → List ℕ
+session_word session.Range = codes "range"
+session_word session.Missing = codes "missing"
+session_word session.Limit = codes "limit"
+session_word session.Memory = codes "memory"
+
 -- the word of a fault
 abbrev pub fault_word : Fault → List ℕ
 fault_word faults.Hex = codes "hex"
@@ -42,6 +51,12 @@ fault_word (faults.Template fault) = template_word fault
 fault_word faults.Workers = codes "workers"
 fault_word faults.Batch = codes "batch"
 fault_word faults.Spent = codes "spent"
+fault_word faults.NoDevice = codes "no device"
+fault_word faults.PastEnd = codes "past end"
+fault_word faults.Range = codes "range"
+fault_word faults.TooLong = codes "too long"
+fault_word faults.Bind = codes "bind"
+fault_word (faults.Session fault) = session_word fault
 
 -- the place of a fault of bytes, in bytes from 0
 abbrev pub place_of : Fault → Option ℕ

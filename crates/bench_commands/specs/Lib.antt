@@ -7,9 +7,11 @@ pub mod Fault
 pub mod FaultLine
 pub mod Files
 pub mod Jobs
+pub mod Live
 pub mod Refusals
 pub mod Runs
 pub mod RunAnswer
 pub mod Status
 pub mod Texts
+pub mod Traces
 pub mod Unread

@@ -50,7 +50,10 @@ impl<'a> Answer<'a> {
 
 /// Makes the file, if there is one.
 #[tactic(auto, using(crate::proofs::Delivered::unwritten))]
-fn make<'a, F: Files>(file: &Option<NewFile<'a>>, files: &mut F) -> Result<(), Refusal<'a>>
+pub(crate) fn make<'a, F: Files>(
+    file: &Option<NewFile<'a>>,
+    files: &mut F,
+) -> Result<(), Refusal<'a>>
     ensures made { OnOk result (Grows (F.made files.old) (F.made files.new) (files_of file.now)) }
     ensures kept { OnErr result (F.made files.new ≡ F.made files.old) }
     ensures refused { IfErr result (λ r. IsWritingFault (IfSome file.now (λ f. F.refuses f.path.now)) r.fault) }

@@ -1,15 +1,18 @@
 ghost use Rattle.std.specs.Prelude.{◌≡◌};
-ghost use Rattle.bench_commands.specs.FaultLine.{fault_word, layout_word, template_word};
+ghost use Rattle.bench_commands.specs.FaultLine.{fault_word, layout_word, session_word, template_word};
 
 use byte_layout::LayoutFault;
 use device_machine::TemplateFault;
 use fleet_workers::RunFault;
 use hex::FromHexError;
 use scenario_asm::AsmFault;
+use scenario_image::ScenarioFault;
 use scenario_words::{Cause, cause_words};
 use std::alloc::{AllocError, AllocFailed};
 use std::fmt;
 use trace_file::WriteFault;
+use trace_pcap::PcapFault;
+use trace_text::SelectionFault;
 
 /// Why the program could not do what its words ask for. It prints as the fault's name.
 #[derive(Clone, Copy, Debug, PartialEq, Eq)]
@@ -36,6 +39,18 @@ pub enum Fault {
     Batch,
     /// A run ended since the lock had no ticket left.
     Spent,
+    /// A scenario has no device of a number.
+    NoDevice,
+    /// The entries of a trace end before a number.
+    PastEnd,
+    /// A number that is to be the last one is below the first one.
+    Range,
+    /// A datagram is too long for a capture.
+    TooLong,
+    /// A UDP port could not be had.
+    Bind,
+    /// What a device did is not the row of a scenario.
+    Session(ScenarioFault),
 }
 
 impl fmt::Display for Fault {
@@ -92,6 +107,12 @@ fn word_of(fault: Fault) -> &'static str
         Fault::Workers => "workers",
         Fault::Batch => "batch",
         Fault::Spent => "spent",
+        Fault::NoDevice => "no device",
+        Fault::PastEnd => "past end",
+        Fault::Range => "range",
+        Fault::TooLong => "too long",
+        Fault::Bind => "bind",
+        Fault::Session(fault) => session_word(fault),
     }
 }
 
@@ -118,6 +139,17 @@ fn template_word(fault: TemplateFault) -> &'static str
         TemplateFault::Duplicate => "duplicate",
         TemplateFault::Full => "full",
         TemplateFault::Memory => "memory",
+    }
+}
+
+fn session_word(fault: ScenarioFault) -> &'static str
+    ensures { result.now ≡ session_word fault }
+{
+    match fault {
+        ScenarioFault::Range => "range",
+        ScenarioFault::Missing => "missing",
+        ScenarioFault::Limit => "limit",
+        ScenarioFault::Memory => "memory",
     }
 }
 
@@ -199,6 +231,20 @@ impl From<AsmFault> for Fault {
     }
 }
 
+impl From<ScenarioFault> for Fault {
+    ghost use Rattle.std.specs.Prelude.{◌≡◌};
+    ghost use Rattle.bench_commands.specs.Fault.{session_fault};
+
+    ghost from_gives = { λ fault e. e ≡ session_fault fault };
+
+    fn from(fault: ScenarioFault) -> Fault {
+        match fault {
+            ScenarioFault::Memory => Fault::Memory,
+            _ => Fault::Session(fault),
+        }
+    }
+}
+
 impl From<WriteFault> for Fault {
     ghost use Rattle.std.specs.Prelude.{◌≡◌};
     ghost use Rattle.bench_commands.specs.Fault.{trace_fault};
@@ -225,6 +271,36 @@ impl From<RunFault> for Fault {
             RunFault::Spent(_) => Fault::Spent,
             RunFault::Workers => Fault::Workers,
             RunFault::Batch => Fault::Batch,
+        }
+    }
+}
+
+impl From<SelectionFault> for Fault {
+    ghost use Rattle.std.specs.Prelude.{◌≡◌};
+    ghost use Rattle.bench_commands.specs.Fault.{selection_fault};
+
+    ghost from_gives = { λ fault e. e ≡ selection_fault fault };
+
+    fn from(fault: SelectionFault) -> Fault {
+        match fault {
+            SelectionFault::NoDevice => Fault::NoDevice,
+            SelectionFault::PastEnd => Fault::PastEnd,
+            SelectionFault::Range => Fault::Range,
+            SelectionFault::Memory => Fault::Memory,
+        }
+    }
+}
+
+impl From<PcapFault> for Fault {
+    ghost use Rattle.std.specs.Prelude.{◌≡◌};
+    ghost use Rattle.bench_commands.specs.Fault.{pcap_fault};
+
+    ghost from_gives = { λ fault e. e ≡ pcap_fault fault };
+
+    fn from(fault: PcapFault) -> Fault {
+        match fault {
+            PcapFault::TooLong => Fault::TooLong,
+            PcapFault::Memory => Fault::Memory,
         }
     }
 }

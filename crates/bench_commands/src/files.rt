@@ -2,7 +2,7 @@ ghost use Rattle.std.specs.Prelude.{◌≡◌, ◌≤◌, ◌∷◌, [], ℕ, Li
 ghost use Rattle.std.specs.Prelude.{vec_len};
 ghost use Rattle.bench_commands.specs.Files.{Grows, IsFailure, IsFileFaultOf, Made, most_bytes};
 
-use std::alloc::Global;
+use std::alloc::{AllocError, Global};
 use std::fs::File;
 use std::io::{ErrorKind, Read};
 use std::{fs, io};
@@ -33,6 +33,16 @@ impl From<io::Error> for FileFault {
             return FileFault::Memory;
         }
         FileFault::Failed(words_of(error.kind()))
+    }
+}
+
+impl From<AllocError> for FileFault {
+    ghost use Rattle.bench_commands.specs.declared.files.FileFault.TheVariants.{Memory};
+
+    ghost from_gives = { λ _ e. e ≡ Memory };
+
+    fn from(_error: AllocError) -> FileFault {
+        FileFault::Memory
     }
 }
 
@@ -101,6 +111,35 @@ pub fn read_at_most<R: Read + Drop>(
 pub struct SystemFiles<'a, R: std::rt::Files> {
     /// The runtime that reaches them.
     pub rt: &'a R,
+    /// For the names of files that are not yet at their places.
+    pub alloc: Global,
+}
+
+impl<R: std::rt::Files> SystemFiles<'_, R> {
+    /// Whether a file can be moved to this path: there is nothing yet, or a file that is not a link.
+    fn is_replaceable(&self, path: &str) -> bool {
+        match fs::symlink_metadata(self.rt, path) {
+            Ok(there) => there.is_file(),
+            Err(error) => error.kind() == ErrorKind::NotFound,
+        }
+    }
+
+    /// Makes a file beside this path and moves it there, so that no part of it is ever found at the path itself.
+    fn replace(&self, path: &str, bytes: &[u8]) -> Result<(), FileFault> {
+        let beside = format!(in self.alloc; "{path}.part")?;
+        match self.make_and_move(beside.as_str(), path, bytes) {
+            Ok(()) => Ok(()),
+            Err(error) => {
+                let _ = fs::remove_file(self.rt, beside.as_str());
+                Err(FileFault::from(error))
+            }
+        }
+    }
+
+    fn make_and_move(&self, beside: &str, path: &str, bytes: &[u8]) -> io::Result<()> {
+        fs::write(self.rt, beside, bytes)?;
+        fs::rename(self.rt, beside, path)
+    }
 }
 
 impl<R: std::rt::Files> Files for SystemFiles<'_, R> {
@@ -117,6 +156,9 @@ impl<R: std::rt::Files> Files for SystemFiles<'_, R> {
     }
 
     fn write_all(&mut self, path: &str, bytes: &[u8]) -> Result<(), FileFault> {
+        if self.is_replaceable(path) {
+            return self.replace(path, bytes);
+        }
         fs::write(self.rt, path, bytes)?;
         Ok(())
     }

@@ -12,15 +12,18 @@ mod fault;
 pub mod files;
 pub mod hex_text;
 mod input;
+pub mod live_device;
 pub mod loading;
 mod output;
 mod program;
 mod refusal;
 pub mod runs;
+pub mod showing;
 mod status;
 mod system;
 mod telling;
 pub mod texts;
+pub mod traces;
 
 pub use answer::{Answer, NewFile, deliver};
 pub use conversation::converse;

@@ -2,29 +2,33 @@
 ghost use Rattle.std.specs.Prelude.{◌≡◌, ◌⊎◌, IfErr, IfNone, IfOk, IfSome, map};
 ghost use Rattle.std.specs.String.{string_bytes};
 ghost use Rattle.bench_commands.specs.Answers.{files_of};
-ghost use Rattle.bench_commands.specs.Command.{Ends, IsAnswerTo, IsCutJob, IsDebugCut, IsDebugged, IsDebuggedJob};
-ghost use Rattle.bench_commands.specs.Command.{IsDone};
-ghost use Rattle.bench_commands.specs.Command.{IsFinished, IsRefused, IsRefusedJob, IsUnfinished};
+ghost use Rattle.bench_commands.specs.Command.{Ends, IsCutJob, IsDebuggedJob, IsDone, IsFinished, IsRefusedJob};
+ghost use Rattle.bench_commands.specs.Command.{IsUnfinished};
 
 use crate::answer::{Answer, deliver};
 use crate::answers;
 use crate::debugging::debug;
 use crate::files::Files;
 use crate::input::Input;
+use crate::live_device::live;
 use crate::output::Output;
 use crate::refusal::Refusal;
 use crate::status::Status;
 use crate::telling::tell;
+use crate::traces::{pcap, show};
 use bench_words::{Asked, Job, read};
 use std::alloc::Global;
+use std::net::Net;
+use std::rt::Clock;
 use std::sync::Wait;
 use std::thread::Threads;
+use trace_text::Selection;
 
 /// Does what the words ask for, of which the first is the program's name. The file of the answer is made, and then its
-/// lines go to `output`; or the lines of `input` are answered there; or a fault's line goes there, and what it is about
-/// to `errors`.
+/// lines go to `output`; or the lines of `input` are answered there; or a device goes on at a UDP port, and its line
+/// goes there; or a fault's line goes there, and what it is about to `errors`.
 #[tactic(auto, using(crate::proofs::Ended::finished, crate::proofs::Ended::faulted))]
-pub fn command<R: Threads + Wait + Sync, F: Files, I: Input, O: Output, E: Output>(
+pub fn command<R: Threads + Wait + Sync + Net + Clock, F: Files, I: Input, O: Output, E: Output>(
     rt: &R,
     alloc: Global,
     words: &[String],
@@ -44,8 +48,8 @@ pub fn command<R: Threads + Wait + Sync, F: Files, I: Input, O: Output, E: Outpu
     }
 }
 
-#[tactic(auto, using(crate::proofs::Ended::answered_if, crate::proofs::Ended::no_memory, crate::proofs::Ended::unanswered, crate::proofs::Ended::undelivered_if, crate::proofs::Ended::conversed_so))]
-fn perform<'a, R: Threads + Wait + Sync, F: Files, I: Input, O: Output>(
+#[tactic(auto, using(crate::proofs::Ended::answered_if, crate::proofs::Ended::lived, crate::proofs::Ended::live_lost, crate::proofs::Ended::no_memory, crate::proofs::Ended::unanswered, crate::proofs::Ended::undelivered_if, crate::proofs::Ended::conversed_so))]
+fn perform<'a, R: Threads + Wait + Sync + Net + Clock, F: Files, I: Input, O: Output>(
     rt: &R,
     alloc: Global,
     words: &'a [String],
@@ -61,44 +65,22 @@ fn perform<'a, R: Threads + Wait + Sync, F: Files, I: Input, O: Output>(
         I.fails (I.rest input.old) (I.rest input.new) O.refuses (O.taken output.old) (O.taken output.new)
         (map string_bytes words.entry.now) r.fault) }
 {
-    let asked = read(alloc, words)?;
-    match answer_to(rt, alloc, asked, files, input, output)? {
-        Some(answer) => deliver(&answer, files, output),
-        None => Ok(Status::Done),
+    match read(alloc, words)? {
+        Asked::Live(asked) => live(rt, alloc, asked, files, output),
+        Asked::Job(job) => match answer_to(rt, alloc, job, files, input, output)? {
+            Some(answer) => deliver(&answer, files, output),
+            None => Ok(Status::Done),
+        },
+        Asked::Text { text, is_mistake } => {
+            let answer = Answer::printed(Status::of_text(is_mistake), text);
+            deliver(&answer, files, output)
+        }
     }
 }
 
-/// What the program answers to these words; none where they ask for a debugger over a run: then the lines of `input`
-/// were answered.
+/// What the program answers to a job; none where that is a debugger over a run: then the lines of `input` were
+/// answered.
 pub fn answer_to<'a, R: Threads + Wait + Sync, F: Files, I: Input, O: Output>(
-    rt: &R,
-    alloc: Global,
-    asked: Asked<'a>,
-    files: &F,
-    input: &mut I,
-    output: &mut O,
-) -> Result<Option<Answer<'a>>, Refusal<'a>>
-    ensures done { IfOk result (λ o. IfSome o (λ a.
-        IsAnswerTo (F.holds files.now) asked.entry a.status (string_bytes a.text) (files_of a.file))) }
-    ensures unread { IfOk result (λ o. IfSome o (λ _. I.rest input.new ≡ I.rest input.old)) }
-    ensures silent { IfOk result (λ o. IfSome o (λ _. O.taken output.new ≡ O.taken output.old)) }
-    ensures debugged { IfOk result (λ o. IfNone o (IsDebugged (F.holds files.now) asked.entry
-        (I.rest input.old) (I.rest input.new) (O.taken output.old) (O.taken output.new))) }
-    ensures refused { IfErr result (λ r. (IsRefused (F.holds files.now) (F.fails files.now) asked.entry r.fault
-        × (I.rest input.new ≡ I.rest input.old) × (O.taken output.new ≡ O.taken output.old))
-        ⊎ IsDebugCut (F.holds files.now) I.fails O.refuses asked.entry (I.rest input.old)
-        (O.taken output.old) (O.taken output.new) r.fault) }
-{
-    match asked {
-        Asked::Job(job) => answer_to_job(rt, alloc, job, files, input, output),
-        Asked::Text { text, is_mistake } => Ok(Some(Answer::printed(
-            Status::of_text(is_mistake),
-            text,
-        ))),
-    }
-}
-
-fn answer_to_job<'a, R: Threads + Wait + Sync, F: Files, I: Input, O: Output>(
     rt: &R,
     alloc: Global,
     job: Job<'a>,
@@ -131,6 +113,21 @@ fn answer_to_job<'a, R: Threads + Wait + Sync, F: Files, I: Input, O: Output>(
             trace,
         } => Ok(Some(answers::run(rt, alloc, image, workers, batch, trace, files)?)),
         Job::Check { image, trace } => Ok(Some(answers::check(alloc, image, trace, files)?)),
+        Job::Show {
+            image,
+            trace,
+            device,
+            from,
+            to,
+        } => {
+            let selection = Selection { device, from, to };
+            Ok(Some(show(alloc, image, trace, selection, files)?))
+        }
+        Job::Pcap {
+            image,
+            trace,
+            output: path,
+        } => Ok(Some(pcap(alloc, image, trace, path, files)?)),
         Job::Debug { image, trace } => debug(alloc, image, trace, files, input, output),
     }
 }

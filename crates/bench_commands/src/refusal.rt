@@ -4,6 +4,7 @@ ghost use Rattle.std.specs.String.{string_bytes};
 ghost use Rattle.bench_commands.specs.Refusals.{IsAbout, about_line, plain_line};
 
 use crate::fault::Fault;
+use scenario_image::ScenarioFault;
 use std::alloc::{AllocError, Global};
 
 /// Why the program could not do what its words ask for, and which file or word is to blame.
@@ -80,6 +81,14 @@ fn named(alloc: Global, fault: Fault) -> Result<String, AllocError> {
         Fault::Workers => String::from_str(alloc, "the number of workers is not 2"),
         Fault::Batch => String::from_str(alloc, "the batch is not from 1 to 64"),
         Fault::Spent => String::from_str(alloc, "no ticket is left"),
+        Fault::NoDevice => String::from_str(alloc, "the scenario has no device of this number"),
+        Fault::PastEnd => String::from_str(alloc, "the trace has no entry of this number"),
+        Fault::Range => String::from_str(alloc, "the last number is below the first one"),
+        Fault::TooLong => String::from_str(alloc, "a datagram is too long for a packet"),
+        Fault::Bind => String::from_str(alloc, "the port could not be had"),
+        Fault::Session(ScenarioFault::Limit) => {
+            String::from_str(alloc, "the session has more steps than a scenario may have")
+        }
         _ => format!(in alloc; "{fault}"),
     }
 }

@@ -19,8 +19,9 @@ use crate::telling::tell;
 use bench_words::NO_TEXT;
 use std::alloc::Global;
 use std::io::ErrorKind;
+use std::net::Net;
 use std::process::ExitCode;
-use std::rt::Env;
+use std::rt::{Clock, Env};
 use std::sync::Wait;
 use std::thread::Threads;
 use std::{env, io};
@@ -28,16 +29,17 @@ use std::{env, io};
 /// Does what the words of the command line ask for, over the system's files and standard output. Lines come from
 /// `input`, and complaints go to `errors`.
 pub fn start<
-    R: Threads + Wait + Sync + Env + std::rt::Files + Print + AllocGlobal,
+    R: Threads + Wait + Sync + Net + Clock + Env + std::rt::Files + Print + AllocGlobal,
     I: Input,
     E: Output,
 >(rt: &R, input: &mut I, errors: &mut E) -> ExitCode {
+    let alloc = rt.alloc();
     let words = words_of(rt);
     conclude(
         rt,
-        rt.alloc(),
+        alloc,
         words,
-        &mut SystemFiles { rt },
+        &mut SystemFiles { rt, alloc },
         input,
         &mut io::writer(rt),
         errors,
@@ -55,7 +57,7 @@ fn words_of<R: Env + AllocGlobal>(rt: &R) -> Result<Vec<String>, ErrorKind> {
 }
 
 /// The whole program: from its words, or why they could not be had, to the status that its process ends with.
-pub fn conclude<R: Threads + Wait + Sync, F: Files, I: Input, O: Output, E: Output>(
+pub fn conclude<R: Threads + Wait + Sync + Net + Clock, F: Files, I: Input, O: Output, E: Output>(
     rt: &R,
     alloc: Global,
     words: Result<Vec<String>, ErrorKind>,

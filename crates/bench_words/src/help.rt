@@ -64,6 +64,38 @@ Example:
   lwbench check reader.image reader.trace
   run";
 
+pub const SHOW: &str =
+    "Reads IMAGE, and then TRACE. Prints the entries of the trace in their order: a line for each, with its
+number in the trace, its worker, its device, the number of its step in the device's row, the device's
+second before the step, and the step; and a line for each output. Below a datagram stands what it says:
+  N worker W device D step K second S: STEP
+  => send SERVER HEX
+  => act NAME
+With `--device` only entries of this device are printed; with `--from` and `--to` only entries that have
+these numbers or numbers between them. Where the trace is not a run of the scenario, prints the least
+place, from 0, at which it is not (status 3):
+  not a run at N
+Writes no file.
+
+Example:
+  lwbench show reader.image reader.trace
+  0 worker 0 device 0 step 0 second 0: read 1 con 1 - /3/0/9 any
+      # CON 0.01 GET, message 1, /3/0/9
+  => send 1 60450001C0FF313030
+      # ACK 2.05 Content, message 1, text/plain \"100\"";
+
+pub const PCAP: &str =
+    "Reads IMAGE, and then TRACE. Writes OUT, which is replaced where it exists: a capture of packets, with
+the datagrams that arrived at the devices and those that they sent, for programs that read pcap files.
+Then prints how many there are. Where the trace is not a run of the scenario, writes nothing, and prints
+the least place, from 0, at which it is not (status 3):
+  ok N packets
+  not a run at N
+
+Example:
+  lwbench pcap reader.image reader.trace reader.pcap
+  ok 2 packets";
+
 pub const DEBUG: &str =
     "Reads IMAGE, and then TRACE. Then reads commands from standard input, a line each, and answers each;
 `help` lists them. `quit` ends it, and so does the end of the input. Where the trace is not a run of the
@@ -78,3 +110,12 @@ Example:
   out 0
   send 1 60450001C0FF313030
   quit";
+
+pub const LIVE: &str =
+    "Reads IMAGE. Lets the device DEVICE of it, as its row begins, answer the datagrams that arrive at the UDP
+port PORT of this machine, until TURNS turns are over, 1 to 100000. Writes the image of what happened to
+the FILE of `--save`, which is replaced where it exists, and no file without it. With `--show` prints
+what happens while it goes on.
+
+Example:
+  lwbench live reader.image 0 5683 1000 --show";

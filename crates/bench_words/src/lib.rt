@@ -2,6 +2,7 @@
 #![tactic(auto)]
 
 mod help;
+mod subcommands;
 mod words;
 
-pub use words::{Asked, Job, NO_TEXT, read};
+pub use words::{Asked, Job, Live, NO_TEXT, read};

@@ -1,16 +1,14 @@
-ghost use Rattle.std.specs.Prelude.{◌≡◌, ◌≢◌, ◌⊎◌, List, None, Some, codes, map, option_map, false, IfNone, IfOk};
-ghost use Rattle.std.specs.Prelude.{IfSome};
+ghost use Rattle.std.specs.Prelude.{◌≡◌, ◌≢◌, ◌⊎◌, List, None, Some, codes, map, option_map, IfNone, IfOk, IfSome};
 ghost use Rattle.std.specs.String.{string_bytes};
-ghost use Rattle.clap.specs.Words.{Row, Text as Word, app_of, first_of, found_of, kind_of, new_app, one_of, rows_of};
-ghost use Rattle.clap.specs.Words.{rule_of, subcommand_rows_of, with_rule};
+ghost use Rattle.clap.specs.Words.{Row, Text as Word, first_of, found_of, kind_of, one_of, rows_of, subcommand_rows_of};
+ghost use Rattle.bench_words.specs.declared.words.Asked.{Asked as AskedData};
 ghost use Rattle.bench_words.specs.declared.words.Job.{Job as JobData};
-ghost use Rattle.bench_words.specs.Words.{AsksFor, IsNoNumber, IsNumber, IsReadAs, LacksRun, asm_app, batch, bench_app};
-ghost use Rattle.bench_words.specs.Words.{check_app, debug_app, dis_app, file, needed, one_app, run_app, with_settings};
-ghost use Rattle.bench_words.specs.Words.{workers};
+ghost use Rattle.bench_words.specs.Words.{AsksFor, AsksToLive, IsFlag, IsOptionalNumber, IsReadAs, LacksLive, LacksRun};
+ghost use Rattle.bench_words.specs.Words.{MayAskFor};
 
-use crate::help;
+use crate::subcommands::bench;
 use clap::error::ErrorKind;
-use clap::{Arg, ArgMatches, Command, Error, value_parser};
+use clap::{ArgMatches, Error};
 use std::alloc::{AllocError, Global};
 
 /// What is said of an argument that is no text.
@@ -56,6 +54,28 @@ pub enum Job<'a> {
         /// The path of the trace file.
         trace: &'a str,
     },
+    /// The text of a run's trace, or of a part of it.
+    Show {
+        /// The path of the scenario's image.
+        image: &'a str,
+        /// The path of the run's trace file.
+        trace: &'a str,
+        /// The device whose entries are shown; where it is not given, all are.
+        device: Option<u16>,
+        /// The number of the first entry that may be shown; where it is not given, 0.
+        from: Option<u32>,
+        /// The number of the last entry that may be shown; where it is not given, that of the last of all.
+        to: Option<u32>,
+    },
+    /// The datagrams of a run, as a capture of packets.
+    Pcap {
+        /// The path of the scenario's image.
+        image: &'a str,
+        /// The path of the run's trace file.
+        trace: &'a str,
+        /// Where the capture goes.
+        output: &'a str,
+    },
     /// What a run shows, at the commands of a session.
     Debug {
         /// The path of the scenario's image.
@@ -65,11 +85,30 @@ pub enum Job<'a> {
     },
 }
 
+/// A device that receives the datagrams of the network, and answers them.
+#[derive(Clone, Copy, Debug, PartialEq, Eq)]
+pub struct Live<'a> {
+    /// The path of the scenario's image.
+    pub image: &'a str,
+    /// The number of the device.
+    pub device: u16,
+    /// The UDP port that it receives at; 0 for one that the system chooses.
+    pub port: u16,
+    /// How many turns it goes on for.
+    pub turns: u32,
+    /// Where the image of what happened goes, if anywhere.
+    pub save: Option<&'a str>,
+    /// Whether what happens is shown.
+    pub show: bool,
+}
+
 /// What the words ask for.
 #[derive(Debug, Drop)]
 pub enum Asked<'a> {
-    /// Something to do.
+    /// Something to do, whose answer is printed at its end.
     Job(Job<'a>),
+    /// A device on the network, of which is printed while it goes on.
+    Live(Live<'a>),
     /// A text to print: help, or what is wrong with the words.
     Text {
         /// The text.
@@ -84,8 +123,8 @@ pub fn read<'a>(alloc: Global, words: &'a [String]) -> Result<Asked<'a>, AllocEr
     ensures { IfOk result (IsReadAs (map string_bytes words.now)) }
 {
     match bench(alloc)?.try_get_matches_from(words) {
-        Ok(found) => match job_of(&found) {
-            Some(job) => Ok(Asked::Job(job)),
+        Ok(found) => match asked_of(&found) {
+            Some(asked) => Ok(asked),
             None => Ok(Asked::Text {
                 text: usage(alloc)?,
                 is_mistake: true,
@@ -98,19 +137,31 @@ pub fn read<'a>(alloc: Global, words: &'a [String]) -> Result<Asked<'a>, AllocEr
     }
 }
 
-fn job_of<'a>(found: &ArgMatches<'a>) -> Option<Job<'a>>
-    ensures some { IfSome result (λ job. (p : Word × List Row) × (subcommand_rows_of found.now ≡ Some p)
-        × AsksFor p job) }
-    ensures none { IfNone result ((p : Word × List Row) (job : JobData) → subcommand_rows_of found.now ≡ Some p
-        → AsksFor p job → ⊥) }
+fn asked_of<'a>(found: &ArgMatches<'a>) -> Option<Asked<'a>>
+    ensures some { IfSome result (λ asked. (p : Word × List Row) × (subcommand_rows_of found.now ≡ Some p)
+        × MayAskFor p asked) }
+    ensures none { IfNone result ((p : Word × List Row) (asked : AskedData) → subcommand_rows_of found.now ≡ Some p
+        → MayAskFor p asked → ⊥) }
 {
     match found.subcommand() {
-        Some((name, inner)) => job_in(name, inner),
+        Some((name, inner)) => asked_in(name, inner),
         None => None,
     }
 }
 
-#[tactic(auto, using(crate::proofs::Asking::no_one, crate::proofs::Asking::no_asm, crate::proofs::Asking::no_dis, crate::proofs::Asking::no_run, crate::proofs::Asking::no_check, crate::proofs::Asking::no_debug))]
+#[tactic(auto, using(crate::proofs::Asking::not_live, crate::proofs::Asking::no_job))]
+fn asked_in<'a>(name: &str, found: &ArgMatches<'a>) -> Option<Asked<'a>>
+    ensures some { IfSome result (MayAskFor (name.now, rows_of (found_of found.now))) }
+    ensures none { IfNone result ((asked : AskedData) → MayAskFor (name.now, rows_of (found_of found.now)) asked
+        → ⊥) }
+{
+    match name {
+        "live" => Some(Asked::Live(live_of(found)?)),
+        _ => Some(Asked::Job(job_in(name, found)?)),
+    }
+}
+
+#[tactic(auto, using(crate::proofs::Asking::no_one, crate::proofs::Asking::no_asm, crate::proofs::Asking::no_dis, crate::proofs::Asking::no_run, crate::proofs::Asking::no_check, crate::proofs::Asking::no_show, crate::proofs::Asking::no_pcap, crate::proofs::Asking::no_debug))]
 fn job_in<'a>(name: &str, found: &ArgMatches<'a>) -> Option<Job<'a>>
     ensures some { IfSome result (AsksFor (name.now, rows_of (found_of found.now))) }
     ensures none { IfNone result ((job : JobData) → AsksFor (name.now, rows_of (found_of found.now)) job → ⊥) }
@@ -121,6 +172,8 @@ fn job_in<'a>(name: &str, found: &ArgMatches<'a>) -> Option<Job<'a>>
         "dis" => dis_job(found),
         "run" => run_job(found),
         "check" => check_job(found),
+        "show" => show_job(found),
+        "pcap" => pcap_job(found),
         "debug" => debug_job(found),
         _ => None,
     }
@@ -161,24 +214,10 @@ fn run_job<'a>(found: &ArgMatches<'a>) -> Option<Job<'a>>
 {
     Some(Job::Run {
         image: value_of(found, "IMAGE")?,
-        workers: workers_of(found)?,
-        batch: batch_of(found)?,
+        workers: small_number(found, "workers")?,
+        batch: number(found, "batch")?,
         trace: value_of(found, "trace"),
     })
-}
-
-fn workers_of(found: &ArgMatches) -> Option<u16>
-    ensures some { IfSome result (IsNumber 16 (one_of (codes "workers") (rows_of (found_of found.now)))) }
-    ensures none { IfNone result (IsNoNumber 16 (one_of (codes "workers") (rows_of (found_of found.now)))) }
-{
-    found.get_one::<u16>("workers")
-}
-
-fn batch_of(found: &ArgMatches) -> Option<u32>
-    ensures some { IfSome result (IsNumber 32 (one_of (codes "batch") (rows_of (found_of found.now)))) }
-    ensures none { IfNone result (IsNoNumber 32 (one_of (codes "batch") (rows_of (found_of found.now)))) }
-{
-    found.get_one::<u32>("batch")
 }
 
 fn check_job<'a>(found: &ArgMatches<'a>) -> Option<Job<'a>>
@@ -189,6 +228,33 @@ fn check_job<'a>(found: &ArgMatches<'a>) -> Option<Job<'a>>
     Some(Job::Check {
         image: value_of(found, "IMAGE")?,
         trace: value_of(found, "TRACE")?,
+    })
+}
+
+fn show_job<'a>(found: &ArgMatches<'a>) -> Option<Job<'a>>
+    ensures some { IfSome result (AsksFor (codes "show", rows_of (found_of found.now))) }
+    ensures none { IfNone result ((first_of (codes "IMAGE") (rows_of (found_of found.now)) ≡ None)
+        ⊎ (first_of (codes "TRACE") (rows_of (found_of found.now)) ≡ None)) }
+{
+    Some(Job::Show {
+        image: value_of(found, "IMAGE")?,
+        trace: value_of(found, "TRACE")?,
+        device: small_number(found, "device"),
+        from: number(found, "from"),
+        to: number(found, "to"),
+    })
+}
+
+fn pcap_job<'a>(found: &ArgMatches<'a>) -> Option<Job<'a>>
+    ensures some { IfSome result (AsksFor (codes "pcap", rows_of (found_of found.now))) }
+    ensures none { IfNone result ((first_of (codes "IMAGE") (rows_of (found_of found.now)) ≡ None)
+        ⊎ ((first_of (codes "TRACE") (rows_of (found_of found.now)) ≡ None)
+        ⊎ (first_of (codes "OUT") (rows_of (found_of found.now)) ≡ None))) }
+{
+    Some(Job::Pcap {
+        image: value_of(found, "IMAGE")?,
+        trace: value_of(found, "TRACE")?,
+        output: value_of(found, "OUT")?,
     })
 }
 
@@ -203,11 +269,46 @@ fn debug_job<'a>(found: &ArgMatches<'a>) -> Option<Job<'a>>
     })
 }
 
+fn live_of<'a>(found: &ArgMatches<'a>) -> Option<Live<'a>>
+    ensures some { IfSome result (AsksToLive (codes "live", rows_of (found_of found.now))) }
+    ensures none { IfNone result (LacksLive (rows_of (found_of found.now))) }
+{
+    Some(Live {
+        image: value_of(found, "IMAGE")?,
+        device: small_number(found, "DEVICE")?,
+        port: small_number(found, "PORT")?,
+        turns: number(found, "TURNS")?,
+        save: value_of(found, "save"),
+        show: flag(found, "show"),
+    })
+}
+
 /// The value of an argument.
 fn value_of<'a>(found: &ArgMatches<'a>, id: &str) -> Option<&'a str>
     ensures { option_map (λ s. s.now) result ≡ first_of id.now (rows_of (found_of found.now)) }
 {
     found.get_str(id)
+}
+
+/// The value of an argument as a number of 16 bits, if there is one.
+fn small_number(found: &ArgMatches, id: &str) -> Option<u16>
+    ensures { IsOptionalNumber 16 (one_of id.now (rows_of (found_of found.now))) result }
+{
+    found.get_one::<u16>(id)
+}
+
+/// The value of an argument as a number of 32 bits, if there is one.
+fn number(found: &ArgMatches, id: &str) -> Option<u32>
+    ensures { IsOptionalNumber 32 (one_of id.now (rows_of (found_of found.now))) result }
+{
+    found.get_one::<u32>(id)
+}
+
+/// Whether a flag is given.
+fn flag(found: &ArgMatches, id: &str) -> bool
+    ensures { IsFlag (one_of id.now (rows_of (found_of found.now))) result }
+{
+    found.get_flag(id)
 }
 
 /// The text of what `clap` did not take.
@@ -222,133 +323,4 @@ fn told(alloc: Global, error: &Error) -> Result<String, AllocError>
 
 fn usage(alloc: Global) -> Result<String, AllocError> {
     bench(alloc)?.render_help()
-}
-
-fn bench<'a>(alloc: Global) -> Result<Command<'a>, AllocError>
-    ensures { IfOk result (λ c. app_of c ≡ bench_app) }
-{
-    top(alloc)
-        .subcommand(one_command(alloc)?)?
-        .subcommand(asm_command(alloc)?)?
-        .subcommand(dis_command(alloc)?)?
-        .subcommand(run_command(alloc)?)?
-        .subcommand(check_command(alloc)?)?
-        .subcommand(debug_command(alloc)?)
-}
-
-/// The program, with no subcommand yet.
-fn top<'a>(alloc: Global) -> Command<'a>
-    ensures { app_of result ≡ with_settings (new_app (codes "lwbench")) }
-{
-    Command::new(alloc, "lwbench")
-        .about("A bench of emulated OMA LwM2M devices over CoAP")
-        .version(help::VERSION)
-        .after_help(help::BENCH)
-        .subcommand_required(true)
-}
-
-/// A command with no argument yet, and what its help says above and below them.
-fn described<'a>(alloc: Global, name: &'a str, about: &'a str, behind: &'a str) -> Command<'a>
-    ensures { app_of result ≡ new_app name.entry.now }
-{
-    Command::new(alloc, name).about(about).after_help(behind)
-}
-
-fn one_command<'a>(alloc: Global) -> Result<Command<'a>, AllocError>
-    ensures { IfOk result (λ c. app_of c ≡ one_app) }
-{
-    let about = "Gives the DEMO device one datagram from server 1";
-    described(alloc, "one", about, help::ONE).arg(needed(alloc, "HEX").help(
-        "The bytes of the datagram, in hex",
-    ))
-}
-
-fn asm_command<'a>(alloc: Global) -> Result<Command<'a>, AllocError>
-    ensures { IfOk result (λ c. app_of c ≡ asm_app) }
-{
-    let about = "Makes a scenario's image from its text";
-    described(alloc, "asm", about, help::ASM)
-        .arg(needed(alloc, "IN").help("The scenario, as text"))?
-        .arg(needed(alloc, "OUT").help("Where the image goes"))
-}
-
-fn dis_command<'a>(alloc: Global) -> Result<Command<'a>, AllocError>
-    ensures { IfOk result (λ c. app_of c ≡ dis_app) }
-{
-    let about = "Prints a scenario's text";
-    described(alloc, "dis", about, help::DIS).arg(needed(alloc, "IN").help(
-        "The scenario, as an image",
-    ))
-}
-
-fn run_command<'a>(alloc: Global) -> Result<Command<'a>, AllocError>
-    ensures { IfOk result (λ c. app_of c ≡ run_app) }
-{
-    let about = "Runs a scenario: workers let its devices step until none can";
-    let image = described(alloc, "run", about, help::RUN).arg(needed(alloc, "IMAGE").help(
-        "The scenario, as an image",
-    ))?;
-    with_numbers(alloc, image)?.arg(file(alloc, "trace").help("Where the trace of the run goes"))
-}
-
-fn with_numbers<'a>(alloc: Global, command: Command<'a>) -> Result<Command<'a>, AllocError>
-    ensures { IfOk result (λ c. app_of c ≡ with_rule (with_rule (app_of command.entry) workers) batch) }
-{
-    command.arg(workers(alloc))?.arg(batch(alloc))
-}
-
-fn workers<'a>(alloc: Global) -> Arg<'a>
-    ensures rule { rule_of result ≡ workers }
-    ensures local { result.global ≡ false }
-{
-    Arg::new(alloc, "workers")
-        .long("workers")
-        .value_name("N")
-        .value_parser(value_parser!(u16))
-        .default_value("2")
-        .help("How many workers there are")
-}
-
-fn batch<'a>(alloc: Global) -> Arg<'a>
-    ensures rule { rule_of result ≡ batch }
-    ensures local { result.global ≡ false }
-{
-    Arg::new(alloc, "batch")
-        .long("batch")
-        .value_name("N")
-        .value_parser(value_parser!(u32))
-        .default_value("16")
-        .help("The most steps that a worker makes at a time")
-}
-
-fn check_command<'a>(alloc: Global) -> Result<Command<'a>, AllocError>
-    ensures { IfOk result (λ c. app_of c ≡ check_app) }
-{
-    let about = "Says whether a trace is a run of a scenario";
-    described(alloc, "check", about, help::CHECK)
-        .arg(needed(alloc, "IMAGE").help("The scenario, as an image"))?
-        .arg(needed(alloc, "TRACE").help("The trace file"))
-}
-
-fn debug_command<'a>(alloc: Global) -> Result<Command<'a>, AllocError>
-    ensures { IfOk result (λ c. app_of c ≡ debug_app) }
-{
-    let about = "Answers commands about a run of a scenario";
-    described(alloc, "debug", about, help::DEBUG)
-        .arg(needed(alloc, "IMAGE").help("The scenario that was run, as an image"))?
-        .arg(needed(alloc, "TRACE").help("The trace file of the run"))
-}
-
-fn file<'a>(alloc: Global, name: &'a str) -> Arg<'a>
-    ensures rule { rule_of result ≡ file name.entry.now }
-    ensures local { result.global ≡ false }
-{
-    Arg::new(alloc, name).long(name).value_name("FILE")
-}
-
-fn needed<'a>(alloc: Global, name: &'a str) -> Arg<'a>
-    ensures rule { rule_of result ≡ needed name.entry.now }
-    ensures local { result.global ≡ false }
-{
-    Arg::new(alloc, name).required(true)
 }

@@ -4,13 +4,15 @@ use crate::memory::MemoryFiles;
 use crate::table::{Case, GivenFile};
 use bench_commands::command;
 use std::alloc::{AllocError, Global};
+use std::net::Net;
+use std::rt::Clock;
 use std::str;
 use std::sync::Wait;
 use std::thread::Threads;
 
 /// What the program does at the words and the input of a case over these files, as a case states it: a line `out` for
 /// each line of standard output, `err` for each of standard error, `file` for each file that is made, and `status`.
-pub fn answer_to<R: Threads + Wait + Sync>(
+pub fn answer_to<R: Threads + Wait + Sync + Net + Clock>(
     rt: &R,
     alloc: Global,
     case: &Case,

@@ -11,7 +11,9 @@ mod table;
 
 use std::alloc::{AllocError, Global};
 use std::io;
+use std::net::Net;
 use std::process::ExitCode;
+use std::rt::Clock;
 use std::sync::Wait;
 use std::thread::Threads;
 use table::{Case, GivenFile, Table};
@@ -28,7 +30,7 @@ fn main(rt: HostRuntime) -> io::Result<ExitCode> {
 
 /// Writes what is to be said of the cases of a text. Status 0: none differs; 1: one differs; 2: a line can't be read,
 /// or there is no case.
-fn report_on<R: Threads + Wait + Sync>(
+fn report_on<R: Threads + Wait + Sync + Net + Clock>(
     rt: &R,
     alloc: Global,
     text: &str,
@@ -51,7 +53,7 @@ fn report_on<R: Threads + Wait + Sync>(
 }
 
 /// Whether what came is what a case states; else the report gets what came, as a case would state it.
-fn is_right<R: Threads + Wait + Sync>(
+fn is_right<R: Threads + Wait + Sync + Net + Clock>(
     rt: &R,
     alloc: Global,
     case: &Case,

@@ -1,4 +1,5 @@
 mod Causes
+mod Received
 mod Senders
 mod Served
 mod Settled

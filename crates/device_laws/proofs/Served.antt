@@ -90,16 +90,16 @@ first f server bytes m fresh k =
 -- ---- what it leaves
 
 -- the part that a reaction has in what a request leaves
-record Serves (f : Machine) (server : ℕ) (m : Message) (outcome : Outcome) (reaction : Reaction) : Type 0 where
-  number : Option ℕ
-  reply : Option Message
-  replies : Replies f m number outcome.answer reply reaction.flat.kept.next_id
-  sent : reaction.outputs ≡ sent_to server (option_map spelling reply) ++ acted outcome.answer.act
-  recorded : reaction.flat.recorded ≡ f.recorded ++ record_of f.kept server m (option_map spelling reply) ∷ []
-  observes : Observes (with_client f.kept outcome.client) server m outcome.answer number
+pub record Serves (f : Machine) (server : ℕ) (m : Message) (outcome : Outcome) (reaction : Reaction) : Type 0 where
+  pub number : Option ℕ
+  pub reply : Option Message
+  pub replies : Replies f m number outcome.answer reply reaction.flat.kept.next_id
+  pub sent : reaction.outputs ≡ sent_to server (option_map spelling reply) ++ acted outcome.answer.act
+  pub recorded : reaction.flat.recorded ≡ f.recorded ++ record_of f.kept server m (option_map spelling reply) ∷ []
+  pub observes : Observes (with_client f.kept outcome.client) server m outcome.answer number
       reaction.flat.kept.observations
-  client : reaction.flat.kept.client ≡ outcome.client
-  clock : reaction.flat.kept.clock ≡ f.kept.clock
+  pub client : reaction.flat.kept.client ≡ outcome.client
+  pub clock : reaction.flat.kept.clock ≡ f.kept.clock
 
 non_reply : (f : Machine) (m : Message) (number : Option ℕ) (answer : Answer) (refused : Bool) → m.kind ≡ Non
     → has_unrecognized_critical m.options ≡ refused
@@ -148,7 +148,7 @@ observes_by k server m answer (Some (Register path accept)) i =
     register_by k server m answer path accept (is_content answer) (lacks_place k.observations server m.token) i refl
     refl
 
-serves : (f : Machine) (server : ℕ) (m : Message) (outcome : Outcome) → (m.kind ≡ Con) ⊎ (m.kind ≡ Non)
+pub serves : (f : Machine) (server : ℕ) (m : Message) (outcome : Outcome) → (m.kind ≡ Con) ⊎ (m.kind ≡ Non)
     → Serves f server m outcome (on_outcome f server m outcome)
 serves f server m outcome h =
     let before = with_client f.kept outcome.client in

@@ -4,12 +4,14 @@
 
 mod messages;
 mod notifying;
+mod receiving;
 mod sending;
 mod serving;
 mod ticking;
 
 pub use messages::datagrams_are_messages;
 pub use notifying::{notifies_for_cause, settled_are_quiet};
+pub use receiving::reactions_are_said;
 pub use sending::{changes_send_nothing, only_the_asker_is_answered, strangers_are_ignored};
 pub use serving::{refusals_are_bare, requests_are_served};
 pub use ticking::{settled_ticks_are_quiet, ticks_notify_for_cause};

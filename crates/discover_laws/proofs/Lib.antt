@@ -1,4 +1,6 @@
+mod Agreeing
 mod Ascending
+mod Becoming
 mod Fitting
 mod LinkQueries
 mod LinkReading
@@ -6,6 +8,7 @@ mod LinkTexts
 mod Lists
 mod PrintedNumbers
 mod Queries
+mod Reaching
 mod ShownNumbers
 mod Validity
 mod WrittenBack

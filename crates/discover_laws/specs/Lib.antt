@@ -1,3 +1,4 @@
 pub mod Links
 pub mod Order
 pub mod Printed
+pub mod Reached

@@ -5,6 +5,7 @@ ghost use Rattle.discover_laws.specs.Links.{PathsAreRead, WrittenBackIsTheSame};
 ghost use Rattle.discover_laws.specs.Order.{LinksAscend, LinksDiffer};
 ghost use Rattle.discover_laws.specs.Printed.{NoneIsValid, OnlyTheseAreRead, PrintedIsRead, PrintedSaysAgain};
 ghost use Rattle.discover_laws.specs.Printed.{RequestsKeepValid};
+ghost use Rattle.discover_laws.specs.Reached.{EventsKeepSound, ReachedAreSound};
 
 use device_requests::links_what_exists;
 
@@ -20,6 +21,13 @@ pub fn printed_attributes_are_read()
 pub fn attributes_stay_valid()
     ensures start { NoneIsValid }
     ensures requests { RequestsKeepValid }
+{}
+
+/// Whatever happens to a device, the attributes that servers set have numbers that they may have, at
+/// levels at which they stand, and those of a server at a path agree.
+pub fn reached_attributes_are_sound()
+    ensures event { EventsKeepSound }
+    ensures reached { ReachedAreSound }
 {}
 
 /// The attributes that a link shows, sent back as the queries of a Write-Attributes, set just these; so a server that

@@ -5,5 +5,5 @@ mod laws;
 
 pub use laws::{
     attributes_stay_valid, discovers_are_read, links_ascend, printed_attributes_are_read,
-    shown_attributes_are_queries,
+    reached_attributes_are_sound, shown_attributes_are_queries,
 };

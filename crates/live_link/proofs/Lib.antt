@@ -1,4 +1,5 @@
 pub mod Clock
+pub mod Ordered
 pub mod Rows
 pub mod Scripted
 pub mod Sent
@@ -6,3 +7,4 @@ pub mod Served
 pub mod Stepped
 pub mod Told
 pub mod Turned
+pub mod FromStart

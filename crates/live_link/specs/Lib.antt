@@ -2,3 +2,4 @@ pub mod Wire
 pub mod Live
 pub mod Serving
 pub mod Memory
+pub mod Served

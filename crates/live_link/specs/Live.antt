@@ -1,7 +1,7 @@
 -- A session: the steps that a device took on a wire, what it sent, and how that ended.
 use Rattle.std.specs.Prelude.{◌≡◌, ℕ, ◌+◌, ◌-◌, ◌<◌, ◌≤◌, ⊤, min, nat_lt, true, List, [], ◌∷◌, ◌++◌}
 use Rattle.std.specs.Prelude.{length, take, filter, sum, slice_index, Option, None, Some}
-use Rattle.std.specs.List.{filter_map}
+use Rattle.std.specs.List.{filter_map, flat_map}
 use Rattle.device_machine.specs.declared.event.Event.TheVariants.{Recv, Put, Firmware, Tick}
 use Rattle.device_machine.specs.declared.fault.StepFault.{StepFault}
 use Rattle.device_machine.specs.declared.fault.StepFault.TheVariants as faults
@@ -52,6 +52,31 @@ IsLiveStep (Event (Firmware code)) = ⊥
 IsLiveStep (Event (Tick seconds)) = (1 ≤ seconds) × (seconds ≤ 86400)
 IsLiveStep (Post group) = ⊥
 IsLiveStep (Need group count) = ⊥
+
+-- ---- turns
+
+-- what a turn gave: the seconds that passed, if some did, and the datagram that was received, if one was
+pub record Turn : Type 0 where
+  pub seconds : Option ℕ
+  pub heard : Option Packet
+
+abbrev pub tick_steps : Option ℕ → List Step
+tick_steps None = []
+tick_steps (Some seconds) = Event (Tick seconds) ∷ []
+
+abbrev pub heard_steps : Option Packet → List Step
+heard_steps None = []
+heard_steps (Some packet) = Event (Recv packet.server packet.bytes) ∷ []
+
+-- the steps of a turn: seconds pass before a datagram is received
+abbrev pub turn_steps : Turn → List Step
+turn_steps turn = tick_steps turn.seconds ++ heard_steps turn.heard
+
+-- the steps are those of at most n turns, one after another
+pub record AreInTurns (turns : ℕ) (steps : List Step) : Type 0 where
+  pub made : List Turn
+  pub few : length made ≤ turns
+  pub steps_are : steps ≡ flat_map turn_steps made
 
 -- ---- what they output
 

@@ -3,20 +3,24 @@
 
 mod end;
 mod laws;
+mod machine_clock;
 mod memory;
 mod packet;
 mod seconds;
 mod sending;
 mod serving;
 mod session;
+mod starting;
 mod udp;
 mod wire;
 
 pub use laws::sessions_are_rows;
+pub use machine_clock::MachineClock;
 pub use memory::{Receipt, ScriptedClock, ScriptedWire};
 pub use packet::Packet;
 pub use seconds::Seconds;
 pub use serving::serve;
 pub use session::{LiveEnd, LiveSession};
+pub use starting::serve_class;
 pub use udp::UdpWire;
 pub use wire::{Wire, WireFault};

@@ -8,8 +8,9 @@ ghost use Rattle.device_machine.specs.declared.event.Event.TheVariants.{Tick};
 ghost use Rattle.scenario_image.specs.declared.step.Step.TheVariants.{Event as event_step};
 ghost use Rattle.live_link.specs.declared.packet.Packet.{Packet};
 ghost use Rattle.live_link.specs.Wire.{AreRead, Traffic, WhereTold};
-ghost use Rattle.live_link.specs.Live.{failures_at, heard_by, most_refusals, sent_by, ticks_of, AreTickedAt};
-ghost use Rattle.live_link.specs.Live.{IsAtLastSecond, IsCountAt, IsHeardAt, IsLiveStep, IsSentAt};
+ghost use Rattle.live_link.specs.Live.{failures_at, heard_by, heard_steps, most_refusals, sent_by, tick_steps};
+ghost use Rattle.live_link.specs.Live.{ticks_of, turn_steps, AreInTurns, AreTickedAt, IsAtLastSecond, IsCountAt};
+ghost use Rattle.live_link.specs.Live.{IsHeardAt, IsLiveStep, IsSentAt, Turn};
 ghost use Rattle.live_link.specs.Serving.{IsBroken, IsCutShort, IsNotedAt, IsOver, IsServing, IsTimed, IsUnderWay};
 
 use crate::packet::Packet;
@@ -67,6 +68,7 @@ impl Serving {
     }
 
     /// Lets the seconds pass that the clock counted since they last passed.
+    #[tactic(auto, using(crate::proofs::Ordered::no_tick, crate::proofs::Ordered::ticked))]
     fn pass<W: Wire>(&mut self, wire: &mut W, now: u64) -> Result<(), LiveEnd>
         ensures serving { (first : Device) (before : Option Traffic) (asked : ℕ)
             → IsServing first before (heard_by self.old.steps.items) asked self.old.device self.old.steps.items
@@ -81,6 +83,7 @@ impl Serving {
             → OnOk result (IsTimed (readings ++ now ∷ []) self.new.counted (ticks_of self.new.steps.items)) }
         ensures cut_timed { (readings : List ℕ) → IsTimed readings self.old.counted (ticks_of self.old.steps.items)
             → IfErr result (λ end. AreTickedAt end (ticks_of self.new.steps.items) (readings ++ now ∷ [])) }
+        ensures added { (seconds : Option ℕ) × (self.new.steps.items ≡ self.old.steps.items ++ tick_steps seconds) }
     {
         let (seconds, counted) = pass_seconds(self.counted, now);
         self.counted = Some(counted);
@@ -91,6 +94,7 @@ impl Serving {
     }
 
     /// Lets the device receive what the wire handed out by its last call.
+    #[tactic(auto, using(crate::proofs::Ordered::heard))]
     fn take_packet<W: Wire>(&mut self, wire: &mut W, packet: Packet) -> Result<(), LiveEnd>
         ensures serving { (first : Device) (before : Option Traffic) (asked : ℕ)
             → IsServing first before (heard_by self.old.steps.items ++ packet ∷ []) asked self.old.device
@@ -102,6 +106,7 @@ impl Serving {
             self.old.steps.items self.old.sent.items (W.told wire.old) → IfErr result (λ end. IsBroken end first before
             asked self.new.steps.items self.new.sent.items (W.told wire.new)) }
         ensures ticks { ticks_of self.new.steps.items ≡ ticks_of self.old.steps.items }
+        ensures added { (heard : Option Packet) × (self.new.steps.items ≡ self.old.steps.items ++ heard_steps heard) }
         ensures counted { self.new.counted ≡ self.old.counted }
     {
         self.take_event(
@@ -114,6 +119,7 @@ impl Serving {
     }
 
     /// Receives once.
+    #[tactic(auto, using(crate::proofs::Ordered::none_heard))]
     fn hear<W: Wire>(&mut self, wire: &mut W) -> Result<(), LiveEnd>
         ensures serving { (first : Device) (before : Option Traffic) (asked : ℕ)
             → IsServing first before (heard_by self.old.steps.items) asked self.old.device self.old.steps.items
@@ -125,6 +131,7 @@ impl Serving {
             self.old.sent.items (W.told wire.old) → IfErr result (λ end. IsBroken end first before (asked + 1)
             self.new.steps.items self.new.sent.items (W.told wire.new)) }
         ensures ticks { ticks_of self.new.steps.items ≡ ticks_of self.old.steps.items }
+        ensures added { (heard : Option Packet) × (self.new.steps.items ≡ self.old.steps.items ++ heard_steps heard) }
         ensures counted { self.new.counted ≡ self.old.counted }
     {
         match wire.receive() {
@@ -136,6 +143,7 @@ impl Serving {
     }
 
     /// Makes a turn: seconds pass, and then a datagram is received, if one has arrived.
+    #[tactic(auto, using(crate::proofs::Ordered::tick_alone))]
     fn turn<W: Wire, C: Seconds>(&mut self, wire: &mut W, clock: &mut C) -> Result<(), LiveEnd>
         ensures under_way { (first : Device) (before : Option Traffic) (read_before : Option (List ℕ)) (turns : ℕ)
             → IsUnderWay first before read_before turns self.old.device self.old.counted self.old.steps.items
@@ -147,6 +155,7 @@ impl Serving {
             self.old.sent.items (W.told wire.old) (C.read clock.old)
             → IfErr result (λ end. (end ≢ LiveEnd.Turns) × IsOver end first before read_before (turns + 1)
             self.new.steps.items self.new.sent.items (W.told wire.new) (C.read clock.new)) }
+        ensures added { (turn : Turn) × (self.new.steps.items ≡ self.old.steps.items ++ turn_steps turn) }
     {
         let now = clock.now();
         self.pass(wire, now)?;
@@ -174,8 +183,9 @@ fn make_turns<W: Wire, C: Seconds>(
     device: Device,
     turns: u32,
 ) -> LiveSession
-    ensures { IsOver result.end device (W.told wire.old) (C.read clock.old) turns result.steps.items result.sent.items
-        (W.told wire.new) (C.read clock.new) }
+    ensures over { IsOver result.end device (W.told wire.old) (C.read clock.old) turns result.steps.items
+        result.sent.items (W.told wire.new) (C.read clock.new) }
+    ensures in_turns { AreInTurns turns result.steps.items }
 {
     let mut serving = Serving {
         device,
@@ -216,6 +226,7 @@ pub fn serve<W: Wire, C: Seconds>(
     ensures ticked { (readings : List ℕ) × AreTickedAt result.end (ticks_of result.steps.items) readings
         × IsCountAt result.end turns (length readings) × AreRead (C.read clock.old) (C.read clock.new) readings }
     ensures live { AllByRecursion IsLiveStep result.steps.items }
+    ensures in_turns { AreInTurns turns result.steps.items }
 
     // It ends after all turns, or for a reason.
     ensures asked { (asked : ℕ) × IsCountAt result.end turns asked

@@ -1,7 +1,8 @@
 -- Which words of a line of scenario text say which statement, by the grammar of the text. Numbers, paths and integers
 -- have one spelling each; bytes may be in either case of hex, and a text may be escaped.
-use Rattle.std.specs.Prelude.{◌≡◌, ◌↔◌, ◌<◌, ◌≤◌, ℕ, Bool, true, false, List, [], ◌∷◌, Some, Ok, FitsSigned}
-use Rattle.std.specs.Prelude.{codes}
+use Rattle.std.specs.Prelude.{◌≡◌, ◌≢◌, ◌↔◌, ◌<◌, ◌≤◌, ℕ, Bool, true, false, List, [], ◌∷◌, length, Some, Ok}
+use Rattle.std.specs.Prelude.{FitsSigned, codes}
+use Rattle.std.specs.List.{AllByRecursion}
 use Rattle.std.specs.Int.{w64}
 use Rattle.std.specs.Fmt.{decimal, signed_decimal}
 use Rattle.lwm2m_values.specs.declared.value.Value.{Value}
@@ -13,9 +14,11 @@ use Rattle.scenario_words.specs.HexWord.{IsHex}
 use Rattle.scenario_words.specs.Quoted.{IsQuoted}
 use Rattle.scenario_words.specs.PathWord.{IsPath, link_word}
 use Rattle.scenario_words.specs.ValueWords.{kind_word}
-use Rattle.scenario_mnemonics.specs.declared.verb.Keyword.{Keyword}
+use Rattle.scenario_mnemonics.specs.declared.action.Action.{Action}
+use Rattle.scenario_mnemonics.specs.declared.action.Action.TheVariants as act
 use Rattle.scenario_mnemonics.specs.declared.mnemonic.Mnemonic.{Mnemonic}
-use Rattle.scenario_mnemonics.specs.MnemonicWords.{keyword_word, mnemonic_at}
+use Rattle.scenario_mnemonics.specs.declared.mnemonic.Mnemonic.TheVariants as mnemonic
+use Rattle.scenario_mnemonics.specs.MnemonicWords.{format_word, keyword_of, keyword_word, type_word}
 use Rattle.scenario_statements.specs.declared.statement.Statement.{Statement}
 use Rattle.scenario_statements.specs.declared.statement.Statement.TheVariants as says
 use Rattle.scenario_statements.specs.Grammar.{statement_of}
@@ -44,11 +47,40 @@ abbrev pub mandatory_word : Bool → List ℕ
 mandatory_word true = codes "mandatory"
 mandatory_word false = codes "optional"
 
--- these words say this mnemonic: its keyword, and the words that are read after it
+-- a query: 1 to 255 bytes from 21 to 7E, of which the first is neither `#` nor a quote
+abbrev pub IsQueryWord : List ℕ → Type 0
+IsQueryWord [] = ⊥
+IsQueryWord (b ∷ bs) =
+    (b ≢ 35) × (b ≢ 34) × (length (b ∷ bs) ≤ 255) × AllByRecursion (IsWithin 33 126) (b ∷ bs)
+
+-- the words after the path of a request: a format, bytes, both, one query or more, or none
+abbrev pub AreDetails : Action → List (List ℕ) → Type 0
+AreDetails (act.Read f) ws = ws ≡ format_word f ∷ []
+AreDetails (act.Observe f) ws = ws ≡ format_word f ∷ []
+AreDetails (act.Cancel f) ws = ws ≡ format_word f ∷ []
+AreDetails act.Discover ws = ws ≡ []
+AreDetails act.Delete ws = ws ≡ []
+AreDetails (act.Write f b) ws = (w : List ℕ) × (ws ≡ format_word f ∷ w ∷ []) × IsHex w b
+AreDetails (act.Update f b) ws = (w : List ℕ) × (ws ≡ format_word f ∷ w ∷ []) × IsHex w b
+AreDetails (act.Create f b) ws = (w : List ℕ) × (ws ≡ format_word f ∷ w ∷ []) × IsHex w b
+AreDetails (act.Attr qs) ws = (ws ≡ qs) × (qs ≢ []) × AllByRecursion IsQueryWord qs
+AreDetails (act.Exec b) ws = (w : List ℕ) × (ws ≡ w ∷ []) × IsHex w b
+
+-- the words after a keyword say a mnemonic that a server sends: type, message ID, token and path of a request, and its
+-- details; or the message ID of a Reset
+abbrev pub AreAsked : ℕ → Mnemonic → List (List ℕ) → Type 0
+AreAsked server (mnemonic.Request r) ws =
+    (w : List ℕ) × (others : List (List ℕ))
+    × (ws ≡ decimal server ∷ type_word r.kind ∷ decimal r.mid ∷ w ∷ path_text r.path ∷ others)
+    × IsWithin 1 65534 server × IsWithin 0 65535 r.mid × IsHex w r.token × (length r.token ≤ 8) × IsPath r.path
+    × AreDetails r.action others
+AreAsked server (mnemonic.Reset mid) ws =
+    (ws ≡ decimal server ∷ decimal mid ∷ []) × IsWithin 1 65534 server × IsWithin 0 65535 mid
+
+-- these words say this mnemonic: its keyword, and those
 abbrev pub IsAsked : ℕ → Mnemonic → List (List ℕ) → Type 0
 IsAsked server m ws =
-    (keyword : Keyword) × (others : List (List ℕ)) × (ws ≡ keyword_word keyword ∷ others)
-    × (mnemonic_at keyword others ≡ Ok (server, m))
+    (others : List (List ℕ)) × (ws ≡ keyword_word (keyword_of m) ∷ others) × AreAsked server m others
 
 -- these words say this statement, and none is left over
 abbrev pub IsSaidBy : Statement → List (List ℕ) → Type 0

@@ -6,6 +6,10 @@ ghost use Rattle.object_defs.specs.Decimal.{decimal_number};
 ghost use Rattle.reading_laws.specs.Line.{LinesHaveWords};
 ghost use Rattle.reading_laws.specs.Queries.{ChangesAreSaid, FirstFaultDecides, QueriesAreSaid};
 ghost use Rattle.reading_laws.specs.Statements.{StatementsAreSaid};
+ghost use Rattle.reading_laws.specs.WrongStatements.{WrongStatementsAreSaid};
+ghost use Rattle.reading_laws.specs.WrongWords.{BytesAreHex, IntegersFit, KindsAreNamed, LinksArePairs};
+ghost use Rattle.reading_laws.specs.WrongWords.{MandatoryIsNamed, MultipleIsNamed, NumbersAreWithin};
+ghost use Rattle.reading_laws.specs.WrongWords.{OperationsAreNamed, PathsAreSlashed, TextsAreQuoted};
 
 /// A well-formed message is read from the bytes that it is spelled with.
 pub fn messages_read_again()
@@ -36,4 +40,26 @@ pub fn lines_have_words()
 /// A statement of scenario text is read exactly from the words that say it.
 pub fn statements_are_said()
     ensures { StatementsAreSaid }
+{}
+
+/// A word is refused exactly where it does not have the form of a word in its place, which is `Token`, or
+/// has it and is none of the words that are allowed there: `UnknownWord` of a name, `Range` of a number, a
+/// path or a link.
+pub fn wrong_words_are_said()
+    ensures operations { OperationsAreNamed }
+    ensures multiple { MultipleIsNamed }
+    ensures mandatory { MandatoryIsNamed }
+    ensures kinds { KindsAreNamed }
+    ensures numbers { NumbersAreWithin }
+    ensures integers { IntegersFit }
+    ensures paths { PathsAreSlashed }
+    ensures links { LinksArePairs }
+    ensures bytes { BytesAreHex }
+    ensures texts { TextsAreQuoted }
+{}
+
+/// A line is refused for the first of its words that is wrong in its place, or because a word is missing
+/// or is one too many.
+pub fn wrong_statements_are_said()
+    ensures { WrongStatementsAreSaid }
 {}

@@ -6,5 +6,5 @@ mod laws;
 
 pub use laws::{
     decimals_are_read, first_fault_decides, lines_have_words, messages_read_again,
-    queries_are_said, statements_are_said,
+    queries_are_said, statements_are_said, wrong_statements_are_said, wrong_words_are_said,
 };

@@ -37,7 +37,7 @@ abbrev pub AllRefuse : List (Bool × Code) → Type 0
 AllRefuse [] = Unit {0}
 AllRefuse (line ∷ lines) = (is_refusal line.1 ≡ true) × AllRefuse lines
 
-told : (said code : Code) → Some said ≡ Some code → said ≡ code
+pub told : (said code : Code) → Some said ≡ Some code → said ≡ code
 told said code h = cc
 
 pub refuses : (lines : List (Bool × Code)) → AllRefuse lines → (code : Code) → first_line lines ≡ Some code

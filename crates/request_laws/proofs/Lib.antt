@@ -13,5 +13,6 @@ mod MultipleBack
 mod PartBack
 mod PartReading
 mod PartWriting
+mod Timing
 mod Unread
 mod Writing

@@ -8,4 +8,5 @@ pub mod Instances
 pub mod Multiples
 pub mod Readings
 pub mod Unread
+pub mod Untimely
 pub mod Writes

@@ -10,6 +10,7 @@ ghost use Rattle.request_laws.specs.Instances.{InstancesAreReadBack, InstancesHo
 ghost use Rattle.request_laws.specs.Multiples.{MultipleIsRead, MultipleIsReadBack, PartIsReadAmong};
 ghost use Rattle.request_laws.specs.Readings.{PartIsRead};
 ghost use Rattle.request_laws.specs.Unread.{AnswersHideUnread, ReadsHideUnread};
+ghost use Rattle.request_laws.specs.Untimely.{StatesDecide, StatesPrecedeLimits};
 ghost use Rattle.request_laws.specs.Writes.{InstancesAreWritten, PartsAreWritten, ResourcesAreWritten};
 
 use device_requests::refusals_have_reasons;
@@ -19,6 +20,15 @@ use device_requests::refusals_have_reasons;
 pub fn good_requests_are_done()
     ensures done { GoodIsDone }
     ensures limits { LimitsComeLast }
+{
+    refusals_have_reasons();
+}
+
+/// A Package, a Package URI or an Update that the firmware does not take in its State is answered 4.05
+/// where no rule before refuses it, and never 5.00, whatever would be stored.
+pub fn firmware_states_come_before_limits()
+    ensures decide { StatesDecide }
+    ensures precede { StatesPrecedeLimits }
 {
     refusals_have_reasons();
 }

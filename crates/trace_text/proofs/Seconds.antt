@@ -39,9 +39,9 @@ short_row classes (r ∷ rows) (suc d) good = short_row classes rows d good.1
 
 -- a row takes few seconds
 pub few_seconds : (s : Scenario) (d : ℕ) (steps : List Step) → IsValid s → steps ≡ steps_in (slice_get s.rows d)
-    → sum_by step_seconds steps < 2 ^ 64
+    → sum_by step_seconds steps < 2 ^ 32
 few_seconds s d steps valid are =
-    subst (λ l. sum_by step_seconds l < 2 ^ 64) (sym are) (omega (arith, short_row s.classes s.rows d valid.each))
+    subst (λ l. sum_by step_seconds l < 2 ^ 32) (sym are) (omega (arith, short_row s.classes s.rows d valid.each))
 
 -- the second after one step more
 pub next_second : (steps : List Step) (at : ℕ) (step : Step) (second more : ℕ) → at < length steps

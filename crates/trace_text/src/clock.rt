@@ -15,7 +15,7 @@ pub(crate) struct Clock {
     /// How many steps are before the place.
     pub place: usize,
     /// The seconds that these take together.
-    pub second: u64,
+    pub second: u32,
 }
 
 /// The beginning of a row.
@@ -25,22 +25,22 @@ pub(crate) const START: Clock = Clock {
 };
 
 /// The seconds that pass in a step.
-fn step_seconds(step: &Step) -> u64
+fn step_seconds(step: &Step) -> u32
     ensures { result ≡ step_seconds step.now }
 {
     match step {
-        Step::Event(Event::Tick(seconds)) => u64::from(*seconds),
+        Step::Event(Event::Tick(seconds)) => *seconds,
         Step::Event(Event::Recv { .. } | Event::Put { .. } | Event::Firmware(_))
         | Step::Post(_)
         | Step::Need(_, _) => 0,
     }
 }
 
-/// A reference to the steps of a device's row; to none where there is no such row. They take less than 2^64 seconds
+/// A reference to the steps of a device's row; to none where there is no such row. They take less than 2^32 seconds
 /// together.
 pub(crate) fn row_steps(scenario: &Scenario, device: u16) -> &[Step]
     ensures steps { result.now ≡ steps_in (slice_get scenario.now.rows device) }
-    ensures seconds { sum_by step_seconds result.now < 2 ^ 64 }
+    ensures seconds { sum_by step_seconds result.now < 2 ^ 32 }
 {
     let _rows = scenario.rows();
     match scenario.row(device) {
@@ -50,11 +50,11 @@ pub(crate) fn row_steps(scenario: &Scenario, device: u16) -> &[Step]
 }
 
 /// The second at a place of a row, from the clock at that place or an earlier one.
-fn second_from(clock: Clock, steps: &[Step], place: usize) -> u64
+fn second_from(clock: Clock, steps: &[Step], place: usize) -> u32
     requires is { IsClock steps.now clock }
     requires order { clock.place ≤ place }
     requires within { place ≤ length steps.now }
-    requires room { sum_by step_seconds steps.now < 2 ^ 64 }
+    requires room { sum_by step_seconds steps.now < 2 ^ 32 }
     ensures { result ≡ sum_by step_seconds (take place steps.now) }
 {
     let mut second = clock.second;
@@ -65,10 +65,10 @@ fn second_from(clock: Clock, steps: &[Step], place: usize) -> u64
 }
 
 /// The same from the clock at any place: where that is a later one, the row is looked at from its beginning.
-fn second_of(clock: Clock, steps: &[Step], place: usize) -> u64
+fn second_of(clock: Clock, steps: &[Step], place: usize) -> u32
     requires is { IsClock steps.now clock }
     requires within { place ≤ length steps.now }
-    requires room { sum_by step_seconds steps.now < 2 ^ 64 }
+    requires room { sum_by step_seconds steps.now < 2 ^ 32 }
     ensures { result ≡ sum_by step_seconds (take place steps.now) }
 {
     if clock.place <= place {
@@ -79,12 +79,12 @@ fn second_of(clock: Clock, steps: &[Step], place: usize) -> u64
 }
 
 /// The place of the step of this number; the end of the row where that has fewer steps.
-fn place_of(steps: &[Step], step: u32) -> usize
+fn place_of(steps: &[Step], step: usize) -> usize
     ensures within { result ≤ length steps.now }
     ensures same { take result steps.now ≡ take step steps.now }
 {
-    if (step as usize) < steps.len() {
-        step as usize
+    if step < steps.len() {
+        step
     } else {
         steps.len()
     }
@@ -92,9 +92,9 @@ fn place_of(steps: &[Step], step: u32) -> usize
 
 /// The clock before the step of this number, or at the end of the row where that has fewer steps, from another clock of
 /// the row.
-pub(crate) fn clock_before(clock: Clock, steps: &[Step], step: u32) -> Clock
+pub(crate) fn clock_before(clock: Clock, steps: &[Step], step: usize) -> Clock
     requires is { IsClock steps.now clock }
-    requires room { sum_by step_seconds steps.now < 2 ^ 64 }
+    requires room { sum_by step_seconds steps.now < 2 ^ 32 }
     ensures clock { IsClock steps.now result }
     ensures second { result.second ≡ sum_by step_seconds (take step steps.now) }
 {

@@ -1,6 +1,6 @@
 //! What follows from the definitions, for their readers. The calls do nothing; their contracts are the laws.
 
-ghost use Rattle.std.specs.Prelude.{◌≡◌, ℕ, ◌+◌, ◌++◌, List, Some, length, take, slice_get};
+ghost use Rattle.std.specs.Prelude.{◌≡◌, ℕ, ◌+◌, ◌++◌, List, None, Some, length, take, slice_get};
 ghost use Rattle.device_template.specs.Template.{Template};
 ghost use Rattle.scenario_image.specs.declared.step.Step.{Step};
 ghost use Rattle.scenario_image.specs.Scenario.{Scenario};
@@ -8,7 +8,8 @@ ghost use Rattle.scenario_image.specs.Play.{state_at, IsRowOf};
 ghost use Rattle.trace_file.specs.declared.entry.Entry.{Entry};
 ghost use Rattle.fleet_core.specs.Run.{Fits, IsRun};
 ghost use Rattle.trace_text.specs.Seconds.{second_at};
-ghost use Rattle.trace_text.specs.Text.{entries_text};
+ghost use Rattle.trace_text.specs.Selection.{selected_text};
+ghost use Rattle.trace_text.specs.Text.{entries_text, trace_text};
 
 /// In a run each entry follows those before it: so its device has its step, whose number is the count of the device's
 /// earlier entries.
@@ -28,4 +29,10 @@ pub fn seconds_are_shown()
 pub fn parts_join()
     ensures { (s : Scenario) (number : ℕ) (a : List Entry) (b : List Entry)
         → entries_text s number (a ++ b) ≡ entries_text s number a ++ entries_text s (number + length a) b }
+{}
+
+/// Where nothing is asked for, the selected text is that of the whole trace.
+pub fn all_are_selected()
+    ensures { (s : Scenario) (es : List Entry)
+        → selected_text s (record { device = None; from = None; to = None }) es ≡ trace_text s es }
 {}

@@ -3,10 +3,16 @@
 #![tactic(auto)]
 
 mod clock;
+mod clocks;
+mod datagrams;
 mod laws;
 mod lines;
+mod selection;
 mod steps;
 mod transcript;
 
-pub use laws::{parts_join, runs_have_steps, seconds_are_shown};
-pub use transcript::{Transcript, trace_text};
+pub use clocks::Clocks;
+pub use datagrams::{arrival_text, sent_text};
+pub use laws::{all_are_selected, parts_join, runs_have_steps, seconds_are_shown};
+pub use selection::{Selection, SelectionFault};
+pub use transcript::{Transcript, selected_text, trace_text};

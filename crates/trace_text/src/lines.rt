@@ -18,7 +18,7 @@ pub(crate) fn entry_line(
     alloc: Global,
     number: usize,
     entry: &Entry,
-    second: u64,
+    second: u32,
     words: &str,
 ) -> Result<String, AllocError>
     ensures { IfOk result (λ t. string_bytes t ≡ entry_line number entry.now second words.now) }
@@ -32,7 +32,7 @@ pub(crate) fn entry_line(
 }
 
 /// Writes what a datagram says, in a line of its own.
-fn put_said(alloc: Global, out: &mut String, bytes: &[u8]) -> Result<(), AllocError>
+pub(crate) fn put_said(alloc: Global, out: &mut String, bytes: &[u8]) -> Result<(), AllocError>
     ensures { OnOk result (string_bytes out.new ≡ string_bytes out.old ++ said_line bytes.now) }
 {
     let words = datagram_text(alloc, bytes)?;
@@ -61,7 +61,12 @@ pub(crate) fn put_arrival(
 }
 
 /// Writes the line of a datagram that is sent to a server.
-fn put_sent(alloc: Global, out: &mut String, server: u16, bytes: &[u8]) -> Result<(), AllocError>
+pub(crate) fn put_sent(
+    alloc: Global,
+    out: &mut String,
+    server: u16,
+    bytes: &[u8],
+) -> Result<(), AllocError>
     ensures { OnOk result (string_bytes out.new ≡ string_bytes out.old ++ sent_line server bytes.now) }
 {
     let hex = hex_word(alloc, bytes)?;

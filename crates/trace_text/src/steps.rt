@@ -15,7 +15,7 @@ use scenario_statements::{Statement, line_of, recv_line, value_line};
 use std::alloc::{AllocError, Global};
 
 /// The words of a datagram that comes from a server: the mnemonic that denotes it, else its bytes.
-fn datagram_words(alloc: Global, server: u16, bytes: &[u8]) -> Result<String, AllocError>
+pub(crate) fn datagram_words(alloc: Global, server: u16, bytes: &[u8]) -> Result<String, AllocError>
     ensures { IfOk result (λ t. string_bytes t ≡ line_of (of_datagram server bytes.now (mnemonic_of bytes.now))) }
 {
     if let Some(mnemonic) = mnemonic_for(alloc, bytes)? {

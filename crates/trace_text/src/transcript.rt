@@ -1,12 +1,13 @@
 //! A trace as text, entry by entry.
 
-ghost use Rattle.std.specs.Prelude.{◌≡◌, IfOk};
+ghost use Rattle.std.specs.Prelude.{◌≡◌, IfErr, IfOk};
 ghost use Rattle.std.specs.String.{string_bytes};
-ghost use Rattle.trace_text.specs.Seconds.{second_at};
+ghost use Rattle.trace_text.specs.Selection.{IsSelectable, IsSelectionFault, selected_text};
 ghost use Rattle.trace_text.specs.Text.{entry_text, trace_text};
 
-use crate::clock::{Clock, START, clock_before, row_steps};
+use crate::clocks::Clocks;
 use crate::lines::{entry_line, put_arrival, put_outputs};
+use crate::selection::{Selection, SelectionFault};
 use crate::steps::step_words;
 use fleet_core::step_of;
 use scenario_image::Scenario;
@@ -14,20 +15,19 @@ use std::alloc::{AllocError, Global};
 use std::marker::Model;
 use trace_file::Entry;
 
-/// Makes the text of entries of a scenario, in any order. It keeps the latest second of each device, so that the text
-/// of entries in the order of a run looks at each step of a row once. Contracts see the scenario.
+/// Makes the text of entries of a scenario, in any order. Contracts see the scenario.
 #[derive(Drop)]
 pub struct Transcript<'a> {
     alloc: Global,
     scenario: &'a Scenario,
-    clocks: Vec<Clock>,
+    clocks: Clocks<'a>,
 }
 
 impl<'a> Model for Transcript<'a> {
+    ghost use Rattle.std.specs.Prelude.{◌≡◌};
     ghost use Rattle.std.specs.Coded.{codes};
     ghost use Rattle.instance_store.specs.Stored.{stored_code};
     ghost use Rattle.scenario_image.specs.Scenario.{Scenario};
-    ghost use Rattle.trace_text.specs.Clocks.{AreClocks};
 
     ghost Value = { Scenario };
 
@@ -35,7 +35,7 @@ impl<'a> Model for Transcript<'a> {
 
     ghost view = { λ t. t.scenario.now };
 
-    ghost invariant = { λ t. AreClocks t.scenario.now t.clocks.items };
+    ghost invariant = { λ t. t.clocks ≡ t.scenario.now };
 }
 
 impl<'a> Transcript<'a> {
@@ -43,27 +43,11 @@ impl<'a> Transcript<'a> {
     pub fn new(alloc: Global, scenario: &'a Scenario) -> Result<Transcript<'a>, AllocError>
         ensures { IfOk result (λ t. t ≡ scenario.now) }
     {
-        let rows = scenario.rows();
         Ok(Transcript {
             alloc,
             scenario,
-            clocks: vec![in alloc; START; rows]?,
+            clocks: Clocks::new(alloc, scenario)?,
         })
-    }
-
-    /// The second of a device before the step of this number in its row.
-    fn second_at(&mut self, device: u16, step: u32) -> u64
-        ensures second { result ≡ second_at self.old device step }
-        ensures same { self.new ≡ self.old }
-    {
-        let at = usize::from(device);
-        let steps = row_steps(self.scenario, device);
-        if at >= self.clocks.len() {
-            return 0;
-        }
-        let clock = clock_before(self.clocks[at], steps, step);
-        self.clocks[at] = clock;
-        clock.second
     }
 
     /// The text of an entry, of this number in its trace: a line for the step, with the second of the device before
@@ -73,7 +57,7 @@ impl<'a> Transcript<'a> {
         ensures text { IfOk result (λ t. string_bytes t ≡ entry_text self.old number entry.now) }
         ensures same { self.new ≡ self.old }
     {
-        let second = self.second_at(entry.device, entry.step);
+        let second = self.clocks.second_at(entry.device, entry.step as usize);
         let step = step_of(self.scenario, entry.device, entry.step);
         let words = step_words(self.alloc, step)?;
         let mut out = entry_line(self.alloc, number, entry, second, words.as_str())?;
@@ -84,6 +68,7 @@ impl<'a> Transcript<'a> {
 }
 
 /// The text of a trace: that of each entry, in their order.
+#[tactic(auto, using(crate::proofs::Parts::whole))]
 pub fn trace_text(
     alloc: Global,
     scenario: &Scenario,
@@ -91,11 +76,46 @@ pub fn trace_text(
 ) -> Result<String, AllocError>
     ensures { IfOk result (λ t. string_bytes t ≡ trace_text scenario.now entries.now) }
 {
+    let all = Selection {
+        device: None,
+        from: None,
+        to: None,
+    };
+    text_of(alloc, scenario, entries, all)
+}
+
+/// The text of those entries of a trace that are asked for, in their order, each with its number in the whole trace.
+pub fn selected_text(
+    alloc: Global,
+    scenario: &Scenario,
+    entries: &[Entry],
+    selection: Selection,
+) -> Result<String, SelectionFault>
+    ensures selectable { IfOk result (λ _. IsSelectable scenario.now selection entries.now) }
+    ensures text { IfOk result (λ t. string_bytes t ≡ selected_text scenario.now selection entries.now) }
+    ensures refused { IfErr result (IsSelectionFault scenario.now selection entries.now) }
+{
+    selection.check(scenario, entries)?;
+    let text = text_of(alloc, scenario, entries, selection)?;
+    Ok(text)
+}
+
+/// The text of the selected entries, which may be none.
+fn text_of(
+    alloc: Global,
+    scenario: &Scenario,
+    entries: &[Entry],
+    selection: Selection,
+) -> Result<String, AllocError>
+    ensures { IfOk result (λ t. string_bytes t ≡ selected_text scenario.now selection entries.now) }
+{
     let mut transcript = Transcript::new(alloc, scenario)?;
     let mut out = String::new(alloc);
     for (number, entry) in entries.iter().enumerate() {
-        let text = transcript.entry_text(number, entry)?;
-        out.push_str(text.as_str())?;
+        if selection.has(number, entry) {
+            let text = transcript.entry_text(number, entry)?;
+            out.push_str(text.as_str())?;
+        }
     }
     Ok(out)
 }

@@ -1,4 +1,5 @@
 -- n turns were made.
+use Rattle.live_link.specs.Live.{AreInTurns}
 use Rattle.live_link.specs.Serving.{IsUnderWay}
 use Rattle.live_link.proofs.serving.make_turns.Given as goal
 
@@ -6,3 +7,4 @@ abbrev pub invariant-loop-turn : goal.invariant-loop-turn
 invariant-loop-turn g l =
     IsUnderWay l.fn.device (g.W.Wire.told l.fn.wire) (g.C.Seconds.read l.fn.clock) l._turn l.serving.device
     l.serving.counted l.serving.steps.items l.serving.sent.items (g.W.Wire.told l.wire) (g.C.Seconds.read l.clock)
+    × AreInTurns l._turn l.serving.steps.items

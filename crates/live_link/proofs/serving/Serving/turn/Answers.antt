@@ -3,6 +3,7 @@ use Rattle.live_link.specs.declared.session.LiveEnd.TheVariants.{Turns}
 use Rattle.live_link.specs.Live.{ticks_of}
 use Rattle.live_link.specs.Serving.{IsOver}
 use Rattle.live_link.proofs.Clock.{all_ticked}
+use Rattle.live_link.proofs.Ordered.{tick_and_heard}
 use Rattle.live_link.proofs.Served.{if_err, on_ok}
 use Rattle.live_link.proofs.Turned.{broken_off, turned}
 use Rattle.live_link.proofs.serving.Serving.turn.Goals as goal
@@ -41,3 +42,8 @@ returns-clause-over g c =
     (g.C.Seconds.read c.now-now.new.self) c.now-now.result h c.now-now.ensures broken (omega arith)
     (λ readings t. rw c.hear.ensures.ticks (all_ticked end (readings ++ c.now-now.result ∷ []) c.pass.new.self.counted
     (ticks_of c.pass.new.self.steps.items) (c.in_ok-pass.ensures.timed readings t))))
+
+pub returns-clause-added : goal.returns-clause-added
+returns-clause-added g c =
+    tick_and_heard c.args.self.now.steps.items c.pass.new.self.steps.items c.hear.new.self.steps.items
+    c.in_ok-pass.ensures.added c.hear.ensures.added

@@ -1,0 +1,106 @@
+-- What a request makes of the attributes: it leaves them, sets some, or takes those away that go with an instance.
+use Rattle.std.proofs.Common.{◌≡◌, ℕ, Bool, true, false, List, Option, None, Some, Result, Err, refl}
+use Rattle.std.specs.Bool.{if◌then◌else◌}
+use Rattle.coap_codec.specs.Message.{Message}
+use Rattle.lwm2m_payloads.specs.declared.given.Mode.TheVariants.{Replace, Update}
+use Rattle.object_defs.specs.declared.path.Path.{Path}
+use Rattle.object_defs.specs.Lines.{first_line}
+use Rattle.object_defs.specs.Path.{object_in}
+use Rattle.instance_store.specs.Stored.{Stored}
+use Rattle.notifier.specs.Attributes.{Numbers}
+use Rattle.device_requests.specs.declared.answer.Code.{Code}
+use Rattle.device_requests.specs.declared.answer.Code.TheVariants.{BadOption}
+use Rattle.device_requests.specs.declared.operation.Operation.{Operation}
+use Rattle.device_requests.specs.declared.operation.Operation.TheVariants.{Create, Delete, Discover, Execute, Read}
+use Rattle.device_requests.specs.declared.operation.Operation.TheVariants.{WriteAttributes, WritePartial, WriteReplace}
+use Rattle.device_requests.specs.declared.request.Request.{Request}
+use Rattle.device_requests.specs.Client.{Client}
+use Rattle.device_requests.specs.Create.{create_lines, create_unless, newborn, Newborn}
+use Rattle.device_requests.specs.Delete.{delete_lines, delete_unless, forgotten}
+use Rattle.device_requests.specs.Execute.{execute_lines, execute_unless}
+use Rattle.device_requests.specs.Operation.{operation_of}
+use Rattle.device_requests.specs.Options.{accept_of, content_format_of, has_query, has_unrecognized_critical}
+use Rattle.device_requests.specs.Options.{path_of as path_in, queries_of, segments_of}
+use Rattle.device_requests.specs.Request.{outcome_at, outcome_for, outcome_of, request_by, request_on, request_with}
+use Rattle.device_requests.specs.Write.{event_of, left, mode_at, new_values, write_lines, write_unless}
+use Rattle.device_requests.specs.WriteAttributes.{annotate_unless, attribute_lines, attributes_given}
+
+pub data Becomes (client : Client) (server : ℕ) : Numbers → Type 0 where
+  stays : Becomes client server client.attributes
+  is_set : (path : Path) (queries : List (List ℕ)) (m : Numbers)
+      → attributes_given client server path queries ≡ Some m → Becomes client server m
+  goes : (path : Path) → Becomes client server (forgotten client path)
+
+wrote : (code : Option Code) (client : Client) (server : ℕ) (s : Stored)
+    → Becomes client server (write_unless code client s).client.attributes
+wrote None client server s = stays
+wrote (Some code) client server s = stays
+
+made : (code : Option Code) (client : Client) (server o : ℕ) (new : Option Newborn)
+    → Becomes client server (create_unless code client server o new).client.attributes
+made None client server o None = stays
+made None client server o (Some b) = stays
+made (Some code) client server o new = stays
+
+did : (code : Option Code) (client : Client) (server : ℕ) (path : Path)
+    → Becomes client server (execute_unless code client path).client.attributes
+did None client server path = stays
+did (Some code) client server path = stays
+
+took : (code : Option Code) (client : Client) (server : ℕ) (path : Path)
+    → Becomes client server (delete_unless code client path).client.attributes
+took None client server path = goes path
+took (Some code) client server path = stays
+
+annotated : (code : Option Code) (client : Client) (server : ℕ) (path : Path) (queries : List (List ℕ))
+    (given : Option Numbers) → attributes_given client server path queries ≡ given
+    → Becomes client server (annotate_unless code client given).client.attributes
+annotated None client server path queries None e = stays
+annotated None client server path queries (Some m) e = is_set path queries m e
+annotated (Some code) client server path queries given e = stays
+
+becomes_at : (client : Client) (server : ℕ) (m : Message) (path : Path) (operation : Operation)
+    → Becomes client server (outcome_at client server m (request_with m path operation)).client.attributes
+becomes_at client server m path Read = stays
+becomes_at client server m path Discover = stays
+becomes_at client server m path WriteAttributes =
+    let given = attributes_given client server path (queries_of m.options) in
+    annotated (first_line (attribute_lines client server path given)) client server path (queries_of m.options) given
+    refl
+becomes_at client server m path WriteReplace =
+    let values = new_values client path (content_format_of m.options) m.payload in
+    wrote (first_line (write_lines client server Replace path (content_format_of m.options) m.payload)) client server
+    (left (mode_at Replace path) client path values (event_of path values))
+becomes_at client server m path WritePartial =
+    let values = new_values client path (content_format_of m.options) m.payload in
+    wrote (first_line (write_lines client server Update path (content_format_of m.options) m.payload)) client server
+    (left (mode_at Update path) client path values (event_of path values))
+becomes_at client server m path Create =
+    made (first_line (create_lines client server path (content_format_of m.options) m.payload)) client server
+    (object_in path) (newborn client (object_in path) m.payload)
+becomes_at client server m path Execute =
+    did (first_line (execute_lines client server path (content_format_of m.options) m.payload)) client server path
+becomes_at client server m path Delete = took (first_line (delete_lines client server path)) client server path
+
+becomes_by : (client : Client) (server : ℕ) (m : Message) (path : Path) (operation : Option Operation)
+    → Becomes client server (outcome_for client server m (request_by m path operation)).client.attributes
+becomes_by client server m path None = stays
+becomes_by client server m path (Some operation) = becomes_at client server m path operation
+
+becomes_on : (client : Client) (server : ℕ) (m : Message) (path : Option Path)
+    → Becomes client server (outcome_for client server m (request_on m path)).client.attributes
+becomes_on client server m None = stays
+becomes_on client server m (Some path) =
+    becomes_by client server m path (operation_of m.code (accept_of m.options) (has_query m.options) path)
+
+becomes_if : (b : Bool) (client : Client) (server : ℕ) (m : Message) (request : Result Request Code)
+    → Becomes client server (outcome_for client server m request).client.attributes
+    → Becomes client server (outcome_for client server m (if b then Err BadOption else request)).client.attributes
+becomes_if true client server m request h = stays
+becomes_if false client server m request h = h
+
+pub becomes : (client : Client) (server : ℕ) (m : Message)
+    → Becomes client server (outcome_of client server m).client.attributes
+becomes client server m =
+    becomes_if (has_unrecognized_critical m.options) client server m (request_on m (path_in (segments_of m.options)))
+    (becomes_on client server m (path_in (segments_of m.options)))

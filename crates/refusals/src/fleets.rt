@@ -1,0 +1,77 @@
+//! `commit TEXT DEVICES`: a commit for the last of these devices, after those for the others. A fleet that was refused
+//! memory is spent, and still returns its entries, which are as before, the next steps and the posts.
+use crate::given::{Given, number_of};
+use crate::line::Line;
+use crate::marks::Marks;
+use fleet_core::{CommitFault, Fleet};
+use std::alloc::AllocError;
+
+pub fn commit(given: &Given, marks: &mut Marks, line: &mut Line) -> Result<(), AllocError> {
+    let mut fleet = fleet_before(given)?;
+    let device = last_device(given);
+    if !commit_once(&mut fleet, device, marks, line)? {
+        return add_shown(&fleet, device, line);
+    }
+    commit_once(&mut fleet, device, marks, line)?;
+    add_shown(&fleet, device, line)?;
+    line.add("then")?;
+    let mut fleet = fleet_before(given)?;
+    commit_once(&mut fleet, device, marks, line)?;
+    add_shown(&fleet, device, line)
+}
+
+/// The device that a word names.
+fn device_of(word: &str) -> u16 {
+    u16::try_from(number_of(word)).unwrap_or(0)
+}
+
+/// The device of the last commit.
+fn last_device(given: &Given) -> u16 {
+    let mut device = 0;
+    for word in given.words.split_whitespace() {
+        device = device_of(word);
+    }
+    device
+}
+
+/// The fleet before the last of the commits.
+fn fleet_before<'a>(given: &Given<'a>) -> Result<Fleet<'a>, AllocError> {
+    let mut fleet = Fleet::new(given.alloc, given.scenario)?;
+    let count = given.words.split_whitespace().count();
+    for word in given.words.split_whitespace().take(count.saturating_sub(1)) {
+        match fleet.commit(1, device_of(word)) {
+            Ok(()) => {}
+            Err(_) => return Err(AllocError),
+        }
+    }
+    Ok(fleet)
+}
+
+fn commit_once(
+    fleet: &mut Fleet,
+    device: u16,
+    marks: &mut Marks,
+    line: &mut Line,
+) -> Result<bool, AllocError> {
+    marks.begin();
+    let committed = fleet.commit(1, device);
+    marks.end();
+    match committed {
+        Ok(()) => line.answer("committed,"),
+        Err(CommitFault::Memory) => line.refuse(),
+        Err(CommitFault::Spent) => line.answer("then spent,"),
+        Err(CommitFault::NotEnabled) => line.answer("not enabled,"),
+    }
+}
+
+/// Adds how many entries there are, whether the device is enabled, and how many posts there are to group 1.
+fn add_shown(fleet: &Fleet, device: u16, line: &mut Line) -> Result<(), AllocError> {
+    line.add_count("entries", fleet.entries().len() as u64)?;
+    if fleet.enabled(device) {
+        line.add("enabled")?;
+    }
+    if fleet.next_step(device).is_none() {
+        line.add("at its end")?;
+    }
+    line.add_count("posts", u64::from(fleet.posts(1)))
+}

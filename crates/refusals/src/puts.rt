@@ -1,0 +1,224 @@
+//! `put TEXT`: worker 1 makes the steps of two devices and puts them; the rest of the run follows. If the second `put`
+//! is refused memory, the job comes back, the trace's entries are as before, and it is put again.
+ghost use Rattle.std.specs.Prelude.{◌≡◌, Some, false};
+ghost use Rattle.ticket_lock.specs.Log.{Adds};
+ghost use Rattle.ticket_lock.specs.Names.{lock_id, pass_view, IsPass};
+ghost use Rattle.shared_trace.specs.Trace.{IsShared, trace_log};
+ghost use Rattle.shared_trace.specs.Job.{MayPut};
+ghost use Rattle.fleet_workers.specs.Knowing.{Knows};
+
+use crate::given::Given;
+use crate::jobs::{advanced, claimed, locked};
+use crate::line::Line;
+use crate::marks::{Marks, Mode};
+use fleet_core::{Verdict, check};
+use fleet_workers::{OpenGate, put_job, worker_loop};
+use scenario_image::Scenario;
+use shared_trace::{Job, Trace};
+use std::alloc::AllocError;
+use std::sync::Wait;
+use ticket_lock::{Pass, TicketLock};
+use trace_file::Entries;
+
+/// What came of a put.
+#[derive(Clone, Copy)]
+struct Came {
+    /// How many entries the trace had where the job came back.
+    left: Option<usize>,
+    words: &'static str,
+}
+
+fn count_of(trace: &Trace) -> usize {
+    let mut count: usize = 0;
+    for _ in trace.entries() {
+        count = count.saturating_add(1);
+    }
+    count
+}
+
+/// Puts a job that came back.
+fn put_again(trace: &mut Trace, worker: u16, job: Job) -> Came
+    requires { MayPut trace.old worker job }
+    ensures adds { Adds trace_log worker trace.old trace.new }
+    ensures shared { IsShared trace.new }
+{
+    let left = count_of(trace);
+    match trace.put(worker, job) {
+        Ok(()) => Came {
+            left: Some(left),
+            words: "put,",
+        },
+        Err((job, _)) => {
+            trace.stop();
+            job.abandon();
+            Came {
+                left: Some(left),
+                words: "memory,",
+            }
+        }
+    }
+}
+
+/// Puts a job, and once more if it comes back.
+fn put_twice(trace: &mut Trace, worker: u16, job: Job, marks: &mut Marks) -> Came
+    requires { MayPut trace.old worker job }
+    ensures adds { Adds trace_log worker trace.old trace.new }
+    ensures shared { IsShared trace.new }
+{
+    marks.begin();
+    let put = trace.put(worker, job);
+    marks.end();
+    match put {
+        Ok(()) => Came {
+            left: None,
+            words: "put,",
+        },
+        Err((job, _)) => put_again(trace, worker, job),
+    }
+}
+
+/// Puts a job under the lock.
+fn put_in<R: Wait>(
+    rt: &R,
+    lock: &TicketLock<Trace>,
+    pass: Pass<Trace>,
+    job: Job,
+    marks: &mut Marks,
+) -> (Pass<Trace>, Came)
+    requires pass { IsPass (lock_id lock.now) pass }
+    requires knows { Knows (pass_view pass) job }
+    requires ready { job.spent ≡ false }
+    ensures pass { IsPass (lock_id lock.now) result.0 }
+    ensures subject { (pass_view result.0).subject ≡ (pass_view pass).subject }
+{
+    let worker = pass.number();
+    match lock.take(rt, pass) {
+        Ok(mut held) => {
+            let came = put_twice(held.value_mut(), worker, job, marks);
+            (held.give(), came)
+        }
+        Err((pass, _)) => {
+            job.abandon();
+            let came = Came {
+                left: None,
+                words: "no ticket,",
+            };
+            (pass, came)
+        }
+    }
+}
+
+/// The entries, once worker 1 has made the rest of the run.
+fn rest_of<R: Wait>(
+    rt: &R,
+    lock: TicketLock<Trace>,
+    pass: Pass<Trace>,
+    scenario: &Scenario,
+) -> Option<Entries>
+    requires pass { IsPass (lock_id lock) pass }
+    requires subject { (pass_view pass).subject ≡ Some scenario.now }
+{
+    let (pass, _) = worker_loop(rt, &lock, pass, scenario, 16, &OpenGate);
+    match lock.close(pass) {
+        Ok(trace) => Some(trace.into_entries()),
+        Err(_) => None,
+    }
+}
+
+/// Adds how many entries there are, and whether they are a run.
+fn add_run(given: &Given, entries: Option<Entries>, line: &mut Line) -> Result<(), AllocError> {
+    let Some(entries) = entries else {
+        return line.add("a pass is out");
+    };
+    line.add_count("entries", entries.len() as u64)?;
+    match check(given.alloc, given.scenario, entries.as_slice())? {
+        Verdict::Run => line.add("a run"),
+        Verdict::NotRun(_) => line.add("not a run"),
+    }
+}
+
+/// Claims a device, lets it make its steps and puts them.
+fn make_first<R: Wait>(
+    rt: &R,
+    lock: &TicketLock<Trace>,
+    pass: Pass<Trace>,
+    scenario: &Scenario,
+    none: &mut Marks,
+) -> Pass<Trace>
+    requires pass { IsPass (lock_id lock.now) pass }
+    requires subject { (pass_view pass).subject ≡ Some scenario.now }
+    ensures pass { IsPass (lock_id lock.now) result }
+    ensures subject { (pass_view result).subject ≡ Some scenario.now }
+{
+    let (pass, job) = claimed(rt, lock, pass);
+    let Some(job) = job else {
+        return pass;
+    };
+    match advanced(&pass, scenario, job, none) {
+        Ok(job) => {
+            let (pass, _) = put_job(rt, lock, pass, job);
+            pass
+        }
+        Err((job, _)) => {
+            job.abandon();
+            pass
+        }
+    }
+}
+
+/// Claims a device, lets it make its steps and puts them, between the marks. There is no answer if there is no device.
+fn put_second<R: Wait>(
+    rt: &R,
+    lock: &TicketLock<Trace>,
+    pass: Pass<Trace>,
+    scenario: &Scenario,
+    none: &mut Marks,
+    marks: &mut Marks,
+) -> (Pass<Trace>, Option<Came>)
+    requires pass { IsPass (lock_id lock.now) pass }
+    requires subject { (pass_view pass).subject ≡ Some scenario.now }
+    ensures pass { IsPass (lock_id lock.now) result.0 }
+    ensures subject { (pass_view result.0).subject ≡ Some scenario.now }
+{
+    let (pass, job) = claimed(rt, lock, pass);
+    let Some(job) = job else {
+        return (pass, None);
+    };
+    match advanced(&pass, scenario, job, none) {
+        Ok(job) => {
+            let (pass, came) = put_in(rt, lock, pass, job, marks);
+            (pass, Some(came))
+        }
+        Err((job, _)) => {
+            job.abandon();
+            (pass, None)
+        }
+    }
+}
+
+/// Adds what came of the put.
+fn add_came(came: Option<Came>, line: &mut Line) -> Result<(), AllocError> {
+    let Some(came) = came else {
+        return line.add("no job,");
+    };
+    if let Some(left) = came.left {
+        line.add_count("memory, entries", left as u64)?;
+        line.add("then")?;
+    }
+    line.add(came.words)
+}
+
+pub fn put<R: Wait>(
+    rt: &R,
+    given: &Given,
+    marks: &mut Marks,
+    line: &mut Line,
+) -> Result<(), AllocError> {
+    let mut none = Marks::new(given.alloc, Mode::Boxes(0));
+    let (lock, pass) = locked(given.alloc, given.scenario)?;
+    let pass = make_first(rt, &lock, pass, given.scenario, &mut none);
+    let (pass, came) = put_second(rt, &lock, pass, given.scenario, &mut none, marks);
+    add_came(came, line)?;
+    let entries = rest_of(rt, lock, pass, given.scenario);
+    add_run(given, entries, line)
+}

@@ -1,0 +1,5 @@
+mod Long
+mod Along
+mod Fitting
+mod Read
+mod Counted

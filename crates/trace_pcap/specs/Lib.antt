@@ -1,0 +1,4 @@
+pub mod Ends
+pub mod Transmissions
+pub mod Packets
+pub mod Written

@@ -1,0 +1,4 @@
+pub mod Sums
+pub mod Words
+mod Headers
+pub mod Spelled

@@ -1,0 +1,4 @@
+pub mod Checksum
+pub mod Fields
+pub mod Packet
+pub mod Capture
