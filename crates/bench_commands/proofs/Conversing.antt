@@ -143,6 +143,12 @@ reading P Q (faults.Template fault) f h = absurd h
 reading P Q faults.Workers f h = absurd h
 reading P Q faults.Batch f h = absurd h
 reading P Q faults.Spent f h = absurd h
+reading P Q faults.NoDevice f h = absurd h
+reading P Q faults.PastEnd f h = absurd h
+reading P Q faults.Range f h = absurd h
+reading P Q faults.TooLong f h = absurd h
+reading P Q faults.Bind f h = absurd h
+reading P Q (faults.Session fault) f h = absurd h
 
 pub cut_short : (fails : Type 0) (refuses : List ℕ → Type 0) (a b : Option (List ℕ)) (old new : Session)
     (t u v : Option (List ℕ)) (left : ℕ) (fault : Fault) → IsExchange a b old new t u → IsSpent a b most_bytes left
