@@ -7,4 +7,4 @@ pub mod Statements
 mod Refused
 mod WrongNames
 mod WrongNumbers
-mod WrongStatements
+pub mod WrongStatements
