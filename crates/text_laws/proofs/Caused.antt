@@ -1,5 +1,5 @@
 -- What a line states, and why it is refused, by its words.
-use Rattle.std.proofs.Common.{◌≡◌, ◌⊎◌, ℕ, List, [], ◌∷◌, Some, Ok, Err, inl, inr, refl, sym, ap, ◌∙◌}
+use Rattle.std.proofs.Common.{◌≡◌, ◌⊎◌, ℕ, List, [], ◌∷◌, Some, Ok, Err, inl, inr, refl, ap, ◌∙◌}
 use Rattle.scenario_words.specs.declared.cause.Cause.{Cause}
 use Rattle.scenario_words.specs.Words.{words}
 use Rattle.scenario_statements.specs.declared.statement.Statement.{Statement}
