@@ -77,10 +77,18 @@ pub fn conclude<R: Threads + Wait + Sync + Net + Clock, F: Files, I: Input, O: O
         NO_TEXT.now why status) }
     ensures untouched { IfErr words (λ _. I.rest input.new ≡ I.rest input.old) }
 {
-    let status = match words {
-        Ok(words) => command(rt, alloc, words.as_slice(), files, input, output, errors),
-        Err(why) => refuse(alloc, why, output, errors),
-    };
+    match words {
+        Ok(words) => {
+            let status = command(rt, alloc, words.as_slice(), files, input, output, errors);
+            ended_with(status)
+        }
+        Err(why) => ended_with(refuse(alloc, why, output, errors)),
+    }
+}
+
+fn ended_with(status: Status) -> ExitCode
+    ensures { exit_status result ≡ exit_code status }
+{
     ExitCode::from(status.code())
 }
 
