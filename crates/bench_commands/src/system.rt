@@ -77,11 +77,32 @@ pub fn conclude<R: Threads + Wait + Sync + Net + Clock, F: Files, I: Input, O: O
         NO_TEXT.now why status) }
     ensures untouched { IfErr words (λ _. I.rest input.new ≡ I.rest input.old) }
 {
-    let status = match words {
+    let status = end(rt, alloc, words, files, input, output, errors);
+    ExitCode::from(status.code())
+}
+
+/// How the whole program ends.
+fn end<R: Threads + Wait + Sync + Net + Clock, F: Files, I: Input, O: Output, E: Output>(
+    rt: &R,
+    alloc: Global,
+    words: Result<Vec<String>, ErrorKind>,
+    files: &mut F,
+    input: &mut I,
+    output: &mut O,
+    errors: &mut E,
+) -> Status
+    ensures ran { IfOk words (λ words. Ends (F.holds files.old) (F.fails files.old) F.refuses
+        (F.made files.old) (F.made files.new) I.fails (I.rest input.old) (I.rest input.new)
+        O.refuses (O.taken output.old) (O.taken output.new) E.refuses (E.taken errors.old) (E.taken errors.new)
+        (map string_bytes words.items) result) }
+    ensures unread { IfErr words (λ why. EndsUnread O.refuses (O.taken output.old) (O.taken output.new)
+        E.refuses (E.taken errors.old) (E.taken errors.new) NO_TEXT.now why result) }
+    ensures untouched { IfErr words (λ _. I.rest input.new ≡ I.rest input.old) }
+{
+    match words {
         Ok(words) => command(rt, alloc, words.as_slice(), files, input, output, errors),
         Err(why) => refuse(alloc, why, output, errors),
-    };
-    ExitCode::from(status.code())
+    }
 }
 
 /// Answers where the words could not be had at all: one of them is not a text, or memory ran out.

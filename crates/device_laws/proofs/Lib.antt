@@ -1,5 +1,7 @@
+mod Arrived
 mod Causes
 mod Received
+mod Repeated
 mod Senders
 mod Served
 mod Settled

@@ -47,7 +47,7 @@ pub record BringsRequest (f : Machine) (server : ℕ) (bytes : List ℕ) (m : Me
   pub carries : (m.kind ≡ Con) ⊎ (m.kind ≡ Non)
   pub method : IsMethod m.code
 
--- bytes that spell no message, from a server that has an account
+-- bytes that do not spell a message, from a server that has an account
 pub record BringsNoMessage (f : Machine) (server : ℕ) (bytes : List ℕ) : Type 0 where
   pub account : has_account f.kept.client server ≡ true
   pub spelled : (m : Message) → Spells bytes m → ⊥
@@ -83,9 +83,9 @@ pub record IsOldest (f : Machine) (server : ℕ) (m : Message) (r : Recorded) : 
   pub repeats : IsRepeated f server m r
   pub no_older : AllByRecursion (IsNotRepeated f server m) before
 
--- what a datagram is to a device: rejected are a confirmable message that is no request, as a ping, and what begins as
--- a confirmable message and is none (sections 4.2 and 4.3); ignored are what comes from a server without an account,
--- any other message that is neither a request nor an Empty Reset, and any other bytes
+-- what a datagram is to a device: rejected are a confirmable message that is not a request, such as a ping, and bytes
+-- that begin as a confirmable message and are not one (sections 4.2 and 4.3); ignored are what comes from a server
+-- without an account, any other message that is neither a request nor an Empty Reset, and any other bytes
 pub data IsArrival (f : Machine) (server : ℕ) (bytes : List ℕ) : Arrival → Type 0 where
   of_stranger : has_account f.kept.client server ≡ false → IsArrival f server bytes ignored
   malformed : (mid : ℕ) → BringsNoMessage f server bytes → BeginsConfirmable bytes mid

@@ -2,9 +2,12 @@ pub mod Line
 mod Mnemonics
 pub mod Numbers
 mod ReadWords
+mod Refused
 pub mod Saying
 pub mod Statements
-mod Refused
+mod WrongLines
+mod WrongMnemonics
 mod WrongNames
 mod WrongNumbers
-mod WrongStatements
+mod WrongPlaces
+pub mod WrongStatements

@@ -140,7 +140,7 @@ AreWrongAfter (keyword.Request v) =
 
 -- ---- lines
 
--- the first words of lines with these places
+-- the first words of lines of which the number of words is fixed
 pub data Leading : Type 0 where
   scenario : Leading
   class : Leading
@@ -183,7 +183,7 @@ places_after firmware = number 0 9 ∷ []
 places_after post = number 0 255 ∷ []
 places_after need = number 0 255 ∷ number 1 1000000 ∷ []
 
--- the first words of the other lines: of a value, and of a mnemonic
+-- the first words of lines: these, those before a path and a value, and those of mnemonics
 abbrev pub IsKeyword : List ℕ → Type 0
 IsKeyword w =
     ((l : Leading) × (w ≡ leading_word l)) ⊎ ((w ≡ codes "value") ⊎ ((w ≡ codes "put")

@@ -51,7 +51,7 @@ IsFormed w = ((t : List ℕ) × IsQuoted w t) ⊎ IsGraphic w
 
 -- ---- what is wrong
 
--- a word that does not have this form is no token; one that has it and is not allowed is wrong for the other cause
+-- a word that does not have this form is refused as Token; one that has it and is not allowed, for the other cause
 abbrev pub IsWrong : Type 0 → Type 0 → Cause → Cause → Type 0
 IsWrong form allowed other cause = ((form → ⊥) × (cause ≡ Token)) ⊎ (form × (allowed → ⊥) × (cause ≡ other))
 

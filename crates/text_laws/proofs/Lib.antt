@@ -1,4 +1,5 @@
 pub mod Begun
+pub mod Caused
 pub mod Causes
 pub mod Contents
 pub mod Faulted

@@ -3,6 +3,7 @@
 ghost use Rattle.text_laws.specs.FirstCause.{FaultsAreFirst};
 ghost use Rattle.text_laws.specs.Held.{ClassesHoldWhatIsStated};
 ghost use Rattle.text_laws.specs.Parts.{PartsAreSaid, PartsSayOne};
+ghost use Rattle.text_laws.specs.SaidCause.{CausesAreSaid, LinesAreSaid};
 ghost use Rattle.text_laws.specs.SameWords.{BlankLinesAddNothing, BlankLinesMoveFaults, OnlyWordsCount};
 ghost use Rattle.text_laws.specs.WrongLine.{LaterLinesChangeNothing, NothingElseEndsWrong, NothingIsMissing};
 ghost use Rattle.text_laws.specs.WrongLine.{RefusedAtFirstWrong};
@@ -41,4 +42,11 @@ pub fn classes_hold_what_is_stated()
 /// the left, or else of its statement: something is missing, does not fit, is a duplicate, or is over a limit.
 pub fn faults_are_first()
     ensures { FaultsAreFirst }
+{}
+
+/// What a line states and why it is refused, by relations of its words: it has the words of a statement,
+/// or one of its words is the first wrong one.
+pub fn causes_are_said()
+    ensures lines { LinesAreSaid }
+    ensures causes { CausesAreSaid }
 {}

@@ -4,6 +4,6 @@
 mod laws;
 
 pub use laws::{
-    blank_lines_add_nothing, classes_hold_what_is_stated, faults_are_first, parts_are_said,
-    refused_at_first_wrong_line,
+    blank_lines_add_nothing, causes_are_said, classes_hold_what_is_stated, faults_are_first,
+    parts_are_said, refused_at_first_wrong_line,
 };

@@ -1,5 +1,5 @@
 -- Packets that are spelled alike are alike.
-use Rattle.std.proofs.Common.{◌≡◌, ℕ, ◌+◌, ◌^◌, ◌<◌, ◌≤◌, List, [], ◌∷◌, ◌++◌, length, drop, refl, sym, ap, ◌∙◌}
+use Rattle.std.proofs.Common.{◌≡◌, ℕ, ◌+◌, ◌^◌, ◌<◌, List, [], ◌∷◌, ◌++◌, length, drop, refl, sym, ap, ◌∙◌}
 use Rattle.std.proofs.Common.{◌/◌, ◌%◌, append_assoc, arith}
 use Rattle.std.specs.Int.{w16, w32, to_be_bytes}
 use Rattle.std.specs.List.{flat_map, AllByRecursion}
@@ -9,7 +9,7 @@ use Rattle.udp_capture.specs.declared.envelope.Envelope.{Envelope}
 use Rattle.udp_capture.specs.Fields.{header_bytes}
 use Rattle.udp_capture.specs.Packet.{ip_header, ip_checksum, udp_header, udp_checksum, udp_length, total_length}
 use Rattle.udp_capture.specs.Capture.{CapturedPacket, FitsEndpoint, FitsPacket, IsCapture, file_header, record_header}
-use Rattle.udp_capture.specs.Capture.{packet_record, capture_bytes}
+use Rattle.udp_capture.specs.Capture.{packet_record}
 
 -- ---- single fields
 

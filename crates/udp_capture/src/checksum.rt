@@ -1,6 +1,6 @@
 //! Checksums, from plain sums of words.
 
-ghost use Rattle.std.specs.Prelude.{◌≡◌, ◌+◌, ◌-◌, ◌<◌, ◌≤◌, ℕ, List, length, sum};
+ghost use Rattle.std.specs.Prelude.{◌≡◌, ◌+◌, ◌-◌, ◌<◌, ℕ, List, length, sum};
 ghost use Rattle.std.specs.List.{AllByRecursion};
 ghost use Rattle.udp_capture.specs.Checksum.{ones_sum, sixteen_bit_words};
 

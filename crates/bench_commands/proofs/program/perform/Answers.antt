@@ -1,9 +1,41 @@
-use Rattle.std.proofs.Common.{rules}
-use Rattle.bench_commands.proofs.Ended.{undelivered_if}
+use Rattle.std.proofs.Common.{◌≡◌, Global, map, refl, rules, subst}
+use Rattle.std.specs.String.{string_bytes}
+use Rattle.bench_words.specs.Words.{IsReadAs}
+use Rattle.bench_words.specs.declared.words.Asked.TheVariants as asked
+use Rattle.bench_commands.proofs.Ended.{answered_if, undelivered_if}
 use Rattle.bench_commands.proofs.program.perform.Goals as goal
+
+pub returns-in-Some-clause-done : goal.returns-in-Some-clause-done
+returns-in-Some-clause-done g c =
+    let words = map (string_bytes {Z = Global}) c.args.words.now in
+    let same : c.in_ok-asked.field-0 ≡ asked.Job c.in-Job.job = search rules in
+    let read : IsReadAs words (asked.Job c.in-Job.job) = subst (IsReadAs words) same c.in_ok-asked.ensures in
+    answered_if _ _ _ _ _ _ (g.O.Output.taken c.answer_to.new.output) _ words (asked.Job c.in-Job.job) c.in-Some.answer
+    c.deliver.result read (search rules) (search rules) (search rules) c.deliver.ensures.status c.deliver.ensures.made
+    c.deliver.ensures.printed
 
 pub returns-in-Some-clause-refused : goal.returns-in-Some-clause-refused
 returns-in-Some-clause-refused g c =
-    undelivered_if _ _ _ _ _ _ _ _ _ _ (g.O.Output.taken c.answer_to.new.output) _ _ c.in_ok-asked.asked
-    c.in-Some.answer c.deliver.result (search rules) (search rules) (search rules) (search rules)
-    c.deliver.ensures.refused
+    let words = map (string_bytes {Z = Global}) c.args.words.now in
+    let same : c.in_ok-asked.field-0 ≡ asked.Job c.in-Job.job = search rules in
+    let read : IsReadAs words (asked.Job c.in-Job.job) = subst (IsReadAs words) same c.in_ok-asked.ensures in
+    undelivered_if _ _ _ _ _ _ _ _ _ _ (g.O.Output.taken c.answer_to.new.output) _ words (asked.Job c.in-Job.job)
+    c.in-Some.answer c.deliver.result read (search rules) (search rules) (search rules) c.deliver.ensures.refused
+
+pub returns-in-Text-clause-done : goal.returns-in-Text-clause-done
+returns-in-Text-clause-done g c =
+    let words = map (string_bytes {Z = Global}) c.args.words.now in
+    let text = asked.Text c.in-Text.text c.in-Text.is_mistake in
+    let same : c.in_ok-asked.field-0 ≡ text = search rules in
+    let read : IsReadAs words text = subst (IsReadAs words) same c.in_ok-asked.ensures in
+    answered_if _ _ _ _ _ _ _ _ words text c.printed-answer.result c.deliver-in-Text.result read (search rules) refl refl
+    c.deliver-in-Text.ensures.status c.deliver-in-Text.ensures.made c.deliver-in-Text.ensures.printed
+
+pub returns-in-Text-clause-refused : goal.returns-in-Text-clause-refused
+returns-in-Text-clause-refused g c =
+    let words = map (string_bytes {Z = Global}) c.args.words.now in
+    let text = asked.Text c.in-Text.text c.in-Text.is_mistake in
+    let same : c.in_ok-asked.field-0 ≡ text = search rules in
+    let read : IsReadAs words text = subst (IsReadAs words) same c.in_ok-asked.ensures in
+    undelivered_if _ _ _ _ _ _ _ _ _ _ _ _ words text c.printed-answer.result c.deliver-in-Text.result read
+    (search rules) refl refl c.deliver-in-Text.ensures.refused

@@ -1,4 +1,4 @@
-use Rattle.std.proofs.Common.{◌≡◌, ◌-◌, sym, ap, subst}
+use Rattle.std.proofs.Common.{◌-◌, ap, subst}
 use Rattle.udp_capture.specs.Checksum.{ones_sum}
 use Rattle.udp_capture.proofs.Sums.{Carries, carries_one, sums, twice}
 use Rattle.udp_capture.proofs.checksum.checksum_of_sum.Goals as goal

@@ -1,9 +1,9 @@
-use Rattle.std.proofs.Common.{◌≡◌, ◌+◌, ap, ◌∙◌, arith}
+use Rattle.std.proofs.Common.{◌≡◌, ap, ◌∙◌, arith}
 use Rattle.std.specs.Prelude.{sum}
 use Rattle.udp_capture.specs.Checksum.{sixteen_bit_words, checksum}
 use Rattle.udp_capture.specs.Packet.{pseudo_header, udp_header, udp_length, udp_covered, sent_checksum}
 use Rattle.udp_capture.proofs.Words.{bytes_are, sum_below}
-use Rattle.udp_capture.proofs.Headers.{header_words, covered_words, covered_sum, pseudo_below, udp_below}
+use Rattle.udp_capture.proofs.Headers.{covered_words, covered_sum, pseudo_below, udp_below}
 use Rattle.udp_capture.proofs.packet.udp_checksum.Goals as goal
 
 pub overflow_add-before : goal.overflow_add-before
