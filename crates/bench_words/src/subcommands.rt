@@ -69,10 +69,10 @@ fn top<'a>(alloc: Global) -> Command<'a>
 }
 
 /// A command with no argument yet, and what its help says above and below them.
-fn described<'a>(alloc: Global, name: &'a str, about: &'a str, behind: &'a str) -> Command<'a>
+fn described<'a>(alloc: Global, name: &'a str, about: &'a str, below: &'a str) -> Command<'a>
     ensures { app_of result ≡ new_app name.entry.now }
 {
-    Command::new(alloc, name).about(about).after_help(behind)
+    Command::new(alloc, name).about(about).after_help(below)
 }
 
 fn one_command<'a>(alloc: Global) -> Result<Command<'a>, AllocError>

@@ -15,7 +15,7 @@ abbrev pub destination_of : Transmission → Endpoint
 destination_of t = if t.is_received then device_end t.device else server_end t.server
 
 -- the packet of a datagram before which a capture has n others. Its time is the second of the device's clock; the
--- microseconds keep the order of the packets, as far as there are so many of them in a second
+-- microseconds keep the order of the first million packets
 abbrev pub packet_of : ℕ → Transmission → CapturedPacket
 packet_of n t = record {
   envelope = record {
@@ -36,7 +36,7 @@ packets_from n (t ∷ ts) = packet_of n t ∷ packets_from (n + 1) ts
 abbrev pub trace_packets : Scenario → List Entry → List CapturedPacket
 trace_packets s es = packets_from 0 (transmissions s es)
 
--- no packet carries so many bytes
+-- the datagram has more bytes than a packet carries
 abbrev pub is_long : Transmission → Bool
 is_long t = nat_lt most_payload (length t.bytes)
 
