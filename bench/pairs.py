@@ -18,6 +18,7 @@ from subprocess import PIPE, Popen
 import runs
 
 BATCHES = (16, 64)
+RUNS = [f"{workers} {batch}" for workers in ("one", "two") for batch in BATCHES]
 
 
 def seconds(uses, file, pair, copies=1):
@@ -39,7 +40,7 @@ def seconds(uses, file, pair, copies=1):
 
 def measured(uses, file, pair, times):
     """Times the steps of one: two serial runs apart, and two workers with each batch."""
-    kinds = {kind: f"{file}-{kind.replace(' ', '-')}" for kind in ["start", "serial", *runs.RUNS]}
+    kinds = {kind: f"{file}-{kind.replace(' ', '-')}" for kind in ["start", "serial", *RUNS]}
     least = {}
     for _ in range(times):
         for kind, path in kinds.items():

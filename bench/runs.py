@@ -1,5 +1,5 @@
 #!/usr/bin/env python3
-"""Measures runs: serial, and of one and two workers; `check` of their traces; memory.
+"""Measures runs: serial, and of one, two, four and 64 workers; `check` of their traces; memory.
 
     bench/runs.py USES LWBENCH [TIMES]
 
@@ -102,12 +102,12 @@ SHORTEST = 0.0005
 # A trace of no entries.
 EMPTY = struct.pack(">IBI", 0x4C575452, 1, 0)
 
-# The runs of workers: one or two, with batches of so many steps.
-RUNS = [f"{workers} {batch}" for workers in ("one", "two") for batch in (1, 16, 64)]
+# The runs of workers: one, two, four or 64 (all), with batches of at most this many steps.
+RUNS = [f"{workers} {batch}" for workers in ("one", "two", "four", "all") for batch in (1, 16, 64)]
 
 # One worker without threads: one that claims each device once and makes its row in a single batch, and one that claims
 # and puts as often as there are steps, and makes none.
-ALONE = ["one row", "visits"]
+ALONE = ["rows", "visits"]
 
 
 def serial_scenarios():

@@ -45,12 +45,12 @@ pub saved_as : (path bytes : List ℕ) (es : List Entry) (made : List Made) → 
     → made ≡ (path, bytes) ∷ [] → IsSavedAs (Some path) es made
 saved_as path bytes es made file same = (bytes, file, same)
 
-pub run_answer : (s : Scenario) (trace : Option (List ℕ)) (r : FleetRun) (status : Status) (text : List ℕ)
-    (made : List Made) → IsFleetRun s r
+pub run_answer : (s : Scenario) (workers : ℕ) (trace : Option (List ℕ)) (r : FleetRun) (status : Status)
+    (text : List ℕ) (made : List Made) → IsFleetRun s workers r
     → IsSavedAs trace r.entries made → text ≡ end_line (length r.entries) (waiting s r.entries)
     → status ≡ end_status (waiting s r.entries)
-    → IsRunAnswer s trace status text made
-run_answer s trace r status text made right saved said ended =
+    → IsRunAnswer s workers trace status text made
+run_answer s workers trace r status text made right saved said ended =
     record { run = r; right = right; saved = saved; text_is = said; status_is = ended }
 
 pub judged_as : (s : Scenario) (es : List Entry) (verdict : Verdict) (status : Status) (text : List ℕ)
@@ -85,10 +85,11 @@ pub dis_done : (holds : List ℕ → List ℕ → Type 0) (input : List ℕ) (s 
 dis_done holds input s status text made found said ended none =
     record { scenario = s; found = found; text_is = said; status_is = ended; made_is = none }
 
-pub run_done : (holds : List ℕ → List ℕ → Type 0) (image : List ℕ) (trace : Option (List ℕ)) (status : Status)
-    (s : Scenario) (text : List ℕ) (made : List Made)
-    → IsScenarioAt holds image s → IsRunAnswer s trace status text made → IsRunDone holds image trace status text made
-run_done holds image trace status s text made found ran = record { scenario = s; found = found; run = ran }
+pub run_done : (holds : List ℕ → List ℕ → Type 0) (image : List ℕ) (workers : ℕ) (trace : Option (List ℕ))
+    (status : Status) (s : Scenario) (text : List ℕ) (made : List Made)
+    → IsScenarioAt holds image s → IsRunAnswer s workers trace status text made
+    → IsRunDone holds image workers trace status text made
+run_done holds image workers trace status s text made found ran = record { scenario = s; found = found; run = ran }
 
 pub check_done : (holds : List ℕ → List ℕ → Type 0) (image trace : List ℕ) (status : Status) (s : Scenario)
     (es : List Entry) (text : List ℕ) (made : List Made)

@@ -17,7 +17,7 @@ use Rattle.trace_file.specs.Layout.{IsTraceFile}
 use Rattle.fleet_workers.specs.declared.fleet.FleetRun.{FleetRun}
 use Rattle.fleet_workers.specs.declared.fleet.RunFault.{RunFault}
 use Rattle.fleet_workers.specs.declared.fleet.RunFault.TheVariants as runs
-use Rattle.fleet_workers.specs.Fleet.{IsFleetRun}
+use Rattle.fleet_workers.specs.Fleet.{IsFleetRun, AreWorkers}
 use Rattle.bench_commands.specs.declared.fault.Fault.{Fault}
 use Rattle.bench_commands.specs.declared.fault.Fault.TheVariants as faults
 use Rattle.bench_commands.specs.Fault.{IsReadingFault, IsTemplateFault, layout_fault, refused_text, run_fault}
@@ -123,7 +123,7 @@ unsaved es trace.TooLarge h = h.0 refl
 unsaved es trace.Memory h = tt
 
 -- a run that was not saved
-pub unsaved_run : (s : Scenario) (workers batch : ℕ) (r : FleetRun) → IsFleetRun s r → (f : Fault)
+pub unsaved_run : (s : Scenario) (workers batch : ℕ) (r : FleetRun) → IsFleetRun s workers r → (f : Fault)
     → IsSavingFault r.entries f
     → IsRunFault s workers batch f
 unsaved_run s workers batch r right faults.Memory h = tt
@@ -145,7 +145,7 @@ unsaved_run s workers batch r right faults.Bind h = absurd h
 unsaved_run s workers batch r right (faults.Session fault) h = absurd h
 
 -- a run that was refused, or not ended
-pub run_fault_is : (s : Scenario) (workers batch : ℕ) (f : RunFault) → (f ≡ runs.Workers → workers ≢ 2)
+pub run_fault_is : (s : Scenario) (workers batch : ℕ) (f : RunFault) → (f ≡ runs.Workers → AreWorkers workers → ⊥)
     → (f ≡ runs.Batch → IsWrongBatch workers batch) → IsRunFault s workers batch (run_fault f)
 run_fault_is s workers batch (runs.Memory es) others batches = tt
 run_fault_is s workers batch (runs.Spent es) others batches = tt

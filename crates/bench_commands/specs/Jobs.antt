@@ -86,12 +86,12 @@ pub record IsDisDone (holds : List ℕ → List ℕ → Type 0) (input : List �
   pub status_is : status ≡ Done
   pub made_is : made ≡ []
 
--- `run IMAGE [--workers N] [--batch N] [--trace FILE]`: a run of the scenario that workers make
-pub record IsRunDone (holds : List ℕ → List ℕ → Type 0) (image : List ℕ) (trace : Option (List ℕ)) (status : Status)
-    (text : List ℕ) (made : List Made) : Type 0 where
+-- `run IMAGE [--workers N] [--batch N] [--trace FILE]`: a run of the scenario that this many workers make
+pub record IsRunDone (holds : List ℕ → List ℕ → Type 0) (image : List ℕ) (workers : ℕ) (trace : Option (List ℕ))
+    (status : Status) (text : List ℕ) (made : List Made) : Type 0 where
   pub scenario : Scenario
   pub found : IsScenarioAt holds image scenario
-  pub run : IsRunAnswer scenario trace status text made
+  pub run : IsRunAnswer scenario workers trace status text made
 
 -- `check IMAGE TRACE`: the verdict on the entries
 pub record IsCheckDone (holds : List ℕ → List ℕ → Type 0) (image trace : List ℕ) (status : Status) (text : List ℕ)

@@ -1,5 +1,5 @@
 -- When the run that workers made of a scenario and its trace file are an answer, and what the checker's answer is.
-use Rattle.std.specs.Prelude.{◌≡◌, ◌≢◌, ◌≤◌, ℕ, ⊤, List, [], ◌∷◌, length, Option, None, Some}
+use Rattle.std.specs.Prelude.{◌≡◌, ℕ, ⊤, List, [], ◌∷◌, length, Option, None, Some}
 use Rattle.scenario_image.specs.Scenario.{Scenario}
 use Rattle.trace_file.specs.declared.entry.Entry.{Entry}
 use Rattle.trace_file.specs.Layout.{IsTraceFile}
@@ -7,7 +7,7 @@ use Rattle.fleet_core.specs.declared.verdict.Verdict.{Verdict}
 use Rattle.fleet_core.specs.Verdict.{Judges}
 use Rattle.fleet_core.specs.Waiting.{waiting}
 use Rattle.fleet_workers.specs.declared.fleet.FleetRun.{FleetRun}
-use Rattle.fleet_workers.specs.Fleet.{IsFleetRun}
+use Rattle.fleet_workers.specs.Fleet.{IsFleetRun, AreWorkers, IsBatch}
 use Rattle.bench_commands.specs.Files.{Made}
 use Rattle.bench_commands.specs.Runs.{end_line, end_status, verdict_line, verdict_status}
 use Rattle.bench_commands.specs.declared.fault.Fault.{Fault}
@@ -25,27 +25,27 @@ IsSavingFault es Memory = ⊤
 IsSavingFault es TooLarge = (bytes : List ℕ) → IsTraceFile bytes es → ⊥
 IsSavingFault es _ = ⊥
 
--- a run that workers made, its trace file where one is asked for, the line of its end, and the status
-pub record IsRunAnswer (s : Scenario) (trace : Option (List ℕ)) (status : Status) (text : List ℕ)
+-- a run that this many workers made, its trace file where one is asked for, the line of its end, and the status
+pub record IsRunAnswer (s : Scenario) (workers : ℕ) (trace : Option (List ℕ)) (status : Status) (text : List ℕ)
     (made : List Made) : Type 0 where
   pub run : FleetRun
-  pub right : IsFleetRun s run
+  pub right : IsFleetRun s workers run
   pub saved : IsSavedAs trace run.entries made
   pub text_is : text ≡ end_line (length run.entries) (waiting s run.entries)
   pub status_is : status ≡ end_status (waiting s run.entries)
 
--- there are not 2 workers; or else the batch is not one of 1 to 64 steps
+-- there are 1 to 64 workers, and the batch is not one of 1 to 64 steps
 abbrev pub IsWrongBatch : ℕ → ℕ → Type 0
-IsWrongBatch workers batch = (workers ≡ 2) × ((1 ≤ batch) × (batch ≤ 64) → ⊥)
+IsWrongBatch workers batch = AreWorkers workers × (IsBatch batch → ⊥)
 
 -- the workers or the batch are refused; or no memory or no ticket was left; or the run has no trace file
 abbrev pub IsRunFault : Scenario → ℕ → ℕ → Fault → Type 0
 IsRunFault s workers batch Memory = ⊤
 IsRunFault s workers batch Spent = ⊤
-IsRunFault s workers batch Workers = workers ≢ 2
+IsRunFault s workers batch Workers = AreWorkers workers → ⊥
 IsRunFault s workers batch Batch = IsWrongBatch workers batch
 IsRunFault s workers batch TooLarge =
-    (run : FleetRun) × IsFleetRun s run × ((bytes : List ℕ) → IsTraceFile bytes run.entries → ⊥)
+    (run : FleetRun) × IsFleetRun s workers run × ((bytes : List ℕ) → IsTraceFile bytes run.entries → ⊥)
 IsRunFault s workers batch _ = ⊥
 
 -- the verdict on the entries, its line, and the status

@@ -33,7 +33,7 @@ pub enum Fault {
     TooLarge,
     /// A template refused one of its parts.
     Template(TemplateFault),
-    /// A run has not 2 workers.
+    /// A run has not from 1 to 64 workers.
     Workers,
     /// A batch is not one of 1 to 64 steps.
     Batch,

@@ -78,7 +78,7 @@ fn words_of(alloc: Global, refusal: &Refusal) -> Result<String, AllocError> {
 fn named(alloc: Global, fault: Fault) -> Result<String, AllocError> {
     match fault {
         Fault::Memory => String::from_str(alloc, "no memory is left"),
-        Fault::Workers => String::from_str(alloc, "the number of workers is not 2"),
+        Fault::Workers => String::from_str(alloc, "the number of workers is not from 1 to 64"),
         Fault::Batch => String::from_str(alloc, "the batch is not from 1 to 64"),
         Fault::Spent => String::from_str(alloc, "no ticket is left"),
         Fault::NoDevice => String::from_str(alloc, "the scenario has no device of this number"),

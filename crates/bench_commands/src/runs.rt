@@ -30,7 +30,7 @@ pub fn run_scenario<'a, R: Threads + Wait + Sync>(
     trace: Option<&'a str>,
 ) -> Result<Answer<'a>, Fault>
     ensures done { IfOk result (λ a.
-        IsRunAnswer scenario.now (option_map (λ p. p.now) trace.entry) a.status (string_bytes a.text)
+        IsRunAnswer scenario.now workers (option_map (λ p. p.now) trace.entry) a.status (string_bytes a.text)
         (files_of a.file)) }
     ensures refused { IfErr result (IsRunFault scenario.now workers batch) }
 {
@@ -52,7 +52,7 @@ fn made_by_workers<R: Threads + Wait + Sync>(
     workers: u16,
     batch: u32,
 ) -> Result<FleetRun, Fault>
-    ensures run { IfOk result (IsFleetRun scenario.now) }
+    ensures run { IfOk result (IsFleetRun scenario.now workers) }
     ensures refused { IfErr result (IsRunFault scenario.now workers batch) }
 {
     match run_fleet(rt, alloc, scenario, workers, batch, &OpenGate) {

@@ -41,8 +41,8 @@ Example:
   ..";
 
 pub const RUN: &str =
-    "Reads IMAGE. Two workers run it, each on a thread of its own: a worker claims a device and makes up to
-`--batch` steps of it, 1 to 64. In which order devices step is free; what each device does is not.
+    "Reads IMAGE. Workers run it, 1 to 64, each on a thread of its own: a worker claims a device and makes
+up to `--batch` steps of it, 1 to 64. In which order devices step is free; what each device does is not.
 Writes the run's trace file to the FILE of `--trace`, which is replaced where it exists, and no file
 without it. Then prints, for a run of E steps, whether all devices came to their ends, or which of them
 wait for a post that never comes (status 3):

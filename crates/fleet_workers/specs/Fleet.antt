@@ -1,12 +1,12 @@
 -- The run that workers make together.
-use Rattle.std.specs.Prelude.{◌≡◌, ℕ, ◌≤◌, Bool, true, false, List, []}
+use Rattle.std.specs.Prelude.{◌≡◌, ℕ, ◌≤◌, true, false, List, []}
 use Rattle.std.specs.List.{AllByRecursion}
 use Rattle.scenario_image.specs.Scenario.{Scenario}
 use Rattle.trace_file.specs.declared.entry.Entry.{Entry}
 use Rattle.fleet_core.specs.Run.{IsRun, IsComplete, IsSerial, IsSame}
 use Rattle.fleet_core.specs.Waiting.{is_waiting, waiting}
-use Rattle.fleet_workers.specs.Blocks.{HasPut}
 use Rattle.fleet_workers.specs.Knowing.{IsDone, IsStalled}
+use Rattle.fleet_workers.specs.Crew.{HavePut}
 use Rattle.fleet_workers.specs.declared.loops.LoopEnd.{LoopEnd}
 use Rattle.fleet_workers.specs.declared.loops.LoopEnd.TheVariants as loops
 use Rattle.fleet_workers.specs.declared.fleet.FleetRun.{FleetRun}
@@ -15,9 +15,17 @@ use Rattle.fleet_workers.specs.declared.fleet.FleetEnd.TheVariants as ends
 use Rattle.fleet_workers.specs.declared.fleet.RunFault.{RunFault}
 use Rattle.fleet_workers.specs.declared.fleet.RunFault.TheVariants as faults
 
--- the entry is under the number of one of the two workers
-abbrev pub IsByWorker : Entry → Type 0
-IsByWorker e = (1 ≤ e.worker) × (e.worker ≤ 2)
+-- how many workers there may be
+abbrev pub AreWorkers : ℕ → Type 0
+AreWorkers workers = (1 ≤ workers) × (workers ≤ 64)
+
+-- how many steps of a device a worker may make at a time
+abbrev pub IsBatch : ℕ → Type 0
+IsBatch batch = (1 ≤ batch) × (batch ≤ 64)
+
+-- the entry is under the number of one of this many workers
+abbrev pub IsByWorker : ℕ → Entry → Type 0
+IsByWorker workers e = (1 ≤ e.worker) × (e.worker ≤ workers)
 
 -- these devices, in ascending order, are not at the end of their rows; there is one
 pub record IsUnfinished (s : Scenario) (es : List Entry) (devices : List ℕ) : Type 0 where
@@ -32,17 +40,16 @@ IsEndOf s es (ends.Stalled devices) = IsUnfinished s es devices.items
 
 -- the run is complete, and each entry is a worker's. Whatever the order in which the workers took the lock, each device
 -- has as many entries as in the serial run, and these output the same, one after another
-pub record IsFleetRun (s : Scenario) (r : FleetRun) : Type 0 where
+pub record IsFleetRun (s : Scenario) (workers : ℕ) (r : FleetRun) : Type 0 where
   pub complete : IsComplete s r.entries
-  pub workers : AllByRecursion IsByWorker r.entries
+  pub by_workers : AllByRecursion (IsByWorker workers) r.entries
   pub serial : (es : List Entry) → IsSerial s es → (d : ℕ) → IsSame d r.entries es
   pub end : IsEndOf s r.entries r.end
 
--- each of the two workers has put its own entries in blocks, once and in its order; the two make all of the run
-pub record AreByBlocks (s : Scenario) (batch : ℕ) (es : List Entry) : Type 0 where
-  pub workers : AllByRecursion IsByWorker es
-  pub first : HasPut s 1 batch [] es
-  pub second : HasPut s 2 batch [] es
+-- each of this many workers has put its own entries in blocks, once and in its order; they make all of the run
+pub record AreByBlocks (s : Scenario) (workers batch : ℕ) (es : List Entry) : Type 0 where
+  pub by_workers : AllByRecursion (IsByWorker workers) es
+  pub each : HavePut s 1 workers batch [] es
 
 -- what the workers made until memory or the tickets ran out is a run
 abbrev pub Leaves : Scenario → RunFault → Type 0
@@ -52,15 +59,15 @@ Leaves s faults.Workers = Unit {0}
 Leaves s faults.Batch = Unit {0}
 
 -- and it is made of blocks
-abbrev pub LeavesBlocks : Scenario → ℕ → RunFault → Type 0
-LeavesBlocks s batch (faults.Memory es) = AreByBlocks s batch es
-LeavesBlocks s batch (faults.Spent es) = AreByBlocks s batch es
-LeavesBlocks s batch faults.Workers = Unit {0}
-LeavesBlocks s batch faults.Batch = Unit {0}
+abbrev pub LeavesBlocks : Scenario → ℕ → ℕ → RunFault → Type 0
+LeavesBlocks s workers batch (faults.Memory es) = AreByBlocks s workers batch es
+LeavesBlocks s workers batch (faults.Spent es) = AreByBlocks s workers batch es
+LeavesBlocks s workers batch faults.Workers = Unit {0}
+LeavesBlocks s workers batch faults.Batch = Unit {0}
 
--- ---- what two workers leave
+-- ---- what workers leave
 
--- what a worker that ended so says of the whole run
+-- what workers that ended so together say of the whole run
 abbrev pub HasEnded : Scenario → List Entry → LoopEnd → Type 0
 HasEnded s es loops.Done = IsDone s es
 HasEnded s es loops.Stalled = IsStalled s es
@@ -68,21 +75,10 @@ HasEnded s es loops.Stopped = Unit {0}
 HasEnded s es loops.Memory = Unit {0}
 HasEnded s es loops.Spent = Unit {0}
 
-pub record IsLeft (s : Scenario) (es : List Entry) (first second : LoopEnd) : Type 0 where
+pub record IsLeft (s : Scenario) (workers : ℕ) (es : List Entry) (end : LoopEnd) : Type 0 where
   pub run : IsRun s es
-  pub workers : AllByRecursion IsByWorker es
-  pub ended : HasEnded s es first
-  pub other : HasEnded s es second
-
--- memory ran out, for this worker or the other
-abbrev pub is_cut : LoopEnd → Bool
-is_cut loops.Memory = true
-is_cut loops.Stopped = true
-is_cut _ = false
-
-abbrev pub is_spent : LoopEnd → Bool
-is_spent loops.Spent = true
-is_spent _ = false
+  pub by_workers : AllByRecursion (IsByWorker workers) es
+  pub ended : HasEnded s es end
 
 -- the entries come with the fault
 abbrev pub Keeps : List Entry → RunFault → Type 0

@@ -1,3 +1,4 @@
 pub mod Blocks
 pub mod Knowing
+pub mod Crew
 pub mod Fleet

@@ -1,11 +1,13 @@
 //! Workers on threads of their own, which make one run of a scenario together.
 #![tactic(auto)]
 
+mod crew;
 mod fleet;
 mod gate;
 mod loops;
 mod visits;
 
+pub use crew::run_crew;
 pub use fleet::{FleetEnd, FleetRun, RunFault, run_fleet};
 pub use gate::{Gate, OpenGate};
 pub use loops::{LoopEnd, worker_loop};

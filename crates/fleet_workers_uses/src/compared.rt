@@ -1,9 +1,9 @@
-//! A run of two workers beside the serial one.
+//! Runs of workers beside the serial one.
 ghost use Rattle.std.specs.Thread.{IsSync};
 
-use crate::scenes::{TWINS, scenario_of};
+use crate::scenes::alike;
 use fleet_core::{run_serial, write_entries};
-use fleet_workers::{OpenGate, run_fleet};
+use fleet_workers::{OpenGate, RunFault, run_fleet};
 use std::alloc::{AllocError, Global};
 use std::sync::Wait;
 use std::thread::Threads;
@@ -40,19 +40,67 @@ fn is_same(
     Ok(first.as_slice() == second.as_slice())
 }
 
-/// Two devices of three steps each, which two workers make one by one: whether each device did what it does in the
-/// serial run.
-pub fn is_as_serial<R: Threads + Wait + Sync>(rt: &R, alloc: Global) -> Result<bool, AllocError>
+fn are_same(
+    alloc: Global,
+    first: &[Entry],
+    second: &[Entry],
+    devices: u16,
+) -> Result<bool, AllocError> {
+    for device in 0..devices {
+        if !is_same(alloc, first, second, device)? {
+            return Ok(false);
+        }
+    }
+    Ok(true)
+}
+
+/// Devices of three steps each, which workers make one by one: whether each device did what it does in the serial run.
+pub fn is_as_serial<R: Threads + Wait + Sync>(
+    rt: &R,
+    alloc: Global,
+    devices: u16,
+    workers: u16,
+) -> Result<bool, AllocError>
     requires { IsSync R.row }
 {
-    let Some(scenario) = scenario_of(alloc, TWINS) else {
+    let Some(scenario) = alike(alloc, devices)? else {
         return Ok(false);
     };
-    let Ok(run) = run_fleet(rt, alloc, &scenario, 2, 1, &OpenGate) else {
+    let Ok(run) = run_fleet(rt, alloc, &scenario, workers, 1, &OpenGate) else {
         return Ok(false);
     };
     let serial = run_serial(alloc, &scenario)?;
     let (entries, serial) = (run.entries.as_slice(), serial.as_slice());
-    let is_six = entries.len() == 6 && serial.len() == 6;
-    Ok(is_six && is_same(alloc, entries, serial, 0)? && is_same(alloc, entries, serial, 1)?)
+    let count = usize::from(devices) * 3;
+    let is_all = entries.len() == count && serial.len() == count;
+    Ok(is_all && are_same(alloc, entries, serial, devices)?)
+}
+
+/// Whether one worker makes the run of 64 devices under the number 1 alone.
+pub fn is_all_by_one<R: Threads + Wait + Sync>(rt: &R, alloc: Global) -> Result<bool, AllocError>
+    requires { IsSync R.row }
+{
+    let Some(scenario) = alike(alloc, 64)? else {
+        return Ok(false);
+    };
+    let Ok(run) = run_fleet(rt, alloc, &scenario, 1, 1, &OpenGate) else {
+        return Ok(false);
+    };
+    let entries = run.entries.as_slice();
+    Ok(entries.len() == 192 && entries.iter().all(|entry| entry.worker == 1))
+}
+
+/// Whether no run is made by this many workers.
+pub fn is_refused<R: Threads + Wait + Sync>(
+    rt: &R,
+    alloc: Global,
+    workers: u16,
+) -> Result<bool, AllocError>
+    requires { IsSync R.row }
+{
+    let Some(scenario) = alike(alloc, 1)? else {
+        return Ok(false);
+    };
+    let run = run_fleet(rt, alloc, &scenario, workers, 1, &OpenGate);
+    Ok(matches!(run, Err(RunFault::Workers)))
 }

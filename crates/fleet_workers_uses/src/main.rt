@@ -6,6 +6,7 @@
 mod compared;
 mod gates;
 mod measured;
+mod pages;
 mod rows;
 mod scenes;
 mod shown;

@@ -43,21 +43,22 @@ fn by_serial(alloc: Global, scenario: &Scenario) -> Option<Made> {
     }
 }
 
-/// The run that one worker makes.
-fn by_one<R: Wait>(rt: &R, alloc: Global, scenario: &Scenario, batch: u32) -> Option<Made>
-    requires { 1 ≤ batch }
-{
+/// The run that one worker makes, of which each row is a single batch.
+fn by_rows<R: Wait>(rt: &R, alloc: Global, scenario: &Scenario) -> Option<Made> {
     let Ok(trace) = Trace::new(alloc, scenario) else {
         return None;
     };
     let Ok((lock, pass)) = TicketLock::new(trace, alloc) else {
         return None;
     };
-    let (pass, _) = worker_loop(rt, &lock, pass, scenario, batch, &OpenGate);
+    let (pass, _) = worker_loop(rt, &lock, pass, scenario, u32::MAX, &OpenGate);
     let Ok(trace) = lock.close(pass) else {
         unreachable!()
     };
-    Some(made_of(trace.into_entries()))
+    match trace.into_entries() {
+        Ok(entries) => Some(made_of(entries)),
+        Err(_) => None,
+    }
 }
 
 /// How often one worker claims a device and puts it again without a step: as often as the rows have steps.
@@ -86,24 +87,44 @@ fn by_visits<R: Wait>(rt: &R, alloc: Global, scenario: &Scenario) -> Option<Made
     })
 }
 
-/// The run that two workers make.
-fn by_two<R: Threads + Wait + Sync>(
+/// The run that workers make.
+fn by_workers<R: Threads + Wait + Sync>(
     rt: &R,
     alloc: Global,
     scenario: &Scenario,
+    workers: u16,
     batch: u32,
 ) -> Option<Made>
     requires { IsSync R.row }
 {
-    match run_fleet(rt, alloc, scenario, 2, batch, &OpenGate) {
+    match run_fleet(rt, alloc, scenario, workers, batch, &OpenGate) {
         Ok(run) => Some(made_of(run.entries)),
         Err(_) => None,
     }
 }
 
-/// The run of this kind: `start` starts the devices alone, `two 16` lets two workers run with
-/// batches of 16, and `one row` lets one make each row as a single batch. `visits` makes none: it claims and puts as
-/// often as there are steps.
+/// How many workers a word stands for.
+fn workers_of(word: &str) -> u16 {
+    match word {
+        "one" => 1,
+        "two" => 2,
+        "four" => 4,
+        _ => 64,
+    }
+}
+
+/// How many steps a worker makes at a time, by a word.
+fn batch_of(word: &str) -> u32 {
+    match word {
+        "1" => 1,
+        "16" => 16,
+        _ => 64,
+    }
+}
+
+/// The run of this kind: `start` starts the devices alone; `serial` is the serial run; `one 16` lets one worker run
+/// with batches of 16, where there may stand `two`, `four`, `all` (64), and 1 or 64; `rows` lets one make each row as
+/// a single batch; `visits` makes none: it claims and puts as often as there are steps.
 fn run_of<R: Threads + Wait + Sync>(
     rt: &R,
     alloc: Global,
@@ -115,15 +136,12 @@ fn run_of<R: Threads + Wait + Sync>(
     match kind {
         "start" => by_nobody(alloc, scenario),
         "serial" => by_serial(alloc, scenario),
-        "one 1" => by_one(rt, alloc, scenario, 1),
-        "one 16" => by_one(rt, alloc, scenario, 16),
-        "one 64" => by_one(rt, alloc, scenario, 64),
-        "one row" => by_one(rt, alloc, scenario, u32::MAX),
+        "rows" => by_rows(rt, alloc, scenario),
         "visits" => by_visits(rt, alloc, scenario),
-        "two 1" => by_two(rt, alloc, scenario, 1),
-        "two 16" => by_two(rt, alloc, scenario, 16),
-        "two 64" => by_two(rt, alloc, scenario, 64),
-        _ => None,
+        _ => {
+            let (workers, batch) = kind.split_once(' ')?;
+            by_workers(rt, alloc, scenario, workers_of(workers), batch_of(batch))
+        }
     }
 }
 

@@ -1,7 +1,7 @@
 //! Rows of calls, each over a trace of its own. Of each it is told whether all answers were those awaited.
 
 ghost use Rattle.ticket_lock.specs.Names.{lock_id, pass_view, IsPass};
-ghost use Rattle.fleet_workers_uses.specs.Passes.{IsWorker};
+ghost use Rattle.fleet_workers_uses.specs.Passes.{IsFirst, IsSecond};
 
 use crate::scenes::{EXCHANGE, SECONDS, scenario_of};
 use crate::turns::{advanced, claimed, closed, is_put, makes, opened, stopped, word_of_claim};
@@ -33,10 +33,10 @@ fn exchange<R: Wait>(
     two: Pass<Trace>,
     scenario: &Scenario,
 ) -> (Pass<Trace>, Pass<Trace>, bool)
-    requires first { IsPass (lock_id lock.now) one × IsWorker 1 scenario.now (pass_view one) }
-    requires second { IsPass (lock_id lock.now) two × IsWorker 2 scenario.now (pass_view two) }
-    ensures first { IsPass (lock_id lock.now) result.0 × IsWorker 1 scenario.now (pass_view result.0) }
-    ensures second { IsPass (lock_id lock.now) result.1 × IsWorker 2 scenario.now (pass_view result.1) }
+    requires first { IsPass (lock_id lock.now) one × IsFirst scenario.now (pass_view one) }
+    requires second { IsPass (lock_id lock.now) two × IsSecond scenario.now (pass_view two) }
+    ensures first { IsPass (lock_id lock.now) result.0 × IsFirst scenario.now (pass_view result.0) }
+    ensures second { IsPass (lock_id lock.now) result.1 × IsSecond scenario.now (pass_view result.1) }
 {
     let (one, job) = claimed(rt, lock, one);
     let Some(job) = job else {
@@ -59,10 +59,10 @@ fn exchanged<R: Wait>(
     two: Pass<Trace>,
     scenario: &Scenario,
 ) -> (Pass<Trace>, Pass<Trace>, bool)
-    requires first { IsPass (lock_id lock.now) one × IsWorker 1 scenario.now (pass_view one) }
-    requires second { IsPass (lock_id lock.now) two × IsWorker 2 scenario.now (pass_view two) }
-    ensures first { IsPass (lock_id lock.now) result.0 × IsWorker 1 scenario.now (pass_view result.0) }
-    ensures second { IsPass (lock_id lock.now) result.1 × IsWorker 2 scenario.now (pass_view result.1) }
+    requires first { IsPass (lock_id lock.now) one × IsFirst scenario.now (pass_view one) }
+    requires second { IsPass (lock_id lock.now) two × IsSecond scenario.now (pass_view two) }
+    ensures first { IsPass (lock_id lock.now) result.0 × IsFirst scenario.now (pass_view result.0) }
+    ensures second { IsPass (lock_id lock.now) result.1 × IsSecond scenario.now (pass_view result.1) }
 {
     let (two, second) = makes(rt, lock, two, scenario, 16, 1, 2);
     let (one, third) = makes(rt, lock, one, scenario, 16, 0, 1);
@@ -78,7 +78,7 @@ pub fn is_exchanged<R: Wait>(rt: &R, alloc: Global) -> Result<bool, AllocError> 
     let (lock, one, two) = opened(alloc, &scenario)?;
     let (one, two, first) = exchange(rt, &lock, one, two, &scenario);
     let (one, two, then) = exchanged(rt, &lock, one, two, &scenario);
-    let entries = closed(lock, &scenario, one, two);
+    let entries = closed(lock, &scenario, one, two)?;
     let awaited = [(1, 0, 0), (2, 1, 0), (2, 1, 1), (1, 0, 1)];
     Ok(first && then && are(entries.as_slice(), &awaited))
 }
@@ -91,10 +91,10 @@ fn stop<R: Wait>(
     two: Pass<Trace>,
     scenario: &Scenario,
 ) -> (Pass<Trace>, Pass<Trace>, bool)
-    requires first { IsPass (lock_id lock.now) one × IsWorker 1 scenario.now (pass_view one) }
-    requires second { IsPass (lock_id lock.now) two × IsWorker 2 scenario.now (pass_view two) }
-    ensures first { IsPass (lock_id lock.now) result.0 × IsWorker 1 scenario.now (pass_view result.0) }
-    ensures second { IsPass (lock_id lock.now) result.1 × IsWorker 2 scenario.now (pass_view result.1) }
+    requires first { IsPass (lock_id lock.now) one × IsFirst scenario.now (pass_view one) }
+    requires second { IsPass (lock_id lock.now) two × IsSecond scenario.now (pass_view two) }
+    ensures first { IsPass (lock_id lock.now) result.0 × IsFirst scenario.now (pass_view result.0) }
+    ensures second { IsPass (lock_id lock.now) result.1 × IsSecond scenario.now (pass_view result.1) }
 {
     let (one, job) = claimed(rt, lock, one);
     let two = stopped(rt, lock, two);
@@ -117,7 +117,7 @@ pub fn is_stopped<R: Wait>(rt: &R, alloc: Global) -> Result<bool, AllocError> {
     let (lock, one, two) = opened(alloc, &scenario)?;
     let (one, two, put) = stop(rt, &lock, one, two, &scenario);
     let (one, found) = word_of_claim(rt, &lock, one);
-    let entries = closed(lock, &scenario, one, two);
+    let entries = closed(lock, &scenario, one, two)?;
     Ok(put && found == "stopped" && are(entries.as_slice(), &[(1, 0, 0)]))
 }
 
@@ -130,6 +130,6 @@ pub fn is_given_up<R: Wait>(rt: &R, alloc: Global) -> Result<bool, AllocError> {
     let (one, given) = word_of_claim(rt, &lock, one);
     let (two, made) = makes(rt, &lock, two, &scenario, 64, 1, 1);
     let (two, found) = word_of_claim(rt, &lock, two);
-    let entries = closed(lock, &scenario, one, two);
+    let entries = closed(lock, &scenario, one, two)?;
     Ok(given == "got" && made && found == "busy" && are(entries.as_slice(), &[(2, 1, 0)]))
 }

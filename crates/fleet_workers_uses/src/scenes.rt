@@ -2,23 +2,31 @@
 
 use scenario_asm::assemble;
 use scenario_image::Scenario;
-use std::alloc::Global;
+use std::alloc::{AllocError, Global};
 
-/// Two devices alike, each asked for its battery level, and again a second later.
-pub const TWINS: &str = "scenario 1
+/// Devices with a battery level.
+const CLASS: &str = "scenario 1
 class
 account 1
 instance 3 0
 value /3/0/9 integer 100
-device 0
-read 1 con 1 - /3/0/9 any
-tick 1
-read 1 con 2 - /3/0/9 any
-device 0
+";
+
+/// A device that is asked for its battery level, and again a second later.
+const DEVICE: &str = "device 0
 read 1 con 1 - /3/0/9 any
 tick 1
 read 1 con 2 - /3/0/9 any
 ";
+
+/// This many devices alike, each asked for its battery level, and again a second later.
+pub fn alike(alloc: Global, devices: u16) -> Result<Option<Scenario>, AllocError> {
+    let mut text = String::from_str(alloc, CLASS)?;
+    for _device in 0..devices {
+        text.push_str(DEVICE)?;
+    }
+    Ok(scenario_of(alloc, text.as_str()))
+}
 
 /// Device 0 posts to group 1 and then needs a post to group 0; device 1 needs the first and makes the second.
 pub const EXCHANGE: &str = "scenario 1

@@ -3,7 +3,7 @@
 ghost use Rattle.std.specs.Prelude.{◌≡◌, ◌≤◌, false, Some, IfSome, IfOk};
 ghost use Rattle.ticket_lock.specs.Names.{lock_id, pass_view, IsPass};
 ghost use Rattle.fleet_workers.specs.Knowing.{Knows};
-ghost use Rattle.fleet_workers_uses.specs.Passes.{IsWorker, IsSame};
+ghost use Rattle.fleet_workers_uses.specs.Passes.{IsFirst, IsSecond, IsSame};
 
 use fleet_workers::{Put, claim_job, put_job, stop_trace};
 use scenario_image::Scenario;
@@ -18,8 +18,8 @@ pub fn opened(
     alloc: Global,
     scenario: &Scenario,
 ) -> Result<(TicketLock<Trace>, Pass<Trace>, Pass<Trace>), AllocError>
-    ensures first { IfOk result (λ r. IsPass (lock_id r.0) r.1 × IsWorker 1 scenario.now (pass_view r.1)) }
-    ensures second { IfOk result (λ r. IsPass (lock_id r.0) r.2 × IsWorker 2 scenario.now (pass_view r.2)) }
+    ensures first { IfOk result (λ r. IsPass (lock_id r.0) r.1 × IsFirst scenario.now (pass_view r.1)) }
+    ensures second { IfOk result (λ r. IsPass (lock_id r.0) r.2 × IsSecond scenario.now (pass_view r.2)) }
 {
     let (lock, pass) = TicketLock::new(Trace::new(alloc, scenario)?, alloc)?;
     let Ok((first, second)) = pass.split(&lock) else {
@@ -28,21 +28,24 @@ pub fn opened(
     Ok((lock, first, second))
 }
 
-/// The entries that were made.
+/// The entries that were made, if there is memory for a list of them.
 pub fn closed(
     lock: TicketLock<Trace>,
     scenario: &Scenario,
     first: Pass<Trace>,
     second: Pass<Trace>,
-) -> Entries
-    requires first { IsPass (lock_id lock) first × IsWorker 1 scenario.now (pass_view first) }
-    requires second { IsPass (lock_id lock) second × IsWorker 2 scenario.now (pass_view second) }
+) -> Result<Entries, AllocError>
+    requires first { IsPass (lock_id lock) first × IsFirst scenario.now (pass_view first) }
+    requires second { IsPass (lock_id lock) second × IsSecond scenario.now (pass_view second) }
 {
     let pass = first.join(&lock, second);
     let Ok(trace) = lock.close(pass) else {
         unreachable!()
     };
-    trace.into_entries()
+    match trace.into_entries() {
+        Ok(entries) => Ok(entries),
+        Err((_, fault)) => Err(fault),
+    }
 }
 
 /// Claims, and gives a job up: whether one was got, or else the word for the answer.

@@ -5,7 +5,8 @@ use crate::given::Given;
 use crate::line::Line;
 use crate::marks::Marks;
 use crate::{
-    building, classes, devices, fleets, images, jobs, locks, puts, sessions, traces, workers,
+    building, classes, devices, fleets, gathering, images, jobs, locks, puts, sessions, traces,
+    workers,
 };
 use std::alloc::AllocError;
 use std::sync::Wait;
@@ -26,6 +27,7 @@ pub fn ask<R: Threads + Wait + Sync>(
         "commit" => fleets::commit(given, marks, line),
         "advance" => jobs::advance(rt, given, marks, line),
         "put" => puts::put(rt, given, marks, line),
+        "into_entries" => gathering::gather(rt, given, marks, line),
         "fleet" => workers::fleet(rt, given, marks, line),
         "lock" => locks::new(given, marks, line),
         "lock_first" => locks::with_first(given, marks, line),

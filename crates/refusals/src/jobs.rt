@@ -4,6 +4,7 @@ ghost use Rattle.std.specs.Prelude.{◌≡◌, Some, IfSome, IfOk, IfErr, false}
 ghost use Rattle.ticket_lock.specs.Names.{lock_id, pass_view, IsPass};
 ghost use Rattle.fleet_workers.specs.Knowing.{Knows};
 
+use crate::gathering::gathered;
 use crate::given::Given;
 use crate::line::Line;
 use crate::marks::Marks;
@@ -138,7 +139,7 @@ fn add_trace(
             } else {
                 "finished,"
             })?;
-            line.add_count("entries", trace.into_entries().len() as u64)
+            line.add_count("entries", gathered(trace)?.len() as u64)
         }
         Err(_) => line.add("a pass is out"),
     }

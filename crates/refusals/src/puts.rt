@@ -1,5 +1,5 @@
-//! `put TEXT`: worker 1 makes the steps of two devices and puts them; the rest of the run follows. If the second `put`
-//! is refused memory, the job comes back, the trace's entries are as before, and it is put again.
+//! `put TEXT COUNT`: worker 1 puts as many jobs, and one more; the rest of the run follows. If the last of these is
+//! refused memory, the job comes back, the trace's entries are as before, and it is put again.
 ghost use Rattle.std.specs.Prelude.{◌≡◌, Some, false};
 ghost use Rattle.ticket_lock.specs.Log.{Adds};
 ghost use Rattle.ticket_lock.specs.Names.{lock_id, pass_view, IsPass};
@@ -7,18 +7,17 @@ ghost use Rattle.shared_trace.specs.Trace.{IsShared, trace_log};
 ghost use Rattle.shared_trace.specs.Job.{MayPut};
 ghost use Rattle.fleet_workers.specs.Knowing.{Knows};
 
+use crate::gathering::{add_run, ended, gathered};
 use crate::given::Given;
 use crate::jobs::{advanced, claimed, locked};
 use crate::line::Line;
 use crate::marks::{Marks, Mode};
-use fleet_core::{Verdict, check};
-use fleet_workers::{OpenGate, put_job, worker_loop};
+use fleet_workers::put_job;
 use scenario_image::Scenario;
 use shared_trace::{Job, Trace};
 use std::alloc::AllocError;
 use std::sync::Wait;
 use ticket_lock::{Pass, TicketLock};
-use trace_file::Entries;
 
 /// What came of a put.
 #[derive(Clone, Copy)]
@@ -108,37 +107,8 @@ fn put_in<R: Wait>(
     }
 }
 
-/// The entries, once worker 1 has made the rest of the run.
-fn rest_of<R: Wait>(
-    rt: &R,
-    lock: TicketLock<Trace>,
-    pass: Pass<Trace>,
-    scenario: &Scenario,
-) -> Option<Entries>
-    requires pass { IsPass (lock_id lock) pass }
-    requires subject { (pass_view pass).subject ≡ Some scenario.now }
-{
-    let (pass, _) = worker_loop(rt, &lock, pass, scenario, 16, &OpenGate);
-    match lock.close(pass) {
-        Ok(trace) => Some(trace.into_entries()),
-        Err(_) => None,
-    }
-}
-
-/// Adds how many entries there are, and whether they are a run.
-fn add_run(given: &Given, entries: Option<Entries>, line: &mut Line) -> Result<(), AllocError> {
-    let Some(entries) = entries else {
-        return line.add("a pass is out");
-    };
-    line.add_count("entries", entries.len() as u64)?;
-    match check(given.alloc, given.scenario, entries.as_slice())? {
-        Verdict::Run => line.add("a run"),
-        Verdict::NotRun(_) => line.add("not a run"),
-    }
-}
-
 /// Claims a device, lets it make its steps and puts them.
-fn make_first<R: Wait>(
+fn make_one<R: Wait>(
     rt: &R,
     lock: &TicketLock<Trace>,
     pass: Pass<Trace>,
@@ -166,8 +136,28 @@ fn make_first<R: Wait>(
     }
 }
 
+/// The same, as often as this.
+fn make_some<R: Wait>(
+    rt: &R,
+    lock: &TicketLock<Trace>,
+    mut pass: Pass<Trace>,
+    scenario: &Scenario,
+    none: &mut Marks,
+    count: usize,
+) -> Pass<Trace>
+    requires pass { IsPass (lock_id lock.now) pass }
+    requires subject { (pass_view pass).subject ≡ Some scenario.now }
+    ensures pass { IsPass (lock_id lock.now) result }
+    ensures subject { (pass_view result).subject ≡ Some scenario.now }
+{
+    for _made in 0..count {
+        pass = make_one(rt, lock, pass, scenario, none);
+    }
+    pass
+}
+
 /// Claims a device, lets it make its steps and puts them, between the marks. There is no answer if there is no device.
-fn put_second<R: Wait>(
+fn put_last<R: Wait>(
     rt: &R,
     lock: &TicketLock<Trace>,
     pass: Pass<Trace>,
@@ -216,9 +206,11 @@ pub fn put<R: Wait>(
 ) -> Result<(), AllocError> {
     let mut none = Marks::new(given.alloc, Mode::Boxes(0));
     let (lock, pass) = locked(given.alloc, given.scenario)?;
-    let pass = make_first(rt, &lock, pass, given.scenario, &mut none);
-    let (pass, came) = put_second(rt, &lock, pass, given.scenario, &mut none, marks);
+    let pass = make_some(rt, &lock, pass, given.scenario, &mut none, given.number(0));
+    let (pass, came) = put_last(rt, &lock, pass, given.scenario, &mut none, marks);
     add_came(came, line)?;
-    let entries = rest_of(rt, lock, pass, given.scenario);
-    add_run(given, entries, line)
+    match ended(rt, lock, pass, given.scenario) {
+        Some(trace) => add_run(given, &gathered(trace)?, line),
+        None => line.add("a pass is out"),
+    }
 }

@@ -1,4 +1,5 @@
 //! The lines of a table of cases.
+use crate::given::number_of;
 use std::alloc::{AllocError, Global};
 
 /// A text that cases name.
@@ -59,6 +60,7 @@ impl<'a> Table<'a> {
         match first {
             "text" => self.add_text(rest),
             "|" => self.add_line(rest),
+            "*" => self.add_lines(rest),
             "case" => self.add_case(number, rest, true),
             "!case" => self.add_case(number, rest, false),
             // what comes where memory is refused; tools/refusals states it in the place of what else comes
@@ -80,6 +82,19 @@ impl<'a> Table<'a> {
         };
         text.text.push_str(line)?;
         text.text.push('\n')?;
+        Ok(true)
+    }
+
+    /// A number, and a line that is added as often.
+    fn add_lines(&mut self, rest: &str) -> Result<bool, AllocError> {
+        let Some((count, line)) = rest.split_once(' ') else {
+            return Ok(false);
+        };
+        for _ in 0..number_of(count) {
+            if !self.add_line(line)? {
+                return Ok(false);
+            }
+        }
         Ok(true)
     }
 

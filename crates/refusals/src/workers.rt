@@ -59,7 +59,7 @@ fn answer(given: &Given, run: &FleetRun, line: &mut Line) -> Result<bool, AllocE
 }
 
 /// Adds whether the entries are a run.
-fn add_verdict(given: &Given, entries: &Entries, line: &mut Line) -> Result<(), AllocError> {
+pub fn add_verdict(given: &Given, entries: &Entries, line: &mut Line) -> Result<(), AllocError> {
     match check(given.alloc, given.scenario, entries.as_slice())? {
         Verdict::Run => line.add("a run"),
         Verdict::NotRun(_) => line.add("not a run"),

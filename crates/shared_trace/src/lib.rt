@@ -7,6 +7,7 @@ mod claims;
 mod entries;
 mod job;
 mod next;
+mod pages;
 mod start;
 mod station;
 mod tables;

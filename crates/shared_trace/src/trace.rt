@@ -17,6 +17,7 @@ ghost use Rattle.shared_trace.specs.declared.station.Place.{Place};
 use crate::claims::Claim;
 use crate::entries::EntryIter;
 use crate::job::Job;
+use crate::pages::Pages;
 use crate::start::start_stations;
 use crate::station::{Place, Station, any_out, count_ended, first_left, look_from, lowest_ready};
 use crate::tables::{TABLE, add_posts};
@@ -34,7 +35,7 @@ use trace_file::{Entries, Entry};
 pub struct Trace {
     alloc: Global,
     subject: Snapshot<Scenario>,
-    entries: Vec<Entry>,
+    entries: Pages,
     stations: Vec<Station>,
     posts: Vec<u32>,
     /// Each device before this one is at the end of its row.
@@ -60,12 +61,12 @@ impl Model for Trace {
 
     ghost view = { λ t. record {
       subject = t.subject.value;
-      entries = t.entries.items;
+      entries = t.entries.held;
       places = places_of t.stations.items;
       stopped = t.stopped;
     } };
 
-    ghost invariant = { λ t. IsTrace t.subject.value t.entries.items t.stations.items t.posts.items
+    ghost invariant = { λ t. IsTrace t.subject.value t.entries.held t.stations.items t.posts.items
         × AreEnded t.stations.items t.low × AreIdle (λ g. slice_index t.posts.items g) t.stations.items t.first };
 }
 
@@ -93,10 +94,11 @@ impl Trace {
         let _rows = scenario.rows();
         let stations = start_stations(alloc, scenario)?;
         let posts = vec![in alloc; 0u32; TABLE]?;
+        let entries = Pages::new(alloc)?;
         Ok(Trace {
             alloc,
             subject: Snapshot::of(scenario),
-            entries: Vec::new(alloc),
+            entries,
             stations,
             posts,
             low: 0,
@@ -121,16 +123,42 @@ impl Trace {
         ensures entries { result ≡ self.now.entries }
         ensures shared { IsShared self.now }
     {
-        EntryIter {
-            left: self.entries.as_slice(),
-        }
+        self.entries.iter()
     }
 
-    /// The entries, with their memory.
-    pub fn into_entries(self) -> Entries
-        ensures { result ≡ self.entries }
+    /// The entries, in one list. Without memory for it the trace comes back.
+    pub fn into_entries(self) -> Result<Entries, (Trace, AllocError)>
+        ensures ok { IfOk result (λ r. r ≡ self.entries) }
+        ensures back { IfErr result (λ e. e.0 ≡ self) }
     {
-        Entries::from_vec(self.entries)
+        let Trace {
+            alloc,
+            subject,
+            entries,
+            stations,
+            posts,
+            low,
+            first,
+            last,
+            stopped,
+        } = self;
+        match entries.into_vec() {
+            Ok(entries) => Ok(Entries::from_vec(entries)),
+            Err((entries, fault)) => {
+                let trace = Trace {
+                    alloc,
+                    subject,
+                    entries,
+                    stations,
+                    posts,
+                    low,
+                    first,
+                    last,
+                    stopped,
+                };
+                Err((trace, fault))
+            }
+        }
     }
 
     /// Stops the trace: each later claim answers so.
@@ -243,14 +271,14 @@ impl Trace {
             place,
             known,
             posted,
-            mut entries,
+            entries,
             machine,
             next,
             spent,
         } = job;
-        match self.entries.append(&mut entries) {
+        match self.entries.append(entries) {
             Ok(()) => {}
-            Err(fault) => {
+            Err((entries, fault)) => {
                 let job = Job {
                     alloc,
                     claimed,

@@ -10,8 +10,8 @@ pub fn steps<T: Logged>()
     ensures { Law T.log }
 {}
 
-/// A lock has two worker numbers, and its tickets end at 2^63 - 1.
+/// A lock has the worker numbers 1 to 64, and its tickets end at 2^63 - 1.
 pub fn limits()
-    ensures numbers { NUMBERS ≡ 2 }
+    ensures numbers { NUMBERS ≡ 64 }
     ensures last { LAST + 1 ≡ 2 ^ 63 }
 {}

@@ -8,7 +8,7 @@ use std::collections::LinkedList;
 use std::snapshot::Snapshot;
 
 /// How many worker numbers a lock has. The first pass holds the numbers from 1 up to it. `laws::limits` says it.
-pub const NUMBERS: u16 = 2;
+pub const NUMBERS: u16 = 64;
 
 /// The end of the tickets, 2^63 - 1: the last one that is drawn is one less. `laws::limits` says it.
 pub const LAST: u64 = 9223372036854775807;

@@ -5,6 +5,7 @@
 mod board;
 mod claims;
 mod items;
+mod parts;
 mod shown;
 mod work;
 

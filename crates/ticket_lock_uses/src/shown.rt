@@ -4,6 +4,7 @@ ghost use Rattle.std.specs.Thread.{IsSync};
 use crate::board::Board;
 use crate::claims::claim;
 use crate::items::Items;
+use crate::parts::parted;
 use crate::work::{add, two};
 use std::alloc::{AllocError, Global};
 use std::io;
@@ -37,7 +38,7 @@ fn is_claimed_once<R: Wait>(rt: &R, alloc: Global) -> Result<bool, AllocError> {
     Ok(first == Some(0) && second.is_none())
 }
 
-/// Splits the pass of a lock, and then a half of it: whether the halves have one number each, and can't be split.
+/// Splits the pass of a lock, and then the part with the lowest number: whether that can't be split.
 fn is_split_once(alloc: Global) -> Result<bool, AllocError> {
     let (lock, pass) = TicketLock::new(Items::new(alloc), alloc)?;
     let Ok((one, two)) = pass.split(&lock) else {
@@ -63,6 +64,17 @@ fn is_closed_by_all(alloc: Global) -> Result<bool, AllocError> {
     let pass = one.join(&lock, two);
     match lock.close(pass) {
         Ok(items) => Ok(items.as_slice().is_empty()),
+        Err(_) => Ok(false),
+    }
+}
+
+/// Splits the pass of a lock until each part has one number, and joins the parts: whether there were 64, and the lock
+/// can be closed then.
+fn is_parted(alloc: Global) -> Result<bool, AllocError> {
+    let (lock, pass) = TicketLock::new(Items::new(alloc), alloc)?;
+    let (pass, parts) = parted(&lock, pass);
+    match lock.close(pass) {
+        Ok(items) => Ok(parts == 64 && items.as_slice().is_empty()),
         Err(_) => Ok(false),
     }
 }
@@ -96,5 +108,10 @@ pub fn show<R: Threads + Wait + Sync + Print>(rt: &R, alloc: Global) -> io::Resu
         rt,
         "a lock whose pass is split is not closed by a half",
         is_closed_by_all(alloc)?,
+    )?;
+    say(
+        rt,
+        "a pass has 64 parts, which are all of it when joined",
+        is_parted(alloc)?,
     )
 }

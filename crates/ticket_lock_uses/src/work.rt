@@ -68,7 +68,7 @@ pub fn add_all<R: Wait>(
     (pass, numbers.len())
 }
 
-/// Two threads add to one list, each under a number of its own. The answer has the list, and how many each added.
+/// Two threads add to one list, under the numbers 1 and 2. The answer has the list, and how many each added.
 pub fn two<R: Threads + Wait + Sync>(
     rt: &R,
     alloc: Global,
@@ -95,9 +95,9 @@ pub fn two<R: Threads + Wait + Sync>(
         { add_all(rt, shared, one, first) },
         move || -> (Pass<Items>, usize)
             requires { IsSync R.row × IsPass (lock_id shared.now) two × ((pass_view two).low ≡ 2)
-                × ((pass_view two).count ≡ 1) × ((pass_view two).front ≡ []) }
+                × ((pass_view two).count ≡ 63) × ((pass_view two).front ≡ []) }
             ensures { IsPass (lock_id shared.entry.now) result.0 × ((pass_view result.0).low ≡ 2)
-                × ((pass_view result.0).count ≡ 1)
+                × ((pass_view result.0).count ≡ 63)
                 × (own items_log 2 (pass_view result.0).front ≡ by_worker 2 (take result.1 second.entry.now)) }
         { add_all(rt, shared, two, second) },
     );

@@ -2,10 +2,10 @@ use Rattle.std.proofs.Common.{subst}
 use Rattle.fleet_workers.specs.Knowing.{IsDone}
 use Rattle.fleet_workers.specs.Fleet.{HasEnded}
 use Rattle.fleet_workers.proofs.Ending.{fleet_run}
-use Rattle.fleet_workers.proofs.fleet.complete_run.Goals as goal
+use Rattle.fleet_workers.proofs.fleet.outcome.Goals as goal
 
 pub returns-in-Done-clause-run : goal.returns-in-Done-clause-run
 returns-in-Done-clause-run c =
     let done : IsDone c.args.scenario.now c.args.entries =
     subst (HasEnded c.args.scenario.now c.args.entries) c.in-Done.is c.requires.ended in
-    fleet_run c.args.scenario.now c.args.entries _ c.requires.workers done.complete done.ended
+    fleet_run c.args.scenario.now c.args.workers c.args.entries _ c.requires.by_workers done.complete done.ended

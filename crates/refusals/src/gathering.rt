@@ -1,0 +1,67 @@
+//! `into_entries TEXT`: the entries of the run that worker 1 makes, in one list. A trace that was refused memory comes
+//! back, and is asked again.
+ghost use Rattle.std.specs.Prelude.{◌≡◌, Some};
+ghost use Rattle.ticket_lock.specs.Names.{lock_id, pass_view, IsPass};
+
+use crate::given::Given;
+use crate::jobs::locked;
+use crate::line::Line;
+use crate::marks::Marks;
+use crate::workers::add_verdict;
+use fleet_workers::{OpenGate, worker_loop};
+use scenario_image::Scenario;
+use shared_trace::Trace;
+use std::alloc::AllocError;
+use std::sync::Wait;
+use ticket_lock::{Pass, TicketLock};
+use trace_file::Entries;
+
+/// The trace, once worker 1 has made the rest of the run.
+pub fn ended<R: Wait>(
+    rt: &R,
+    lock: TicketLock<Trace>,
+    pass: Pass<Trace>,
+    scenario: &Scenario,
+) -> Option<Trace>
+    requires pass { IsPass (lock_id lock) pass }
+    requires subject { (pass_view pass).subject ≡ Some scenario.now }
+{
+    let (pass, _) = worker_loop(rt, &lock, pass, scenario, 16, &OpenGate);
+    lock.close(pass).ok()
+}
+
+/// The entries of a trace.
+pub fn gathered(trace: Trace) -> Result<Entries, AllocError> {
+    match trace.into_entries() {
+        Ok(entries) => Ok(entries),
+        Err((_, fault)) => Err(fault),
+    }
+}
+
+/// Adds how many entries there are, and whether they are a run.
+pub fn add_run(given: &Given, entries: &Entries, line: &mut Line) -> Result<(), AllocError> {
+    line.add_count("entries", entries.len() as u64)?;
+    add_verdict(given, entries, line)
+}
+
+pub fn gather<R: Wait>(
+    rt: &R,
+    given: &Given,
+    marks: &mut Marks,
+    line: &mut Line,
+) -> Result<(), AllocError> {
+    let (lock, pass) = locked(given.alloc, given.scenario)?;
+    let Some(trace) = ended(rt, lock, pass, given.scenario) else {
+        return line.add("a pass is out");
+    };
+    marks.begin();
+    let entries = trace.into_entries();
+    marks.end();
+    match entries {
+        Ok(entries) => add_run(given, &entries, line),
+        Err((trace, _)) => {
+            line.add("memory, then")?;
+            add_run(given, &gathered(trace)?, line)
+        }
+    }
+}
