@@ -5,6 +5,7 @@
 
 LWBENCH is the built program, crates/lwbench/out/lwbench. Each row of the table that is printed is a run of `debug` with
 the row's commands behind those that come before them, less a run with the latter alone: the least of TIMES rounds (3).
+The first row is a run of `check` with the same files, the second one of `debug` without commands.
 The script stops if a run does not end with status 0 and the answers that it has to give. runs.py writes the scenario.
 """
 import os
@@ -19,6 +20,7 @@ LAST = DEVICES - 1
 
 # What a row shows: the commands before it with their answers, and its own, each so many times.
 TO_END = [(f"forward {TOTAL}", f"at {TOTAL}", 1)]
+TO_MIDDLE = [(f"forward {TOTAL // 2}", f"at {TOTAL // 2}", 1)]
 NEAR_END = [(f"forward {TOTAL - 10_000}", f"at {TOTAL - 10_000}", 1)]
 ROWS = [
     ("at", [], [("at", "at 0", 10_000)]),
@@ -28,7 +30,8 @@ ROWS = [
     ("forward 1, from the start", [], [("forward 1", "at {}", 10_000)]),
     ("forward 1, to the end", NEAR_END, [("forward 1", "at {}", 10_000)]),
     ("forward, over all", [], TO_END),
-    ("back 1, from the end", TO_END, [("back 1", "at {}", 100)]),
+    ("back 1, from the end", TO_END, [("back 1", "at {}", 10_000)]),
+    ("back 1, from the middle", TO_MIDDLE, [("back 1", "at {}", 10_000)]),
     ("back, over all", TO_END, [(f"back {TOTAL}", "at 0", 1)]),
     ("resume, to the end", [], [("resume", f"end at {TOTAL}", 1)]),
     ("resume, to a place at the end", [], [(f"break at {TOTAL}", "break 1", 1), ("resume", f"break 1 at {TOTAL}", 1)]),
@@ -75,7 +78,10 @@ def main():
             out.write(image([mixed(EACH)] * DEVICES))
         once([program, "run", files[0], "--trace", files[1]], f"done {TOTAL}\n")
         opened, memory = least(program, files, [], times)
-        rows = [["open", "1", ms(opened), ms(opened), f"{memory:.0f}"]]
+        checks = [once([program, "check", *files], "run\n") for _ in range(times)]
+        checked, most = min(it[1] for it in checks), max(it[2] for it in checks) / 1024
+        rows = [["check", "1", ms(checked), ms(checked), f"{most:.0f}"],
+                ["open", "1", ms(opened), ms(opened), f"{memory:.0f}"]]
         for name, before, own in ROWS:
             first, _ = least(program, files, before, times) if before else (opened, 0)
             whole, memory = least(program, files, before + own, times)

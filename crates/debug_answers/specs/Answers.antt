@@ -2,14 +2,14 @@
 use Rattle.std.specs.Prelude.{◌≡◌, ℕ, ◌+◌, ◌-◌, ◌<◌, ◌≤◌, List, length, codes}
 use Rattle.debugger.specs.declared.breaks.Break.{Break}
 use Rattle.debugger.specs.declared.breaks.Stop.{Stop}
-use Rattle.debugger.specs.Session.{Session, at_place}
+use Rattle.debugger.specs.Session.{Session, at_place, with_replayed}
 use Rattle.debugger.specs.Stops.{IsNextStop}
 use Rattle.debugger.specs.Breaks.{IsTaken, AreAllTaken, IsAdded, IsRemoved}
 use Rattle.debug_answers.specs.Lines.{line, at_line, break_line, cleared_line, stop_line}
 
--- the place is now this one, and is said
+-- the place is now this one, and is said; how many steps the move took is kept, and not said
 pub record IsMoved (old new : Session) (to : ℕ) (text : List ℕ) : Type 0 where
-  pub new_place : new ≡ at_place old to
+  pub new_place : new ≡ with_replayed (at_place old to) new.replayed
   pub said : text ≡ at_line to
 
 -- nothing changed, and these words are said

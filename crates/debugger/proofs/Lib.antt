@@ -1,7 +1,10 @@
 pub mod Runs
 pub mod Rows
 pub mod Moving
+pub mod Copying
+pub mod Totals
 pub mod Counting
+pub mod Replaying
 pub mod Numbers
 pub mod Marking
 pub mod Changing

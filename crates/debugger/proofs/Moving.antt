@@ -1,9 +1,8 @@
 -- The devices that a move replaces.
 use Rattle.std.proofs.Common.{◌≡◌, ℕ, zero, suc, ◌+◌, ◌<◌, ◌≤◌, ◌⊎◌, inl, inr, List, [], ◌∷◌, ◌++◌, length, take, set}
 use Rattle.std.proofs.Common.{get_or, Option, None, Some, slice_get, slice_index, refl, sym, ap, subst, ◌∙◌, arith}
-use Rattle.std.proofs.Common.{length-append}
-use Rattle.std.proofs.lemmas.Bool.{cases_lt}
-use Rattle.std.proofs.lemmas.List.{length-set, take_all, take_at, take-take}
+use Rattle.std.proofs.lemmas.Bool.{cases_eq, cases_lt}
+use Rattle.std.proofs.lemmas.List.{length-set}
 use Rattle.std.proofs.lemmas.Option.{slice_get_within, slice_get_read}
 use Rattle.device_machine.specs.State.{Device}
 use Rattle.scenario_image.specs.Scenario.{Row, Scenario, IsGoodRow, IsValid}
@@ -12,7 +11,8 @@ use Rattle.fleet_core.specs.Run.{steps_in, step_at, made_by, IsRun}
 use Rattle.fleet_core.specs.Board.{ShowsAfter}
 use Rattle.fleet_core.proofs.Valid.{all_at}
 use Rattle.debugger.specs.Session.{AreAt, AreCounted}
-use Rattle.debugger.specs.Moves.{HasSteps, IsMoved, AreMoved, placed}
+use Rattle.debugger.specs.declared.moves.Moved.{Moved}
+use Rattle.debugger.specs.Moves.{HasSteps, IsMoved, IsAmong, IsReady, AreMoved}
 use Rattle.debugger.proofs.Runs.{has_steps}
 use Rattle.debugger.proofs.Rows.{some_at}
 
@@ -26,35 +26,95 @@ counted_steps s es n made run counted d within = subst (HasSteps s d) (sym (coun
 
 -- ---- one device more
 
-pushed : {X : Type 0} (xs : List X) (y : X) (k : ℕ) (x : X) → slice_get (xs ++ y ∷ []) k ≡ Some x
+pub pushed : {X : Type 0} (xs : List X) (y : X) (k : ℕ) (x : X) → slice_get (xs ++ y ∷ []) k ≡ Some x
     → (slice_get xs k ≡ Some x) ⊎ ((k ≡ length xs) × (y ≡ x))
 pushed [] y zero x h = let e : Some y ≡ Some x = h in inr (refl, cc)
 pushed [] y (suc k) x h = let e : None ≡ Some x = h in absurd cc
 pushed (z ∷ xs) y zero x h = inl h
 pushed (z ∷ xs) y (suc k) x h = elim (pushed xs y k x h) [ inl g ↦ inl g | inr g ↦ inr (ap suc g.0, g.1) ]
 
-pub none_moved : (s : Scenario) (made counts : List ℕ) (moved : List (Option Device)) → moved ≡ []
-    → AreMoved s made counts moved
-none_moved s made counts moved e =
-    subst (AreMoved s made counts) (sym e) (record { each = λ d o h. let g : None ≡ Some o = h in absurd cc })
+at_end : {X : Type 0} (xs : List X) (x : X) → slice_get (xs ++ x ∷ []) (length xs) ≡ Some x
+at_end [] x = refl
+at_end (y ∷ ys) x = at_end ys x
 
-moved_at : (s : Scenario) (made counts : List ℕ) (moved : List (Option Device)) (n d : ℕ) (y o : Option Device)
-    → AreMoved s made counts moved → length moved ≡ n → IsMoved s n (slice_index made n) (slice_index counts n) y
-    → (slice_get moved d ≡ Some o) ⊎ ((d ≡ length moved) × (y ≡ o))
-    → IsMoved s d (slice_index made d) (slice_index counts d) o
-moved_at s made counts moved n d y o before count here (inl h) = before.each d o h
-moved_at s made counts moved n d y o before count here (inr h) =
-    subst (λ p. IsMoved s d (slice_index made d) (slice_index counts d) p) h.1
-    (subst (λ i. IsMoved s i (slice_index made i) (slice_index counts i) y) (sym (h.0 ∙ count)) here)
+get_before : {X : Type 0} (xs : List X) (y : X) (k : ℕ) (x : X) → slice_get xs k ≡ Some x
+    → slice_get (xs ++ y ∷ []) k ≡ Some x
+get_before [] y k x h = let e : None ≡ Some x = h in absurd cc
+get_before (z ∷ xs) y zero x h = h
+get_before (z ∷ xs) y (suc k) x h = get_before xs y k x h
 
-pub more_moved : (s : Scenario) (made counts : List ℕ) (moved more : List (Option Device)) (n : ℕ) (y : Option Device)
-    → AreMoved s made counts moved → length moved ≡ n → IsMoved s n (slice_index made n) (slice_index counts n) y
-    → more ≡ moved ++ y ∷ [] → AreMoved s made counts more
-more_moved s made counts moved more n y before count here is =
-    subst (AreMoved s made counts) (sym is)
-    (record { each = λ d o h. moved_at s made counts moved n d y o before count here (pushed moved y d o h) })
+pub none_moved : (s : Scenario) (counts : List ℕ) (devices : List Device) (moved : List Moved) → moved ≡ []
+    → AreMoved s counts devices 0 moved
+none_moved s counts devices moved e =
+    subst (AreMoved s counts devices 0) (sym e) (record {
+      each = λ i m h. let g : None ≡ Some m = h in absurd cc;
+      rest = λ d x less at. absurd (omega (arith, less));
+    })
 
--- ---- what each place has after the move
+rest_same : (s : Scenario) (made counts : List ℕ) (devices : List Device) (moved : List Moved) (n d : ℕ) (x : Device)
+    → AreMoved s counts devices n moved → AreAt s made devices → slice_index made n ≡ slice_index counts n → d < n + 1
+    → slice_get devices d ≡ Some x → (d < n) ⊎ (n ≤ d) → ShowsAfter s d (slice_index counts d) x ⊎ IsAmong moved d
+rest_same s made counts devices moved n d x before at same less h (inl low) = before.rest d x low h
+rest_same s made counts devices moved n d x before at same less h (inr high) =
+    let last : n ≡ d = omega (arith, less, high) in
+    inl (subst (λ k. ShowsAfter s d k x) (subst (λ j. slice_index made j ≡ slice_index counts j) last same)
+    (at.each d x h))
+
+-- a device that has made as many steps as it is to make
+pub moved_same : (s : Scenario) (made counts : List ℕ) (devices : List Device) (moved : List Moved) (n : ℕ)
+    → AreMoved s counts devices n moved → AreAt s made devices → slice_index made n ≡ slice_index counts n
+    → AreMoved s counts devices (n + 1) moved
+moved_same s made counts devices moved n before at same = record {
+  each = before.each;
+  rest = λ d x less h. rest_same s made counts devices moved n d x before at same less h (cases_lt d n);
+}
+
+ready_is : (s : Scenario) (counts : List ℕ) (places n steps : ℕ) (y : Moved)
+    → IsMoved s n (slice_index counts n) steps y → n < places → IsReady s counts places y
+ready_is s counts places n steps y is less = record {
+  within = omega (arith, is.device, less);
+  shows = subst (λ j. ShowsAfter s j (slice_index counts j) y.machine) (sym is.device) is.shows;
+}
+
+each_more : (s : Scenario) (counts : List ℕ) (places : ℕ) (moved : List Moved) (y m : Moved) (i : ℕ)
+    → ((k : ℕ) (o : Moved) → slice_get moved k ≡ Some o → IsReady s counts places o) → IsReady s counts places y
+    → (slice_get moved i ≡ Some m) ⊎ ((i ≡ length moved) × (y ≡ m)) → IsReady s counts places m
+each_more s counts places moved y m i before here (inl h) = before i m h
+each_more s counts places moved y m i before here (inr h) = subst (IsReady s counts places) h.1 here
+
+among_more : (moved : List Moved) (y : Moved) (d : ℕ) → IsAmong moved d → IsAmong (moved ++ y ∷ []) d
+among_more moved y d is = record {
+  index = is.index;
+  one = is.one;
+  stands = get_before moved y is.index is.one is.stands;
+  own = is.own;
+}
+
+still : (s : Scenario) (counts : List ℕ) (moved : List Moved) (d : ℕ) (x : Device) (y : Moved)
+    → ShowsAfter s d (slice_index counts d) x ⊎ IsAmong moved d
+    → ShowsAfter s d (slice_index counts d) x ⊎ IsAmong (moved ++ y ∷ []) d
+still s counts moved d x y (inl shows) = inl shows
+still s counts moved d x y (inr among) = inr (among_more moved y d among)
+
+rest_more : (s : Scenario) (counts : List ℕ) (devices : List Device) (moved : List Moved) (n d : ℕ) (y : Moved)
+    (x : Device) → AreMoved s counts devices n moved → y.device ≡ n → d < n + 1 → slice_get devices d ≡ Some x
+    → (d < n) ⊎ (n ≤ d) → ShowsAfter s d (slice_index counts d) x ⊎ IsAmong (moved ++ y ∷ []) d
+rest_more s counts devices moved n d y x before own less h (inl low) =
+    still s counts moved d x y (before.rest d x low h)
+rest_more s counts devices moved n d y x before own less h (inr high) =
+    let last : n ≡ d = omega (arith, less, high) in
+    inr (record { index = length moved; one = y; stands = at_end moved y; own = own ∙ last })
+
+-- one that is replaced
+pub moved_more : (s : Scenario) (counts : List ℕ) (devices : List Device) (moved more : List Moved) (n steps : ℕ)
+    (y : Moved) → AreMoved s counts devices n moved → n < length devices
+    → IsMoved s n (slice_index counts n) steps y → more ≡ moved ++ y ∷ [] → AreMoved s counts devices (n + 1) more
+moved_more s counts devices moved more n steps y before within is added =
+    subst (AreMoved s counts devices (n + 1)) (sym added) (record {
+      each = λ i m h. each_more s counts (length devices) moved y m i before.each
+          (ready_is s counts (length devices) n steps y is within) (pushed moved y i m h);
+      rest = λ d x less h. rest_more s counts devices moved n d y x before is.device less h (cases_lt d n);
+    })
 
 pub get-set_same : {X : Type 0} (xs : List X) (i : ℕ) (y : X) → i < length xs → slice_get (set xs i y) i ≡ Some y
 get-set_same [] i y h = absurd (omega (arith, h))
@@ -69,140 +129,68 @@ get-set_other (z ∷ zs) zero (suc j) y h = refl
 get-set_other (z ∷ zs) (suc i) zero y h = refl
 get-set_other (z ∷ zs) (suc i) (suc j) y h = get-set_other zs i j y (λ e. h (ap suc e))
 
-placed_shows : (s : Scenario) (d from to : ℕ) (m : Option (Option Device)) (old : Option Device) (x : Device)
-    → (m ≡ None → ⊥)
-    → ((o : Option Device) → m ≡ Some o → IsMoved s d from to o) → ((y : Device) → old ≡ Some y → ShowsAfter s d from y)
-    → placed m old ≡ Some x → ShowsAfter s d to x
-placed_shows s d from to None old x there moved shows h = absurd (there refl)
-placed_shows s d from to (Some None) old x there moved shows h =
-    let same : from ≡ to = moved None refl in subst (λ k. ShowsAfter s d k x) same (shows x h)
-placed_shows s d from to (Some (Some y)) old x there moved shows h =
-    let e : Some y ≡ Some x = h in let same : y ≡ x = cc in subst (ShowsAfter s d to) same (moved (Some y) refl)
-
-not_none : {X : Type 0} (xs : List X) (i : ℕ) → i < length xs → slice_get xs i ≡ None → ⊥
-not_none xs i h e = let found = some_at xs i h in let f : Some found.0 ≡ None = sym found.1 ∙ e in cc
-
--- the devices after a move
-pub moved_are : (s : Scenario) (made counts : List ℕ) (devices new : List Device) (moved : List (Option Device))
-    → AreAt s made devices
-    → AreMoved s made counts moved → length moved ≡ length devices → length new ≡ length devices
-    → ((d : ℕ) → d < length devices → slice_get new d ≡ placed (slice_get moved d) (slice_get devices d))
-    → AreAt s counts new
-moved_are s made counts devices new moved at are rows count each = record {
-  each = λ d x h.
-      let within : d < length devices = omega (arith, slice_get_within new d x h, count) in
-      placed_shows s d (slice_index made d) (slice_index counts d) (slice_get moved d) (slice_get devices d) x
-      (not_none moved d (omega (arith, within, rows))) (λ o. are.each d o) (λ y. at.each d y) (sym (each d within) ∙ h);
-}
-
 -- ---- one place after another, from the last
 
-at_end : {X : Type 0} (xs : List X) (x : X) → slice_get (xs ++ x ∷ []) (length xs) ≡ Some x
-at_end [] x = refl
-at_end (y ∷ ys) x = at_end ys x
+among_less : (now rest : List Moved) (o : Moved) (d : ℕ) → now ≡ rest ++ o ∷ [] → (o.device ≡ d → ⊥)
+    → (is : IsAmong now d) → (slice_get rest is.index ≡ Some is.one) ⊎ ((is.index ≡ length rest) × (o ≡ is.one))
+    → IsAmong rest d
+among_less now rest o d added other is (inl h) =
+    record { index = is.index; one = is.one; stands = h; own = is.own }
+among_less now rest o d added other is (inr h) = absurd (other (ap (λ m. m.device) h.1 ∙ is.own))
 
-get_taken : {X : Type 0} (xs : List X) (n i : ℕ) (x : X) → slice_get (take n xs) i ≡ Some x → slice_get xs i ≡ Some x
-get_taken [] zero i x h = let e : None ≡ Some x = h in absurd cc
-get_taken [] (suc n) i x h = let e : None ≡ Some x = h in absurd cc
-get_taken (y ∷ ys) zero i x h = let e : None ≡ Some x = h in absurd cc
-get_taken (y ∷ ys) (suc n) zero x h = h
-get_taken (y ∷ ys) (suc n) (suc i) x h = get_taken ys n i x h
+left_still : (s : Scenario) (counts : List ℕ) (now rest : List Moved) (o : Moved) (d : ℕ) (x : Device)
+    → now ≡ rest ++ o ∷ [] → (o.device ≡ d → ⊥) → ShowsAfter s d (slice_index counts d) x ⊎ IsAmong now d
+    → ShowsAfter s d (slice_index counts d) x ⊎ IsAmong rest d
+left_still s counts now rest o d x added other (inl shows) = inl shows
+left_still s counts now rest o d x added other (inr is) =
+    inr (among_less now rest o d added other is
+    (pushed rest o is.index is.one (ap (λ l. slice_get l is.index) (sym added) ∙ is.stands)))
 
-pub record AreSettled (old : List Device) (all now : List (Option Device)) (devices : List Device) : Type 0 where
-  pub left : now ≡ take (length now) all
-  pub rows : length all ≡ length old
-  pub count : length devices ≡ length old
-  pub room : length now ≤ length old
-  pub before : (d : ℕ) → d < length now → slice_get devices d ≡ slice_get old d
-  pub after : (d : ℕ) → length now ≤ d → d < length old
-      → slice_get devices d ≡ placed (slice_get all d) (slice_get old d)
+left_rest : (s : Scenario) (counts : List ℕ) (devices : List Device) (now rest : List Moved) (o : Moved) (d : ℕ)
+    (x : Device) → AreMoved s counts devices (length devices) now → now ≡ rest ++ o ∷ []
+    → IsReady s counts (length devices) o → slice_get (set devices o.device o.machine) d ≡ Some x
+    → (o.device ≡ d) ⊎ (o.device ≡ d → ⊥) → ShowsAfter s d (slice_index counts d) x ⊎ IsAmong rest d
+left_rest s counts devices now rest o d x are added ready h (inl own) =
+    let room : d < length devices = let less : o.device < length devices = ready.within in omega (arith, less, own) in
+    let e : Some o.machine ≡ Some x =
+    sym (ap (λ j. slice_get (set devices j o.machine) d) own ∙ get-set_same devices d o.machine room) ∙ h in
+    let same : o.machine ≡ x = cc in
+    inl (subst (ShowsAfter s d (slice_index counts d)) same
+    (subst (λ j. ShowsAfter s j (slice_index counts j) o.machine) own ready.shows))
+left_rest s counts devices now rest o d x are added ready h (inr other) =
+    let old : slice_get devices d ≡ Some x = sym (get-set_other devices o.device d o.machine other) ∙ h in
+    left_still s counts now rest o d x added other (are.rest d x (slice_get_within devices d x old) old)
 
-pub settled_start : (old : List Device) (all : List (Option Device)) → length all ≡ length old
-    → AreSettled old all all old
-settled_start old all rows = record {
-  left = sym (take_all (length all) all (omega arith));
-  rows = rows;
-  count = refl;
-  room = omega (arith, rows);
-  before = λ d less. refl;
-  after = λ d past within. absurd (omega (arith, past, within, rows));
+-- with one put in its place
+pub settled_one : (s : Scenario) (counts : List ℕ) (devices : List Device) (now rest : List Moved) (o : Moved)
+    → AreMoved s counts devices (length devices) now → now ≡ rest ++ o ∷ []
+    → AreMoved s counts (set devices o.device o.machine) (length (set devices o.device o.machine)) rest
+settled_one s counts devices now rest o are added =
+    let ready = are.each (length rest) o (ap (λ l. slice_get l (length rest)) added ∙ at_end rest o) in
+    record {
+      each = λ i m h. subst (λ n. IsReady s counts n m) (sym (length-set devices o.device o.machine))
+          (are.each i m (ap (λ l. slice_get l i) added ∙ get_before rest o i m h));
+      rest = λ d x less h. left_rest s counts devices now rest o d x are added ready h (cases_eq o.device d);
+    }
+
+-- there is a place for the last one
+pub settled_room : (s : Scenario) (counts : List ℕ) (devices : List Device) (now rest : List Moved) (o : Moved)
+    → AreMoved s counts devices (length devices) now → now ≡ rest ++ o ∷ [] → o.device < length devices
+settled_room s counts devices now rest o are added =
+    (are.each (length rest) o (ap (λ l. slice_get l (length rest)) added ∙ at_end rest o)).within
+
+all_left : (s : Scenario) (counts : List ℕ) (now : List Moved) (d : ℕ) (x : Device) → now ≡ []
+    → ShowsAfter s d (slice_index counts d) x ⊎ IsAmong now d → ShowsAfter s d (slice_index counts d) x
+all_left s counts now d x none (inl shows) = shows
+all_left s counts now d x none (inr is) =
+    let e : None ≡ Some is.one = sym (ap (λ l. slice_get l is.index) none) ∙ is.stands in absurd cc
+
+-- with all in their places
+pub settled_all : (s : Scenario) (counts : List ℕ) (devices : List Device) (now : List Moved)
+    → AreMoved s counts devices (length devices) now → now ≡ [] → AreAt s counts devices
+settled_all s counts devices now are none = record {
+  each = λ d x h. all_left s counts now d x none (are.rest d x (slice_get_within devices d x h) h);
 }
-
--- the last of those that are left
-popped_at : (old : List Device) (all now rest : List (Option Device)) (devices : List Device) (o : Option Device)
-    → AreSettled old all now devices
-    → now ≡ rest ++ o ∷ [] → (slice_get all (length rest) ≡ Some o) × (rest ≡ take (length rest) all)
-popped_at old all now rest devices o are is =
-    let count : length now ≡ length rest + 1 = ap length is ∙ length-append rest (o ∷ []) in
-    let front : take (length rest) now ≡ rest = ap (take (length rest)) is ∙ take_at rest (o ∷ []) (length rest) refl in
-    let back : take (length rest) now ≡ take (length rest) all =
-    ap (take (length rest)) are.left ∙ take-take (length rest) (length now) all (omega (arith, count)) in
-    let read : slice_get now (length rest) ≡ Some o = ap (λ l. slice_get l (length rest)) is ∙ at_end rest o in (
-      get_taken all (length now) (length rest) o (ap (λ l. slice_get l (length rest)) (sym are.left) ∙ read),
-      sym front ∙ back,
-    )
-
-after_same : (old : List Device) (all now rest : List (Option Device)) (devices : List Device) (o : Option Device)
-    → AreSettled old all now devices
-    → now ≡ rest ++ o ∷ [] → o ≡ None → (d : ℕ) → length rest ≤ d → d < length old → (d < length now) ⊎ (length now ≤ d)
-    → slice_get devices d ≡ placed (slice_get all d) (slice_get old d)
-after_same old all now rest devices o are is none d past within (inr more) = are.after d more within
-after_same old all now rest devices o are is none d past within (inl less) =
-    let count : length now ≡ length rest + 1 = ap length is ∙ length-append rest (o ∷ []) in
-    let same : length rest ≡ d = omega (arith, count, past, less) in
-    let there : slice_get all d ≡ Some None =
-    ap (slice_get all) (sym same) ∙ ((popped_at old all now rest devices o are is).0 ∙ ap Some none) in
-    are.before d less ∙ sym (ap (λ m. placed m (slice_get old d)) there)
-
--- a device that stays
-pub settled_same : (old : List Device) (all now rest : List (Option Device)) (devices : List Device) (o : Option Device)
-    → AreSettled old all now devices → now ≡ rest ++ o ∷ [] → o ≡ None → AreSettled old all rest devices
-settled_same old all now rest devices o are is none =
-    let count : length now ≡ length rest + 1 = ap length is ∙ length-append rest (o ∷ []) in
-    record {
-      left = (popped_at old all now rest devices o are is).1;
-      rows = are.rows;
-      count = are.count;
-      room = let room : length now ≤ length old = are.room in omega (arith, count, room);
-      before = λ d less. are.before d (omega (arith, count, less));
-      after = λ d past within. after_same old all now rest devices o are is none d past within
-          (cases_lt d (length now));
-    }
-
-after_new : (old : List Device) (all now rest : List (Option Device)) (devices : List Device) (o : Option Device)
-    (x : Device)
-    → AreSettled old all now devices → now ≡ rest ++ o ∷ [] → o ≡ Some x → (d : ℕ) → length rest ≤ d → d < length old
-    → (d < length now) ⊎ (length now ≤ d)
-    → slice_get (set devices (length rest) x) d ≡ placed (slice_get all d) (slice_get old d)
-after_new old all now rest devices o x are is some d past within (inr more) =
-    let count : length now ≡ length rest + 1 = ap length is ∙ length-append rest (o ∷ []) in
-    get-set_other devices (length rest) d x (λ h. omega (arith, count, more, h)) ∙ are.after d more within
-after_new old all now rest devices o x are is some d past within (inl less) =
-    let count : length now ≡ length rest + 1 = ap length is ∙ length-append rest (o ∷ []) in
-    let same : length rest ≡ d = omega (arith, count, past, less) in
-    let there : slice_get all d ≡ Some (Some x) =
-    ap (slice_get all) (sym same) ∙ ((popped_at old all now rest devices o are is).0 ∙ ap Some some) in
-    let room : d < length devices = omega (arith, within, are.count) in
-    ap (λ i. slice_get (set devices i x) d) same
-    ∙ (get-set_same devices d x room ∙ sym (ap (λ m. placed m (slice_get old d)) there))
-
--- a device that is replaced
-pub settled_new : (old : List Device) (all now rest : List (Option Device)) (devices : List Device)
-    (o : Option Device) (x : Device)
-    → AreSettled old all now devices → now ≡ rest ++ o ∷ [] → o ≡ Some x
-    → AreSettled old all rest (set devices (length rest) x)
-settled_new old all now rest devices o x are is some =
-    let count : length now ≡ length rest + 1 = ap length is ∙ length-append rest (o ∷ []) in
-    record {
-      left = (popped_at old all now rest devices o are is).1;
-      rows = are.rows;
-      count = length-set devices (length rest) x ∙ are.count;
-      room = let room : length now ≤ length old = are.room in omega (arith, count, room);
-      before = λ d less. get-set_other devices (length rest) d x (λ h. omega (arith, less, h)) ∙ are.before d
-          (omega (arith, count, less));
-      after = λ d past within. after_new old all now rest devices o x are is some d past within
-          (cases_lt d (length now));
-    }
 
 -- ---- the steps that are made
 

@@ -1,5 +1,7 @@
 pub mod Shown
+pub mod Copies
 pub mod Session
+pub mod Replayed
 pub mod Stops
 pub mod Breaks
 pub mod Moves

@@ -7,15 +7,17 @@ use Rattle.trace_file.specs.declared.entry.Entry.{Entry}
 use Rattle.fleet_core.specs.Run.{made_by, IsRun}
 use Rattle.fleet_core.specs.Board.{ShowsAfter}
 use Rattle.debugger.specs.declared.breaks.Break.{Break}
+use Rattle.debugger.specs.declared.copies.Copies.{Copies}
+use Rattle.debugger.specs.Copies.{AreCopied}
 
--- what contracts see of a debugger: the scenario, the run, the place in it, and the breakpoints: that of number i + 1,
--- or
--- none, is at i
+-- what contracts see of a debugger: the scenario, the run, the place in it, the breakpoints (that of number i + 1, or
+-- none, is at i), and how many steps devices made in the last move by a number of entries
 pub record Session : Type 0 where
   pub scenario : Scenario
   pub entries : List Entry
   pub place : ℕ
   pub breaks : List (Option Break)
+  pub replayed : ℕ
 
 -- how many breakpoints there may be
 abbrev pub most_breaks : ℕ
@@ -29,15 +31,38 @@ pub record IsSession (v : Session) : Type 0 where
 
 -- before the first entry, with no breakpoint
 abbrev pub opened : Scenario → List Entry → Session
-opened s es = record { scenario = s; entries = es; place = 0; breaks = replicate most_breaks None }
+opened s es =
+    record { scenario = s; entries = es; place = 0; breaks = replicate most_breaks None; replayed = 0 }
 
 -- the same at another place
 abbrev pub at_place : Session → ℕ → Session
-at_place v n = record { scenario = v.scenario; entries = v.entries; place = n; breaks = v.breaks }
+at_place v n = record {
+  scenario = v.scenario;
+  entries = v.entries;
+  place = n;
+  breaks = v.breaks;
+  replayed = v.replayed;
+}
 
 -- the same with other breakpoints
 abbrev pub with_breaks : Session → List (Option Break) → Session
-with_breaks v breaks = record { scenario = v.scenario; entries = v.entries; place = v.place; breaks = breaks }
+with_breaks v breaks = record {
+  scenario = v.scenario;
+  entries = v.entries;
+  place = v.place;
+  breaks = breaks;
+  replayed = v.replayed;
+}
+
+-- the same with another number of steps
+abbrev pub with_replayed : Session → ℕ → Session
+with_replayed v n = record {
+  scenario = v.scenario;
+  entries = v.entries;
+  place = v.place;
+  breaks = v.breaks;
+  replayed = n;
+}
 
 -- each device is in the state after this many steps of its row
 pub record AreAt (s : Scenario) (made : List ℕ) (devices : List Device) : Type 0 where
@@ -49,12 +74,14 @@ pub record AreCounted (s : Scenario) (es : List Entry) (made : List ℕ) : Type 
   pub is : (d : ℕ) → d < length s.rows → slice_index made d ≡ made_by d es
 
 -- what a debugger keeps: a device for each row, in the state after the steps that it has among the entries before the
--- place
+-- place, and copies of it along all of its entries
 pub record IsKept (s : Scenario) (es : List Entry) (place : ℕ) (made : List ℕ) (devices : List Device)
-    (breaks : List (Option Break)) : Type 0 where
+    (breaks : List (Option Break)) (copies : List Copies) : Type 0 where
   pub run : IsRun s es
   pub within : place ≤ length es
   pub slots : length breaks ≡ most_breaks
   pub counted : AreCounted s (take place es) made
   pub count : length devices ≡ length s.rows
   pub shown : AreAt s made devices
+  pub sources : length copies ≡ length s.rows
+  pub copied : AreCopied s es copies

@@ -4,12 +4,14 @@
 mod best;
 mod breaks;
 mod changes;
+mod copies;
 mod fault;
 mod laws;
 mod moves;
 mod search;
 mod session;
 mod slots;
+mod steps;
 
 pub use breaks::{Break, Stop};
 pub use fault::{AddFault, BackFault, DeviceFault, ForwardFault, OpenFault, RemoveFault};

@@ -1,18 +1,40 @@
 //! How the devices of a debugger are moved to another place of a run.
 
-ghost use Rattle.std.specs.Prelude.{◌≡◌, ℕ, ◌<◌, ◌≤◌, length, take, slice_get, slice_index, IfOk};
-ghost use Rattle.std.specs.Prelude.{OnOk};
-ghost use Rattle.device_machine.specs.State.{Device};
+ghost use Rattle.std.specs.Prelude.{◌≡◌, ℕ, ◌-◌, ◌%◌, ◌<◌, ◌≤◌, length, take, slice_index, IfOk};
 ghost use Rattle.fleet_core.specs.Run.{IsRun};
 ghost use Rattle.fleet_core.specs.Board.{ShowsAfter};
+ghost use Rattle.debugger.specs.Copies.{HasCopies, AreCopiedTo};
 ghost use Rattle.debugger.specs.Session.{AreAt, AreCounted};
-ghost use Rattle.debugger.specs.Moves.{HasSteps, IsMoved, AreMoved, placed};
+ghost use Rattle.debugger.specs.Replayed.{steps_between};
+ghost use Rattle.debugger.specs.Moves.{HasSteps, IsMoved, AreMoved, steps_of};
 
+use crate::copies::{COPY_STEPS, Copies, copy_at};
+use crate::steps::advance;
 use device_machine::Device;
-use fleet_core::{count_entries, make_step, start_of_row, step_of};
+use fleet_core::count_entries;
 use scenario_image::Scenario;
 use std::alloc::{AllocError, Global};
 use trace_file::Entry;
+
+/// A device that is to take the place of another.
+#[derive(Drop)]
+pub(crate) struct Moved {
+    /// Its row.
+    pub(crate) device: u16,
+    /// The device.
+    pub(crate) machine: Device,
+    /// How many steps it made for this move.
+    pub(crate) steps: u64,
+}
+
+/// The devices that a move to another place changes.
+#[derive(Drop)]
+pub(crate) struct Moves {
+    /// Those that take the places of others.
+    pub(crate) moved: Vec<Moved>,
+    /// How many steps they made for it together.
+    pub(crate) steps: u64,
+}
 
 /// How many entries the device of each row has among the first ones, up to the place.
 pub(crate) fn count_rows(
@@ -90,30 +112,7 @@ pub(crate) fn counts_at(
     Ok(counts)
 }
 
-/// Lets a device that has made the first steps of its row make those up to the last of these numbers.
-fn advance(
-    alloc: Global,
-    scenario: &Scenario,
-    machine: &mut Device,
-    device: u16,
-    from: u32,
-    to: u32,
-) -> Result<(), AllocError>
-    requires shows { ShowsAfter scenario.now device from machine.old }
-    requires order { from ≤ to }
-    requires row { HasSteps scenario.now device to }
-    ensures { OnOk result (ShowsAfter scenario.now device to machine.new) }
-{
-    for place in from..to {
-        let Some(step) = step_of(scenario, device, place) else {
-            unreachable!()
-        };
-        let _outputs = make_step(alloc, scenario, machine, device, place, step)?;
-    }
-    Ok(())
-}
-
-/// The device after its first steps: a copy of it that goes on, or one that starts anew.
+/// A copy of a device that has made the first steps of its row, after those up to the last of these numbers.
 fn device_after(
     alloc: Global,
     scenario: &Scenario,
@@ -121,85 +120,133 @@ fn device_after(
     device: u16,
     from: u32,
     to: u32,
-) -> Result<Device, AllocError>
+) -> Result<Moved, AllocError>
     requires shows { ShowsAfter scenario.now device from machine.now }
+    requires order { from ≤ to }
+    requires row { HasSteps scenario.now device to }
+    ensures { IfOk result (λ m. IsMoved scenario.now device to (to - from) m) }
+{
+    let mut later = machine.copy()?;
+    let steps = advance(alloc, scenario, &mut later, device, from, to)?;
+    Ok(Moved {
+        device,
+        machine: later,
+        steps,
+    })
+}
+
+/// The device of a row after its first steps: the latest of its copies that is not after them goes on.
+fn device_before(
+    alloc: Global,
+    scenario: &Scenario,
+    copies: &[Device],
+    device: u16,
+    to: u32,
+) -> Result<Moved, AllocError>
     requires device { device < length scenario.now.rows }
     requires row { HasSteps scenario.now device to }
-    ensures { IfOk result (λ x. ShowsAfter scenario.now device to x) }
+    requires copied { HasCopies scenario.now device to copies.now }
+    ensures { IfOk result (λ m. IsMoved scenario.now device to (to % 64) m) }
 {
-    if from <= to {
-        let mut later = machine.copy()?;
-        advance(alloc, scenario, &mut later, device, from, to)?;
-        return Ok(later);
-    }
-    let mut anew = start_of_row(scenario, device)?;
-    advance(alloc, scenario, &mut anew, device, 0, to)?;
-    Ok(anew)
+    let number = to / COPY_STEPS;
+    let mut earlier = copy_at(scenario, copies, device, number)?;
+    let steps = advance(
+        alloc,
+        scenario,
+        &mut earlier,
+        device,
+        COPY_STEPS * number,
+        to,
+    )?;
+    Ok(Moved {
+        device,
+        machine: earlier,
+        steps,
+    })
 }
 
 /// The device that takes the place of one that has made another number of steps.
 fn moved_device(
     alloc: Global,
     scenario: &Scenario,
+    copies: &[Device],
     machine: &Device,
     device: u16,
     from: u64,
     to: u64,
-) -> Result<Option<Device>, AllocError>
+) -> Result<Moved, AllocError>
+    requires copied { HasCopies scenario.now device to copies.now }
     requires shows { ShowsAfter scenario.now device from machine.now }
     requires device { device < length scenario.now.rows }
     requires first { HasSteps scenario.now device from }
     requires last { HasSteps scenario.now device to }
-    ensures { IfOk result (λ o. IsMoved scenario.now device from to o) }
+    ensures { IfOk result (λ m. IsMoved scenario.now device to (steps_between from to) m) }
 {
-    if from == to {
-        return Ok(None);
-    }
     let _rows = scenario.rows();
-    let moved = device_after(alloc, scenario, machine, device, from as u32, to as u32)?;
-    Ok(Some(moved))
+    if from <= to {
+        let later = device_after(alloc, scenario, machine, device, from as u32, to as u32)?;
+        return Ok(later);
+    }
+    let earlier = device_before(alloc, scenario, copies, device, to as u32)?;
+    Ok(earlier)
 }
 
 /// The devices that take the place of those that have made another number of steps.
 pub(crate) fn moved_devices(
     alloc: Global,
     scenario: &Scenario,
+    copies: &[Copies],
     devices: &[Device],
     made: &[u64],
     counts: &[u64],
-) -> Result<Vec<Option<Device>>, AllocError>
+) -> Result<Moves, AllocError>
+    requires copied { AreCopiedTo scenario.now counts.now copies.now }
+    requires sources { length copies.now ≡ length scenario.now.rows }
     requires shown { AreAt scenario.now made.now devices.now }
     requires rows { length devices.now ≡ length scenario.now.rows }
     requires from { length made.now ≡ length scenario.now.rows }
     requires to { length counts.now ≡ length scenario.now.rows }
     requires first { (d : ℕ) → d < length scenario.now.rows → HasSteps scenario.now d (slice_index made.now d) }
     requires last { (d : ℕ) → d < length scenario.now.rows → HasSteps scenario.now d (slice_index counts.now d) }
-    ensures count { IfOk result (λ v. length v.items ≡ length scenario.now.rows) }
-    ensures moved { IfOk result (λ v. AreMoved scenario.now made.now counts.now v.items) }
+    ensures moved { IfOk result (λ v. AreMoved scenario.now counts.now devices.now (length devices.now) v.moved.items) }
+    ensures steps { IfOk result (λ v. v.steps ≡ steps_of made.now counts.now (length scenario.now.rows)) }
 {
     let rows = scenario.rows();
-    let mut moved = Vec::with_capacity(alloc, rows)?;
+    let mut moved = Vec::new(alloc);
+    let mut steps = 0;
     for device in 0..rows {
-        let machine = &devices[device];
         let from = made[device];
         let to = counts[device];
-        let next = moved_device(alloc, scenario, machine, device as u16, from, to)?;
+        if from == to {
+            continue;
+        }
+        let kept = &copies[device];
+        let sources = kept.devices.as_slice();
+        let machine = &devices[device];
+        let next = moved_device(alloc, scenario, sources, machine, device as u16, from, to)?;
+        steps += next.steps;
         moved.push(next)?;
     }
-    Ok(moved)
+    Ok(Moves { moved, steps })
 }
 
 /// Puts the moved devices in the places of others.
-pub(crate) fn settle(devices: &mut Vec<Device>, mut moved: Vec<Option<Device>>)
-    requires { length moved.items ≡ length devices.old.items }
+pub(crate) fn settle(
+    _scenario: &Scenario,
+    _counts: &[u64],
+    devices: &mut Vec<Device>,
+    mut moved: Vec<Moved>,
+)
+    requires { AreMoved _scenario.now _counts.now devices.old.items (length devices.old.items) moved.items }
     ensures count { length devices.new.items ≡ length devices.old.items }
-    ensures each { (d : ℕ) → d < length devices.old.items
-        → slice_get devices.new.items d ≡ placed (slice_get moved.items d) (slice_get devices.old.items d) }
+    ensures shown { AreAt _scenario.now _counts.now devices.new.items }
 {
     while let Some(next) = moved.pop() {
-        let at = moved.len();
-        if let Some(machine) = next {
-            devices[at] = machine;
-        }
+        let Moved {
+            device,
+            machine,
+            steps: _,
+        } = next;
+        devices[usize::from(device)] = machine;
     }
 }

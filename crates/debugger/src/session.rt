@@ -1,11 +1,12 @@
-ghost use Rattle.std.specs.Prelude.{◌≡◌, ℕ, ◌+◌, ◌-◌, ◌<◌, ◌≤◌, ◌↔◌, length, slice_get, Some, None, Err, IsTrue, IfOk};
-ghost use Rattle.std.specs.Prelude.{IfSome, OnOk, OnErr};
+ghost use Rattle.std.specs.Prelude.{◌≡◌, ℕ, ◌+◌, ◌-◌, ◌*◌, ◌<◌, ◌≤◌, ◌↔◌, length, slice_get, Some, None, Err, IsTrue};
+ghost use Rattle.std.specs.Prelude.{IfOk, IfSome, OnOk, OnErr};
 ghost use Rattle.std.specs.Option.{option_copied};
 ghost use Rattle.std.specs.Result.{IsOk, IsErr};
 ghost use Rattle.fleet_core.specs.Run.{made_by, IsRun};
 ghost use Rattle.fleet_core.specs.Verdict.{BreaksAt};
 ghost use Rattle.debugger.specs.Shown.{latest, value_shown, observations_shown, outputs_shown};
-ghost use Rattle.debugger.specs.Session.{IsSession, opened, at_place};
+ghost use Rattle.debugger.specs.Session.{IsSession, opened, at_place, with_replayed};
+ghost use Rattle.debugger.specs.Replayed.{devices_between, steps_to};
 ghost use Rattle.debugger.specs.Stops.{Holds, IsNextStop};
 ghost use Rattle.debugger.specs.Breaks.{IsTaken, AreAllTaken, IsAdded, IsRemoved};
 ghost use Rattle.debugger.specs.Searches.{IsFound, IsBest};
@@ -13,8 +14,9 @@ ghost use Rattle.debugger.specs.Searches.{IsFound, IsBest};
 use crate::best::Best;
 use crate::breaks::{Break, Stop};
 use crate::changes::next_change;
+use crate::copies::{Copies, all_copies};
 use crate::fault::{AddFault, BackFault, DeviceFault, ForwardFault, OpenFault, RemoveFault};
-use crate::moves::{count_rows, counts_at, moved_devices, settle};
+use crate::moves::{Moves, count_rows, counts_at, moved_devices, settle};
 use crate::search::{change_in, next_mark};
 use crate::slots::{free_slot, is_taken, no_breaks};
 use device_machine::{Device, Output};
@@ -28,8 +30,9 @@ use std::marker::Model;
 use trace_file::{Entries, Entry};
 
 /// A debugger over a run: it stands at a place, from 0 to the count of the entries, and shows each device as it is
-/// after
-/// the entries before the place, in their order. Contracts see the scenario, the run, the place and the breakpoints.
+/// after the entries before the place, in their order. It keeps a copy of each device after each 64 of its entries, so
+/// that a move back makes few steps. Contracts see the scenario, the run, the place, the breakpoints, and how many
+/// steps devices made in the last move by a number of entries.
 #[derive(Drop)]
 pub struct Debugger<'a> {
     alloc: Global,
@@ -39,6 +42,8 @@ pub struct Debugger<'a> {
     made: Vec<u64>,
     devices: Vec<Device>,
     breaks: Vec<Option<Break>>,
+    copies: Vec<Copies>,
+    replayed: u64,
 }
 
 impl<'a> Model for Debugger<'a> {
@@ -55,9 +60,11 @@ impl<'a> Model for Debugger<'a> {
       entries = b.entries;
       place = b.place;
       breaks = b.breaks.items;
+      replayed = b.replayed;
     } };
 
-    ghost invariant = { λ b. IsKept b.scenario.now b.entries b.place b.made.items b.devices.items b.breaks.items };
+    ghost invariant = { λ b. IsKept b.scenario.now b.entries b.place b.made.items b.devices.items b.breaks.items
+        b.copies.items };
 }
 
 /// The outputs of the device's latest entry; none before its first one.
@@ -96,6 +103,7 @@ impl<'a> Debugger<'a> {
         let devices = start_devices(alloc, scenario)?;
         let made = count_rows(alloc, scenario, entries.as_slice(), 0)?;
         let breaks = no_breaks(alloc)?;
+        let copies = all_copies(alloc, scenario, entries.as_slice())?;
         Ok(Debugger {
             alloc,
             scenario,
@@ -104,6 +112,8 @@ impl<'a> Debugger<'a> {
             made,
             devices,
             breaks,
+            copies,
+            replayed: 0,
         })
     }
 
@@ -115,10 +125,18 @@ impl<'a> Debugger<'a> {
         self.place
     }
 
-    /// Moves to another place of the run. Without memory nothing changes.
-    fn go(&mut self, to: usize) -> Result<(), AllocError>
+    /// How many steps devices made in the last call of `forward` or `back` that moved; 0 before the first one.
+    pub fn replayed(&self) -> u64
+        ensures { result ≡ self.now.replayed }
+    {
+        self.replayed
+    }
+
+    /// Moves to another place of the run, and returns how many steps devices made. Without memory nothing changes.
+    fn go(&mut self, to: usize) -> Result<u64, AllocError>
         requires { to ≤ length self.old.entries }
         ensures moved { OnOk result (self.new ≡ at_place self.old to) }
+        ensures steps { IfOk result (λ n. n ≡ steps_to self.old to) }
         ensures unchanged { OnErr result (self.new ≡ self.old) }
     {
         let counts = counts_at(
@@ -129,24 +147,28 @@ impl<'a> Debugger<'a> {
             self.place,
             to,
         )?;
-        let moved = moved_devices(
+        let moves = moved_devices(
             self.alloc,
             self.scenario,
+            self.copies.as_slice(),
             self.devices.as_slice(),
             self.made.as_slice(),
             counts.as_slice(),
         )?;
-        settle(&mut self.devices, moved);
+        let Moves { moved, steps } = moves;
+        settle(self.scenario, counts.as_slice(), &mut self.devices, moved);
         self.made = counts;
         self.place = to;
-        Ok(())
+        Ok(steps)
     }
 
-    /// Moves forward by this many entries.
+    /// Moves forward by this many entries, each of which is one step that is made.
     ///
     /// `PastEnd`: there are fewer after the place. `Memory` leaves the place as it was, too.
     pub fn forward(&mut self, count: usize) -> Result<(), ForwardFault>
-        ensures moved { OnOk result (self.new ≡ at_place self.old (self.old.place + count)) }
+        ensures moved { OnOk result (self.new
+            ≡ with_replayed (at_place self.old (self.old.place + count)) self.new.replayed) }
+        ensures replayed { OnOk result (self.new.replayed ≡ count) }
         ensures past_end { (result ≡ Err ForwardFault.PastEnd) ↔ (length self.old.entries < self.old.place + count) }
         ensures unchanged { OnErr result (self.new ≡ self.old) }
     {
@@ -155,15 +177,21 @@ impl<'a> Debugger<'a> {
             return Err(ForwardFault::PastEnd);
         }
         let to = self.place + count;
-        self.go(to)?;
+        let steps = self.go(to)?;
+        self.replayed = steps;
         Ok(())
     }
 
-    /// Moves back by this many entries.
+    /// Moves back by this many entries. Each device that has one among them starts from its latest copy that is not
+    /// after the new place, or from the start of its row, and so makes at most 63 steps.
     ///
     /// `PastStart`: there are fewer before the place. `Memory` leaves the place as it was, too.
     pub fn back(&mut self, count: usize) -> Result<(), BackFault>
-        ensures moved { OnOk result (self.new ≡ at_place self.old (self.old.place - count)) }
+        ensures moved { OnOk result (self.new
+            ≡ with_replayed (at_place self.old (self.old.place - count)) self.new.replayed) }
+        ensures replayed { OnOk result (self.new.replayed
+            ≤ 63 * devices_between self.old (self.old.place - count) self.old.place) }
+        ensures steps { OnOk result (self.new.replayed ≡ steps_to self.old (self.old.place - count)) }
         ensures past_start { (result ≡ Err BackFault.PastStart) ↔ (self.old.place < count) }
         ensures unchanged { OnErr result (self.new ≡ self.old) }
     {
@@ -171,7 +199,8 @@ impl<'a> Debugger<'a> {
             return Err(BackFault::PastStart);
         }
         let to = self.place - count;
-        self.go(to)?;
+        let steps = self.go(to)?;
+        self.replayed = steps;
         Ok(())
     }
 
@@ -318,7 +347,7 @@ impl<'a> Debugger<'a> {
         ensures unchanged { OnErr result (self.new ≡ self.old) }
     {
         let best = self.next_stop()?;
-        self.go(best.place)?;
+        let _steps = self.go(best.place)?;
         Ok(best.stop)
     }
 }

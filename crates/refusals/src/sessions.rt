@@ -39,13 +39,14 @@ fn open_once(
     }
 }
 
-/// Adds the place, and how many observations the first device has there.
+/// Adds the place, how many observations the first device has there, and how many steps the last move made.
 fn add_place(debugger: &Debugger, line: &mut Line) -> Result<(), AllocError> {
     line.add_count("at", debugger.at() as u64)?;
     match debugger.observations(0) {
-        Ok(observations) => line.add_count("observations", observations.len() as u64),
-        Err(_) => line.add("no device"),
+        Ok(observations) => line.add_count("observations", observations.len() as u64)?,
+        Err(_) => line.add("no device")?,
     }
+    line.add_count("replayed", debugger.replayed())
 }
 
 /// A debugger at the place that is the first word, with a breakpoint at each notification of the first device.

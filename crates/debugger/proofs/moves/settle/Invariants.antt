@@ -1,10 +1,13 @@
--- The places from the end of those that are left are settled.
-use Rattle.std.proofs.Common.{vec_len}
-use Rattle.debugger.proofs.Moving.{AreSettled}
+-- Those that are left go to the places of others, and the rest is settled.
+use Rattle.std.proofs.Common.{◌≡◌, length, vec_len}
+use Rattle.debugger.specs.Moves.{AreMoved}
 use Rattle.debugger.proofs.moves.settle.Given as goal
 
 abbrev pub invariant-loop-next : goal.invariant-loop-next
-invariant-loop-next l = AreSettled l.initial.devices.items l.initial.moved.items l.moved.items l.devices.items
+invariant-loop-next l = record {
+  count : length l.devices.items ≡ length l.initial.devices.items;
+  moved : AreMoved l._scenario l._counts l.devices.items (length l.devices.items) l.moved.items;
+}
 
 abbrev pub decreases-loop-next : goal.decreases-loop-next
 decreases-loop-next l = vec_len l.moved

@@ -7,6 +7,7 @@ pub returns-in-Some-clause-observations : goal.returns-in-Some-clause-observatio
 returns-in-Some-clause-observations c =
     observations_here c.args.self.now c.self.inside.scenario.now c.self.inside.entries c.self.inside.place
     c.args.device c.self.inside.made.items c.self.inside.devices.items c.self.inside.breaks.items
+    c.self.inside.copies.items c.self.inside.replayed
     c.in-Some.machine.now _
     (record { view = c.self.view_is; kept = c.self.invariant }) c.rows-rows.ensures.valid
     (got_at c.self.inside.devices.items c.deref.result.now c.from.result c.args.device c.in-Some.machine.now
@@ -17,6 +18,7 @@ pub returns-in-Some-clause-device : goal.returns-in-Some-clause-device
 returns-in-Some-clause-device c =
     iff_yes refl (row_in c.args.self.now c.self.inside.scenario.now c.self.inside.entries c.self.inside.place
     c.args.device c.self.inside.made.items c.self.inside.devices.items c.self.inside.breaks.items
+    c.self.inside.copies.items c.self.inside.replayed
     (record { view = c.self.view_is; kept = c.self.invariant })
     (slice_get_within c.self.inside.devices.items c.args.device c.in-Some.machine.now
     (got_at c.self.inside.devices.items c.deref.result.now c.from.result c.args.device c.in-Some.machine.now
@@ -26,6 +28,7 @@ pub returns-in-None-clause-device : goal.returns-in-None-clause-device
 returns-in-None-clause-device c =
     iff_no (λ h. cc) (row_out c.args.self.now c.self.inside.scenario.now c.self.inside.entries c.self.inside.place
     c.args.device c.self.inside.made.items c.self.inside.devices.items c.self.inside.breaks.items
+    c.self.inside.copies.items c.self.inside.replayed
     (record { view = c.self.view_is; kept = c.self.invariant })
     (got_none c.self.inside.devices.items c.deref.result.now c.from.result c.args.device c.deref.ensures.value
     c.from.ensures c.in-None.ensures.lookup.0))

@@ -1,0 +1,83 @@
+-- Sums over the numbers below a limit.
+use Rattle.std.proofs.Common.{◌≡◌, ℕ, zero, suc, ◌+◌, ◌*◌, ◌<◌, ◌≤◌, ◌⊎◌, inl, inr, ◌∷◌, [], ◌++◌, refl, sym, ap, subst}
+use Rattle.std.proofs.Common.{◌∙◌, arith, add-one}
+use Rattle.std.specs.List.{range_with_len, sum_by}
+use Rattle.std.proofs.lemmas.Bool.{cases_eq}
+use Rattle.std.proofs.lemmas.List.Sums.{sum_by_push}
+
+-- the sum of a function at the numbers below n
+abbrev pub total : (ℕ → ℕ) → ℕ → ℕ
+total f n = sum_by f (range_with_len 0 n)
+
+range_last : (a n : ℕ) → range_with_len a (suc n) ≡ range_with_len a n ++ (a + n) ∷ []
+range_last a zero = ap (λ k. k ∷ []) (omega arith)
+range_last a (suc n) =
+    ap (λ l. a ∷ l) (range_last (a + 1) n ∙ ap (λ k. range_with_len (a + 1) n ++ k ∷ []) (omega arith))
+
+-- with one number more
+pub total_suc : (f : ℕ → ℕ) (n : ℕ) → total f (suc n) ≡ total f n + f n
+total_suc f n =
+    let z : 0 + n ≡ n = omega arith in
+    ap (sum_by f) (range_last 0 n)
+    ∙ (sum_by_push f (range_with_len 0 n) (0 + n) ∙ ap (λ k. total f n + f k) z)
+
+pub total_more : (f : ℕ → ℕ) (n : ℕ) → total f (n + 1) ≡ total f n + f n
+total_more f n = ap (total f) (add-one n) ∙ total_suc f n
+
+-- functions that agree below n have the same sum
+pub total_same : (f g : ℕ → ℕ) (n : ℕ) → ((d : ℕ) → d < n → f d ≡ g d) → total f n ≡ total g n
+total_same f g zero same = refl
+total_same f g (suc n) same =
+    total_suc f n
+    ∙ (ap (λ k. k + f n) (total_same f g n (λ d less. same d (omega (arith, less))))
+    ∙ (ap (λ k. total g n + k) (same n (omega arith)) ∙ sym (total_suc g n)))
+
+pub total_none : (f : ℕ → ℕ) (n : ℕ) → ((d : ℕ) → d < n → f d ≡ 0) → total f n ≡ 0
+total_none f zero none = refl
+total_none f (suc n) none =
+    let before : total f n ≡ 0 = total_none f n (λ d less. none d (omega (arith, less))) in
+    total_suc f n ∙ (ap (λ k. k + f n) before ∙ (ap (λ k. 0 + k) (none n (omega arith)) ∙ omega arith))
+
+plus_next : (a b x y p q r : ℕ) → p ≡ a + x → q ≡ b + y → a + b ≡ r → p + q ≡ r + (x + y)
+plus_next a b x y p q r e f g = omega arith
+
+-- the sums of two functions are that of what they add up to
+pub total_plus : (f g h : ℕ → ℕ) (n : ℕ) → ((d : ℕ) → d < n → f d + g d ≡ h d) → total f n + total g n ≡ total h n
+total_plus f g h zero adds = refl
+total_plus f g h (suc n) adds =
+    plus_next (total f n) (total g n) (f n) (g n) (total f (suc n)) (total g (suc n)) (total h n) (total_suc f n)
+    (total_suc g n) (total_plus f g h n (λ d less. adds d (omega (arith, less))))
+    ∙ (ap (λ k. total h n + k) (adds n (omega arith)) ∙ sym (total_suc h n))
+
+within_next : (a b x y p q : ℕ) → p ≡ a + x → q ≡ b + y → a ≤ 63 * b → x ≤ 63 * y → p ≤ 63 * q
+within_next a b x y p q e f g h = omega arith
+
+pub total_within : (f g : ℕ → ℕ) (n : ℕ) → ((d : ℕ) → d < n → f d ≤ 63 * g d) → total f n ≤ 63 * total g n
+total_within f g zero within = omega arith
+total_within f g (suc n) within =
+    within_next (total f n) (total g n) (f n) (g n) (total f (suc n)) (total g (suc n)) (total_suc f n) (total_suc g n)
+    (total_within f g n (λ d less. within d (omega (arith, less)))) (within n (omega arith))
+
+next_last : (a x p q : ℕ) → p ≡ a + x → q ≡ a + suc x → q ≡ suc p
+next_last a x p q e f = omega arith
+
+next_before : (a x p q : ℕ) → p ≡ a + x → q ≡ suc a + x → q ≡ suc p
+next_before a x p q e f = omega arith
+
+next_by : (f g : ℕ → ℕ) (n k : ℕ) → ((k : ℕ) → k < n → g k ≡ suc (f k) → ((d : ℕ) → (k ≡ d → ⊥) → g d ≡ f d)
+    → total g n ≡ suc (total f n)) → k < suc n → g k ≡ suc (f k) → ((d : ℕ) → (k ≡ d → ⊥) → g d ≡ f d)
+    → (k ≡ n) ⊎ (k ≡ n → ⊥) → total g (suc n) ≡ suc (total f (suc n))
+next_by f g n k before less here others (inl last) =
+    let same : total g n ≡ total f n = total_same g f n (λ d low. others d (λ e. omega (arith, e, last, low))) in
+    next_last (total f n) (f n) (total f (suc n)) (total g (suc n)) (total_suc f n)
+    (total_suc g n ∙ (ap (λ a. a + g n) same ∙ ap (λ x. total f n + x) (subst (λ j. g j ≡ suc (f j)) last here)))
+next_by f g n k before less here others (inr other) =
+    next_before (total f n) (f n) (total f (suc n)) (total g (suc n)) (total_suc f n)
+    (total_suc g n ∙ (ap (λ a. a + g n) (before k (omega (arith, less, other)) here others)
+    ∙ ap (λ x. suc (total f n) + x) (others n other)))
+
+-- where one number below n counts one more, the sum is one more
+pub total_next : (f g : ℕ → ℕ) (n k : ℕ) → k < n → g k ≡ suc (f k) → ((d : ℕ) → (k ≡ d → ⊥) → g d ≡ f d)
+    → total g n ≡ suc (total f n)
+total_next f g zero k less here others = absurd (omega (arith, less))
+total_next f g (suc n) k less here others = next_by f g n k (total_next f g n) less here others (cases_eq k n)

@@ -1,0 +1,15 @@
+use Rattle.std.proofs.Common.{◌≡◌, subst, arith}
+use Rattle.fleet_core.specs.Board.{ShowsAfter}
+use Rattle.debugger.proofs.steps.advance.Goals as goal
+
+pub returns-clause-shows : goal.returns-clause-shows
+returns-clause-shows c =
+    let same : c.loop-place.place ≡ c.args.to = omega
+    (arith, c.loop-place-test.false, c.loop-place.auto.place-end c.requires.order) in
+    subst (λ k. ShowsAfter c.args.scenario.now c.args.device k c.loop-place.machine) same c.loop-place.invariant.shows
+
+pub returns-clause-count : goal.returns-clause-count
+returns-clause-count c =
+    let same : c.loop-place.place ≡ c.args.to = omega
+    (arith, c.loop-place-test.false, c.loop-place.auto.place-end c.requires.order) in
+    omega (arith, same, c.loop-place.invariant.count)
