@@ -137,6 +137,6 @@ posted_within classes g m (r ∷ rs) good =
     omega (arith, posts_in_within g (m 0) r.steps, good.0.count, posted_within classes g (λ d. m (suc d)) rs good.1)
 
 -- a run makes at most n posts
-pub posts_within : (s : Scenario) (g : ℕ) (es : List Entry) → IsValid s → IsRun s es → posts_of s g es ≤ 16777216
+pub posts_within : (s : Scenario) (g : ℕ) (es : List Entry) → IsValid s → IsRun s es → posts_of s g es ≤ 67108864
 posts_within s g es valid run =
     omega (arith, posts_are s g es run, posted_within s.classes g (λ d. made_by d es) s.rows valid.each, valid.rows)

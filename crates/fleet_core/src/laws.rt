@@ -74,7 +74,7 @@ pub fn counts_add_up()
     ensures posts { (s : Scenario) (g : ℕ) (a : List Entry) (b : List Entry)
         → posts_of s g (a ++ b) ≡ posts_of s g a + posts_of s g b }
     ensures later { (s : Scenario) (g : ℕ) (a : List Entry) (b : List Entry) → posts_of s g a ≤ posts_of s g (a ++ b) }
-    ensures most { (s : Scenario) (g : ℕ) (es : List Entry) → IsValid s → IsRun s es → posts_of s g es ≤ 16777216 }
+    ensures most { (s : Scenario) (g : ℕ) (es : List Entry) → IsValid s → IsRun s es → posts_of s g es ≤ 67108864 }
 {}
 
 /// Entries of one device that continue a run continue each run that has as many entries of the device and at least the

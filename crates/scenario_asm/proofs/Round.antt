@@ -15,7 +15,7 @@ canonical_again s is =
     let first = classes_lead [] s.classes begun refl refl is.built
     (from_none (length s.classes) 256 is.valid.classes) in
     let second = rows_lead s.classes [] s.rows first.0 first.2 first.3 is.valid.each
-    (from_none (length s.rows) 4096 is.valid.rows) in
+    (from_none (length s.rows) 16384 is.valid.rows) in
     canonical s second.0 is (
       begun,
       refl,

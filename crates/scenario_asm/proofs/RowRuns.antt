@@ -217,7 +217,7 @@ row_lines true b h i = absurd cc
 row_lines false true h i = absurd cc
 
 device_lead : (cs : List Template) (rows : List Row) (class : ℕ) (d : Draft) → d.begun ≡ true
-    → closed d ≡ script cs rows → class < length cs → length rows < 4096
+    → closed d ≡ script cs rows → class < length cs → length rows < 16384
     → effect (says.Device class) d ≡ Ok (here cs rows class [])
 device_lead cs rows class d begun same there short =
     ap (λ b. needs b (device_begun class d)) begun
@@ -225,13 +225,13 @@ device_lead cs rows class d begun same there short =
     (record { begun = d.begun; scenario = with_row s class; open_class = None; object = None })) same
     ∙ ap (λ f. unless (option_map scenario_cause f)
     (record { begun = d.begun; scenario = with_row (script cs rows) class; open_class = None; object = None }))
-    (row_lines (nat_le (length cs) class) (nat_le 4096 (length rows)) (few class (length cs) there)
-    (few (length rows) 4096 short))
+    (row_lines (nat_le (length cs) class) (nat_le 16384 (length rows)) (few class (length cs) there)
+    (few (length rows) 16384 short))
     ∙ ap (λ b. Ok (record { begun = b; scenario = with_row (script cs rows) class; open_class = None; object = None }))
     begun
 
 row_lead : (cs : List Template) (rows : List Row) (r : Row) (d : Draft) → d.begun ≡ true → closed d ≡ script cs rows
-    → IsGoodRow cs r → length rows < 4096 → Lead d (of_row r) (shut (script cs (rows ++ r ∷ [])))
+    → IsGoodRow cs r → length rows < 16384 → Lead d (of_row r) (shut (script cs (rows ++ r ∷ [])))
 row_lead cs rows r d begun same good short = (
   here cs rows r.class [],
   device_lead cs rows r.class d begun same (slice_get_within cs r.class good.class good.stated) short,
@@ -240,14 +240,14 @@ row_lead cs rows r d begun same good short = (
 
 -- the statements of rows lead to the scenario that has them
 pub rows_lead : (cs : List Template) (rows todo : List Row) (d : Draft) → d.begun ≡ true → closed d ≡ script cs rows
-    → AllByRecursion (IsGoodRow cs) todo → length rows + length todo ≤ 4096
+    → AllByRecursion (IsGoodRow cs) todo → length rows + length todo ≤ 16384
     → (e : Draft) × Lead d (flat_map of_row todo) e × (e.begun ≡ true) × (closed e ≡ script cs (rows ++ todo))
 rows_lead cs rows [] d begun same good short = (d, refl, begun, same ∙ ap (script cs) (sym (append-nil rows)))
 rows_lead cs rows (r ∷ todo) d begun same good short =
-    let one = row_lead cs rows r d begun same good.0 (has_one (length rows) (length todo) 4096 short) in
+    let one = row_lead cs rows r d begun same good.0 (has_one (length rows) (length todo) 16384 short) in
     let rest = rows_lead cs (rows ++ r ∷ []) todo (shut (script cs (rows ++ r ∷ []))) refl refl good.1
-    (subst (λ n. n + length todo ≤ 4096) (sym (length_push rows r))
-    (one_less (length rows) (length todo) 4096 short)) in (
+    (subst (λ n. n + length todo ≤ 16384) (sym (length_push rows r))
+    (one_less (length rows) (length todo) 16384 short)) in (
       rest.0,
       lead_append d (shut (script cs (rows ++ r ∷ []))) rest.0 (of_row r) (flat_map of_row todo) one rest.1,
       rest.2,

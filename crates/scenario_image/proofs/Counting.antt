@@ -24,9 +24,9 @@ one_row_more rows i row lt item =
 
 -- they are few
 pub few_steps : (s : Scenario) (rows : List Row) (i : ℕ) (row : Row) → rows ≡ s.rows → IsValid s → i < length rows
-    → row ≡ get_or rows i row → sum_by (λ r. length r.steps) (take i rows) + length row.steps ≤ 16777216
+    → row ≡ get_or rows i row → sum_by (λ r. length r.steps) (take i rows) + length row.steps ≤ 67108864
 few_steps s rows i row lent valid lt item =
-    let rows_few : length rows ≤ 4096 = rw lent valid.rows in
+    let rows_few : length rows ≤ 16384 = rw lent valid.rows in
     let each : AllByRecursion (IsGoodRow s.classes) rows =
     subst (λ (rs : List Row). AllByRecursion (IsGoodRow s.classes) rs) (sym lent) valid.each in
     omega (

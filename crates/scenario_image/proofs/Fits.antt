@@ -266,7 +266,7 @@ pub rows_good : (classes : List Template) (rs : List Row) → length classes ≤
     → AllByRecursion (IsGoodRow classes) rs → (rows classes).Good rs
 unfolding rows
 rows_good classes rs few_classes few all = (
-  (number_good w16 (length rs) (omega (arith, few)), lt-ltb (length rs) 4097 (omega (arith, few))),
+  (number_good w16 (length rs) (omega (arith, few)), lt-ltb (length rs) 16385 (omega (arith, few))),
   each_all (row classes) (IsGoodRow classes) (row_good classes few_classes) [] rs all,
 )
 
@@ -274,7 +274,7 @@ pub good_rows : (classes : List Template) (rs : List Row) → (rows classes).Goo
     → (length rs ≤ most_rows) × AllByRecursion (IsGoodRow classes) rs
 unfolding rows
 good_rows classes rs h fits = (
-  (let below : length rs < 4097 = ltb-true (length rs) 4097 h.0.1 in omega arith),
+  (let below : length rs < 16385 = ltb-true (length rs) 16385 h.0.1 in omega arith),
   all_each (row classes) (IsGoodRow classes) (good_row classes) (length rs) [] rs h.1
       (behind_front ((number w16).spell (length rs)) ((each (λ front. row classes) (length rs) []).spell rs) fits),
 )

@@ -83,7 +83,7 @@ pub record IsGoodStep (accounts : List ℕ) (step : Step) : Type 0 where
 
 -- how many rows a scenario may have
 abbrev pub most_rows : ℕ
-most_rows = 4096
+most_rows = 16384
 
 -- how many steps a row may have
 abbrev pub most_steps : ℕ

@@ -96,7 +96,7 @@ impl<'a> PutItems for Rows<'a> {
     }
 }
 
-/// The rows of devices of these classes, at most 4,096, and the bytes after them.
+/// The rows of devices of these classes, at most 16,384, and the bytes after them.
 #[tactic(auto, unfolding(crate::specs::Layout::rows))]
 pub(crate) fn rows_at<'a>(
     alloc: Global,

@@ -15,7 +15,7 @@ use std::marker::Model;
 const MOST_CLASSES: usize = 256;
 
 /// How many rows a scenario may have.
-pub(crate) const MOST_ROWS: u16 = 4096;
+pub(crate) const MOST_ROWS: u16 = 16384;
 
 /// How many steps a row may have.
 pub(crate) const MOST_STEPS: u16 = 4096;
@@ -118,7 +118,7 @@ impl Scenario {
 
     /// Adds the row of a device of the class at this place, without a step, after those that there are.
     ///
-    /// `Missing` (there is no such class), then `Limit`: a scenario has at most 4,096 rows.
+    /// `Missing` (there is no such class), then `Limit`: a scenario has at most 16,384 rows.
     pub fn add_row(&mut self, class: u16) -> Result<(), ScenarioFault>
         ensures added { OnOk result (self.new ≡ with_row self.old class) }
         ensures refused { IfErr result (λ f. f ≢ ScenarioFault.Memory → row_fault self.old class ≡ Some f) }
