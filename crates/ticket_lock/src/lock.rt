@@ -10,6 +10,14 @@ use crossbeam_utils::Backoff;
 use std::alloc::{AllocError, Global};
 use std::snapshot::Snapshot;
 use std::sync::Wait;
+use std::sync::atomic::AtomicU64;
+use std::time::Duration;
+
+/// How many tickets are out when a pass that comes waits without one.
+const CROWD: u64 = 4;
+
+/// For how many milliseconds it sleeps before it looks again.
+const NAP: u64 = 1;
 
 /// A value, and the order in which passes take it.
 #[derive(Drop)]
@@ -70,6 +78,26 @@ impl<T: Logged + Drop> TicketLock<T> {
             seat,
         };
         Ok((TicketLock { table }, pass))
+    }
+
+    // Waits while many tickets are out. Whoever has a ticket keeps all later ones waiting, even while its thread has no
+    // processor; whoever has none keeps nobody waiting. Nothing is known of what it sees.
+    fn stay_outside<R: Wait>(&self, rt: &R) {
+        let shared = &self.table.shared;
+        let backoff = Backoff::new();
+        let asleep = AtomicU64::new(0);
+        for _ in rt.forever() {
+            let served = shared.peek(SERVING) / 2;
+            if shared.peek(NEXT).saturating_sub(served) < CROWD {
+                return;
+            }
+            if backoff.is_completed() {
+                asleep.park_timeout(rt, 0, Duration::from_millis(NAP));
+            } else {
+                backoff.snooze();
+            }
+        }
+        unreachable!()
     }
 
     // Draws a ticket, or finds that none is left.
@@ -151,6 +179,7 @@ impl<T: Logged + Drop> TicketLock<T> {
             count,
             mut seat,
         } = pass;
+        self.stay_outside(rt);
         let Some(ticket) = self.draw(rt, &mut seat) else {
             return Err((Pass { low, count, seat }, Spent));
         };
