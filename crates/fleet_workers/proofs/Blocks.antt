@@ -1,7 +1,7 @@
 -- A worker's own entries, and the blocks that it puts.
 use Rattle.std.proofs.Common.{◌≡◌, ℕ, ◌<◌, ◌≤◌, eqb, cond, false, List, [], ◌∷◌, ◌++◌, length, Some, refl, sym}
 use Rattle.std.proofs.Common.{ap, subst, ◌∙◌, append_assoc, append-nil, arith}
-use Rattle.std.specs.Prelude.{flat_map}
+use Rattle.std.specs.Prelude.{flat_map, Result, Ok, Err, IsOk, IsErr}
 use Rattle.std.specs.List.{AllByRecursion}
 use Rattle.std.proofs.lemmas.Bool.{eq-eqb}
 use Rattle.std.proofs.lemmas.List.{append_cancel_left}
@@ -16,7 +16,7 @@ use Rattle.ticket_lock.specs.Changes.{given, ended}
 use Rattle.ticket_lock.proofs.Logs.{begins_both, every_one}
 use Rattle.shared_trace.specs.declared.claims.Claim.{Claim}
 use Rattle.shared_trace.specs.declared.claims.Claim.TheVariants.{Got, Busy, Done, Stalled, Stopped}
-use Rattle.shared_trace.specs.Trace.{Traced, with_block, trace_log}
+use Rattle.shared_trace.specs.Trace.{Traced, trace_log}
 use Rattle.shared_trace.specs.Job.{Task, IsOf, Advances}
 use Rattle.shared_trace.specs.Claims.{Claims}
 use Rattle.fleet_workers.specs.Blocks.{own_entries, IsBlock, IsPut, HasMade, AreMade, HasPut}
@@ -52,10 +52,10 @@ own_ended n v r is = ap (λ u. own_entries n u.front) is
 
 -- what is put are the worker's own entries
 pub own_block : (w : ℕ) (x y : Traced) (job : Task) → Adds trace_log w x y
-    → y ≡ with_block x job.device job.shown job.entries → own_entries w job.entries ≡ job.entries
+    → y.entries ≡ x.entries ++ job.entries → own_entries w job.entries ≡ job.entries
 own_block w x y job adds put =
     let same : adds.added ≡ job.entries =
-    append_cancel_left x.entries adds.added job.entries (sym adds.entries ∙ ap (λ t. t.entries) put) in
+    append_cancel_left x.entries adds.added job.entries (sym adds.entries ∙ put) in
     own_all w job.entries (subst (AllByRecursion (λ e. e.worker ≡ w)) same adds.by_worker)
 
 -- after a block the worker has it after its own entries
@@ -145,6 +145,13 @@ put_longer s w batch old mid new put begins own =
 pub visit_puts : (s : Scenario) (batch : ℕ) (v r : Seen) → Follows v r
     → own_entries v.low r.front ≡ own_entries v.low v.front → HasPut s v.low batch v.front r.front
 visit_puts s batch v r follows own = put_nothing s v.low batch v.front r.front (follows.added, follows.front) own
+
+-- a visit that puts a block, where it is answered so, and nothing otherwise
+pub block_or_nothing : {A B : Type 0} (s : Scenario) (batch : ℕ) (v r : Seen) (block : List Entry)
+    (answer : Result A B) → Follows v r → (IsOk answer → HasMade s v.low batch v.front block r.front)
+    → (IsErr answer → own_entries v.low r.front ≡ own_entries v.low v.front) → HasPut s v.low batch v.front r.front
+block_or_nothing s batch v r block (Ok a) follows made kept = put_block s v.low batch v.front block r.front (made refl)
+block_or_nothing s batch v r block (Err e) follows made kept = visit_puts s batch v r follows (kept refl)
 
 -- of a pass with numbers one is the lowest
 pub has_low : (v : Seen) → 0 < v.count → HasNumber v v.low

@@ -84,36 +84,51 @@ follows v r inside t x y aware entered is one within adds shared =
           (adds.subject ∙ some_is x.subject s (sym aware.subject ∙ subject)) shared.run;
     })
 
--- what a claim tells a pass that has left the lock since
-pub has_claimed : (v r inside : Seen) (t : ℕ) (x y : Traced) (claim : Claim) → IsAware trace_log x v
-    → inside ≡ arrived trace_log v t x → r ≡ given trace_log inside y
-    → lowest_work r [] ≡ open_by y v.low → Claims x y v.low claim → ClaimStands y v.low claim → HasClaimed r claim
-has_claimed v r inside t x y (Got job) aware entered is work claims stands =
-    let there : r ≡ given trace_log (arrived trace_log v t x) y = is ∙ ap (λ w. given trace_log w y) entered in
-    let front : r.front ≡ y.entries = ap (λ w. w.front) there in
+-- what a claim tells a pass that has left the lock since. The trace was of the pass's scenario at the claim
+pub claim_told : (v r : Seen) (x y : Traced) (claim : Claim) → v.subject ≡ Some x.subject → r.subject ≡ v.subject
+    → r.low ≡ v.low → r.front ≡ y.entries → lowest_work r [] ≡ open_by y v.low → Claims x y v.low claim
+    → ClaimStands y v.low claim → HasClaimed r claim
+claim_told v r x y (Got job) subject same low front work claims stands =
     let left : y.entries ≡ x.entries = ap (λ z. z.entries) claims.taken.left in (
       record {
         front = ([], front ∙ (left ∙ (sym claims.taken.front ∙ sym (append-nil job.front))));
-        subject = ap (λ w. w.subject) there ∙ (aware.subject ∙ ap Some (sym claims.taken.subject));
-        worker = claims.taken.worker ∙ sym (ap (λ w. w.low) there);
+        subject = same ∙ (subject ∙ ap Some (sym claims.taken.subject));
+        worker = claims.taken.worker ∙ sym low;
         stands = subst (λ l. StandsIn l job) (sym work) stands;
       },
       claims.taken.entries,
       claims.taken.ready,
     )
-has_claimed v r inside t x y Busy aware entered is work claims stands = tt
-has_claimed v r inside t x y Done aware entered is work claims stands = λ s subject.
-    let there : r ≡ given trace_log (arrived trace_log v t x) y = is ∙ ap (λ w. given trace_log w y) entered in
-    let front : x.entries ≡ r.front = sym (ap (λ w. w.front) there ∙ ap (λ z. z.entries) claims.0.same) in
-    let same : x.subject ≡ s = some_is x.subject s (sym aware.subject ∙ (sym (ap (λ w. w.subject) there) ∙ subject)) in
-    subst (IsDone s) front (subst (λ k. IsDone k x.entries) same (record { complete = claims.1; ended = claims.2 }))
-has_claimed v r inside t x y Stalled aware entered is work claims stands = λ s subject.
-    let there : r ≡ given trace_log (arrived trace_log v t x) y = is ∙ ap (λ w. given trace_log w y) entered in
-    let front : x.entries ≡ r.front = sym (ap (λ w. w.front) there ∙ ap (λ z. z.entries) claims.0.same) in
-    let same : x.subject ≡ s = some_is x.subject s (sym aware.subject ∙ (sym (ap (λ w. w.subject) there) ∙ subject)) in
-    subst (IsStalled s) front (subst (λ k. IsStalled k x.entries) same
+claim_told v r x y Busy subject same low front work claims stands = tt
+claim_told v r x y Done subject same low front work claims stands = λ s of.
+    let left : x.entries ≡ r.front = sym (front ∙ ap (λ z. z.entries) claims.0.same) in
+    let is : x.subject ≡ s = some_is x.subject s (sym subject ∙ (sym same ∙ of)) in
+    subst (IsDone s) left (subst (λ k. IsDone k x.entries) is (record { complete = claims.1; ended = claims.2 }))
+claim_told v r x y Stalled subject same low front work claims stands = λ s of.
+    let left : x.entries ≡ r.front = sym (front ∙ ap (λ z. z.entries) claims.0.same) in
+    let is : x.subject ≡ s = some_is x.subject s (sym subject ∙ (sym same ∙ of)) in
+    subst (IsStalled s) left (subst (λ k. IsStalled k x.entries) is
     (record { complete = claims.1; device = claims.2.device; waits = claims.2.waits }))
-has_claimed v r inside t x y Stopped aware entered is work claims stands = tt
+claim_told v r x y Stopped subject same low front work claims stands = tt
+
+-- where the pass has claimed from the trace as it found it
+pub has_claimed : (v r inside : Seen) (t : ℕ) (x y : Traced) (claim : Claim) → IsAware trace_log x v
+    → inside ≡ arrived trace_log v t x → r ≡ given trace_log inside y
+    → lowest_work r [] ≡ open_by y v.low → Claims x y v.low claim → ClaimStands y v.low claim → HasClaimed r claim
+has_claimed v r inside t x y claim aware entered is work claims stands =
+    let there : r ≡ given trace_log (arrived trace_log v t x) y = is ∙ ap (λ w. given trace_log w y) entered in
+    claim_told v r x y claim aware.subject (ap (λ w. w.subject) there) (ap (λ w. w.low) there) (ap (λ w. w.front) there)
+    work claims stands
+
+-- where it has put a job before that
+pub claimed_after : (v r inside : Seen) (t : ℕ) (x y : Traced) (job : Task) (claim : Claim) → IsAware trace_log x v
+    → inside ≡ arrived trace_log v t x → r ≡ given trace_log inside y → lowest_work r [] ≡ open_by y v.low
+    → Claims (with_block x job.device job.shown job.entries) y v.low claim → ClaimStands y v.low claim
+    → HasClaimed r claim
+claimed_after v r inside t x y job claim aware entered is work claims stands =
+    let there : r ≡ given trace_log (arrived trace_log v t x) y = is ∙ ap (λ w. given trace_log w y) entered in
+    claim_told v r (with_block x job.device job.shown job.entries) y claim aware.subject (ap (λ w. w.subject) there)
+    (ap (λ w. w.low) there) (ap (λ w. w.front) there) work claims stands
 
 -- the trace that a worker finds takes the job that its pass knows
 pub may_put : (v : Seen) (x : Traced) (job : Task) → IsAware trace_log x v → Knows v job
@@ -130,18 +145,18 @@ may_put v x job aware knows work ready =
       ready = ready;
     }
 
--- after the job was put
+-- after the job was put, and the entries were left so
 pub is_put : (v r inside : Seen) (t : ℕ) (x y : Traced) (job : Task) → IsAware trace_log x v
     → inside ≡ arrived trace_log v t x → r ≡ given trace_log inside y
     → own_entries v.low x.entries ≡ own_entries v.low v.front
-    → y ≡ with_block x job.device job.shown job.entries → IsPut v.low v.front job.entries r.front
+    → y.entries ≡ x.entries ++ job.entries → IsPut v.low v.front job.entries r.front
 is_put v r inside t x y job aware entered is own put =
     let there : r ≡ given trace_log (arrived trace_log v t x) y = is ∙ ap (λ w. given trace_log w y) entered in
     record {
       before = x.entries;
       begins = (aware.after, aware.front);
       others = own;
-      ends = ap (λ w. w.front) there ∙ ap (λ z. z.entries) put;
+      ends = ap (λ w. w.front) there ∙ put;
     }
 
 -- the job has made steps

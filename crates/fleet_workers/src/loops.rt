@@ -1,13 +1,13 @@
 //! The loop of a worker.
 
-ghost use Rattle.std.specs.Prelude.{◌≡◌, ◌≤◌, [], false, List, Some, IfSome, IfNone};
+ghost use Rattle.std.specs.Prelude.{◌≡◌, ◌≤◌, [], false, List, Some, IfOk, IfErr, IsOk};
 ghost use Rattle.ticket_lock.specs.Names.{lock_id, pass_view, IsPass};
 ghost use Rattle.trace_file.specs.declared.entry.Entry.{Entry};
 ghost use Rattle.fleet_workers.specs.Blocks.{HasMade, HasPut};
-ghost use Rattle.fleet_workers.specs.Knowing.{Follows, Knows, EndsAs};
+ghost use Rattle.fleet_workers.specs.Knowing.{Follows, Knows, HasClaimed, EndsAs};
 
 use crate::gate::Gate;
-use crate::visits::{Put, claim_job, put_job, stop_trace};
+use crate::visits::{claim_job, put_and_claim, stop_trace};
 use crossbeam_utils::Backoff;
 use scenario_image::Scenario;
 use shared_trace::{Claim, Job, Trace};
@@ -29,7 +29,8 @@ pub enum LoopEnd {
     Spent,
 }
 
-/// Lets the job's device make steps outside the lock, and puts them. There is an answer if that ends the worker.
+/// Lets the job's device make steps outside the lock, puts them, and claims. The answer is the claim, or why the worker
+/// ends.
 fn make_steps<R: Wait, G: Gate>(
     rt: &R,
     lock: &TicketLock<Trace>,
@@ -38,7 +39,7 @@ fn make_steps<R: Wait, G: Gate>(
     batch: u32,
     gate: &G,
     mut job: Job,
-) -> (Pass<Trace>, Option<LoopEnd>)
+) -> (Pass<Trace>, Result<Claim, LoopEnd>)
     requires pass { IsPass (lock_id lock.now) pass }
     requires subject { (pass_view pass).subject ≡ Some scenario.now }
     requires batch { 1 ≤ batch }
@@ -47,31 +48,51 @@ fn make_steps<R: Wait, G: Gate>(
     requires ready { job.spent ≡ false }
     ensures pass { IsPass (lock_id lock.now) result.0 }
     ensures follows { Follows (pass_view pass) (pass_view result.0) }
-    ensures made { IfNone result.1 ((block : List Entry) × HasMade scenario.now (pass_view pass).low batch
-        (pass_view pass).front block (pass_view result.0).front) }
+    ensures made { IsOk result.1 → (block : List Entry) × HasMade scenario.now (pass_view pass).low batch
+        (pass_view pass).front block (pass_view result.0).front }
+    ensures claimed { IfOk result.1 (λ claim. HasClaimed (pass_view result.0) claim) }
     ensures blocks { HasPut scenario.now (pass_view pass).low batch
         (pass_view pass).front (pass_view result.0).front }
-    ensures end { IfSome result.1 (λ e. EndsAs (pass_view result.0) e) }
+    ensures end { IfErr result.1 (λ e. EndsAs (pass_view result.0) e) }
 {
     gate.pass(pass.number(), job.device());
     match job.advance(&pass, scenario, batch) {
         Ok(()) => {}
         Err(_) => {
             job.abandon();
-            return (stop_trace(rt, lock, pass), Some(LoopEnd::Memory));
+            return (stop_trace(rt, lock, pass), Err(LoopEnd::Memory));
         }
     }
     // (what is known of a job's entries is told where they are asked for)
     let _made = job.entries();
-    let (pass, put) = put_job(rt, lock, pass, job);
-    match put {
-        Put::Made => (pass, None),
-        Put::Memory => (pass, Some(LoopEnd::Memory)),
-        Put::Spent => (pass, Some(LoopEnd::Spent)),
+    put_and_claim(rt, lock, pass, job)
+}
+
+/// Claims where there was nothing to claim, for others have what is left.
+fn claim_again<R: Wait>(
+    rt: &R,
+    lock: &TicketLock<Trace>,
+    pass: Pass<Trace>,
+    scenario: &Scenario,
+    _batch: u32,
+) -> (Pass<Trace>, Result<Claim, LoopEnd>)
+    requires pass { IsPass (lock_id lock.now) pass }
+    ensures pass { IsPass (lock_id lock.now) result.0 }
+    ensures follows { Follows (pass_view pass) (pass_view result.0) }
+    ensures claimed { IfOk result.1 (λ claim. HasClaimed (pass_view result.0) claim) }
+    ensures blocks { HasPut scenario.now (pass_view pass).low _batch
+        (pass_view pass).front (pass_view result.0).front }
+    ensures end { IfErr result.1 (λ e. EndsAs (pass_view result.0) e) }
+{
+    let (pass, claim) = claim_job(rt, lock, pass);
+    match claim {
+        None => (pass, Err(LoopEnd::Spent)),
+        Some(claim) => (pass, Ok(claim)),
     }
 }
 
-/// Claims, and makes the steps of the device that it gets. There is an answer if the worker ends.
+/// Does what the claim says: makes the steps of the device that it got, and claims anew. The answer is the next claim,
+/// or why the worker ends.
 fn one_turn<R: Wait, G: Gate>(
     rt: &R,
     lock: &TicketLock<Trace>,
@@ -80,30 +101,31 @@ fn one_turn<R: Wait, G: Gate>(
     batch: u32,
     gate: &G,
     backoff: &Backoff,
-) -> (Pass<Trace>, Option<LoopEnd>)
+    claim: Claim,
+) -> (Pass<Trace>, Result<Claim, LoopEnd>)
     requires pass { IsPass (lock_id lock.now) pass }
     requires subject { (pass_view pass).subject ≡ Some scenario.now }
     requires batch { 1 ≤ batch }
+    requires claimed { HasClaimed (pass_view pass) claim }
     ensures pass { IsPass (lock_id lock.now) result.0 }
     ensures follows { Follows (pass_view pass) (pass_view result.0) }
+    ensures claimed { IfOk result.1 (λ claim. HasClaimed (pass_view result.0) claim) }
     ensures blocks { HasPut scenario.now (pass_view pass).low batch
         (pass_view pass).front (pass_view result.0).front }
-    ensures end { IfSome result.1 (λ e. EndsAs (pass_view result.0) e) }
+    ensures end { IfErr result.1 (λ e. EndsAs (pass_view result.0) e) }
 {
-    let (pass, claim) = claim_job(rt, lock, pass);
     match claim {
-        None => (pass, Some(LoopEnd::Spent)),
-        Some(Claim::Got(job)) => {
+        Claim::Got(job) => {
             backoff.reset();
             make_steps(rt, lock, pass, scenario, batch, gate, job)
         }
-        Some(Claim::Busy) => {
+        Claim::Busy => {
             backoff.snooze();
-            (pass, None)
+            claim_again(rt, lock, pass, scenario, batch)
         }
-        Some(Claim::Done) => (pass, Some(LoopEnd::Done)),
-        Some(Claim::Stalled) => (pass, Some(LoopEnd::Stalled)),
-        Some(Claim::Stopped) => (pass, Some(LoopEnd::Stopped)),
+        Claim::Done => (pass, Err(LoopEnd::Done)),
+        Claim::Stalled => (pass, Err(LoopEnd::Stalled)),
+        Claim::Stopped => (pass, Err(LoopEnd::Stopped)),
     }
 }
 
@@ -112,7 +134,7 @@ fn one_turn<R: Wait, G: Gate>(
 pub fn worker_loop<R: Wait, G: Gate>(
     rt: &R,
     lock: &TicketLock<Trace>,
-    mut pass: Pass<Trace>,
+    pass: Pass<Trace>,
     scenario: &Scenario,
     batch: u32,
     gate: &G,
@@ -127,11 +149,14 @@ pub fn worker_loop<R: Wait, G: Gate>(
     ensures end { EndsAs (pass_view result.0) result.1 }
 {
     let backoff = Backoff::new();
+    // (it begins as a worker that had nothing to claim)
+    let (mut pass, mut claim) = (pass, Claim::Busy);
     for _ in rt.forever() {
-        let (back, end) = one_turn(rt, lock, pass, scenario, batch, gate, &backoff);
+        let (back, next) = one_turn(rt, lock, pass, scenario, batch, gate, &backoff, claim);
         pass = back;
-        if let Some(end) = end {
-            return (pass, end);
+        match next {
+            Ok(next) => claim = next,
+            Err(end) => return (pass, end),
         }
     }
     unreachable!()

@@ -1,14 +1,16 @@
 //! What a worker does with the trace while it has the lock: it claims, it puts, it stops.
 
-ghost use Rattle.std.specs.Prelude.{◌≡◌, ◌≢◌, ℕ, ◌++◌, true, false, [], IfSome, IfNone};
+ghost use Rattle.std.specs.Prelude.{◌≡◌, ◌≢◌, ℕ, ◌++◌, true, false, [], IfSome, IfNone, IfOk, IfErr, IsOk, IsErr};
 ghost use Rattle.ticket_lock.specs.Log.{Adds};
 ghost use Rattle.ticket_lock.specs.Lock.{HasNumber};
 ghost use Rattle.ticket_lock.specs.Names.{lock_id, pass_view, IsPass};
 ghost use Rattle.shared_trace.specs.Trace.{IsShared, with_block, stopped_of, trace_log};
 ghost use Rattle.shared_trace.specs.Job.{MayPut};
+ghost use Rattle.shared_trace.specs.Claims.{Claims, ClaimStands};
 ghost use Rattle.fleet_workers.specs.Blocks.{own_entries, IsPut};
-ghost use Rattle.fleet_workers.specs.Knowing.{Follows, Knows, HasClaimed};
+ghost use Rattle.fleet_workers.specs.Knowing.{Follows, Knows, HasClaimed, EndsAs};
 
+use crate::loops::LoopEnd;
 use shared_trace::{Claim, Job, Trace};
 use std::sync::Wait;
 use ticket_lock::{Pass, TicketLock};
@@ -95,6 +97,62 @@ pub fn put_job<R: Wait>(
         Err((pass, _)) => {
             job.abandon();
             (pass, Put::Spent)
+        }
+    }
+}
+
+/// Puts the job and claims, or stops the trace if memory runs out. There is an answer if the job was put.
+fn put_then_claim(trace: &mut Trace, worker: u16, job: Job) -> Option<Claim>
+    requires { MayPut trace.old worker job }
+    ensures claims { IfSome result (λ claim.
+        Claims (with_block trace.old job.device job.shown job.entries) trace.new worker claim) }
+    ensures stands { IfSome result (λ claim. ClaimStands trace.new worker claim) }
+    ensures stopped { IfNone result (trace.new ≡ stopped_of trace.old) }
+    ensures adds { Adds trace_log worker trace.old trace.new }
+    ensures shared { IsShared trace.new }
+{
+    if put_or_stop(trace, worker, job) {
+        Some(trace.claim(worker))
+    } else {
+        None
+    }
+}
+
+/// Puts the job under the lowest number of the pass, and claims in the same visit: a worker whose device can go on has
+/// it again, unless a lower one can step. The answer is the claim, or why the worker ends.
+pub fn put_and_claim<R: Wait>(
+    rt: &R,
+    lock: &TicketLock<Trace>,
+    pass: Pass<Trace>,
+    job: Job,
+) -> (Pass<Trace>, Result<Claim, LoopEnd>)
+    requires pass { IsPass (lock_id lock.now) pass }
+    requires knows { Knows (pass_view pass) job }
+    requires ready { job.spent ≡ false }
+    ensures pass { IsPass (lock_id lock.now) result.0 }
+    ensures follows { Follows (pass_view pass) (pass_view result.0) }
+    ensures put { IsOk result.1
+        → IsPut (pass_view pass).low (pass_view pass).front job.entries (pass_view result.0).front }
+    ensures own { IsOk result.1 → own_entries (pass_view pass).low (pass_view result.0).front
+        ≡ own_entries (pass_view pass).low (pass_view pass).front ++ job.entries }
+    ensures claimed { IfOk result.1 (λ claim. HasClaimed (pass_view result.0) claim) }
+    ensures kept { IsErr result.1 → own_entries (pass_view pass).low (pass_view result.0).front
+        ≡ own_entries (pass_view pass).low (pass_view pass).front }
+    ensures end { IfErr result.1 (λ e. EndsAs (pass_view result.0) e) }
+{
+    let worker = pass.number();
+    match lock.take(rt, pass) {
+        Ok(mut held) => {
+            let claim = put_then_claim(held.value_mut(), worker, job);
+            let pass = held.give();
+            match claim {
+                Some(claim) => (pass, Ok(claim)),
+                None => (pass, Err(LoopEnd::Memory)),
+            }
+        }
+        Err((pass, _)) => {
+            job.abandon();
+            (pass, Err(LoopEnd::Spent))
         }
     }
 }

@@ -5,8 +5,8 @@ use crate::given::Given;
 use crate::line::Line;
 use crate::marks::Marks;
 use crate::{
-    building, classes, devices, fleets, gathering, images, jobs, locks, puts, sessions, traces,
-    workers,
+    building, classes, devices, fleets, gathering, images, jobs, lives, locks, puts, sessions,
+    traces, workers,
 };
 use std::alloc::AllocError;
 use std::sync::Wait;
@@ -24,6 +24,7 @@ pub fn ask<R: Threads + Wait + Sync>(
 {
     match call {
         "step" => devices::step(given, marks, line),
+        "serve" => lives::serve(given, marks, line),
         "commit" => fleets::commit(given, marks, line),
         "advance" => jobs::advance(rt, given, marks, line),
         "put" => puts::put(rt, given, marks, line),

@@ -13,6 +13,7 @@ mod given;
 mod images;
 mod jobs;
 mod line;
+mod lives;
 mod locks;
 mod marks;
 mod puts;

@@ -34,8 +34,8 @@ returns-after-put-clause-put g c made =
           is_put v c.give.result.seat.me.0 h.seat.me.0 c.in-Ok.ensures.view.0 h.value new job c.in-Ok.ensures.value
           c.in-Ok.ensures.view.1 c.give.ensures.given
           (c.in-Ok.ensures.own v.low (omega arith, omega (arith, c.args.pass.within.0, c.args.pass.numbers.1)))
-          (c.put_or_stop-put.ensures.put w.if-put.true
-          ∙ ap (λ x. with_block x job.device job.shown job.entries) c.value_mut.ensures.value)
+          (ap (λ t. t.entries) (c.put_or_stop-put.ensures.put w.if-put.true
+          ∙ ap (λ x. with_block x job.device job.shown job.entries) c.value_mut.ensures.value))
       | else-put w ↦ (let e = sym made ∙ w.result-is in absurd cc)
     ]
 
@@ -50,8 +50,8 @@ returns-after-put-clause-own g c made =
           (subst (λ x. Adds trace_log v.low x new) c.value_mut.ensures.value
           (subst (λ n. Adds trace_log n c.value_mut.result.now new) c.number-worker.ensures
           c.put_or_stop-put.ensures.adds))
-          (c.put_or_stop-put.ensures.put w.if-put.true
-          ∙ ap (λ x. with_block x job.device job.shown job.entries) c.value_mut.ensures.value))
+          (ap (λ t. t.entries) (c.put_or_stop-put.ensures.put w.if-put.true
+          ∙ ap (λ x. with_block x job.device job.shown job.entries) c.value_mut.ensures.value)))
       | else-put w ↦ (let e = sym made ∙ w.result-is in absurd cc)
     ]
 
