@@ -38,7 +38,7 @@ fn serve_once(
     let device = Device::start(class)?;
     let mut wire = ScriptedWire::new(alloc, receipts_of(alloc, steps)?, None);
     let readings = readings_of(alloc, steps)?;
-    let turns = readings.len() as u32;
+    let turns = u32::try_from(readings.len()).unwrap_or(u32::MAX);
     let mut clock = ScriptedClock::new(readings);
     marks.begin();
     let session = put_on(alloc, &mut wire, &mut clock, device, turns);
