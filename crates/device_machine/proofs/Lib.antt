@@ -1,5 +1,7 @@
 mod Answering
 mod Counting
+mod Keyed
+mod Lives
 mod Living
 mod Naming
 mod Places

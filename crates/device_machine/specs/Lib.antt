@@ -3,4 +3,5 @@ pub mod Laws
 pub mod Memory
 pub mod Observing
 pub mod Reactions
+pub mod Records
 pub mod State

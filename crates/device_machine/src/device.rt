@@ -105,7 +105,6 @@ impl Device {
         }
         self.spent = true;
         let outputs = self.machine.react(event)?;
-        self.machine.forget(event);
         self.spent = false;
         Ok(outputs)
     }

@@ -8,6 +8,7 @@ mod laws;
 mod machine;
 mod output;
 mod recorded;
+mod records;
 mod reply;
 
 pub use device::Device;

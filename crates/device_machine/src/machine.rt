@@ -7,8 +7,9 @@ ghost use Rattle.device_requests.specs.Client.{with_stored};
 ghost use Rattle.object_defs.specs.Path.{full_path};
 ghost use Rattle.device_machine.specs.Template.{start_of};
 ghost use Rattle.device_machine.specs.Memory.{KeepsRecords, event_grows};
-ghost use Rattle.device_machine.specs.declared.event.Event.TheVariants.{Firmware};
-ghost use Rattle.device_machine.specs.Reactions.{Gives, on_firmware, on_put, on_tick, passes_end, reaction_to};
+ghost use Rattle.device_machine.specs.declared.event.Event.TheVariants.{Firmware, Tick};
+ghost use Rattle.device_machine.specs.Reactions.{Gives, on_firmware, on_put, passes_end};
+ghost use Rattle.device_machine.specs.Records.{remembering};
 ghost use Rattle.device_firmware.specs.Firmware.{firmware_after};
 ghost use Rattle.device_firmware.specs.declared.event.FirmwareEvent.TheVariants.{Ended};
 
@@ -16,10 +17,9 @@ mod notes;
 mod repeats;
 mod requests;
 
-use self::repeats::copy_of;
 use crate::event::Event;
 use crate::output::{Output, Outputs};
-use crate::recorded::Recorded;
+use crate::records::Records;
 use device_notifications::{Outbox, seconds};
 use device_requests::{Act, Client};
 use device_template::{Template, misses};
@@ -30,14 +30,14 @@ use object_defs::{FullPath, Path};
 use std::alloc::{AllocError, Global};
 use std::marker::Model;
 
-/// All that a device keeps. Contracts see it as a flat state.
+/// All that a device keeps. Contracts see it as a flat state, in which each recorded request lives.
 #[derive(Drop)]
 pub(crate) struct Machine {
     client: Client,
     observations: Observations,
     clock: u64,
     next_id: u16,
-    recorded: Vec<Recorded>,
+    recorded: Records,
     alloc: Global,
 }
 
@@ -46,6 +46,7 @@ impl Model for Machine {
     ghost use Rattle.instance_store.specs.Stored.{stored_code};
     ghost use Rattle.device_requests.specs.Client.{attributes_code};
     ghost use Rattle.device_machine.specs.State.{Machine};
+    ghost use Rattle.device_machine.specs.Records.{AllLive};
 
     ghost Value = { Machine };
 
@@ -53,8 +54,10 @@ impl Model for Machine {
 
     ghost view = { λ c. record {
       kept = record { client = c.client; observations = c.observations; clock = c.clock; next_id = c.next_id };
-      recorded = c.recorded.items;
+      recorded = c.recorded;
     } };
+
+    ghost invariant = { λ c. AllLive c.clock c.recorded };
 }
 
 /// Sets a value whose instance is there, and which is not one part too many.
@@ -85,7 +88,7 @@ impl Machine {
             observations: Observations::new(alloc),
             clock: 0,
             next_id: 0,
-            recorded: Vec::new(alloc),
+            recorded: Records::new(alloc),
             alloc,
         })
     }
@@ -99,7 +102,7 @@ impl Machine {
             observations: self.observations.copy()?,
             clock: self.clock,
             next_id: self.next_id,
-            recorded: copy_of(self.alloc, self.recorded.as_slice())?,
+            recorded: self.recorded.copy()?,
             alloc: self.alloc,
         })
     }
@@ -132,10 +135,11 @@ impl Machine {
         self.clock
     }
 
-    /// Lets seconds pass, in each of which the observations have their turns.
+    /// Lets seconds pass, in each of which the observations have their turns. They end the life of
+    /// recorded requests, and those are forgotten.
     fn tick(&mut self, count: u32) -> Result<Outputs, AllocError>
         requires { self.old.kept.clock + count < 2 ^ 63 }
-        ensures gives { IfOk result (λ o. Gives o self.new (on_tick self.old count)) }
+        ensures gives { IfOk result (λ o. Gives o self.new (remembering self.old (Tick count))) }
 
         // Only observations take memory.
         ensures grows { OnErr result (self.old.kept.observations ≢ []) }
@@ -155,6 +159,7 @@ impl Machine {
         let outputs = Outputs::of_datagrams(self.alloc, outbox.into_vec())?;
         self.clock += u64::from(count);
         self.next_id = next_id;
+        self.recorded.forget(self.clock);
         Ok(outputs)
     }
 
@@ -188,10 +193,11 @@ impl Machine {
         Outputs::one(self.alloc, Output::Act(Act::Missed))
     }
 
-    /// Takes an event.
+    /// Takes an event, and forgets the recorded requests that no longer live. Only a tick can end a
+    /// request's life.
     pub(crate) fn react(&mut self, event: &Event) -> Result<Outputs, AllocError>
         requires { IsFalse (passes_end self.old.kept.clock event.now) }
-        ensures gives { IfOk result (λ o. Gives o self.new (reaction_to self.old event.now)) }
+        ensures gives { IfOk result (λ o. Gives o self.new (remembering self.old event.now)) }
         ensures grows { OnErr result (event_grows self.old.kept event.now ≡ true) }
         ensures left { OnErr result (KeepsRecords self.old self.new) }
     {

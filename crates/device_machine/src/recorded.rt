@@ -1,4 +1,4 @@
-ghost use Rattle.std.specs.Prelude.{◌≡◌, IfOk};
+ghost use Rattle.std.specs.Prelude.{◌≡◌};
 
 use coap_codec::Kind;
 use octets::Bytes;
@@ -19,11 +19,10 @@ pub struct Recorded {
     pub reply: Option<Bytes>,
 }
 
-impl Recorded {
-    /// A copy, which equals its source.
-    pub(crate) fn copy(&self) -> Result<Recorded, AllocError>
-        ensures { IfOk result (λ r. r ≡ self.now) }
-    {
+impl Clone for Recorded {
+    ghost is_clone = { λ r s. s ≡ r };
+
+    fn clone(&self) -> Result<Recorded, AllocError> {
         let reply = match &self.reply {
             None => None,
             Some(bytes) => Some(bytes.clone()?),

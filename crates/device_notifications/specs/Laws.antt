@@ -1,8 +1,9 @@
 -- What follows of notifications and their times, in the words of those who observe (RFC 7641; OMA LwM2M 1.1 Core,
 -- attributes).
-use Rattle.std.specs.Prelude.{◌≡◌, ℕ, ◌+◌, ◌%◌, ◌<◌, ◌≤◌, true, false, List, [], ◌∷◌, ◌++◌, length, Option, None, Some}
-use Rattle.std.specs.Prelude.{◌⊎◌}
+use Rattle.std.specs.Prelude.{◌≡◌, ◌≢◌, ℕ, ◌+◌, ◌-◌, ◌%◌, ◌^◌, ◌<◌, ◌≤◌, ◌↔◌, true, false, List, [], ◌∷◌, ◌++◌, length}
+use Rattle.std.specs.Prelude.{Option, None, Some, ◌⊎◌}
 use Rattle.std.specs.List.{AllByRecursion, Contains}
+use Rattle.notifier.specs.Due.{IsFirstDue, IsNeverDue}
 use Rattle.notifier.specs.Observed.{next_number, notified}
 use Rattle.notifier.specs.declared.observation.Observation.{Observation}
 use Rattle.device_requests.specs.Client.{Client}
@@ -10,9 +11,10 @@ use Rattle.device_requests.specs.declared.answer.Answer.{Answer}
 use Rattle.device_notifications.specs.declared.datagram.Datagram.{Datagram}
 use Rattle.device_notifications.specs.Message.{datagram_of}
 use Rattle.device_notifications.specs.Period.{pmin_of, pmax_of}
+use Rattle.device_notifications.specs.Pendings.{AreAtRest, pendings_of}
 use Rattle.device_notifications.specs.Report.{report_of}
 use Rattle.device_requests.specs.Answer.{is_content}
-use Rattle.device_notifications.specs.Second.{age_of, and_then, present, second, seconds, turn_of}
+use Rattle.device_notifications.specs.Second.{age_of, and_then, present, quiet, second, seconds, turn_of}
 
 -- a datagram is a notification that keeps the observation: its present answer, which is content, with the next Observe
 -- number; and pmin seconds or more have passed since the observation's last message
@@ -164,3 +166,40 @@ abbrev pub CountsMessageIds : Type 0
 CountsMessageIds =
     (client : Client) (clock next_id : ℕ) (os : List Observation) → next_id < 65536
     → (second client clock next_id os).next_id ≡ (next_id + length (second client clock next_id os).sent) % 65536
+
+-- seconds in which nothing is due send nothing, and leave the observations and the next message ID as they are
+abbrev pub QuietSecondsChangeNothing : Type 0
+QuietSecondsChangeNothing =
+    (client : Client) (clock n next_id : ℕ) (os : List Observation)
+    → AreAtRest os (pendings_of client os) clock (clock + n) → seconds client clock n next_id os ≡ quiet next_id os
+
+-- a second is the first after this one, below 2^64, in which something is sent; one in which nothing is sent changes
+-- nothing. An observation is removed with a message
+pub record IsFirstSending (client : Client) (now next_id : ℕ) (os : List Observation) (first : ℕ) : Type 0 where
+  pub later : now < first
+  pub fits : first < 2 ^ 64
+  pub sends : (second client first next_id os).sent ≢ []
+  pub quiet_before : (clock : ℕ) → now < clock → clock < first → second client clock next_id os ≡ quiet next_id os
+
+-- that is the second which is found by the present answers
+abbrev pub FindsTheFirstSending : Type 0
+FindsTheFirstSending =
+    (client : Client) (now next_id : ℕ) (os : List Observation) (first : ℕ)
+    → IsFirstDue now os (pendings_of client os) first ↔ IsFirstSending client now next_id os first
+
+-- and where none is found, all seconds below 2^64 are quiet
+abbrev pub FindsNoSending : Type 0
+FindsNoSending =
+    (client : Client) (now next_id : ℕ) (os : List Observation)
+    → IsNeverDue now os (pendings_of client os)
+    ↔ ((clock : ℕ) → now < clock → clock < 2 ^ 64 → second client clock next_id os ≡ quiet next_id os)
+
+-- seconds are the first of them in which something is due, and those after it
+abbrev pub SecondsJump : Type 0
+SecondsJump =
+    (client : Client) (clock n next_id first : ℕ) (os : List Observation)
+    → IsFirstDue clock os (pendings_of client os) first → first ≤ clock + n
+    → seconds client clock n next_id os
+    ≡ and_then (second client first next_id os)
+    (seconds client first (clock + n - first) (second client first next_id os).next_id
+    (second client first next_id os).left)

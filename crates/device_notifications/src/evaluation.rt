@@ -19,7 +19,7 @@ pub enum Evaluation {
 }
 
 /// Whether a payload triggers, compared with what the observation last reported.
-fn triggers_now(client: &Client, observation: &Observation, payload: &[u8]) -> bool
+pub(crate) fn triggers_now(client: &Client, observation: &Observation, payload: &[u8]) -> bool
     ensures { result ≡ triggers_now client.now observation.now payload.now }
 {
     let attributes = client.attributes();

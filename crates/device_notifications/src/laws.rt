@@ -2,6 +2,8 @@
 //! the laws.
 
 ghost use Rattle.device_notifications.specs.Laws.{CountsMessageIds, CountsObserveNumbers, KeepsOrder, SecondsAdd};
+ghost use Rattle.device_notifications.specs.Laws.{FindsNoSending, FindsTheFirstSending, QuietSecondsChangeNothing};
+ghost use Rattle.device_notifications.specs.Laws.{SecondsJump};
 ghost use Rattle.device_notifications.specs.Laws.{SecondsCountObserveNumbers, SecondsSendAfterPmin};
 ghost use Rattle.device_notifications.specs.Laws.{SecondsSendBeforePmax, SendsAfterPmin, SendsBeforePmax};
 
@@ -42,4 +44,23 @@ pub fn counts_message_ids()
 /// n seconds, and m seconds after them, are n + m seconds.
 pub fn seconds_add()
     ensures { SecondsAdd }
+{}
+
+/// Seconds in which nothing is due, by the present answers, send nothing, and leave the observations and
+/// the next message ID as they were.
+pub fn quiet_seconds_change_nothing()
+    ensures { QuietSecondsChangeNothing }
+{}
+
+/// The first second in which something is sent, or an observation is removed, is the one that
+/// `Observations::due` finds by the present answers; all seconds before it, and all where it finds none,
+/// change nothing.
+pub fn due_is_the_first_sending()
+    ensures first { FindsTheFirstSending }
+    ensures none { FindsNoSending }
+{}
+
+/// Seconds in which something is due are the first second in which it is, and those after it.
+pub fn seconds_jump()
+    ensures { SecondsJump }
 {}

@@ -6,6 +6,7 @@ mod evaluation;
 mod laws;
 mod notification;
 mod outbox;
+mod pendings;
 mod period;
 mod report;
 mod sweep;
@@ -13,8 +14,8 @@ mod sweep;
 pub use datagram::Datagram;
 pub use evaluation::Evaluation;
 pub use laws::{
-    counts_message_ids, counts_observe_numbers, keeps_order, seconds_add, sends_after_pmin,
-    sends_before_pmax,
+    counts_message_ids, counts_observe_numbers, due_is_the_first_sending, keeps_order,
+    quiet_seconds_change_nothing, seconds_add, seconds_jump, sends_after_pmin, sends_before_pmax,
 };
 pub use outbox::Outbox;
 pub use period::{pmax_of, pmin_of};

@@ -1,4 +1,5 @@
 -- That what the workers share may cross threads.
+use denote.RattleType.{RattleType}
 use denote.Enum.Declared as E
 use denote.Enum.Enum.{Enum}
 use denote.Param.Send.{IsSend, IsSync, EachSync, enum_sync, recorded_sync, sendable}
@@ -7,9 +8,11 @@ use Rattle.std.proofs.Crossing as std
 use Rattle.std.proofs.MapsCrossing as maps
 use Rattle.octets.specs.contracts.bytes.Bytes as Bytes
 use Rattle.lwm2m_values.specs.contracts.value.Value as Value
-use Rattle.object_defs.specs.contracts.path.FullPath as FullPath
 use Rattle.object_defs.specs.contracts.path.Path as Path
 use Rattle.object_defs.specs.contracts.catalog.Catalog as Catalog
+use Rattle.instance_store.specs.contracts.table.Table as Table
+use Rattle.instance_store.specs.contracts.resource.Resource as Resource
+use Rattle.instance_store.specs.contracts.instance.Instance as Instance
 use Rattle.instance_store.specs.contracts.store.Store as Store
 use Rattle.notifier.specs.contracts.observation.Report as Report
 use Rattle.notifier.specs.contracts.observation.Observation as Observation
@@ -17,6 +20,7 @@ use Rattle.notifier.specs.contracts.observations.Observations as Observations
 use Rattle.notifier.specs.contracts.attributes.Attributes as Attributes
 use Rattle.device_requests.specs.contracts.client.Client as Client
 use Rattle.device_machine.specs.contracts.recorded.Recorded as Recorded
+use Rattle.device_machine.specs.contracts.records.Records as Records
 use Rattle.device_machine.specs.contracts.output.Output as Output
 use Rattle.device_machine.specs.contracts.device.Device as Device
 use Rattle.device_machine.specs.contracts.event.Event as Event
@@ -38,14 +42,20 @@ bytes_send = search (sendable, std.crosses) depth 20
 value_send : IsSend Value.the_row
 value_send = search (sendable, std.crosses, bytes_send) depth 30
 
-full_path_send : IsSend FullPath.the_row
-full_path_send = search sendable depth 30
-
 path_send : IsSend Path.the_row
 path_send = search sendable depth 30
 
+table_send : (T : RattleType) → IsSend T → IsSend (Table.the_row T)
+table_send T s = search (sendable, std.crosses) depth 30 parts 12
+
+resource_send : IsSend Resource.the_row
+resource_send = search (sendable, std.crosses, value_send, table_send) depth 30 parts 12
+
+instance_send : IsSend Instance.the_row
+instance_send = search (sendable, std.crosses, resource_send, table_send) depth 30 parts 12
+
 store_send : IsSend Store.the_row
-store_send = search (sendable, std.crosses, maps.crosses, value_send, full_path_send) depth 30
+store_send = search (sendable, std.crosses, instance_send, table_send) depth 30 parts 12
 
 catalog_send : IsSend Catalog.the_row
 catalog_send = search (sendable, std.crosses) depth 30 parts 12
@@ -64,6 +74,9 @@ report_send = search (sendable, bytes_send) depth 30
 
 recorded_send : IsSend Recorded.the_row
 recorded_send = search (sendable, std.crosses, bytes_send) depth 30
+
+records_send : IsSend Records.the_row
+records_send = search (sendable, std.crosses, maps.crosses, recorded_send) depth 30 parts 12
 
 observation_send : IsSend Observation.the_row
 observation_send =
@@ -88,7 +101,7 @@ client_send : IsSend Client.the_row
 client_send = search (sendable, std.crosses, catalog_send, store_send, attributes_send) depth 30 parts 12
 
 pub device_send : IsSend Device.the_row
-device_send = search (sendable, std.crosses, client_send, observations_send, recorded_send) depth 30 parts 12
+device_send = search (sendable, std.crosses, client_send, observations_send, records_send) depth 30 parts 12
 
 place_send : IsSend Place.the_row
 place_send = search (sendable, device_send) depth 30 parts 12
@@ -114,14 +127,20 @@ end_send = search sendable depth 30
 bytes_sync : IsSync Bytes.the_row
 bytes_sync = search (sendable, std.crosses) depth 20
 
-full_path_sync : IsSync FullPath.the_row
-full_path_sync = search sendable depth 30
-
 value_sync : IsSync Value.the_row
 value_sync = search (sendable, std.crosses, bytes_sync) depth 30
 
+table_sync : (T : RattleType) → IsSync T → IsSync (Table.the_row T)
+table_sync T s = search (sendable, std.crosses) depth 30 parts 12
+
+resource_sync : IsSync Resource.the_row
+resource_sync = search (sendable, std.crosses, value_sync, table_sync) depth 30 parts 12
+
+instance_sync : IsSync Instance.the_row
+instance_sync = search (sendable, std.crosses, resource_sync, table_sync) depth 30 parts 12
+
 store_sync : IsSync Store.the_row
-store_sync = search (sendable, std.crosses, maps.crosses, value_sync, full_path_sync) depth 30
+store_sync = search (sendable, std.crosses, instance_sync, table_sync) depth 30 parts 12
 
 catalog_sync : IsSync Catalog.the_row
 catalog_sync = search (sendable, std.crosses) depth 30 parts 12

@@ -1,11 +1,10 @@
--- A clone of a value is that value.
-use Rattle.std.proofs.Common.{◌≡◌, List, [], ◌∷◌, refl, ap, sym, ◌∙◌, rules}
+-- A clone of a value, and of what a store keeps, is that value.
+use Rattle.std.proofs.Common.{◌≡◌, ℕ, List, [], ◌∷◌, refl, ap, sym, ◌∙◌, rules}
 use Rattle.std.specs.List.{AllZip}
 use Rattle.lwm2m_values.specs.declared.value.Value.{Value}
 use Rattle.lwm2m_values.specs.declared.value.Value.TheVariants.{Text, Whole, Flag, Opaque, Moment, Link}
-use Rattle.instance_store.specs.Numbers.{NumberSet, set_of}
-use Rattle.instance_store.specs.contracts.numbers.NumbersClone.TheImpl.{is_clone-value}
 use Rattle.lwm2m_values.specs.contracts.value.ValueClone.TheImpl.{by_variants}
+use Rattle.instance_store.specs.Table.{table_of}
 
 pub same_list : {X : Type 0} (C : X → X → Type 0) → ((x y : X) → C x y → y ≡ x) → (xs ys : List X) → AllZip C xs ys
     → ys ≡ xs
@@ -23,5 +22,6 @@ same_value (Moment a) (Moment b) h = search rules
 same_value (Link a x) (Link b y) h = search rules
 same_value v w h = absurd h
 
-pub same_numbers : (v w : NumberSet) → is_clone-value.it v w → w ≡ v
-same_numbers v w h = sym h.3 ∙ ap set_of (same_list _ (λ x y k. k) _ _ h.4.0) ∙ h.2
+pub same_table : {X : Type 0} (C : X → X → Type 0) → ((x y : X) → C x y → y ≡ x) → (ns ms : List ℕ) (xs ys : List X)
+    → ms ≡ ns → AllZip C xs ys → table_of ms ys ≡ table_of ns xs
+same_table C same ns ms xs ys e h = ap (λ k. table_of k ys) e ∙ ap (table_of ns) (same_list C same xs ys h)

@@ -1,7 +1,7 @@
 pub mod Answers
 pub mod Clones
-pub mod ContentLaws
 pub mod InstanceLaws
-pub mod Intervals
-pub mod NumberLaws
-pub mod RemovalLaws
+pub mod Nested
+pub mod StoreLaws
+pub mod TableLaws
+pub mod TreeLaws

@@ -1,4 +1,7 @@
 pub mod Existence
+pub mod Lends
 pub mod Listing
-pub mod Numbers
+pub mod Nested
 pub mod Stored
+pub mod Table
+pub mod Tree

@@ -1,13 +1,13 @@
 //! The values of a device: a map from full paths to values, and the instances that there are.
 #![tactic(auto)]
 
-mod contents;
 mod fault;
-mod instances;
+mod instance;
 mod listing;
-mod numbers;
-mod removal;
+mod objects;
+mod resource;
 mod store;
+mod table;
 
 pub use fault::StoreFault;
 pub use store::Store;

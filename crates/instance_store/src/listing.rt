@@ -1,141 +1,118 @@
-ghost use Rattle.std.specs.Prelude.{◌≡◌, ◌==◌, length, map, IfOk};
-ghost use Rattle.std.specs.List.{filter_map, dedup};
-ghost use Rattle.instance_store.specs.Stored.{lies_in, resource_path};
-ghost use Rattle.instance_store.specs.Listing.{lowest_in, listed_in, shown_pairs};
+//! What a store lists, in the order of the full paths.
+ghost use Rattle.std.specs.Prelude.{◌≡◌, ◌++◌, map, OnOk};
+ghost use Rattle.std.specs.FinMap as fin_map;
+ghost use Rattle.instance_store.specs.Listing.{shown_pairs};
+ghost use Rattle.instance_store.specs.Nested.{block, flat};
+ghost use Rattle.instance_store.specs.Stored.{values_in};
+ghost use Rattle.instance_store.specs.Tree.{tree, stored_from, place, path_below};
 
+use crate::instance::Instance;
+use crate::objects::find;
+use crate::table::Table;
 use lwm2m_values::Value;
-use object_defs::{FullPath, Path, ResourcePath};
-use std::alloc::{AllocError, Global};
-use std::collections::BTreeMap;
+use object_defs::{FullPath, InstancePath, Path};
+use std::alloc::AllocError;
 
-/// The least full path at or below a path.
-pub(crate) fn lowest(path: Path) -> FullPath
-    ensures { result ≡ lowest_in path }
+/// Puts the values of an object's instances, with their full paths, after others.
+fn push_object<'a>(
+    found: &mut Vec<(FullPath, &'a Value)>,
+    number: u16,
+    object: &'a Table<Instance>,
+) -> Result<(), AllocError>
+    ensures { OnOk result (shown_pairs found.new.items
+        ≡ shown_pairs found.old.items ++ flat path_below (block place number (fin_map.entries object.now))) }
 {
-    let (object, instance, resource, part) = match path {
-        Path::Object(object) => (object, 0, 0, None),
-        Path::Instance(object, instance) => (object, instance, 0, None),
-        Path::Resource(object, instance, resource) => (object, instance, resource, None),
-        Path::Part(object, instance, resource, part) => (object, instance, resource, Some(part)),
-    };
-    FullPath {
-        object,
-        instance,
-        resource,
-        part,
+    for index in 0..object.len() {
+        let (instance, held) = object.entry(index);
+        let at = InstancePath {
+            object: number,
+            instance,
+        };
+        held.push_values(found, at)?;
     }
+    Ok(())
 }
 
-/// Whether a full path is at or below a path.
-pub(crate) fn is_in(path: Path, place: FullPath) -> bool
-    ensures { result ≡ lies_in path place }
+/// Puts all values, with their full paths, after others.
+pub(crate) fn push_all<'a>(
+    found: &mut Vec<(FullPath, &'a Value)>,
+    objects: &'a Table<Table<Instance>>,
+) -> Result<(), AllocError>
+    ensures { OnOk result (shown_pairs found.new.items
+        ≡ shown_pairs found.old.items ++ fin_map.entries (stored_from objects.now).values) }
+{
+    for index in 0..objects.len() {
+        let (number, object) = objects.entry(index);
+        push_object(found, number, object)?;
+    }
+    Ok(())
+}
+
+/// Puts the values at or below a path, with their full paths, after others.
+pub(crate) fn push_below<'a>(
+    found: &mut Vec<(FullPath, &'a Value)>,
+    objects: &'a Table<Table<Instance>>,
+    path: Path,
+) -> Result<(), AllocError>
+    ensures { OnOk result (shown_pairs found.new.items
+        ≡ shown_pairs found.old.items ++ values_in (stored_from objects.now) path) }
 {
     match path {
-        Path::Object(object) => place.object == object,
-        Path::Instance(object, instance) => place.object == object && place.instance == instance,
+        Path::Object(object) => match objects.get(object) {
+            Some(held) => push_object(found, object, held),
+            None => Ok(()),
+        },
+        Path::Instance(object, instance) => {
+            let at = InstancePath { object, instance };
+            match find(objects, at) {
+                Some(held) => held.push_values(found, at),
+                None => Ok(()),
+            }
+        }
         Path::Resource(object, instance, resource) => {
-            place.object == object && place.instance == instance && place.resource == resource
+            let at = InstancePath { object, instance };
+            match find(objects, at) {
+                Some(held) => held.push_resource(found, at, resource),
+                None => Ok(()),
+            }
         }
         Path::Part(object, instance, resource, part) => {
-            place.object == object
-                && place.instance == instance
-                && place.resource == resource
-                && place.part == Some(part)
+            let at = InstancePath { object, instance };
+            match find(objects, at) {
+                Some(held) => held.push_part(found, at, resource, part),
+                None => Ok(()),
+            }
         }
     }
 }
 
-/// The path to a resource, as a path.
-pub(crate) fn path_of(resource: ResourcePath) -> Path
-    ensures { result ≡ resource_path resource }
+/// Puts the instances of an object after others.
+fn push_places(
+    found: &mut Vec<InstancePath>,
+    object: u16,
+    numbers: &[u16],
+) -> Result<(), AllocError>
+    ensures { OnOk result (found.new.items ≡ found.old.items ++ map (place object) numbers.now) }
 {
-    Path::Resource(resource.object, resource.instance, resource.resource)
-}
-
-/// The values at or below a path with their full paths, in order.
-pub(crate) fn pairs_in<'a>(
-    alloc: Global,
-    values: &'a BTreeMap<FullPath, Value>,
-    path: Path,
-) -> Result<Vec<(FullPath, &'a Value)>, AllocError>
-    ensures { IfOk result (λ v. shown_pairs v.items ≡ listed_in path values.now.entries) }
-{
-    let mut found = Vec::new(alloc);
-    for (place, value) in values.range(lowest(path)..) {
-        if !is_in(path, *place) {
-            return Ok(found);
-        }
-        found.push((*place, value))?;
+    for number in numbers {
+        found.push(InstancePath {
+            object,
+            instance: *number,
+        })?;
     }
-    Ok(found)
+    Ok(())
 }
 
-/// How many parts of a resource have a value.
-pub(crate) fn count_parts(values: &BTreeMap<FullPath, Value>, resource: ResourcePath) -> usize
-    ensures { result ≡ length (filter_map (λ e. e.0.part) (listed_in (resource_path resource) values.now.entries)) }
+/// Puts all instances after others.
+pub(crate) fn push_instances(
+    found: &mut Vec<InstancePath>,
+    objects: &Table<Table<Instance>>,
+) -> Result<(), AllocError>
+    ensures { OnOk result (found.new.items ≡ found.old.items ++ fin_map.keys (stored_from objects.now).instances) }
 {
-    let path = path_of(resource);
-    let mut count = 0;
-    for (place, _) in values.range(lowest(path)..) {
-        if !is_in(path, *place) {
-            return count;
-        }
-        if place.part.is_some() {
-            count += 1;
-        }
+    for index in 0..objects.len() {
+        let (number, object) = objects.entry(index);
+        push_places(found, number, object.numbers())?;
     }
-    count
-}
-
-/// The numbers of the parts of a resource that have a value, ascending.
-pub(crate) fn parts_in(
-    alloc: Global,
-    values: &BTreeMap<FullPath, Value>,
-    resource: ResourcePath,
-) -> Result<Vec<u16>, AllocError>
-    ensures { IfOk result (λ v. v.items ≡ filter_map (λ e. e.0.part)
-        (listed_in (resource_path resource) values.now.entries)) }
-{
-    let path = path_of(resource);
-    let mut found = Vec::new(alloc);
-    for (place, _) in values.range(lowest(path)..) {
-        if !is_in(path, *place) {
-            return Ok(found);
-        }
-        if let Some(part) = place.part {
-            found.push(part)?;
-        }
-    }
-    Ok(found)
-}
-
-/// The numbers of the resources of the values at or below a path, as often as there are values.
-fn resource_numbers(
-    alloc: Global,
-    values: &BTreeMap<FullPath, Value>,
-    path: Path,
-) -> Result<Vec<u16>, AllocError>
-    ensures { IfOk result (λ v. v.items ≡ map (λ e. e.0.resource) (listed_in path values.now.entries)) }
-{
-    let mut found = Vec::new(alloc);
-    for (place, _) in values.range(lowest(path)..) {
-        if !is_in(path, *place) {
-            return Ok(found);
-        }
-        found.push(place.resource)?;
-    }
-    Ok(found)
-}
-
-/// The numbers of the resources of the values at or below a path, ascending, each once.
-pub(crate) fn resources_in(
-    alloc: Global,
-    values: &BTreeMap<FullPath, Value>,
-    path: Path,
-) -> Result<Vec<u16>, AllocError>
-    ensures { IfOk result (λ v. v.items ≡ dedup ◌==◌ (map (λ e. e.0.resource) (listed_in path values.now.entries))) }
-{
-    let mut found = resource_numbers(alloc, values, path)?;
-    found.dedup();
-    Ok(found)
+    Ok(())
 }

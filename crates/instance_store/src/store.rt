@@ -1,5 +1,5 @@
 ghost use Rattle.std.specs.Prelude.{◌≡◌, ◌≤◌, ◌<◌, ◌↔◌, length, IsTrue, IsFalse, IsErrOf, ◌≢◌, None, Ok, Err};
-ghost use Rattle.std.specs.Prelude.{if◌then◌else◌, IfOk, OnOk, OnErr};
+ghost use Rattle.std.specs.Prelude.{if◌then◌else◌, IfOk, OnOk, OnErr, IsErr};
 ghost use Rattle.std.specs.FinMap as map;
 ghost use Rattle.std.specs.Option.{option_copied, is_some};
 ghost use Rattle.instance_store.specs.Existence.{is_held, has_resource};
@@ -8,41 +8,39 @@ ghost use Rattle.object_defs.specs.Path.{single_of, part_of};
 ghost use Rattle.instance_store.specs.Stored.{value_at, value_count, has_instance, instances_of, instance_of};
 ghost use Rattle.instance_store.specs.Stored.{resource_path, parts_of, resources_of, values_in, is_full, with_value};
 ghost use Rattle.instance_store.specs.Stored.{without_values, without_instance, with_instance, empty};
+ghost use Rattle.instance_store.specs.Tree.{instance_below};
 
-use crate::contents::{all_pairs, all_places};
 use crate::fault::StoreFault;
-use crate::instances::{add_number, remove_number};
-use crate::listing::{count_parts, pairs_in, parts_in, path_of, resources_in};
-use crate::numbers::Numbers;
-use crate::removal::remove_in;
+use crate::instance::Instance;
+use crate::listing::{push_all, push_below, push_instances};
+use crate::objects;
+use crate::table::Table;
 use lwm2m_values::Value;
 use object_defs::{FullPath, InstancePath, Path, ResourceDef, ResourcePath};
 use std::alloc::{AllocError, Global};
-use std::collections::BTreeMap;
 use std::marker::Model;
 
 /// The values of a device by their full paths, and the instances that there are.
 #[derive(Clone, Drop)]
 pub struct Store {
     alloc: Global,
-    values: BTreeMap<FullPath, Value>,
-    instances: BTreeMap<u16, Numbers>,
+    objects: Table<Table<Instance>>,
+    // How many values there are.
+    count: usize,
 }
 
 impl Model for Store {
-    ghost use Rattle.std.specs.FinMap as map;
-    ghost use Rattle.instance_store.specs.Stored.{Stored, stored_code};
-    ghost use Rattle.instance_store.specs.Numbers.{instances_from};
+    ghost use Rattle.std.specs.Prelude.{◌≡◌};
+    ghost use Rattle.instance_store.specs.Stored.{Stored, stored_code, value_count};
+    ghost use Rattle.instance_store.specs.Tree.{stored_from};
 
     ghost Value = { Stored };
 
     ghost coded = { stored_code };
 
-    ghost view = { λ s. record {
-      values = map.from_entries s.values.entries;
-      instances =
-          instances_from s.instances.entries;
-    } };
+    ghost view = { λ s. stored_from s.objects };
+
+    ghost invariant = { λ s. s.count ≡ value_count (stored_from s.objects) };
 }
 
 /// The instance of a resource.
@@ -62,8 +60,8 @@ impl Store {
     {
         Store {
             alloc,
-            values: BTreeMap::new(alloc),
-            instances: BTreeMap::new(alloc),
+            objects: Table::new(alloc),
+            count: 0,
         }
     }
 
@@ -78,14 +76,21 @@ impl Store {
     pub fn get(&self, path: FullPath) -> Option<&Value>
         ensures { option_copied result ≡ value_at self.now path }
     {
-        self.values.get(&path)
+        let at = InstancePath {
+            object: path.object,
+            instance: path.instance,
+        };
+        match objects::find(&self.objects, at) {
+            Some(instance) => instance.get(path.resource, path.part),
+            None => None,
+        }
     }
 
     /// How many values there are.
     pub fn len(&self) -> usize
         ensures { result ≡ value_count self.now }
     {
-        self.values.len()
+        self.count
     }
 
     /// Whether there is no value.
@@ -99,8 +104,8 @@ impl Store {
     pub fn has_instance(&self, place: InstancePath) -> bool
         ensures { result ≡ has_instance self.now place }
     {
-        match self.instances.get(&place.object) {
-            Some(numbers) => numbers.contains(place.instance),
+        match objects::find(&self.objects, place) {
+            Some(_) => true,
             None => false,
         }
     }
@@ -122,7 +127,7 @@ impl Store {
         if self.instances(place.object).len() >= 64 {
             return Err(StoreFault::Full);
         }
-        add_number(self.alloc, &mut self.instances, place)?;
+        objects::add_instance(self.alloc, &mut self.objects, place)?;
         Ok(())
     }
 
@@ -140,8 +145,42 @@ impl Store {
         if !self.has_instance(place_of(path)) {
             return Err(StoreFault::Absent);
         }
-        self.values.insert(path.single(), value)?;
+        self.set(path.single(), value)?;
         Ok(())
+    }
+
+    /// Sets a value of an instance. It takes memory only where there is none.
+    fn set(&mut self, path: FullPath, value: Value) -> Result<(), AllocError>
+        requires { IsTrue (has_instance self.old (instance_below path)) }
+        ensures ok { OnOk result (self.new ≡ with_value self.old path value) }
+        ensures grows { IsErr result → value_at self.old path ≡ None }
+        ensures err { OnErr result (self.new ≡ self.old) }
+    {
+        match self.count.checked_add(1) {
+            Some(count) => {
+                if objects::put_value(self.alloc, &mut self.objects, path, value)? {
+                    self.count = count;
+                }
+                Ok(())
+            }
+            None => {
+                if !self.holds(path) {
+                    return Err(AllocError);
+                }
+                objects::put_value(self.alloc, &mut self.objects, path, value)?;
+                Ok(())
+            }
+        }
+    }
+
+    /// Whether there is a value at a full path.
+    fn holds(&self, path: FullPath) -> bool
+        ensures { result ≡ is_some (value_at self.now path) }
+    {
+        match self.get(path) {
+            Some(_) => true,
+            None => false,
+        }
     }
 
     /// Sets the value of a part of a resource. A resource has at most 32 parts.
@@ -167,7 +206,7 @@ impl Store {
         if self.is_full(path, part) {
             return Err(StoreFault::Full);
         }
-        self.values.insert(path.part(part), value)?;
+        self.set(path.part(part), value)?;
         Ok(())
     }
 
@@ -178,14 +217,7 @@ impl Store {
         if self.holds(path.part(part)) {
             return false;
         }
-        count_parts(&self.values, path) >= 32
-    }
-
-    /// Whether there is a value at a full path.
-    fn holds(&self, path: FullPath) -> bool
-        ensures { result ≡ is_some (value_at self.now path) }
-    {
-        self.values.contains_key(&path)
+        self.part_count(path) >= 32
     }
 
     /// Removes the single value and the parts of a resource.
@@ -197,7 +229,7 @@ impl Store {
         if !self.has_instance(place_of(path)) {
             return Err(StoreFault::Absent);
         }
-        remove_in(&mut self.values, path_of(path));
+        self.count -= objects::clear_values(&mut self.objects, path);
         Ok(())
     }
 
@@ -210,9 +242,7 @@ impl Store {
         if !self.has_instance(place) {
             return Err(StoreFault::Absent);
         }
-        let path = Path::Instance(place.object, place.instance);
-        remove_in(&mut self.values, path);
-        remove_number(&mut self.instances, place);
+        self.count -= objects::remove_instance(&mut self.objects, place);
         Ok(())
     }
 
@@ -220,25 +250,43 @@ impl Store {
     pub fn values_in(&self, path: Path) -> Result<Vec<(FullPath, &Value)>, AllocError>
         ensures { IfOk result (λ v. shown_pairs v.items ≡ values_in self.now path) }
     {
-        pairs_in(self.alloc, &self.values, path)
+        let mut found = Vec::new(self.alloc);
+        push_below(&mut found, &self.objects, path)?;
+        Ok(found)
     }
 
     /// The numbers of an instance's resources that have a value, ascending.
     pub fn resources(&self, place: InstancePath) -> Result<Vec<u16>, AllocError>
         ensures { IfOk result (λ v. v.items ≡ resources_of self.now place) }
     {
-        resources_in(
-            self.alloc,
-            &self.values,
-            Path::Instance(place.object, place.instance),
-        )
+        self.resource_numbers(place).to_vec(self.alloc)
+    }
+
+    /// The numbers of an instance's resources that have a value, ascending, by reference.
+    fn resource_numbers(&self, place: InstancePath) -> &[u16]
+        ensures { result.now ≡ resources_of self.now place }
+    {
+        match objects::find(&self.objects, place) {
+            Some(instance) => instance.resources(),
+            None => &[],
+        }
     }
 
     /// How many parts of a resource have a value.
     pub fn part_count(&self, path: ResourcePath) -> usize
         ensures { result ≡ length (parts_of self.now path) }
     {
-        count_parts(&self.values, path)
+        self.part_numbers(path).len()
+    }
+
+    /// The numbers of a resource's parts that have a value, ascending, by reference.
+    fn part_numbers(&self, path: ResourcePath) -> &[u16]
+        ensures { result.now ≡ parts_of self.now path }
+    {
+        match objects::find(&self.objects, place_of(path)) {
+            Some(instance) => instance.parts(path.resource),
+            None => &[],
+        }
     }
 
     /// Whether a resource is held: a multiple one with at least one part, another with its single
@@ -273,29 +321,33 @@ impl Store {
     pub fn parts(&self, path: ResourcePath) -> Result<Vec<u16>, AllocError>
         ensures { IfOk result (λ v. v.items ≡ parts_of self.now path) }
     {
-        parts_in(self.alloc, &self.values, path)
+        self.part_numbers(path).to_vec(self.alloc)
     }
 
     /// All values, with their full paths, in the order of these.
     pub fn values(&self) -> Result<Vec<(FullPath, &Value)>, AllocError>
         ensures { IfOk result (λ v. shown_pairs v.items ≡ map.entries self.now.values) }
     {
-        all_pairs(self.alloc, &self.values)
+        let mut found = Vec::new(self.alloc);
+        push_all(&mut found, &self.objects)?;
+        Ok(found)
     }
 
     /// All instances, in their order.
     pub fn all_instances(&self) -> Result<Vec<InstancePath>, AllocError>
         ensures { IfOk result (λ v. v.items ≡ map.keys self.now.instances) }
     {
-        all_places(self.alloc, &self.instances)
+        let mut found = Vec::new(self.alloc);
+        push_instances(&mut found, &self.objects)?;
+        Ok(found)
     }
 
     /// The numbers of an object's instances, ascending.
     pub fn instances(&self, object: u16) -> &[u16]
         ensures { result.now ≡ instances_of self.now object }
     {
-        match self.instances.get(&object) {
-            Some(numbers) => numbers.as_slice(),
+        match self.objects.get(object) {
+            Some(instances) => instances.numbers(),
             None => &[],
         }
     }

@@ -2,8 +2,9 @@ pub mod Answers
 pub mod AttributeLaws
 pub mod Clones
 pub mod DecimalTexts
+pub mod Dues
 pub mod Keys
 pub mod ObservedLaws
 pub mod Places
-pub mod Retained
 pub mod QueryLaws
+pub mod Retained

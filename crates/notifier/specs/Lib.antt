@@ -1,4 +1,5 @@
 pub mod Observed
 pub mod Trigger
+pub mod Due
 pub mod Attributes
 pub mod Query

@@ -8,6 +8,7 @@ mod fault;
 mod numerals;
 mod observation;
 mod observations;
+mod pending;
 mod query;
 mod trigger;
 
@@ -16,5 +17,6 @@ pub use attributes::Attributes;
 pub use fault::{ObserveFault, QueryFault, WriteFault};
 pub use observation::{Observation, Report};
 pub use observations::Observations;
+pub use pending::Pending;
 pub use query::{Changes, parse_query};
 pub use trigger::{is_due, triggers};

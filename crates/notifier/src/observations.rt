@@ -1,15 +1,17 @@
 ghost use Rattle.std.specs.Prelude.{◌≡◌, ◌≢◌, ◌+◌, ◌<◌, ◌≤◌, ◌↔◌, ◌++◌, ◌∷◌, [], false, length, not, filter, position};
 ghost use Rattle.std.specs.Prelude.{remove, slice_get, count_by, Err, None, Some, IfOk, IfSome, OnOk, OnErr, IsErrOf};
-ghost use Rattle.std.specs.Prelude.{IsTrue, IsFalse};
+ghost use Rattle.std.specs.Prelude.{IsTrue, IsFalse, MatchOption};
 ghost use Rattle.std.specs.Option.{option_copied, option_map};
 ghost use Rattle.std.specs.List.{AllByRecursion};
 ghost use Rattle.notifier.specs.declared.observation.Observation.{Observation};
+ghost use Rattle.notifier.specs.Due.{IsFirstDue, IsNeverDue};
 ghost use Rattle.indexmap.specs.IndexMap.{values, index_map_len, set_value_at};
 ghost use Rattle.notifier.specs.Observed.{is_named, has_name, next_number, number_for, registered, cancelled, was_sent};
 ghost use Rattle.notifier.specs.Observed.{without_reset, with_sent, HasToken, HasNumber, IsKeyed, HaveDistinctNames};
 
 use crate::fault::ObserveFault;
 use crate::observation::{Observation, Report, next_number};
+use crate::pending::{Pending, due_of, earlier};
 use indexmap::IndexMap;
 use object_defs::Path;
 use octets::Bytes;
@@ -351,5 +353,20 @@ impl Observations {
         ensures number { IfSome (option_copied result) HasNumber }
     {
         observation_at(&self.entries, place)
+    }
+
+    /// The first second after `now` at which an observation sends or is removed, if there is one below
+    /// 2^64, while their present answers, in their order, stay as they are.
+    pub fn due(&self, now: u64, pending: &[Pending]) -> Option<u64>
+        requires { length pending.now ≡ length self.now }
+        ensures { MatchOption result (IsNeverDue now self.now pending.now)
+            (λ first. IsFirstDue now self.now pending.now first) }
+    {
+        let mut first = None;
+        for (place, present) in pending.iter().enumerate() {
+            let second = self.entries[place].second;
+            first = earlier(first, due_of(now, second, present));
+        }
+        first
     }
 }

@@ -1,10 +1,11 @@
 //! What a device does with a datagram.
 
-ghost use Rattle.std.specs.Prelude.{◌≡◌, true, is_some, IfOk, OnErr};
+ghost use Rattle.std.specs.Prelude.{◌≡◌, ◌<◌, None, true, is_some, IfOk, OnErr};
 ghost use Rattle.device_machine.specs.declared.event.Event.TheVariants.{Recv};
 ghost use Rattle.device_machine.specs.Reactions.{Gives, claims_confirmable, is_request, on_fresh, on_message, on_noise};
 ghost use Rattle.device_machine.specs.Reactions.{on_outcome, on_request, reaction_to, repeat_of, reply_to};
 ghost use Rattle.device_machine.specs.Memory.{KeepsRecords, message_grows, request_grows};
+ghost use Rattle.device_machine.specs.State.{lifetime};
 ghost use Rattle.device_requests.specs.Client.{has_account};
 ghost use Rattle.device_requests.specs.Options.{has_unrecognized_critical};
 ghost use Rattle.device_requests.specs.Request.{outcome_of};
@@ -65,6 +66,8 @@ impl Machine {
         reply: Option<Message>,
         act: Option<Act>,
     ) -> Result<Outputs, AllocError>
+        requires fresh { repeat_of self.old server message.now ≡ None }
+        requires lives { 0 < lifetime message.now.kind }
         ensures gives { IfOk result (λ o. Gives o self.new
             (on_fresh self.old server message.now self.old.kept reply act)) }
         ensures unchanged { OnErr result (self.new ≡ self.old) }
@@ -94,6 +97,8 @@ impl Machine {
 
     /// Does what a request asks for that is no repeat, answers and records it.
     fn take_fresh(&mut self, server: u16, message: &Message) -> Result<Outputs, AllocError>
+        requires fresh { repeat_of self.old server message.now ≡ None }
+        requires lives { 0 < lifetime message.now.kind }
         ensures gives { IfOk result
             (λ o. Gives o self.new (on_outcome self.old server message.now
             (outcome_of self.old.kept.client server message.now))) }
@@ -108,6 +113,7 @@ impl Machine {
 
     /// Takes a request.
     fn take_request(&mut self, server: u16, message: &Message) -> Result<Outputs, AllocError>
+        requires { 0 < lifetime message.now.kind }
         ensures gives { IfOk result
             (λ o. Gives o self.new (on_request self.old server message.now (repeat_of self.old server message.now))) }
         ensures grows { OnErr result (request_grows message.now.kind (repeat_of self.old server message.now) ≡ true) }

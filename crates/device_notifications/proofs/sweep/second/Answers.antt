@@ -1,4 +1,4 @@
-use Rattle.std.proofs.Common.{◌≡◌, ◌<◌, ◌∙◌, [], length, ap, arith}
+use Rattle.std.proofs.Common.{◌<◌, length, arith}
 use Rattle.notifier.proofs.Answers.{on_error}
 use Rattle.device_notifications.proofs.Places.{there, fewer, continued, some_there, stopped}
 use Rattle.device_notifications.proofs.sweep.second.Goals as goal

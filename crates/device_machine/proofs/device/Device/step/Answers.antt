@@ -1,5 +1,6 @@
 -- The device's own requests and those of the flat state are alike: the same ones live.
 use Rattle.std.proofs.Common.{refl, ap, ◌∙◌}
+use Rattle.device_machine.specs.Reactions.{flat_after}
 use Rattle.device_machine.specs.State.{living}
 use Rattle.device_machine.proofs.Living.{alike, living_remembered}
 use Rattle.device_machine.proofs.device.Device.step.Goals as goal
@@ -13,9 +14,8 @@ pub returns-clause-shows : goal.returns-clause-shows
 returns-clause-shows c =
     λ f shows. record {
       ready = refl;
-      holds = ap living c.forget.ensures
-          ∙ living_remembered c.react.new.self c.args.event.now
-          ∙ ap living c.in_ok-outputs.ensures.gives.then_flat
+      holds = ap living c.in_ok-outputs.ensures.gives.then_flat
+          ∙ living_remembered (flat_after c.self.inside.machine c.args.event.now) c.args.event.now
           ∙ (alike c.self.inside.machine f (ap (λ s. s.flat) c.self.view_is ∙ shows.holds)
           c.args.event.now).living_then;
     }

@@ -1,7 +1,8 @@
 -- The device is as the answer and what is noted leave it, and replies with both.
-use Rattle.std.proofs.Common.{IfOk, refl, subst}
+use Rattle.std.proofs.Common.{◌&&◌, IfOk, find, refl, ap, subst, ◌∙◌}
 use Rattle.device_requests.specs.Request.{outcome_of}
-use Rattle.device_machine.specs.Reactions.{Gives, on_outcome}
+use Rattle.device_machine.specs.Reactions.{Gives, is_same, on_outcome, repeat_of}
+use Rattle.device_machine.specs.State.{Kept, is_live}
 use Rattle.device_machine.proofs.Places.{taken}
 use Rattle.device_machine.proofs.machine.Machine.take_fresh.Goals as goal
 
@@ -19,3 +20,12 @@ returns-clause-gives c =
     c.in_ok-number.ensures.recorded
     c.in_ok-reply.ensures.reply refl)
     c.reply.ensures.gives)
+
+pub reply-requires-clause-fresh : goal.reply-requires-clause-fresh
+reply-requires-clause-fresh c =
+    let server = c.args.server in
+    let m = c.args.message.now in
+    let clock = ap (λ (k : Kept). k.clock) c.in_ok-number.ensures.kept.kept_is in
+    (λ j. find (λ r. is_live (clock j) r && is_same server m r) (c.in_ok-number.ensures.recorded j))
+    ∙ ap (λ f. repeat_of f server m) c.self.view_is
+    ∙ c.requires.fresh

@@ -1,8 +1,10 @@
--- Without observations nothing is sent.
-use Rattle.std.proofs.Common.{◌≡◌, ◌∙◌, ◌++◌, [], ap}
+-- Without observations nothing is sent, and those that are kept live.
+use Rattle.std.proofs.Common.{◌∙◌, ◌++◌, ◌+◌, ap, subst, sym}
 use Rattle.notifier.proofs.Answers.{on_error}
 use Rattle.device_notifications.specs.Outbox.{Outbox}
 use Rattle.device_notifications.specs.Second.{seconds}
+use Rattle.device_machine.specs.Records.{AllLive}
+use Rattle.device_machine.proofs.Lives.{kept_live}
 use Rattle.device_machine.proofs.Ticks.{none_sent}
 use Rattle.device_machine.proofs.machine.Machine.tick.Goals as goal
 
@@ -16,3 +18,8 @@ returns-in_err-outputs-clause-grows c =
     ∙ ap (λ os. (seconds c.self.inside.client c.self.inside.clock c.args.count c.self.inside.next_id os).sent)
     (ap (λ f. f.kept.observations) c.self.view_is ∙ none)
     ∙ none_sent c.self.inside.client c.self.inside.clock c.args.count c.self.inside.next_id))
+
+pub invariant_of-self-2 : goal.invariant_of-self-2
+invariant_of-self-2 c =
+    let now = c.self.inside.clock + c.from.result in
+    subst (AllLive now) (sym c.forget.ensures) (kept_live now c.self.inside.recorded)

@@ -1,11 +1,15 @@
 use Rattle.std.proofs.Common.{sym, ap, ◌∙◌}
 use Rattle.instance_store.specs.Stored.{value_at}
-use Rattle.object_defs.proofs.MapLaws.{get_entries}
-use Rattle.object_defs.proofs.PathOrder.{path_total}
+use Rattle.instance_store.proofs.StoreLaws.{value-some, value-none}
 use Rattle.instance_store.proofs.store.Store.get.Goals as goal
 
-pub returns : goal.returns
-returns c =
-    c.get.ensures.value
-    ∙ sym (get_entries path_total c.self.inside.values.entries c.args.path)
+pub returns-in-Some : goal.returns-in-Some
+returns-in-Some c =
+    c.get.ensures
+    ∙ sym (value-some c.self.inside.objects c.args.path c.in-Some.instance.now (sym c.in-Some.ensures))
+    ∙ ap (λ s. value_at s c.args.path) c.self.view_is
+
+pub returns-in-None : goal.returns-in-None
+returns-in-None c =
+    sym (value-none c.self.inside.objects c.args.path (sym c.in-None.ensures))
     ∙ ap (λ s. value_at s c.args.path) c.self.view_is

@@ -1,0 +1,115 @@
+-- Requests in a map whose keys are theirs, and the first second in which one of them no longer lives.
+use Rattle.std.proofs.Common.{◌≡◌, ℕ, ◌+◌, ◌-◌, ◌<◌, min, nat_lt, ◌==◌, Bool, true, false, cond, ◌&&◌, List, []}
+use Rattle.std.proofs.Common.{◌∷◌, ◌++◌, Some, filter, find, fold, refl, ap, ◌∙◌, arith, rules}
+use Rattle.std.specs.List.{AllByRecursion, AllZip}
+use Rattle.std.specs.Map.{lookup, values_of}
+use Rattle.std.proofs.lemmas.Bool.Decides.{nat_tests}
+use Rattle.std.proofs.lemmas.List.Sums.{fold-append}
+use Rattle.coap_codec.specs.Message.{kind_number}
+use Rattle.coap_codec.specs.declared.kind.Kind.{Kind}
+use Rattle.device_machine.specs.State.{is_live, lifetime}
+use Rattle.device_machine.specs.Records.{HasOwnKey, end_of_life, first_end, has_key}
+use Rattle.device_machine.specs.declared.recorded.Recorded.{Recorded}
+use Rattle.device_machine.specs.declared.records.RecordKey.{RecordKey}
+use Rattle.device_machine.specs.contracts.records.RecordKeyClone.TheImpl.{is_clone-value as key_clone}
+
+-- ---- look-ups
+
+-- the test by which keys are looked up
+abbrev pub tests_keys : (RecordKey → RecordKey → Bool) → Type 0
+tests_keys eq = (k j : RecordKey) → eq k j ≡ (k.server == j.server && (k.mid == j.mid && k.kind == j.kind))
+
+eqb_turned : (a b : ℕ) → (a == b) ≡ (b == a)
+eqb_turned a b = grind (arith, nat_tests)
+
+turned : (server mid n : ℕ) (r : Recorded)
+    → (server == r.server && (mid == r.mid && n == kind_number r.kind))
+    ≡ (r.server == server && (r.mid == mid && kind_number r.kind == n))
+turned server mid n r =
+    λ j. eqb_turned server r.server j && (eqb_turned mid r.mid j && eqb_turned n (kind_number r.kind) j)
+
+-- a look-up by a key is a search by what the key says
+pub found : (eq : RecordKey → RecordKey → Bool) → tests_keys eq → (server mid n : ℕ) (kind : Kind)
+    → n ≡ kind_number kind → (es : List (RecordKey × Recorded)) → AllByRecursion HasOwnKey es
+    → lookup (eq (record { server = server; mid = mid; kind = n })) es ≡ find (has_key server kind mid) (values_of es)
+found eq law server mid n kind number [] h = refl
+found eq law server mid n kind number (e ∷ es) h =
+    let key : RecordKey = record { server = server; mid = mid; kind = n } in
+    let at : eq key e.0 ≡ has_key server kind mid e.1 =
+    law key e.0 ∙ (λ j. server == h.0.server j && (mid == h.0.mid j && number j == h.0.kind j))
+    ∙ turned server mid (kind_number kind) e.1 in
+    λ j. cond (at j) (Some e.1) (found eq law server mid n kind number es h.1 j)
+
+-- ---- the values of a map
+
+pub values-filter : {K X : Type 0} (p : X → Bool) (es : List (K × X))
+    → values_of (filter (λ e. p e.1) es) ≡ filter p (values_of es)
+values-filter p [] = refl
+values-filter p (e ∷ es) =
+    elim (p e.1) as (λ b. values_of (cond b (e ∷ filter (λ x. p x.1) es) (filter (λ x. p x.1) es))
+    ≡ cond b (e.1 ∷ filter p (values_of es)) (filter p (values_of es))) [
+      | true ↦ ap (λ t. e.1 ∷ t) (values-filter p es)
+      | false ↦ values-filter p es
+    ]
+
+pub values-append : {K X : Type 0} (es : List (K × X)) (e : K × X) → values_of (es ++ e ∷ []) ≡ values_of es ++ e.1 ∷ []
+values-append [] e = refl
+values-append (x ∷ es) e = ap (λ t. x.1 ∷ t) (values-append es e)
+
+pub each-filter : {X : Type 0} (P : X → Type 0) (q : X → Bool) (xs : List X) → AllByRecursion P xs
+    → AllByRecursion P (filter q xs)
+each-filter P q [] h = tt
+each-filter P q (x ∷ xs) h =
+    elim (q x) as (λ b. AllByRecursion P (cond b (x ∷ filter q xs) (filter q xs))) [
+      | true ↦ (h.0, each-filter P q xs h.1)
+      | false ↦ each-filter P q xs h.1
+    ]
+
+pub each-append : {X : Type 0} (P : X → Type 0) (xs : List X) (x : X) → AllByRecursion P xs → P x
+    → AllByRecursion P (xs ++ x ∷ [])
+each-append P [] x h p = (p, tt)
+each-append P (y ∷ ys) x h p = (h.0, each-append P ys x h.1 p)
+
+-- ---- the first end
+
+pub first_end-push : (rs : List Recorded) (r : Recorded) → first_end (rs ++ r ∷ []) ≡ min (first_end rs) (end_of_life r)
+first_end-push rs r = fold-append (λ first x. min first (end_of_life x)) 18446744073709551615 rs (r ∷ [])
+
+lives_before : (clock second life : ℕ)
+    → clock < cond (life == 0) 0 (min (second + life) 18446744073709551615) → nat_lt (clock - second) life ≡ true
+lives_before clock second life h = grind (arith, nat_tests)
+
+below_both : (c a b : ℕ) → c < min a b → (c < a) × (c < b)
+below_both c a b h = (omega arith, omega arith)
+
+-- before it each of them lives
+all_live : (clock a : ℕ) (rs : List Recorded) → clock < fold (λ first r. min first (end_of_life r)) a rs
+    → (clock < a) × (filter (λ r. is_live clock r) rs ≡ rs)
+all_live clock a [] h = (h, refl)
+all_live clock a (r ∷ rs) h =
+    let rest = all_live clock (min a (end_of_life r)) rs h in
+    let parts = below_both clock a (end_of_life r) rest.0 in
+    let lives = lives_before clock r.second (lifetime r.kind) parts.1 in
+    (parts.0, (λ j. cond (lives j) (r ∷ rest.1 j) (filter (λ x. is_live clock x) rs)))
+
+pub none_ends : (clock : ℕ) (rs : List Recorded) → clock < first_end rs → filter (λ r. is_live clock r) rs ≡ rs
+none_ends clock rs h = (all_live clock 18446744073709551615 rs h).1
+
+-- ---- clones
+
+same_key : (k j : RecordKey) → key_clone.it k j → j ≡ k
+same_key k j h =
+    let server : j.server ≡ k.server = search rules in
+    let mid : j.mid ≡ k.mid = search rules in
+    let kind : j.kind ≡ k.kind = search rules in
+    λ i. record { server = server i; mid = mid i; kind = kind i }
+
+abbrev IsEntryClone : RecordKey × Recorded → RecordKey × Recorded → Type 0
+IsEntryClone p q = key_clone.it p.0 q.0 × (q.1 ≡ p.1)
+
+-- the entries of a clone are those of its source
+pub same_entries : (es fs : List (RecordKey × Recorded)) → AllZip IsEntryClone es fs → fs ≡ es
+same_entries [] [] h = refl
+same_entries [] (f ∷ fs) h = absurd h
+same_entries (e ∷ es) [] h = absurd h
+same_entries (e ∷ es) (f ∷ fs) h = λ i. (same_key e.0 f.0 h.0.0 i, h.0.1 i) ∷ same_entries es fs h.1 i

@@ -1,0 +1,37 @@
+-- The recorded requests that a device keeps: how one is found, and when the first of them no longer lives.
+use Rattle.std.specs.Prelude.{◌≡◌, ℕ, ◌+◌, ◌==◌, min, Bool, ◌&&◌, if◌then◌else◌, List, filter, fold}
+use Rattle.coap_codec.specs.Message.{kind_number}
+use Rattle.coap_codec.specs.declared.kind.Kind.{Kind}
+use Rattle.device_machine.specs.Memory.{remembered}
+use Rattle.device_machine.specs.Reactions.{Reaction, flat_after, outputs_of}
+use Rattle.device_machine.specs.State.{Machine, is_live, lifetime}
+use Rattle.device_machine.specs.declared.event.Event.{Event}
+use Rattle.device_machine.specs.declared.recorded.Recorded.{Recorded}
+use Rattle.device_machine.specs.declared.records.RecordKey.{RecordKey}
+
+-- the request is of this server, type and message ID
+abbrev pub has_key : ℕ → Kind → ℕ → Recorded → Bool
+has_key server kind mid r = r.server == server && (r.mid == mid && kind_number r.kind == kind_number kind)
+
+-- a key has the server, the message ID and the type of its request
+pub record HasOwnKey (e : RecordKey × Recorded) : Type 0 where
+  pub server : e.0.server ≡ e.1.server
+  pub mid : e.0.mid ≡ e.1.mid
+  pub kind : e.0.kind ≡ kind_number e.1.kind
+
+-- the second, of 64 bits, from which on the request no longer lives
+abbrev pub end_of_life : Recorded → ℕ
+end_of_life r =
+    if lifetime r.kind == 0 then 0 else min (r.second + lifetime r.kind) 18446744073709551615
+
+-- the first second, of 64 bits, in which one of the requests no longer lives
+abbrev pub first_end : List Recorded → ℕ
+first_end rs = fold (λ first r. min first (end_of_life r)) 18446744073709551615 rs
+
+-- each of the requests lives in this second
+abbrev pub AllLive : ℕ → List Recorded → Type 0
+AllLive clock rs = filter (λ r. is_live clock r) rs ≡ rs
+
+-- what a device outputs on an event, and what it keeps of the flat state then
+abbrev pub remembering : Machine → Event → Reaction
+remembering f event = record { outputs = outputs_of f event; flat = remembered (flat_after f event) event }

@@ -1,0 +1,188 @@
+-- What an observation does in a second, by whether its present answer is due, and what all of them do.
+use Rattle.std.proofs.Common.{◌≡◌, ◌≢◌, ℕ, zero, suc, ◌+◌, ◌-◌, ◌≤◌, ◌∙◌, Bool, true, false, ◌||◌, List, []}
+use Rattle.std.proofs.Common.{◌∷◌, ◌++◌, Option, refl, sym, ap, subst, arith}
+use Rattle.std.specs.Bool.{if◌then◌else◌}
+use Rattle.notifier.specs.Due.{IsFirstDue, is_due_at, is_one_due}
+use Rattle.notifier.specs.Trigger.{is_due}
+use Rattle.notifier.specs.declared.observation.Observation.{Observation}
+use Rattle.notifier.specs.declared.pending.Pending.TheVariants.{Content}
+use Rattle.notifier.specs.declared.pending.Pending.TheVariants as pending
+use Rattle.device_requests.specs.Answer.{is_content}
+use Rattle.device_requests.specs.Client.{Client}
+use Rattle.device_requests.specs.declared.answer.Answer.{Answer}
+use Rattle.device_notifications.specs.declared.evaluation.Evaluation.{Evaluation}
+use Rattle.device_notifications.specs.declared.evaluation.Evaluation.TheVariants.{Quiet, Sends, Gone}
+use Rattle.device_notifications.specs.Laws.{IsFirstSending}
+use Rattle.device_notifications.specs.Pendings.{AreAtRest, pending_of, pendings_of}
+use Rattle.device_notifications.specs.Period.{pmin_of, pmax_of}
+use Rattle.device_notifications.specs.Second.{Turn, and_then, beside, evaluation_of, present, quiet, second, seconds}
+use Rattle.device_notifications.specs.Second.{triggers_now, turn_by, turn_of}
+use Rattle.device_notifications.proofs.Spans.{seconds_add}
+
+-- ---- one observation
+
+rests : (c t : Bool) (last clock pmin : ℕ) (pmax : Option ℕ) (a : Answer)
+    → is_due_at last (if c then Content t pmin pmax else pending.Gone) clock ≡ false
+    → (if c then (if is_due (clock - last) pmin pmax t then Sends a else Quiet) else Gone a) ≡ Quiet
+rests true t last clock pmin pmax a h = ap (λ d. if d then Sends a else Quiet) h
+rests false t last clock pmin pmax a h = cc
+
+acts : (c t : Bool) (last clock pmin : ℕ) (pmax : Option ℕ) (a : Answer) (P : Evaluation → Type 0)
+    → is_due_at last (if c then Content t pmin pmax else pending.Gone) clock ≡ true
+    → (c ≡ true → P (Sends a)) → (c ≡ false → P (Gone a))
+    → P (if c then (if is_due (clock - last) pmin pmax t then Sends a else Quiet) else Gone a)
+acts true t last clock pmin pmax a P h s g = subst P (ap (λ d. if d then Sends a else Quiet) (sym h)) (s refl)
+acts false t last clock pmin pmax a P h s g = g refl
+
+-- one that is not due does nothing
+pub is_quiet : (client : Client) (clock : ℕ) (o : Observation) → is_due_at o.second (pending_of client o) clock ≡ false
+    → evaluation_of client clock o ≡ Quiet
+is_quiet client clock o h =
+    rests (is_content (present client o)) (triggers_now client o (present client o).payload) o.second clock
+    (pmin_of client o.server o.path) (pmax_of client o.server o.path) (present client o) h
+
+-- one that is due sends its present answer
+pub by_due : (client : Client) (clock : ℕ) (o : Observation) (P : Evaluation → Type 0)
+    → is_due_at o.second (pending_of client o) clock ≡ true
+    → (is_content (present client o) ≡ true → P (Sends (present client o)))
+    → (is_content (present client o) ≡ false → P (Gone (present client o)))
+    → P (evaluation_of client clock o)
+by_due client clock o P h s g =
+    acts (is_content (present client o)) (triggers_now client o (present client o).payload) o.second clock
+    (pmin_of client o.server o.path) (pmax_of client o.server o.path) (present client o) P h s g
+
+quiet_turn : (client : Client) (clock next_id : ℕ) (o : Observation)
+    → is_due_at o.second (pending_of client o) clock ≡ false → turn_of client clock next_id o ≡ quiet next_id (o ∷ [])
+quiet_turn client clock next_id o h = ap (λ v. turn_by client clock next_id o v) (is_quiet client clock o h)
+
+loud_turn : (client : Client) (clock next_id : ℕ) (o : Observation)
+    → is_due_at o.second (pending_of client o) clock ≡ true → (turn_of client clock next_id o).sent ≢ []
+loud_turn client clock next_id o h =
+    by_due client clock o (λ v. (turn_by client clock next_id o v).sent ≢ []) h (λ content e. cc) (λ no_content e. cc)
+
+-- ---- a second
+
+neither : (a b : Bool) → (a || b) ≡ false → (a ≡ false) × (b ≡ false)
+neither true b h = absurd (let e : true ≡ false = h in cc)
+neither false b h = (refl, h)
+
+none_left : {X : Type 0} (xs ys : List X) → xs ++ ys ≡ [] → xs ≡ []
+none_left [] ys h = refl
+none_left (x ∷ xs) ys h = cc
+
+none_right : {X : Type 0} (xs ys : List X) → xs ++ ys ≡ [] → ys ≡ []
+none_right [] ys h = h
+none_right (x ∷ xs) ys h = cc
+
+-- where nothing is due, a second changes nothing
+pub quiet_second : (client : Client) (clock next_id : ℕ) (os : List Observation)
+    → is_one_due os (pendings_of client os) clock ≡ false → second client clock next_id os ≡ quiet next_id os
+quiet_second client clock next_id [] h = refl
+quiet_second client clock next_id (o ∷ os) h =
+    let parts = neither (is_due_at o.second (pending_of client o) clock) (is_one_due os (pendings_of client os) clock) h in
+    ap (λ (t : Turn). beside t (second client clock t.next_id os)) (quiet_turn client clock next_id o parts.0)
+    ∙ ap (λ r. beside (quiet next_id (o ∷ [])) r) (quiet_second client clock next_id os parts.1)
+
+loud_by : (client : Client) (clock next_id : ℕ) (o : Observation) (os : List Observation) (b : Bool)
+    → is_due_at o.second (pending_of client o) clock ≡ b
+    → ((id : ℕ) → is_one_due os (pendings_of client os) clock ≡ true → (second client clock id os).sent ≢ [])
+    → (b || is_one_due os (pendings_of client os) clock) ≡ true
+    → (second client clock next_id (o ∷ os)).sent ≢ []
+loud_by client clock next_id o os true due later h =
+    λ none. loud_turn client clock next_id o due (none_left (turn_of client clock next_id o).sent _ none)
+loud_by client clock next_id o os false due later h =
+    λ none. later (turn_of client clock next_id o).next_id h (none_right (turn_of client clock next_id o).sent _ none)
+
+-- where something is due, it sends
+pub loud_second : (client : Client) (clock next_id : ℕ) (os : List Observation)
+    → is_one_due os (pendings_of client os) clock ≡ true → (second client clock next_id os).sent ≢ []
+loud_second client clock next_id [] h = let e : false ≡ true = h in absurd (cc)
+loud_second client clock next_id (o ∷ os) h =
+    loud_by client clock next_id o os (is_due_at o.second (pending_of client o) clock) refl
+    (λ id due. loud_second client clock id os due) h
+
+-- and so what a second sends says whether something is due
+due_or_not : (client : Client) (clock next_id : ℕ) (os : List Observation) (b : Bool)
+    → is_one_due os (pendings_of client os) clock ≡ b → second client clock next_id os ≡ quiet next_id os → b ≡ false
+due_or_not client clock next_id os true due same =
+    absurd (loud_second client clock next_id os due (ap (λ (t : Turn). t.sent) same))
+due_or_not client clock next_id os false due same = refl
+
+pub rests_by_second : (client : Client) (clock next_id : ℕ) (os : List Observation)
+    → second client clock next_id os ≡ quiet next_id os → is_one_due os (pendings_of client os) clock ≡ false
+rests_by_second client clock next_id os same =
+    due_or_not client clock next_id os (is_one_due os (pendings_of client os) clock) refl same
+
+sends_or_not : (client : Client) (clock next_id : ℕ) (os : List Observation) (b : Bool)
+    → is_one_due os (pendings_of client os) clock ≡ b → (second client clock next_id os).sent ≢ [] → b ≡ true
+sends_or_not client clock next_id os true due some = refl
+sends_or_not client clock next_id os false due some =
+    absurd (some (ap (λ (t : Turn). t.sent) (quiet_second client clock next_id os due)))
+
+pub due_by_second : (client : Client) (clock next_id : ℕ) (os : List Observation)
+    → (second client clock next_id os).sent ≢ [] → is_one_due os (pendings_of client os) clock ≡ true
+due_by_second client clock next_id os some =
+    sends_or_not client clock next_id os (is_one_due os (pendings_of client os) clock) refl some
+
+-- ---- seconds
+
+pub quiet_seconds : (client : Client) (clock n next_id : ℕ) (os : List Observation)
+    → AreAtRest os (pendings_of client os) clock (clock + n) → seconds client clock n next_id os ≡ quiet next_id os
+quiet_seconds client clock zero next_id os rest = refl
+quiet_seconds client clock (suc n) next_id os rest =
+    let here = quiet_second client (clock + 1) next_id os (rest (clock + 1) (omega arith) (omega arith)) in
+    ap (λ (t : Turn). and_then t (seconds client (clock + 1) n t.next_id t.left)) here
+    ∙ ap (λ r. and_then (quiet next_id os) r)
+    (quiet_seconds client (clock + 1) n next_id os
+    (λ at after before. rest at (omega (arith, after)) (omega (arith, before))))
+
+-- quiet seconds before others do not count
+pub skipped : (client : Client) (clock n m end next_id : ℕ) (os : List Observation)
+    → AreAtRest os (pendings_of client os) clock end → clock + n ≡ end
+    → seconds client clock (n + m) next_id os ≡ seconds client end m next_id os
+skipped client clock n m end next_id os rest at =
+    let quietly = quiet_seconds client clock n next_id os
+    (λ t after before. rest t after (omega (arith, before, at))) in
+    seconds_add client clock n m next_id os
+    ∙ ap (λ (t : Turn). and_then t (seconds client (clock + n) m t.next_id t.left)) quietly
+    ∙ ap (λ c. seconds client c m next_id os) at
+
+pub jumps : (client : Client) (clock n next_id first : ℕ) (os : List Observation)
+    → IsFirstDue clock os (pendings_of client os) first → first ≤ clock + n
+    → seconds client clock n next_id os
+    ≡ and_then (second client first next_id os)
+    (seconds client first (clock + n - first) (second client first next_id os).next_id
+    (second client first next_id os).left)
+jumps client clock n next_id first os h within =
+    let before = first - 1 in
+    let after = h.later in
+    let at : before + 1 ≡ first = omega (arith, after) in
+    let count : n ≡ before - clock + suc (clock + n - first) = omega (arith, after, within) in
+    let reaches : clock + (before - clock) ≡ before = omega (arith, after) in
+    ap (λ k. seconds client clock k next_id os) count
+    ∙ skipped client clock (before - clock) (suc (clock + n - first)) before next_id os
+    (λ t later earlier. h.none_before t later (omega (arith, earlier, after))) reaches
+    ∙ ap (λ c. and_then (second client c next_id os)
+    (seconds client c (clock + n - first) (second client c next_id os).next_id (second client c next_id os).left)) at
+
+-- ---- the first second that sends
+
+pub first_sending : (client : Client) (now next_id : ℕ) (os : List Observation) (first : ℕ)
+    → IsFirstDue now os (pendings_of client os) first → IsFirstSending client now next_id os first
+first_sending client now next_id os first h =
+    record {
+      later = h.later;
+      fits = h.fits;
+      sends = loud_second client first next_id os h.passes;
+      quiet_before = λ clock after before. quiet_second client clock next_id os (h.none_before clock after before);
+    }
+
+pub first_due : (client : Client) (now next_id : ℕ) (os : List Observation) (first : ℕ)
+    → IsFirstSending client now next_id os first → IsFirstDue now os (pendings_of client os) first
+first_due client now next_id os first h =
+    record {
+      later = h.later;
+      fits = h.fits;
+      passes = due_by_second client first next_id os h.sends;
+      none_before = λ clock after before. rests_by_second client clock next_id os (h.quiet_before clock after before);
+    }

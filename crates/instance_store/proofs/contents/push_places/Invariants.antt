@@ -1,6 +1,0 @@
-use Rattle.std.proofs.Common.{◌≡◌, ◌++◌, map, take}
-use Rattle.instance_store.specs.Numbers.{place}
-use Rattle.instance_store.proofs.contents.push_places.Given as goal
-
-abbrev pub invariant-loop-number : goal.invariant-loop-number
-invariant-loop-number l = l.found.items ≡ l.fn.found.items ++ map (place l.object) (take l.number-index l.numbers)

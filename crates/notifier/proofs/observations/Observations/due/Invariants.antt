@@ -1,0 +1,7 @@
+-- The first second at which one of the observations before the place is due.
+use Rattle.std.proofs.Common.{take}
+use Rattle.notifier.specs.Due.{IsFirst, is_one_due}
+use Rattle.notifier.proofs.observations.Observations.due.Given as goal
+
+abbrev pub invariant-loop-place : goal.invariant-loop-place
+invariant-loop-place l = IsFirst (is_one_due (take l.place l.self) (take l.place l.pending)) l.now l.first
