@@ -1,6 +1,6 @@
 //! What a worker does with the trace while it has the lock: it claims, it puts, it stops.
 
-ghost use Rattle.std.specs.Prelude.{◌≡◌, ◌≢◌, ℕ, ◌++◌, true, false, [], IfSome, IfNone, IfOk, IfErr, IsOk, IsErr};
+ghost use Rattle.std.specs.Prelude.{◌≡◌, ◌≢◌, ◌⊎◌, ℕ, ◌++◌, true, false, [], IfSome, IfNone, IfOk, IfErr, IsOk, IsErr};
 ghost use Rattle.ticket_lock.specs.Log.{Adds};
 ghost use Rattle.ticket_lock.specs.Lock.{HasNumber};
 ghost use Rattle.ticket_lock.specs.Names.{lock_id, pass_view, IsPass};
@@ -139,6 +139,7 @@ pub fn put_and_claim<R: Wait>(
     ensures kept { IsErr result.1 → own_entries (pass_view pass).low (pass_view result.0).front
         ≡ own_entries (pass_view pass).low (pass_view pass).front }
     ensures end { IfErr result.1 (λ e. EndsAs (pass_view result.0) e) }
+    ensures memory_or_spent { IfErr result.1 (λ e. (e ≡ LoopEnd.Memory) ⊎ (e ≡ LoopEnd.Spent)) }
 {
     let worker = pass.number();
     match lock.take(rt, pass) {
