@@ -2,11 +2,14 @@
 """Measures runs: serial, and of one, two, four and 64 workers; `check` of their traces; memory.
 
     bench/runs.py USES LWBENCH [TIMES]
+    bench/runs.py --notified USES LWBENCH [TIMES]
 
 USES and LWBENCH are the built programs, crates/fleet_workers_uses/out/fleet_workers_uses and
 crates/lwbench/out/lwbench. The script writes each scenario's image itself, in a folder of its own, lets the programs
-run in TIMES rounds (3) over all scenarios, and prints two tables with the least times of all rounds. Python's standard
-library is all that it needs. README.md says what the scenarios and the columns are.
+run in TIMES rounds (3) over all scenarios, and prints two tables with the least times of all rounds. With --notified it
+prints one, of serial runs alone: of devices that notify, by NON, by CON with an acknowledgement for each notification,
+and by CON without one. Python's standard library is all that it needs. README.md says what the scenarios and the
+columns are.
 """
 import os
 import resource
@@ -33,19 +36,36 @@ def path(numbers):
     return b"".join(u16(number) for number in numbers) + b"\x00"
 
 
-def device_class():
-    """A device of server 1, with a battery level of 100."""
+# How the devices of a class notify: by NON, or by CON with a first timeout of 2 seconds.
+NON, CON = 0, 2
+
+
+def device_class(notify):
+    """A device of server 1, with a battery level of 100, that notifies so."""
     account = b"\x01" + u16(SERVER)
     objects = b"\x00"
     instances = u16(1) + u16(3) + u16(0)
     values = u16(1) + path(BATTERY) + whole(100)
-    return account + objects + instances + values
+    return bytes([notify]) + account + objects + instances + values
+
+
+def received(datagram):
+    return b"\x01" + u16(SERVER) + u16(len(datagram)) + datagram
 
 
 def read(mid):
     """A confirmable GET of /3/0/9."""
-    datagram = bytes([0x40, 0x01]) + u16(mid) + b"\xb1\x33\x01\x30\x01\x39"
-    return b"\x01" + u16(SERVER) + u16(len(datagram)) + datagram
+    return received(bytes([0x40, 0x01]) + u16(mid) + b"\xb1\x33\x01\x30\x01\x39")
+
+
+def observed(token):
+    """A confirmable GET of /3/0/9 with Observe 0, whose message ID is the token, of one byte."""
+    return received(bytes([0x41, 0x01]) + u16(token) + bytes([token]) + b"\x60\x51\x33\x01\x30\x01\x39")
+
+
+def acknowledgement(mid):
+    """An Empty ACK."""
+    return received(b"\x60\x00" + u16(mid))
 
 
 def tick():
@@ -83,9 +103,20 @@ def posts(count):
     return [post(0)] * count
 
 
-def image(rows):
-    """The image of these rows, all of the one class."""
-    parts = [struct.pack(">IB", 0x4C575343, 1), u16(1), device_class(), u16(len(rows))]
+def notified(count, is_acknowledged):
+    """An observation, and then as often as said another level and the second in which it is sent, which may be
+    acknowledged; the message IDs of notifications count from 0."""
+    steps = [observed(0)]
+    for number in range(count):
+        steps += [put(number % 100), tick()]
+        if is_acknowledged:
+            steps.append(acknowledgement(number))
+    return steps
+
+
+def image(rows, notify=NON):
+    """The image of these rows, all of the one class, whose devices notify so."""
+    parts = [struct.pack(">IB", 0x4C575343, 2), u16(1), device_class(notify), u16(len(rows))]
     for steps in rows:
         parts.append(u16(0) + u16(len(steps)))
         parts.extend(steps)
@@ -131,13 +162,21 @@ def worker_scenarios():
     yield "ticks", 4096, ticks(100)
 
 
-def write_apart(path, steps, devices):
+def notified_scenarios():
+    """The same, and how its devices notify, of those of --notified."""
+    for devices, count in ((1024, 64), (1, 1024)):
+        yield "nons", devices, notified(count, False), NON
+        yield "cons", devices, notified(count, True), CON
+    yield "unanswered", 1024, notified(64, False), CON
+
+
+def write_apart(path, steps, devices, notify=NON):
     """Writes the image, and its hexadecimal, from a process of its own: what this one had in memory would count as the
     program's."""
     child = os.fork()
     if child == 0:
         with open(path, "wb") as out:
-            out.write(image([steps] * devices))
+            out.write(image([steps] * devices, notify))
         for kind in ["start", "serial", *RUNS, *ALONE]:
             with open(path, "rb") as data, open(f"{path}-{kind.replace(' ', '-')}", "w", encoding="ascii") as out:
                 out.write(f"{kind}\n{data.read().hex()}\n")
@@ -203,11 +242,11 @@ class Measured:
     """A scenario in files, and what its runs took."""
 
     def __init__(self, folder, scenario):
-        self.name, self.devices, steps = scenario
+        self.name, self.devices, steps, *notify = scenario
         self.each, self.total = len(steps), self.devices * len(steps)
         self.file = os.path.join(folder, f"{self.name}-{self.devices}-{self.each}")
         self.least = {}
-        write_apart(self.file, steps, self.devices)
+        write_apart(self.file, steps, self.devices, *notify)
 
     def add(self, kind, run):
         self.least.setdefault(kind, Least()).add(run)
@@ -238,31 +277,48 @@ class Measured:
                 a_step(run.seconds - start.seconds, self.total), run.mebibytes()]
 
 
+def measure_serial(uses, lwbench, folder, scenarios, times):
+    """Prints the table of the serial runs of these scenarios."""
+    empty = os.path.join(folder, "empty")
+    with open(empty, "wb") as out:
+        out.write(EMPTY)
+    serial = [Measured(folder, it) for it in scenarios]
+    for _ in range(times):
+        for it in serial:
+            it.make(uses, "start")
+            it.make(uses, "serial")
+            it.check(lwbench, empty)
+    table(["Steps", "Devices", "Each", "Start ms", "Run ms", "A step", "A step of check", "Image", "Trace",
+           "Start MiB", "Run MiB"], [it.serial_row() for it in serial])
+
+
+def measure_workers(uses, folder, times):
+    """Prints the table of the runs of workers."""
+    workers = [Measured(folder, it) for it in worker_scenarios()]
+    kinds = ["serial", *RUNS, *ALONE]
+    for _ in range(times):
+        for it in workers:
+            for kind in ["start", *kinds]:
+                it.make(uses, kind)
+    table(["Steps", "Run", "Clock ms", "Steps/s", "A step", "MiB"],
+          [it.worker_row(kind) for it in workers for kind in kinds])
+
+
 def main():
-    if len(sys.argv) not in (3, 4) or sys.argv[1].startswith("-"):
+    words = sys.argv[1:]
+    is_notified = words[:1] == ["--notified"]
+    if is_notified:
+        words = words[1:]
+    if len(words) not in (2, 3) or words[0].startswith("-"):
         sys.exit(__doc__)
-    uses, lwbench = (os.path.abspath(it) for it in sys.argv[1:3])
-    times = int(sys.argv[3]) if len(sys.argv) == 4 else 3
+    uses, lwbench = (os.path.abspath(it) for it in words[:2])
+    times = int(words[2]) if len(words) == 3 else 3
     with tempfile.TemporaryDirectory() as folder:
-        empty = os.path.join(folder, "empty")
-        with open(empty, "wb") as out:
-            out.write(EMPTY)
-        serial = [Measured(folder, it) for it in serial_scenarios()]
-        for _ in range(times):
-            for it in serial:
-                it.make(uses, "start")
-                it.make(uses, "serial")
-                it.check(lwbench, empty)
-        table(["Steps", "Devices", "Each", "Start ms", "Run ms", "A step", "A step of check", "Image", "Trace",
-               "Start MiB", "Run MiB"], [it.serial_row() for it in serial])
-        workers = [Measured(folder, it) for it in worker_scenarios()]
-        kinds = ["serial", *RUNS, *ALONE]
-        for _ in range(times):
-            for it in workers:
-                for kind in ["start", *kinds]:
-                    it.make(uses, kind)
-        table(["Steps", "Run", "Clock ms", "Steps/s", "A step", "MiB"],
-              [it.worker_row(kind) for it in workers for kind in kinds])
+        if is_notified:
+            measure_serial(uses, lwbench, folder, notified_scenarios(), times)
+        else:
+            measure_serial(uses, lwbench, folder, serial_scenarios(), times)
+            measure_workers(uses, folder, times)
 
 
 if __name__ == "__main__":

@@ -26,19 +26,10 @@ ROWS = [
 ]
 
 
-def received(datagram):
-    return b"\x01" + runs.u16(runs.SERVER) + runs.u16(len(datagram)) + datagram
-
-
-def observed(token):
-    """A confirmable GET of /3/0/9 with Observe 0."""
-    return received(bytes([0x41, 0x01]) + runs.u16(token) + bytes([token]) + b"\x60\x51\x33\x01\x30\x01\x39")
-
-
 def with_period(seconds):
     """A confirmable Write-Attributes of /3/0/9: its maximum period."""
     query = f"pmax={seconds}".encode()
-    return received(b"\x40\x03\xff\xff\xb1\x33\x01\x30\x01\x39" + bytes([0x40 + len(query)]) + query)
+    return runs.received(b"\x40\x03\xff\xff\xb1\x33\x01\x30\x01\x39" + bytes([0x40 + len(query)]) + query)
 
 
 def tick(seconds):
@@ -47,7 +38,7 @@ def tick(seconds):
 
 def before_ticks(observations, period):
     asked = [] if period is None else [with_period(period)]
-    return asked + [observed(token) for token in range(observations)]
+    return asked + [runs.observed(token) for token in range(observations)]
 
 
 def least(uses, file, kind, steps, times):

@@ -3,7 +3,7 @@ use Rattle.std.proofs.Common.{◌≡◌, ℕ, List, [], ◌∷◌, Ok, Option, N
 use Rattle.std.specs.Result.{IsOkAnd}
 use Rattle.hex.specs.Hex.{decode_of}
 use Rattle.scenario_image.specs.Scenario.{Scenario}
-use Rattle.scenario_image.specs.Image.{IsImage}
+use Rattle.scenario_image.specs.Image.{IsImage, IsImageIn}
 use Rattle.scenario_asm.specs.Canonical as canonical
 use Rattle.scenario_asm.specs.Text.{assembled}
 use Rattle.scenario_asm.proofs.Denoting.{so_denotes}
@@ -65,7 +65,7 @@ one_done hex status text made ended none said = record { text_is = said; status_
 
 pub asm_done : (holds : List ℕ → List ℕ → Type 0) (input output bytes : List ℕ) (s : Scenario) (status : Status)
     (text : List ℕ) (made : List Made)
-    → IsTextAt holds input s → IsImage bytes s → text ≡ count_line s → status ≡ Done → made ≡ (output, bytes) ∷ []
+    → IsTextAt holds input s → IsImageIn 2 bytes s → text ≡ count_line s → status ≡ Done → made ≡ (output, bytes) ∷ []
     → IsAsmDone holds input output status text made
 asm_done holds input output bytes s status text made found image said ended one =
     record {

@@ -8,7 +8,7 @@ use Rattle.device_template.specs.Template.{Template}
 use Rattle.scenario_image.specs.declared.fault.ScenarioFault.{ScenarioFault}
 use Rattle.scenario_image.specs.declared.fault.ScenarioFault.TheVariants as session
 use Rattle.scenario_image.specs.declared.step.Step.{Step}
-use Rattle.scenario_image.specs.Image.{IsImage}
+use Rattle.scenario_image.specs.Image.{IsImageIn}
 use Rattle.scenario_image.specs.Scenario.{Scenario, one_row, IsFirstRefusal}
 use Rattle.live_link.specs.declared.session.LiveSession.{LiveSession}
 use Rattle.live_link.specs.Served.{IsServed}
@@ -86,7 +86,7 @@ unheld_so show fault h k = subst (λ b. IsUnheld b fault) (sym h) k
 -- ---- its scenario
 
 pub saved_at : (before after : Option (List Made)) (path at bytes : List ℕ) (class : Template) (steps : List Step)
-    → at ≡ path → IsImage bytes (one_row class steps) → Grows before after ((at, bytes) ∷ [])
+    → at ≡ path → IsImageIn 2 bytes (one_row class steps) → Grows before after ((at, bytes) ∷ [])
     → IsSavedAt before after path class steps
 saved_at before after path at bytes class steps same image grows =
     (bytes, image, subst (λ p. Grows before after ((p, bytes) ∷ [])) same grows)

@@ -1,15 +1,14 @@
 -- The DEMO device: its class, and what it outputs when it has just started (this profile).
 use Rattle.std.specs.Prelude.{ℕ, List, [], ◌∷◌, codes, pos, false}
 use Rattle.std.specs.List.{fold}
-use Rattle.object_defs.specs.Base.{base}
 use Rattle.object_defs.specs.Path.{full_path}
 use Rattle.object_defs.specs.declared.path.Path.{Path}
 use Rattle.object_defs.specs.declared.path.Path.TheVariants.{Resource, Part}
 use Rattle.lwm2m_values.specs.declared.value.Value.{Value}
 use Rattle.lwm2m_values.specs.declared.value.Value.TheVariants as value
-use Rattle.instance_store.specs.Stored.{empty, with_instance}
+use Rattle.instance_store.specs.Stored.{with_instance}
 use Rattle.device_machine.specs.Template.{start_of}
-use Rattle.device_template.specs.Template.{Template, with_account, with_store}
+use Rattle.device_template.specs.Template.{Template, empty_class, with_account, with_store}
 use Rattle.device_template.specs.Values.{with_value_at}
 use Rattle.device_machine.specs.Reactions.{outputs_of}
 use Rattle.device_machine.specs.declared.event.Event.TheVariants.{Recv}
@@ -46,12 +45,9 @@ with_place class place =
 abbrev pub with_row : Template → Path × Value → Template
 with_row class row = with_store class (with_value_at class.store (full_path row.0) row.1)
 
--- the class: the base objects, one account, these instances and these values
+-- the class: the base objects, one account, these instances and these values; its notifications are Non-confirmable
 unfoldable pub demo_class : Template
-demo_class =
-    fold with_row
-    (fold with_place (with_account (record { accounts = []; catalogue = base; store = empty }) 1) demo_instances)
-    demo_values
+demo_class = fold with_row (fold with_place (with_account empty_class 1) demo_instances) demo_values
 
 -- what the device, just started, outputs where server 1 sends these bytes
 unfoldable pub demo_outputs : List ℕ → List Output

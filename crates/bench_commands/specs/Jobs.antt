@@ -9,7 +9,7 @@ use Rattle.hex.specs.Hex.{decode_of}
 use Rattle.byte_layout.specs.declared.fault.LayoutFault.{LayoutFault}
 use Rattle.byte_layout.specs.Whole.{HasFault}
 use Rattle.scenario_image.specs.Scenario.{Scenario}
-use Rattle.scenario_image.specs.Image.{IsImage, HasImageFault}
+use Rattle.scenario_image.specs.Image.{IsImage, IsImageIn, HasImageFault}
 use Rattle.scenario_asm.specs.Canonical as canonical
 use Rattle.trace_file.specs.declared.entry.Entry.{Entry}
 use Rattle.trace_file.specs.Layout.{trace_file, IsTraceFile}
@@ -25,7 +25,7 @@ use Rattle.bench_commands.specs.Texts.{IsTextAt, count_line}
 
 -- ---- files
 
--- the file at the path is a scenario's image
+-- the file at the path is a scenario's image, in either version
 pub record IsScenarioAt (holds : List ℕ → List ℕ → Type 0) (path : List ℕ) (s : Scenario) : Type 0 where
   pub bytes : List ℕ
   pub held : holds path bytes
@@ -66,13 +66,13 @@ pub record IsOneDone (hex : List ℕ) (status : Status) (text : List ℕ) (made 
   pub status_is : status ≡ Done
   pub made_is : made ≡ []
 
--- `asm IN OUT`: the scenario that the text denotes, and its image, which goes to OUT
+-- `asm IN OUT`: the scenario that the text denotes, and its image of version 2, which goes to OUT
 pub record IsAsmDone (holds : List ℕ → List ℕ → Type 0) (input output : List ℕ) (status : Status) (text : List ℕ)
     (made : List Made) : Type 0 where
   pub scenario : Scenario
   pub found : IsTextAt holds input scenario
   pub bytes : List ℕ
-  pub image : IsImage bytes scenario
+  pub image : IsImageIn 2 bytes scenario
   pub text_is : text ≡ count_line scenario
   pub status_is : status ≡ Done
   pub made_is : made ≡ (output, bytes) ∷ []

@@ -7,7 +7,7 @@ use Rattle.std.specs.Io.KnownBytes.{Appends}
 use Rattle.bench_words.specs.declared.words.Live.{Live}
 use Rattle.device_template.specs.Template.{Template}
 use Rattle.scenario_image.specs.declared.step.Step.{Step}
-use Rattle.scenario_image.specs.Image.{IsImage}
+use Rattle.scenario_image.specs.Image.{IsImageIn}
 use Rattle.scenario_image.specs.Play.{IsRowOf}
 use Rattle.scenario_image.specs.Scenario.{Scenario, one_row, IsFirstRefusal}
 use Rattle.live_link.specs.declared.session.LiveEnd.{LiveEnd}
@@ -73,10 +73,11 @@ line_of session = session_line session.end (length session.steps.items) (length 
 
 -- ---- its scenario
 
--- the image of the scenario that has one device of the class, with these steps, was made at the path, and no other file
+-- the image of the scenario that has one device of the class, with these steps, was made at the path, in version 2, and
+-- no other file
 abbrev pub IsSavedAt : Option (List Made) → Option (List Made) → List ℕ → Template → List Step → Type 0
 IsSavedAt before after path class steps =
-    (bytes : List ℕ) × IsImage bytes (one_row class steps) × Grows before after ((path, bytes) ∷ [])
+    (bytes : List ℕ) × IsImageIn 2 bytes (one_row class steps) × Grows before after ((path, bytes) ∷ [])
 
 -- the same where there is a path; else no file was made
 abbrev pub IsSaved : Option (List Made) → Option (List Made) → Option (List ℕ) → Template → List Step → Type 0

@@ -3,7 +3,7 @@ ghost use Rattle.std.specs.Prelude.{◌≡◌, ◌⊎◌, None, IfErr, IfOk, OnE
 ghost use Rattle.std.specs.Io.KnownBytes.{Appends};
 ghost use Rattle.std.specs.String.{string_bytes};
 ghost use Rattle.live_link.specs.Served.{IsServed};
-ghost use Rattle.scenario_image.specs.Image.{IsImage};
+ghost use Rattle.scenario_image.specs.Image.{IsImageIn};
 ghost use Rattle.scenario_image.specs.Scenario.{one_row};
 ghost use Rattle.bench_commands.specs.Fault.{IsWritingFault};
 ghost use Rattle.bench_commands.specs.Live.{end_name, line_of, named_line, session_line, HasNoRow, IsClassOf};
@@ -252,7 +252,7 @@ fn session_file<'a>(
     steps: Vec<Step>,
 ) -> Result<NewFile<'a>, Fault>
     ensures path { IfOk result (λ f. f.path.now ≡ path.entry.now) }
-    ensures image { IfOk result (λ f. IsImage f.bytes (one_row class steps.items)) }
+    ensures image { IfOk result (λ f. IsImageIn 2 f.bytes (one_row class steps.items)) }
     ensures refused { IfErr result (IsUnfit class steps.items) }
 {
     match Scenario::single(alloc, class, steps) {

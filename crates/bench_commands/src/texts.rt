@@ -1,7 +1,7 @@
 //! What becomes of a scenario whose text was read: its image, and the line that counts what it has.
 ghost use Rattle.std.specs.Prelude.{◌≡◌, IfOk};
 ghost use Rattle.std.specs.String.{string_bytes};
-ghost use Rattle.scenario_image.specs.Image.{IsImage};
+ghost use Rattle.scenario_image.specs.Image.{IsImageIn};
 ghost use Rattle.bench_commands.specs.Texts.{count_line, ok_line};
 
 use crate::answer::NewFile;
@@ -9,14 +9,14 @@ use octets::Bytes;
 use scenario_image::{Scenario, save};
 use std::alloc::{AllocError, Global};
 
-/// The image of a scenario, for the path.
+/// The image of a scenario, of version 2, for the path.
 pub fn image_file<'a>(
     alloc: Global,
     scenario: &Scenario,
     path: &'a str,
 ) -> Result<NewFile<'a>, AllocError>
     ensures path { IfOk result (λ f. f.path.now ≡ path.entry.now) }
-    ensures image { IfOk result (λ f. IsImage f.bytes scenario.now) }
+    ensures image { IfOk result (λ f. IsImageIn 2 f.bytes scenario.now) }
 {
     let bytes = Bytes::from_vec(save(alloc, scenario)?);
     Ok(NewFile { path, bytes })

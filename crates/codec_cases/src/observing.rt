@@ -2,11 +2,14 @@
 //! on them answer.
 
 use crate::forms::{
-    Unanswered, answered, bytes, decimal, end, fixed, half, natural, push, put_words, signed, word,
+    Unanswered, answered, bytes, decimal, end, fixed, half, hex_word, natural, push, put_words,
+    signed, word,
 };
 use crate::notifying::{change_of, name, name_word};
 use crate::places::{add, listed, only_path, path, yes_no};
-use notifier::{Attributes, Change, Name, Observations, ObserveFault, Report, WriteFault};
+use notifier::{
+    Attributes, Change, Name, Observations, ObserveFault, Pending, Report, Timer, Turn, WriteFault,
+};
 use object_defs::{Path, path_text};
 use octets::Bytes;
 use std::alloc::{AllocError, Global};
@@ -184,6 +187,28 @@ fn with_observations(
         }
         "len" => Ok(decimal(alloc, observations.len() as u64)?),
         "is-empty" => fixed(alloc, yes_no(observations.is_empty())),
+        _ => with_open(alloc, observations, first, rest),
+    }
+}
+
+/// The operations on confirmable notifications, and on what they leave to do.
+fn with_open(
+    alloc: Global,
+    observations: &mut Observations,
+    first: &str,
+    rest: &str,
+) -> Result<String, Unanswered> {
+    match first {
+        "open" => open(alloc, observations, rest),
+        "acknowledge" => {
+            let (server, rest) = half(rest)?;
+            let (mid, rest) = half(rest)?;
+            end(rest)?;
+            fixed(alloc, yes_no(observations.acknowledge(server, mid)))
+        }
+        "turn" => turn(alloc, observations, rest),
+        "bytes" => open_bytes(alloc, observations, rest),
+        "due" => due(alloc, observations, rest),
         _ => Err(Unanswered::Unread("not an operation on observations")),
     }
 }
@@ -215,13 +240,19 @@ fn register(
     }
 }
 
+/// The first word as a number of 8 bits, and the words after it.
+fn byte(rest: &str) -> Result<(u8, &str), Unanswered> {
+    let (number, rest) = half(rest)?;
+    match u8::try_from(number) {
+        Ok(byte) => Ok((byte, rest)),
+        Err(_) => Err(Unanswered::Unread("not a number of 8 bits")),
+    }
+}
+
 /// `fill COUNT`: registers tokens of the one byte 0, 1 .., this many. Answers their Observe numbers.
 fn fill(alloc: Global, observations: &mut Observations, rest: &str) -> Result<String, Unanswered> {
-    let (count, rest) = half(rest)?;
+    let (count, rest) = byte(rest)?;
     end(rest)?;
-    let Ok(count) = u8::try_from(count) else {
-        return Err(Unanswered::Unread("not a number of one byte"));
-    };
     let mut numbers = String::new(alloc);
     for token in 0..count {
         let number = register(alloc, observations, Vec::from_slice(alloc, &[token])?)?;
@@ -236,13 +267,95 @@ fn sent(alloc: Global, observations: &mut Observations, rest: &str) -> Result<St
     let (second, rest) = natural(rest)?;
     let (mid, rest) = half(rest)?;
     end(rest)?;
+    notify(alloc, observations, place, second, mid, None)
+}
+
+/// `open PLACE SECOND MID FIRST HEX`: the same by a CON of these bytes, whose first timeout is FIRST seconds.
+fn open(alloc: Global, observations: &mut Observations, rest: &str) -> Result<String, Unanswered> {
+    let (place, rest) = half(rest)?;
+    let (second, rest) = natural(rest)?;
+    let (mid, rest) = half(rest)?;
+    let (first, rest) = byte(rest)?;
+    let (bytes, rest) = bytes(alloc, rest)?;
+    end(rest)?;
+    let bytes = Bytes::from_vec(bytes);
+    notify(
+        alloc,
+        observations,
+        place,
+        second,
+        mid,
+        Some(Timer { bytes, first }),
+    )
+}
+
+/// A notification that reports the battery level 80.
+fn notify(
+    alloc: Global,
+    observations: &mut Observations,
+    place: u16,
+    second: u64,
+    mid: u16,
+    timer: Option<Timer>,
+) -> Result<String, Unanswered> {
     let report = reported(alloc, b"80", 80)?;
     let place = usize::from(place);
     if place >= observations.len() {
         return fixed(alloc, "none");
     }
-    let number = observations.sent(place, second, mid, report);
+    let number = observations.sent(place, second, mid, report, timer);
     Ok(decimal(alloc, u64::from(number))?)
+}
+
+/// `turn PLACE SECOND`: what an observation does in that second.
+fn turn(alloc: Global, observations: &Observations, rest: &str) -> Result<String, Unanswered> {
+    let (place, rest) = half(rest)?;
+    let (second, rest) = natural(rest)?;
+    end(rest)?;
+    let place = usize::from(place);
+    if place >= observations.len() {
+        return fixed(alloc, "none");
+    }
+    let turn = match observations.turn(place, second) {
+        Turn::Evaluate => "evaluate",
+        Turn::Wait => "wait",
+        Turn::Resend => "resend",
+        Turn::Expire => "expire",
+    };
+    fixed(alloc, turn)
+}
+
+/// `bytes PLACE`: those of a notification that waits for its acknowledgement.
+fn open_bytes(
+    alloc: Global,
+    observations: &Observations,
+    rest: &str,
+) -> Result<String, Unanswered> {
+    let (place, rest) = half(rest)?;
+    end(rest)?;
+    match observations.open_bytes(usize::from(place)) {
+        Some(bytes) => Ok(hex_word(alloc, bytes)?),
+        None => fixed(alloc, "none"),
+    }
+}
+
+/// `due SECOND`: the first second after this one in which the only observation sends or is removed, while its present
+/// answer is what it last reported and pmax is 60.
+fn due(alloc: Global, observations: &Observations, rest: &str) -> Result<String, Unanswered> {
+    let (now, rest) = natural(rest)?;
+    end(rest)?;
+    if observations.len() != 1 {
+        return Err(Unanswered::Unread("not one observation"));
+    }
+    let present = [Pending::Content {
+        triggered: false,
+        pmin: 0,
+        pmax: Some(60),
+    }];
+    match observations.due(now, &present) {
+        Some(second) => Ok(decimal(alloc, second)?),
+        None => fixed(alloc, "none"),
+    }
 }
 
 /// `remove PLACE`.

@@ -5,15 +5,15 @@ ghost use Rattle.std.specs.Option.{option_copied, option_to_list};
 ghost use Rattle.std.specs.String.{string_bytes};
 ghost use Rattle.debugger.specs.Shown.{value_shown, observations_shown, outputs_shown};
 ghost use Rattle.debug_answers.specs.Printed.{printed};
-ghost use Rattle.debug_answers.specs.Shown.{count_line, observation_line, observation_lines, observation_words};
-ghost use Rattle.debug_answers.specs.Shown.{value_line};
+ghost use Rattle.debug_answers.specs.Shown.{count_line, line_end, observation_line, observation_lines};
+ghost use Rattle.debug_answers.specs.Shown.{observation_words, value_line};
 ghost use Rattle.debug_answers.specs.Replies.{IsShown};
 
 use crate::lines::fixed_line;
 use crate::printed::outputs_text;
 use debugger::{Debugger, DeviceFault};
 use lwm2m_values::Value;
-use notifier::{Observation, Observations};
+use notifier::{Observation, Observations, Timer};
 use object_defs::{Path, path_text};
 use scenario_words::{hex_word, spell};
 use std::alloc::{AllocError, Global};
@@ -52,16 +52,28 @@ pub fn show_value(
     }
 }
 
+/// How the line of an observation ends.
+fn line_end(timer: &Option<Timer>) -> &'static str
+    ensures { result.now ≡ line_end timer.now }
+{
+    match timer {
+        None => "",
+        Some(_) => " open",
+    }
+}
+
 fn observation_words(
     alloc: Global,
     server: u16,
     token: &str,
     path: &str,
     number: u32,
+    ending: &str,
 ) -> Result<String, AllocError>
-    ensures { IfOk result (λ text. string_bytes text ≡ observation_words server token.now path.now number) }
+    ensures { IfOk result (λ text. string_bytes text
+        ≡ observation_words server token.now path.now number ending.now) }
 {
-    format!(in alloc; "{server} {token} {path} {number}\n")
+    format!(in alloc; "{server} {token} {path} {number}{ending}\n")
 }
 
 fn observation_line(alloc: Global, observation: &Observation) -> Result<String, AllocError>
@@ -75,6 +87,7 @@ fn observation_line(alloc: Global, observation: &Observation) -> Result<String, 
         token.as_str(),
         path.as_str(),
         observation.number,
+        line_end(&observation.timer),
     )
 }
 

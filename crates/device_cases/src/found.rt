@@ -93,7 +93,14 @@ fn broken(alloc: Global, fault: LayoutFault) -> Result<Found, AllocError> {
 
 fn of_image(alloc: Global, bytes: &[u8]) -> Result<Found, AllocError> {
     match load(alloc, bytes) {
-        Ok(scenario) => as_given(alloc, of_scenario(alloc, &scenario)?, bytes),
+        Ok(scenario) => {
+            let found = of_scenario(alloc, &scenario)?;
+            if version(bytes) == 1 {
+                as_newer(alloc, found, scenario.classes(), bytes)
+            } else {
+                as_given(alloc, found, bytes)
+            }
+        }
         Err(fault) => broken(alloc, fault),
     }
 }
@@ -159,6 +166,29 @@ fn of_entries(alloc: Global, entries: &Entries) -> Result<Found, AllocError> {
         Err(WriteFault::TooLarge) => refused_as(alloc, "fault too large"),
         Err(WriteFault::Memory) => Err(AllocError),
     }
+}
+
+/// The version of an image, which follows its mark.
+fn version(image: &[u8]) -> u8 {
+    match image {
+        [_, _, _, _, version, ..] => *version,
+        _ => 0,
+    }
+}
+
+/// What is found in an image of version 1 that was read: written again, it has to be one of version 2, and longer by a
+/// byte for each class.
+fn as_newer(
+    alloc: Global,
+    found: Found,
+    classes: usize,
+    bytes: &[u8],
+) -> Result<Found, AllocError> {
+    let rest = found.file.len().saturating_sub(classes);
+    if version(found.file.as_slice()) == 2 && rest == bytes.len() {
+        return Ok(found);
+    }
+    refused_as(alloc, "written again as no newer image")
 }
 
 /// What is found in a file that was read: written again, it has to be the bytes that were given.

@@ -71,6 +71,7 @@ impl<'a> Play<'a> {
         match statement {
             Statement::Scenario
             | Statement::Class
+            | Statement::Notify(_)
             | Statement::Account(_)
             | Statement::Object(_)
             | Statement::Def(_)
@@ -185,6 +186,7 @@ pub fn event_of(alloc: Global, line: &str) -> Result<Option<Event>, AllocError> 
         Statement::Firmware(code) => Ok(Some(Event::Firmware(code))),
         Statement::Scenario
         | Statement::Class
+        | Statement::Notify(_)
         | Statement::Account(_)
         | Statement::Object(_)
         | Statement::Def(_)

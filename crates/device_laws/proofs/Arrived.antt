@@ -15,7 +15,7 @@ use Rattle.coap_codec.proofs.Soundness.{AreBytes, spelled_from_reading}
 use Rattle.device_requests.specs.Client.{has_account}
 use Rattle.device_requests.specs.Request.{outcome_of}
 use Rattle.device_machine.specs.Reactions.{Reaction, again, claimed_mid, claims_confirmable, is_request}
-use Rattle.device_machine.specs.Reactions.{on_datagram, on_message, on_outcome, on_request}
+use Rattle.device_machine.specs.Reactions.{on_acknowledgement, on_datagram, on_message, on_outcome, on_request}
 use Rattle.device_machine.specs.Reactions.{on_reset, reaction_to, repeat_of, reset}
 use Rattle.device_machine.specs.Reactions.{sends, silence}
 use Rattle.device_machine.specs.State.{Machine}
@@ -23,10 +23,10 @@ use Rattle.device_machine.specs.declared.event.Event.TheVariants.{Recv}
 use Rattle.device_machine.specs.declared.recorded.Recorded.{Recorded}
 use Rattle.device_laws.specs.Receiving.{Arrival, BeginsConfirmable, Brings, BringsNoMessage}
 use Rattle.device_laws.specs.Receiving.{BringsRequest, IsArrival, IsMethod}
-use Rattle.device_laws.specs.Receiving.Arrival.{ignored, rejected, empty_reset, repeated, fresh}
+use Rattle.device_laws.specs.Receiving.Arrival.{ignored, rejected, empty_ack, empty_reset, repeated, fresh}
 use Rattle.device_laws.specs.Receiving.IsArrival.{of_stranger, malformed, malformed_otherwise, confirmable_otherwise}
-use Rattle.device_laws.specs.Receiving.IsArrival.{non_confirmable_otherwise, acknowledges, resets, resets_otherwise}
-use Rattle.device_laws.specs.Receiving.IsArrival.{asks_again, asks}
+use Rattle.device_laws.specs.Receiving.IsArrival.{non_confirmable_otherwise, acknowledges, acknowledges_otherwise}
+use Rattle.device_laws.specs.Receiving.IsArrival.{resets, resets_otherwise, asks_again, asks}
 use Rattle.device_laws.proofs.Repeated.{oldest, oldest_found, none_repeated, no_repeat_found}
 
 -- ---- bytes that are no message
@@ -84,7 +84,7 @@ abbrev pub message_arrival : Machine → ℕ → Message → Kind → Arrival
 message_arrival f server m Con =
     if is_request m.code then request_arrival m (repeat_of f server m) else rejected m.mid
 message_arrival f server m Non = if is_request m.code then request_arrival m (repeat_of f server m) else ignored
-message_arrival f server m Ack = ignored
+message_arrival f server m Ack = if m.code == 0 then empty_ack m.mid else ignored
 message_arrival f server m Rst = if m.code == 0 then empty_reset m.mid else ignored
 
 abbrev pub datagram_arrival : Machine → ℕ → List ℕ → Result Message CoapFault → Arrival
@@ -98,6 +98,7 @@ arrival_of f server bytes =
 abbrev pub reaction_on : Machine → ℕ → Arrival → Reaction
 reaction_on f server ignored = silence f
 reaction_on f server (rejected mid) = sends f server (reset mid)
+reaction_on f server (empty_ack mid) = on_acknowledgement f server mid
 reaction_on f server (empty_reset mid) = on_reset f server mid
 reaction_on f server (repeated m r) = record { outputs = again server m.kind r.reply; flat = f }
 reaction_on f server (fresh m) = on_outcome f server m (outcome_of f.kept.client server m)
@@ -127,7 +128,7 @@ message_reacts f server m Non =
     chosen (is_request m.code) (on_request f server m o) (silence f)
     (reaction_on f server (request_arrival m o)) (silence f) (request_reacts f server m o) refl
     ∙ choice (reaction_on f server) (is_request m.code) (request_arrival m o) ignored
-message_reacts f server m Ack = refl
+message_reacts f server m Ack = choice (reaction_on f server) (m.code == 0) (empty_ack m.mid) ignored
 message_reacts f server m Rst = choice (reaction_on f server) (m.code == 0) (empty_reset m.mid) ignored
 
 pub datagram_reacts : (f : Machine) (server : ℕ) (bytes : List ℕ) (r : Result Message CoapFault)
@@ -195,7 +196,9 @@ message_is f server bytes m Non h k =
       method = method_said m.code r;
     }) refl)
     (λ r. non_confirmable_otherwise m h k (no_method_said m.code r))
-message_is f server bytes m Ack h k = acknowledges m h k
+message_is f server bytes m Ack h k =
+    whichever (IsArrival f server bytes) (m.code == 0) (empty_ack m.mid) ignored
+    (λ z. acknowledges m h k (eqb-true m.code 0 z)) (λ z. acknowledges_otherwise m h k (not_zero m.code z))
 message_is f server bytes m Rst h k =
     whichever (IsArrival f server bytes) (m.code == 0) (empty_reset m.mid) ignored
     (λ z. resets m h k (eqb-true m.code 0 z)) (λ z. resets_otherwise m h k (not_zero m.code z))
@@ -284,7 +287,10 @@ arrives_so f server bytes arrival all (confirmable_otherwise m h k r) =
 arrives_so f server bytes arrival all (non_confirmable_otherwise m h k r) =
     typed f server bytes m Non h k
     ∙ ap (λ b. if b then request_arrival m (repeat_of f server m) else ignored) (no_method_tested m.code r)
-arrives_so f server bytes arrival all (acknowledges m h k) = typed f server bytes m Ack h k
+arrives_so f server bytes arrival all (acknowledges m h k z) =
+    typed f server bytes m Ack h k ∙ ap (λ b. if b then empty_ack m.mid else ignored) (eq-eqb m.code 0 z)
+arrives_so f server bytes arrival all (acknowledges_otherwise m h k z) =
+    typed f server bytes m Ack h k ∙ ap (λ b. if b then empty_ack m.mid else ignored) (ne_eqb m.code 0 z)
 arrives_so f server bytes arrival all (resets m h k z) =
     typed f server bytes m Rst h k ∙ ap (λ b. if b then empty_reset m.mid else ignored) (eq-eqb m.code 0 z)
 arrives_so f server bytes arrival all (resets_otherwise m h k z) =

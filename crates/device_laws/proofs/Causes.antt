@@ -1,11 +1,10 @@
--- Each notification has its cause, and what is caused is sent.
+-- Each notification has its cause.
 use Rattle.std.proofs.Common.{◌≡◌, ◌≢◌, ℕ, zero, suc, ◌+◌, ◌<◌, ◌≤◌, Bool, true, false, not, cond}
-use Rattle.std.proofs.Common.{◌||◌, ℤ, List, [], ◌∷◌, ◌++◌, Option, None, Some}
+use Rattle.std.proofs.Common.{◌||◌, ℤ, List, [], ◌∷◌, Option, None, Some}
 use Rattle.std.proofs.Common.{refl, sym, ap, subst, ◌∙◌, arith, inl, inr}
 use Rattle.std.specs.List.{AllByRecursion, Contains}
 use Rattle.std.specs.Str.{bytes_eq}
 use Rattle.std.proofs.lemmas.Bool.Decides.{nat_tests}
-use Rattle.std.proofs.lemmas.List.Elements.{Contains-append_left, Contains-append_right}
 use Rattle.std.proofs.lemmas.Slice.Eq.{bytes_eq-Decides}
 use Rattle.notifier.specs.Trigger.{differ, has_condition, is_above, is_below, is_due, is_triggered}
 use Rattle.notifier.specs.Trigger.{crosses_gt as crossed_gt, crosses_lt as crossed_lt, number_triggers}
@@ -15,13 +14,12 @@ use Rattle.notifier.specs.declared.observation.Observation.{Observation}
 use Rattle.device_requests.specs.Client.{Client}
 use Rattle.device_notifications.specs.Period.{pmin_of, pmax_of}
 use Rattle.device_notifications.specs.Report.{number_at}
-use Rattle.device_notifications.specs.Second.{age_of, is_due_now, present, second, seconds, triggers_now}
-use Rattle.device_notifications.specs.Second.{turn_by, turn_of}
+use Rattle.device_notifications.specs.Message.{open_notification}
+use Rattle.device_notifications.specs.Second.{age_of, is_due_now, present, second, seconds, triggers_now, turn_of}
 use Rattle.device_notifications.specs.declared.datagram.Datagram.{Datagram}
-use Rattle.device_notifications.proofs.Turns.{both, by_evaluation, first_of, weaker}
-use Rattle.device_laws.specs.Notifying.{CausedIsSent, IsCaused, IsCausedBy, IsCausedInOneOf, IsDue}
-use Rattle.device_laws.specs.Notifying.{IsTold, NotifiesForCause, Passes, SecondsNotifyForCause, SecondsSendCaused}
-use Rattle.device_laws.specs.Notifying.{condition}
+use Rattle.device_notifications.proofs.Turns.{both, by_all, first_of, of_option, weaker}
+use Rattle.device_laws.specs.Notifying.{IsCaused, IsCausedBy, IsCausedInOneOf, NotifiesForCause, Passes}
+use Rattle.device_laws.specs.Notifying.{SecondsNotifyForCause, condition}
 use Rattle.device_laws.specs.Notifying.IsCaused.{elapsed, passed, changed}
 use Rattle.device_laws.specs.Notifying.Passes.{crosses_gt, crosses_lt, steps_st}
 
@@ -182,7 +180,7 @@ cause_of client clock o due =
     (unlike o.report.payload (present client o).payload n)))
     (λ m is above follows over. elapsed m is above follows over)
 
-due_of : (client : Client) (clock : ℕ) (o : Observation) → pmin_of client o.server o.path ≤ age_of clock o
+pub due_of : (client : Client) (clock : ℕ) (o : Observation) → pmin_of client o.server o.path ≤ age_of clock o
     → IsCaused client clock o
     → is_due_now client clock o (present client o).payload ≡ true
 due_of client clock o w (elapsed m is above follows over) =
@@ -213,15 +211,15 @@ later_of y x xs h = (suc h.0, omega (arith, h.1), h.2)
 sent_by : (client : Client) (clock next_id : ℕ) (o : Observation) (os : List Observation)
     → AllByRecursion (IsCausedBy client clock (o ∷ os)) (turn_of client clock next_id o).sent
 sent_by client clock next_id o os =
-    by_evaluation client clock o
-    (λ v. AllByRecursion (IsCausedBy client clock (o ∷ os)) (turn_by client clock next_id o v).sent)
-    (λ content due. (
+    by_all client clock next_id o (λ t. AllByRecursion (IsCausedBy client clock (o ∷ os)) t.sent)
+    (λ is content due. (
       (
         o,
         first_of o os,
         inl (
           record {
             mid = next_id;
+            evaluated = is;
             message = refl;
             content = content;
             waited =
@@ -233,8 +231,19 @@ sent_by client clock next_id o os =
       ),
       tt,
     ))
-    (λ content rests. tt)
-    (λ no_content. ((o, first_of o os, inr (record { mid = next_id; message = refl; no_content = no_content })), tt))
+    (λ is content rests. tt)
+    (λ is no_content. (
+      (
+        o,
+        first_of o os,
+        inr (inl (record { mid = next_id; evaluated = is; message = refl; no_content = no_content })),
+      ),
+      tt,
+    ))
+    (λ is. tt)
+    (λ is. of_option (open_notification o) (IsCausedBy client clock (o ∷ os))
+    (λ d is_open. (o, first_of o os, inr (inr (record { resends = is; message = is_open })))))
+    (λ is. tt)
 
 pub for_cause : NotifiesForCause
 for_cause client clock next_id [] = tt
@@ -272,57 +281,3 @@ seconds_for_cause client clock (suc n) next_id os =
     (in_later client clock n next_id os)
     (seconds client (clock + 1) n t.next_id t.left).sent
     (seconds_for_cause client (clock + 1) n t.next_id t.left))
-
--- ---- what is caused is sent
-
-differs : (b : Bool) → b ≡ true → b ≡ false → ⊥
-differs b h k = cc
-
-told_by : (client : Client) (clock next_id : ℕ) (o : Observation) → IsDue client clock o
-    → IsTold client clock o (turn_of client clock next_id o).sent
-told_by client clock next_id o h =
-    let due_now : is_due_now client clock o (present client o).payload ≡ true = due_of client clock o h.waited h.cause in
-    by_evaluation client clock o (λ v. IsTold client clock o (turn_by client clock next_id o v).sent)
-    (λ content due. (
-      _,
-      first_of _ [],
-      record { mid = next_id; message = refl; content = content; waited = h.waited },
-    ))
-    (λ content rests. absurd (differs _ due_now rests))
-    (λ no_content. absurd (differs _ h.content no_content))
-
-told_on : (client : Client) (clock : ℕ) (o : Observation) (xs ys : List Datagram) → IsTold client clock o ys
-    → IsTold client clock o (xs ++ ys)
-told_on client clock o xs ys h = (h.0, Contains-append_right xs ys h.0 h.1, h.2)
-
-told_before : (client : Client) (clock : ℕ) (o : Observation) (xs ys : List Datagram) → IsTold client clock o xs
-    → IsTold client clock o (xs ++ ys)
-told_before client clock o xs ys h = (h.0, Contains-append_left xs ys h.0 h.1, h.2)
-
-pub caused_is_sent : CausedIsSent
-caused_is_sent client clock next_id [] o h due = absurd (omega (arith, h.1))
-caused_is_sent client clock next_id (p ∷ os) o (zero, inside, is) due =
-    let t = turn_of client clock next_id p in
-    told_before client clock o t.sent (second client clock t.next_id os).sent
-    (subst (λ q. IsTold client clock o (turn_of client clock next_id q).sent) (sym is)
-    (told_by client clock next_id o due))
-caused_is_sent client clock next_id (p ∷ os) o (suc k, inside, is) due =
-    let t = turn_of client clock next_id p in
-    told_on client clock o t.sent (second client clock t.next_id os).sent
-    (caused_is_sent client clock t.next_id os o (k, omega arith, is) due)
-
-pub seconds_send_caused : SecondsSendCaused
-seconds_send_caused client clock zero k next_id os o within there due = absurd (omega (arith, within))
-seconds_send_caused client clock (suc n) zero next_id os o within there due =
-    let t = second client (clock + 1) next_id os in
-    let at : clock + (0 + 1) ≡ clock + 1 = omega arith in
-    subst (λ c. IsTold client c o (t.sent ++ (seconds client (clock + 1) n t.next_id t.left).sent)) (sym at)
-    (told_before client (clock + 1) o t.sent (seconds client (clock + 1) n t.next_id t.left).sent
-    (caused_is_sent client (clock + 1) next_id os o there (subst (λ c. IsDue client c o) at due)))
-seconds_send_caused client clock (suc n) (suc k) next_id os o within there due =
-    let t = second client (clock + 1) next_id os in
-    let at : clock + (suc k + 1) ≡ clock + 1 + (k + 1) = omega arith in
-    subst (λ c. IsTold client c o (t.sent ++ (seconds client (clock + 1) n t.next_id t.left).sent)) (sym at)
-    (told_on client (clock + 1 + (k + 1)) o t.sent (seconds client (clock + 1) n t.next_id t.left).sent
-    (seconds_send_caused client (clock + 1) n k t.next_id t.left o (omega (arith, within)) there
-    (subst (λ c. IsDue client c o) at due)))

@@ -1,8 +1,13 @@
 mod Arrived
 mod Causes
+mod Confirmed
+mod Each
+mod Notify
 mod Received
 mod Repeated
+mod Replied
 mod Senders
+mod Sent
 mod Served
 mod Settled
 mod Spelled

@@ -31,10 +31,10 @@ use Rattle.device_laws.specs.Receiving.{IsArrival, IsReaction}
 use Rattle.device_laws.specs.Receiving.{IsReactionTo, IsResponse, LeavesObservations, ReactionsAreOne}
 use Rattle.device_laws.specs.Receiving.{ReactionsAreSaid, Responds, RespondsBy}
 use Rattle.device_laws.specs.Receiving.{act_on, client_on, recorded_on, reply_again}
-use Rattle.device_laws.specs.Receiving.Arrival.{ignored, rejected, empty_reset, repeated, fresh}
+use Rattle.device_laws.specs.Receiving.Arrival.{ignored, rejected, empty_ack, empty_reset, repeated, fresh}
 use Rattle.device_laws.specs.Receiving.IsArrival.{of_stranger, malformed, malformed_otherwise, confirmable_otherwise}
-use Rattle.device_laws.specs.Receiving.IsArrival.{non_confirmable_otherwise, acknowledges, resets, resets_otherwise}
-use Rattle.device_laws.specs.Receiving.IsArrival.{asks_again, asks}
+use Rattle.device_laws.specs.Receiving.IsArrival.{non_confirmable_otherwise, acknowledges, acknowledges_otherwise}
+use Rattle.device_laws.specs.Receiving.IsArrival.{resets, resets_otherwise, asks_again, asks}
 use Rattle.device_laws.specs.Receiving.RespondsBy.{piggybacks, sends_non, sends_none}
 use Rattle.device_laws.specs.Serving.{Observes, Replies, id_after}
 use Rattle.device_laws.specs.Serving.Observes.{asks_nothing, cancels, finds_no_place, is_refused, registers}
@@ -134,6 +134,20 @@ rejected_reacts f server mid =
     still f server (rejected mid) (Some (spelling (reset mid))) (sent_to server (Some (spelling (reset mid))))
     (refl, refl) refl refl refl refl
 
+acknowledgement_reacts : (f : Machine) (server mid : ℕ)
+    → IsReactionTo f server (empty_ack mid) (reaction_on f server (empty_ack mid))
+acknowledgement_reacts f server mid =
+    record {
+      number = None;
+      reply = None;
+      responds = (refl, refl);
+      sent = refl;
+      recorded = sym (append-nil f.recorded);
+      observations = refl;
+      client = refl;
+      clock = refl;
+    }
+
 reset_reacts : (f : Machine) (server mid : ℕ)
     → IsReactionTo f server (empty_reset mid) (reaction_on f server (empty_reset mid))
 reset_reacts f server mid =
@@ -161,7 +175,8 @@ reacts_so f server bytes arrival (malformed mid n b) = rejected_reacts f server 
 reacts_so f server bytes arrival (malformed_otherwise n b) = ignored_reacts f server
 reacts_so f server bytes arrival (confirmable_otherwise m h k r) = rejected_reacts f server m.mid
 reacts_so f server bytes arrival (non_confirmable_otherwise m h k r) = ignored_reacts f server
-reacts_so f server bytes arrival (acknowledges m h k) = ignored_reacts f server
+reacts_so f server bytes arrival (acknowledges m h k z) = acknowledgement_reacts f server m.mid
+reacts_so f server bytes arrival (acknowledges_otherwise m h k z) = ignored_reacts f server
 reacts_so f server bytes arrival (resets m h k z) = reset_reacts f server m.mid
 reacts_so f server bytes arrival (resets_otherwise m h k z) = ignored_reacts f server
 reacts_so f server bytes arrival (asks_again m r h o) = repeated_reacts f server m r
@@ -193,9 +208,9 @@ joined a b h = λ j. record {
 }
 
 -- the Observe number and the observations are those that are noted
-record IsNoted (number : Option ℕ) (left : List Observation) (told : Noted) : Type 0 where
-  number_is : number ≡ told.number
-  left_is : left ≡ told.left
+pub record IsNoted (number : Option ℕ) (left : List Observation) (told : Noted) : Type 0 where
+  pub number_is : number ≡ told.number
+  pub left_is : left ≡ told.left
 
 noted_as : (k : Kept) (server : ℕ) (m : Message) (answer : Answer) (interest : Option Interest) (number : Option ℕ)
     (left : List Observation) → interest_of m ≡ interest
@@ -226,7 +241,7 @@ told_as k server m path accept answer c l number left i h e is =
     noted_as k server m answer (Some (Register path accept)) number left i
     (subst (IsNoted number left) (sym (registers_as k server m path accept answer c l h e)) is)
 
-observed : (k : Kept) (server : ℕ) (m : Message) (answer : Answer) (number : Option ℕ) (left : List Observation)
+pub observed : (k : Kept) (server : ℕ) (m : Message) (answer : Answer) (number : Option ℕ) (left : List Observation)
     → Observes k server m answer number left → IsNoted number left (noted k server m answer)
 observed k server m answer number left (asks_nothing i) =
     noted_as k server m answer None None k.observations i (record { number_is = refl; left_is = refl })
@@ -323,6 +338,15 @@ parts f server ignored reaction h =
       next_id = h.responds.1;
     }
 parts f server (rejected mid) reaction h =
+    record {
+      outputs = h.sent ∙ ap (λ r. sent_to server r ++ []) h.responds.0;
+      recorded = h.recorded ∙ append-nil f.recorded;
+      client = h.client;
+      observations = h.observations;
+      clock = h.clock;
+      next_id = h.responds.1;
+    }
+parts f server (empty_ack mid) reaction h =
     record {
       outputs = h.sent ∙ ap (λ r. sent_to server r ++ []) h.responds.0;
       recorded = h.recorded ∙ append-nil f.recorded;

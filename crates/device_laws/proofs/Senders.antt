@@ -23,8 +23,8 @@ use Rattle.device_requests.specs.declared.answer.Act.TheVariants.{Missed}
 use Rattle.device_template.specs.Values.{misses, with_value_at}
 use Rattle.device_machine.specs.Observing.{noted}
 use Rattle.device_machine.specs.Reactions.{Reaction, acted, again, claimed_mid, claims_confirmable, is_request}
-use Rattle.device_machine.specs.Reactions.{on_datagram, on_reset, reaction_to, reply_to, reset, sends}
-use Rattle.device_machine.specs.Reactions.{on_firmware, on_message, on_request, repeat_of, sent_to, silence}
+use Rattle.device_machine.specs.Reactions.{on_acknowledgement, on_datagram, on_reset, reaction_to, reply_to, reset}
+use Rattle.device_machine.specs.Reactions.{on_firmware, on_message, on_request, repeat_of, sends, sent_to, silence}
 use Rattle.device_machine.specs.State.{Machine, with_client}
 use Rattle.device_machine.specs.declared.recorded.Recorded.{Recorded}
 use Rattle.device_machine.specs.declared.event.Event.TheVariants.{Firmware, Put, Recv}
@@ -79,7 +79,8 @@ message_to_it f server m Con =
 message_to_it f server m Non =
     either (IsAllTo server) (is_request m.code) (on_request f server m (repeat_of f server m)) (silence f)
     (answered_it f server m (repeat_of f server m)) tt
-message_to_it f server m Ack = tt
+message_to_it f server m Ack =
+    either (IsAllTo server) (m.code == 0) (on_acknowledgement f server m.mid) (silence f) tt tt
 message_to_it f server m Rst =
     either (IsAllTo server) (m.code == 0) (on_reset f server m.mid) (silence f) tt tt
 
@@ -127,6 +128,7 @@ put_by f path value false e =
       accounts = ap (λ b. (reaction b).flat.kept.client.accounts) e;
       catalogue = ap (λ b. (reaction b).flat.kept.client.catalogue) e;
       attributes = ap (λ b. (reaction b).flat.kept.client.attributes) e;
+      notify = ap (λ b. (reaction b).flat.kept.client.notify) e;
       observations = ap (λ b. (reaction b).flat.kept.observations) e;
       clock = ap (λ b. (reaction b).flat.kept.clock) e;
       next_id = ap (λ b. (reaction b).flat.kept.next_id) e;
@@ -156,6 +158,7 @@ firmware_by f code (Some stored) e =
       accounts = ap (λ o. (on_firmware f o).flat.kept.client.accounts) e;
       catalogue = ap (λ o. (on_firmware f o).flat.kept.client.catalogue) e;
       attributes = ap (λ o. (on_firmware f o).flat.kept.client.attributes) e;
+      notify = ap (λ o. (on_firmware f o).flat.kept.client.notify) e;
       observations = ap (λ o. (on_firmware f o).flat.kept.observations) e;
       clock = ap (λ o. (on_firmware f o).flat.kept.clock) e;
       next_id = ap (λ o. (on_firmware f o).flat.kept.next_id) e;

@@ -1,7 +1,8 @@
 -- With nothing changed and no pmax nothing is sent.
-use Rattle.std.proofs.Common.{◌≡◌, ℕ, zero, suc, ◌+◌, ◌*◌, nat_le, nat_lt, Bool, true, false, not, cond, ℤ, pos}
+use Rattle.std.proofs.Common.{◌≡◌, ℕ, zero, suc, ◌+◌, ◌*◌, ◌==◌, nat_le, nat_lt, Bool, true, false, not, cond, ℤ, pos}
 use Rattle.std.proofs.Common.{negsuc, ◌-ℤ◌, nat_abs, int_le, int_lt, List, [], ◌∷◌, Option, None, Some, refl}
 use Rattle.std.proofs.Common.{ap, ◌∙◌, arith}
+use Rattle.std.specs.Bool.{if◌then◌else◌}
 use Rattle.std.specs.List.{AllByRecursion}
 use Rattle.std.specs.Str.{bytes_eq}
 use Rattle.std.proofs.lemmas.Bool.Decides.{nat_tests}
@@ -11,13 +12,15 @@ use Rattle.notifier.specs.Trigger.{crosses_gt, crosses_lt, differ, has_condition
 use Rattle.notifier.specs.Trigger.{is_triggered, number_triggers, steps_st}
 use Rattle.notifier.specs.declared.attribute.Name.TheVariants as name
 use Rattle.notifier.specs.declared.observation.Observation.{Observation}
+use Rattle.notifier.specs.declared.turn.Turn.TheVariants.{Resend, Expire}
 use Rattle.device_requests.specs.Client.{Client}
 use Rattle.device_notifications.specs.Period.{pmin_of}
 use Rattle.device_notifications.specs.Report.{number_at}
-use Rattle.device_notifications.specs.Second.{age_of, beside, is_due_now, present, quiet, second, seconds, triggers_now}
-use Rattle.device_notifications.specs.Second.{and_then, turn_by, turn_of}
-use Rattle.device_notifications.proofs.Turns.{by_evaluation}
+use Rattle.device_notifications.specs.Second.{age_of, and_then, beside, is_due_now, next_notification, present, quiet}
+use Rattle.device_notifications.specs.Second.{second, seconds, triggers_now, turn_of}
+use Rattle.device_notifications.proofs.Turns.{by_all}
 use Rattle.device_laws.specs.Notifying.{IsSettled, JustReportedIsSettled, SettledAreQuiet, condition}
+use Rattle.device_laws.proofs.Sent.{not_expire, not_resend, only_evaluated}
 
 same_bytes : (p : List ℕ) → not (bytes_eq p p) ≡ false
 same_bytes p = ap not ((bytes_eq-Decides p p).1 refl)
@@ -86,10 +89,13 @@ differs b h k = cc
 quiet_turn : (client : Client) (clock next_id : ℕ) (o : Observation) → IsSettled client o
     → turn_of client clock next_id o ≡ quiet next_id (o ∷ [])
 quiet_turn client clock next_id o h =
-    by_evaluation client clock o (λ v. turn_by client clock next_id o v ≡ quiet next_id (o ∷ []))
-    (λ content due. absurd (differs _ due (rests client clock o h)))
-    (λ content rest. refl)
-    (λ no_content. absurd (differs _ h.content no_content))
+    by_all client clock next_id o (λ t. t ≡ quiet next_id (o ∷ []))
+    (λ is content due. absurd (differs _ due (rests client clock o h)))
+    (λ is content rest. refl)
+    (λ is no_content. absurd (differs _ h.content no_content))
+    (λ is. refl)
+    (λ is. absurd (not_resend (only_evaluated o clock Resend h.closed is)))
+    (λ is. absurd (not_expire (only_evaluated o clock Expire h.closed is)))
 
 quiet_second : (client : Client) (clock next_id : ℕ) (os : List Observation) → AllByRecursion (IsSettled client) os
     → second client clock next_id os ≡ quiet next_id os
@@ -106,4 +112,22 @@ settled_are_quiet client clock (suc n) next_id os h =
 
 pub just_reported : JustReportedIsSettled
 just_reported client clock mid o content no_pmax st =
-    record { content = content; reported = refl; no_pmax = no_pmax; st_above_0 = st }
+    record {
+      of_a_non = λ non. record {
+        closed = ap (λ n. if n == 0 then None else Some (record {
+          bytes = (next_notification client mid o (present client o)).bytes;
+          first = client.notify;
+        })) non;
+        content = content;
+        reported = refl;
+        no_pmax = no_pmax;
+        st_above_0 = st;
+      };
+      acknowledged = record {
+        closed = refl;
+        content = content;
+        reported = refl;
+        no_pmax = no_pmax;
+        st_above_0 = st;
+      };
+    }

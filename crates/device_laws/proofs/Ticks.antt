@@ -2,15 +2,16 @@
 use Rattle.std.proofs.Common.{zero, suc, List, [], ◌∷◌, map, refl, ap, arith}
 use Rattle.std.specs.List.{Contains}
 use Rattle.device_notifications.specs.declared.datagram.Datagram.{Datagram}
-use Rattle.device_machine.specs.Reactions.{send_of, turn_in}
-use Rattle.device_laws.specs.Ticking.{SettledTicksAreQuiet, TicksNotifyForCause, TicksSendCaused}
-use Rattle.device_laws.proofs.Causes.{later_of, seconds_for_cause, seconds_send_caused}
+use Rattle.device_machine.specs.Reactions.{send_of, sweep_in}
+use Rattle.device_laws.specs.Ticking.{SettledTicksAreQuiet, TicksNotifyForCause, TicksSendAgain, TicksSendCaused}
+use Rattle.device_laws.proofs.Causes.{later_of, seconds_for_cause}
+use Rattle.device_laws.proofs.Sent.{seconds_send_again, seconds_send_caused}
 use Rattle.device_laws.proofs.Settled.{settled_are_quiet}
 
 pub for_cause : TicksNotifyForCause
 for_cause f n =
     record {
-      datagrams = (turn_in f.kept n).sent;
+      datagrams = (sweep_in f.kept n).sent;
       sent = refl;
       each = seconds_for_cause f.kept.client f.kept.clock n f.kept.next_id f.kept.observations;
     }
@@ -26,7 +27,13 @@ pub send_caused : TicksSendCaused
 send_caused f n k o within there due =
     let told =
     seconds_send_caused f.kept.client f.kept.clock n k f.kept.next_id f.kept.observations o within there due in
-    (told.0, among (turn_in f.kept n).sent told.0 told.1, told.2)
+    (told.0, among (sweep_in f.kept n).sent told.0 told.1, told.2)
+
+pub send_again : TicksSendAgain
+send_again f n k o within there is =
+    let again =
+    seconds_send_again f.kept.client f.kept.clock n k f.kept.next_id f.kept.observations o within there is in
+    (again.0, among (sweep_in f.kept n).sent again.0 again.1, again.2)
 
 pub quiet : SettledTicksAreQuiet
 quiet f n h =

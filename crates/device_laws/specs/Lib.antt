@@ -1,3 +1,4 @@
+pub mod Confirming
 pub mod Messages
 pub mod Notifying
 pub mod Receiving

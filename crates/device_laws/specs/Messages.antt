@@ -4,6 +4,8 @@ use Rattle.std.specs.List.{All, AllByRecursion}
 use Rattle.coap_codec.specs.Message.{Message, Spells}
 use Rattle.coap_codec.specs.Reading.{reading_of}
 use Rattle.notifier.specs.Observed.{HasToken}
+use Rattle.notifier.specs.declared.observation.Observation.{Observation}
+use Rattle.notifier.specs.declared.observation.Timer.{Timer}
 use Rattle.device_requests.specs.Request.{outcome_of}
 use Rattle.device_template.specs.Template.{Template}
 use Rattle.device_machine.specs.declared.event.Event.{Event}
@@ -26,10 +28,15 @@ IsReply (Some bytes) = IsMessage bytes
 abbrev pub HasReply : Recorded → Type 0
 HasReply r = IsReply r.reply
 
--- a message ID has 16 bits, a token at most 8 bytes, and recorded replies are messages
+-- a token has at most 8 bytes, and what an open notification is sent again with is a message
+pub record HasMessages (o : Observation) : Type 0 where
+  pub token : HasToken o
+  pub open_is : (timer : Timer) → o.timer ≡ Some timer → IsMessage timer.bytes
+
+-- a message ID has 16 bits, each observation has messages, and recorded replies are messages
 pub record IsSound (f : Machine) : Type 0 where
   pub next_id : f.kept.next_id < 65536
-  pub tokens : AllByRecursion HasToken f.kept.observations
+  pub observations : AllByRecursion HasMessages f.kept.observations
   pub replies : AllByRecursion HasReply f.recorded
 
 -- a device starts so

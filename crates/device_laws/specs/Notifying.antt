@@ -3,17 +3,19 @@ use Rattle.std.specs.Prelude.{◌≡◌, ◌≢◌, ℕ, ◌+◌, ◌*◌, ◌<�
 use Rattle.std.specs.Prelude.{List, Option, None, Some, ◌⊎◌}
 use Rattle.std.specs.List.{AllByRecursion, Contains}
 use Rattle.notifier.specs.Attributes.{assigned}
-use Rattle.notifier.specs.Observed.{notified}
+use Rattle.notifier.specs.Observed.{as_closed}
+use Rattle.notifier.specs.Resending.{turn_at}
 use Rattle.notifier.specs.Trigger.{has_condition, is_above, is_below}
 use Rattle.notifier.specs.declared.attribute.Name.{Name}
 use Rattle.notifier.specs.declared.attribute.Name.TheVariants as name
 use Rattle.notifier.specs.declared.observation.Observation.{Observation}
+use Rattle.notifier.specs.declared.turn.Turn.TheVariants.{Resend}
 use Rattle.device_requests.specs.Answer.{is_content}
 use Rattle.device_requests.specs.Client.{Client}
-use Rattle.device_notifications.specs.Laws.{Ends, Notifies}
+use Rattle.device_notifications.specs.Laws.{Ends, Notifies, Repeats}
 use Rattle.device_notifications.specs.Period.{pmin_of, pmax_of}
 use Rattle.device_notifications.specs.Report.{number_at, report_of}
-use Rattle.device_notifications.specs.Second.{age_of, present, quiet, second, seconds}
+use Rattle.device_notifications.specs.Second.{age_of, present, quiet, second, seconds, told}
 use Rattle.device_notifications.specs.declared.datagram.Datagram.{Datagram}
 
 -- the gt, lt or st that the observation's server set on its path, in thousandths
@@ -47,10 +49,12 @@ pub data IsCaused (client : Client) (clock : ℕ) (o : Observation) : Type 0 whe
   changed : ((old now : ℤ) → ComparesNumbers client o old now → ⊥) → (present client o).payload ≢ o.report.payload
       → IsCaused client clock o
 
--- a datagram of a second notifies one of these observations, for a cause, or ends one
+-- a datagram of a second notifies one of these observations, for a cause, or ends one, or is the open notification of
+-- one once more
 abbrev pub IsCausedBy : Client → ℕ → List Observation → Datagram → Type 0
 IsCausedBy client clock os d =
-    (o : Observation) × Contains os o × ((Notifies client clock o d × IsCaused client clock o) ⊎ Ends client o d)
+    (o : Observation) × Contains os o
+    × ((Notifies client clock o d × IsCaused client clock o) ⊎ (Ends client clock o d ⊎ Repeats clock o d))
 
 abbrev pub NotifiesForCause : Type 0
 NotifiesForCause =
@@ -71,8 +75,10 @@ SecondsNotifyForCause =
 abbrev pub IsTold : Client → ℕ → Observation → List Datagram → Type 0
 IsTold client clock o ds = (d : Datagram) × Contains ds d × Notifies client clock o d
 
--- an observation is to be notified, its last message is pmin seconds old or older, and its present answer is content
+-- an observation is closed and to be notified, its last message is pmin seconds old or older, and its present answer is
+-- content
 pub record IsDue (client : Client) (clock : ℕ) (o : Observation) : Type 0 where
+  pub closed : o.timer ≡ None
   pub cause : IsCaused client clock o
   pub waited : pmin_of client o.server o.path ≤ age_of clock o
   pub content : is_content (present client o) ≡ true
@@ -91,9 +97,28 @@ SecondsSendCaused =
     → IsDue client (clock + (k + 1)) o
     → IsTold client (clock + (k + 1)) o (seconds client clock n next_id os).sent
 
--- the present answer of an observation is content, and what the last report reported; and it has no pmax. Servers can
--- set no st but one above 0
+-- among these datagrams is the open notification of this observation
+abbrev pub IsToldAgain : ℕ → Observation → List Datagram → Type 0
+IsToldAgain clock o ds = (d : Datagram) × Contains ds d × Repeats clock o d
+
+-- a notification that is to be sent again is sent again in this second
+abbrev pub OpenIsSentAgain : Type 0
+OpenIsSentAgain =
+    (client : Client) (clock next_id : ℕ) (os : List Observation) (o : Observation) → Contains os o
+    → turn_at o clock ≡ Resend → IsToldAgain clock o (second client clock next_id os).sent
+
+-- and so in each of n seconds
+abbrev pub SecondsSendAgain : Type 0
+SecondsSendAgain =
+    (client : Client) (clock n k next_id : ℕ) (os : List Observation) (o : Observation) → k < n
+    → Contains (seconds client clock k next_id os).left o
+    → turn_at o (clock + (k + 1)) ≡ Resend
+    → IsToldAgain (clock + (k + 1)) o (seconds client clock n next_id os).sent
+
+-- an observation is closed, and its present answer is content, and what the last report reported; and it has no pmax.
+-- Servers can set no st but one above 0
 pub record IsSettled (client : Client) (o : Observation) : Type 0 where
+  pub closed : o.timer ≡ None
   pub content : is_content (present client o) ≡ true
   pub reported : o.report ≡ report_of client o.path (present client o).payload
   pub no_pmax : pmax_of client o.server o.path ≡ None
@@ -105,10 +130,16 @@ SettledAreQuiet =
     (client : Client) (clock n next_id : ℕ) (os : List Observation) → AllByRecursion (IsSettled client) os
     → seconds client clock n next_id os ≡ quiet next_id os
 
--- what was just reported is settled, where it has no pmax
+-- an observation is settled after its notification: at once where notifications are Non-confirmable, else once an
+-- acknowledgement has closed it
+pub record SettlesOnceClosed (client : Client) (clock mid : ℕ) (o : Observation) : Type 0 where
+  pub of_a_non : client.notify ≡ 0 → IsSettled client (told client clock mid o (present client o))
+  pub acknowledged : IsSettled client (as_closed (told client clock mid o (present client o)))
+
+-- so it is of what was just reported, where it has no pmax
 abbrev pub JustReportedIsSettled : Type 0
 JustReportedIsSettled =
     (client : Client) (clock mid : ℕ) (o : Observation) → is_content (present client o) ≡ true
     → pmax_of client o.server o.path ≡ None
     → ((z : ℤ) → condition client o name.St ≡ Some z → int_lt (pos 0) z ≡ true)
-    → IsSettled client (notified clock mid (report_of client o.path (present client o).payload) o)
+    → SettlesOnceClosed client clock mid o

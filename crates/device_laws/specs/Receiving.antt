@@ -6,7 +6,7 @@ use Rattle.std.specs.List.{All, AllByRecursion}
 use Rattle.coap_codec.specs.Message.{Message, Spells, spelling}
 use Rattle.coap_codec.specs.declared.kind.Kind.{Kind}
 use Rattle.coap_codec.specs.declared.kind.Kind.TheVariants.{Con, Non, Ack, Rst}
-use Rattle.notifier.specs.Observed.{without_reset}
+use Rattle.notifier.specs.Observed.{with_acknowledged, without_reset}
 use Rattle.notifier.specs.declared.observation.Observation.{Observation}
 use Rattle.device_notifications.specs.Message.{format_options, observe_options}
 use Rattle.device_requests.specs.Answer.{code_byte}
@@ -23,11 +23,12 @@ use Rattle.device_laws.specs.Serving.{Observes}
 
 -- ---- what arrives
 
--- what is ignored; a confirmable message that is rejected by a Reset of this message ID; an Empty Reset of this message
--- ID; a request that repeats a recorded one; a request that repeats none
+-- what is ignored; a confirmable message that is rejected by a Reset of this message ID; an Empty ACK, or an Empty
+-- Reset, of this message ID; a request that repeats a recorded one; a request that repeats none
 pub data Arrival : Type 0 where
   ignored : Arrival
   rejected : ℕ → Arrival
+  empty_ack : ℕ → Arrival
   empty_reset : ℕ → Arrival
   repeated : Message → Recorded → Arrival
   fresh : Message → Arrival
@@ -85,7 +86,8 @@ pub record IsOldest (f : Machine) (server : ℕ) (m : Message) (r : Recorded) : 
 
 -- what a datagram is to a device: rejected are a confirmable message that is not a request, such as a ping, and bytes
 -- that begin as a confirmable message and are not one (sections 4.2 and 4.3); ignored are what comes from a server
--- without an account, any other message that is neither a request nor an Empty Reset, and any other bytes
+-- without an account, any other message that is neither a request nor an Empty ACK nor an Empty Reset, and any other
+-- bytes
 pub data IsArrival (f : Machine) (server : ℕ) (bytes : List ℕ) : Arrival → Type 0 where
   of_stranger : has_account f.kept.client server ≡ false → IsArrival f server bytes ignored
   malformed : (mid : ℕ) → BringsNoMessage f server bytes → BeginsConfirmable bytes mid
@@ -96,7 +98,10 @@ pub data IsArrival (f : Machine) (server : ℕ) (bytes : List ℕ) : Arrival →
       → IsArrival f server bytes (rejected m.mid)
   non_confirmable_otherwise : (m : Message) → Brings f server bytes m → m.kind ≡ Non → (IsMethod m.code → ⊥)
       → IsArrival f server bytes ignored
-  acknowledges : (m : Message) → Brings f server bytes m → m.kind ≡ Ack → IsArrival f server bytes ignored
+  acknowledges : (m : Message) → Brings f server bytes m → m.kind ≡ Ack → m.code ≡ 0
+      → IsArrival f server bytes (empty_ack m.mid)
+  acknowledges_otherwise : (m : Message) → Brings f server bytes m → m.kind ≡ Ack → (m.code ≡ 0 → ⊥)
+      → IsArrival f server bytes ignored
   resets : (m : Message) → Brings f server bytes m → m.kind ≡ Rst → m.code ≡ 0
       → IsArrival f server bytes (empty_reset m.mid)
   resets_otherwise : (m : Message) → Brings f server bytes m → m.kind ≡ Rst → (m.code ≡ 0 → ⊥)
@@ -147,6 +152,7 @@ abbrev pub Responds : Machine → ℕ → Option ℕ → Arrival → Option (Lis
 Responds f server number ignored reply next_id = (reply ≡ None) × (next_id ≡ f.kept.next_id)
 Responds f server number (rejected mid) reply next_id =
     (reply ≡ Some (spelling (rejection mid))) × (next_id ≡ f.kept.next_id)
+Responds f server number (empty_ack mid) reply next_id = (reply ≡ None) × (next_id ≡ f.kept.next_id)
 Responds f server number (empty_reset mid) reply next_id = (reply ≡ None) × (next_id ≡ f.kept.next_id)
 Responds f server number (repeated m r) reply next_id =
     (reply ≡ reply_again m.kind r.reply) × (next_id ≡ f.kept.next_id)
@@ -171,11 +177,13 @@ abbrev pub client_on : Machine → ℕ → Arrival → Client
 client_on f server (fresh m) = (outcome_of f.kept.client server m).client
 client_on f server arrival = f.kept.client
 
--- the observations then: an Empty Reset ends those whose last message was a NON to its server with its message ID, and
--- a new request leaves what its Observe and its answer say (RFC 7641 section 3)
+-- the observations then: an Empty ACK closes those whose last message is a CON to its server with its message ID that
+-- is still open (section 4.2), an Empty Reset ends those whose last message was a NON to its server with its message
+-- ID, or is such a CON, and a new request leaves what its Observe and its answer say (RFC 7641 section 3)
 abbrev pub LeavesObservations : Machine → ℕ → Option ℕ → Arrival → List Observation → Type 0
 LeavesObservations f server number ignored left = left ≡ f.kept.observations
 LeavesObservations f server number (rejected mid) left = left ≡ f.kept.observations
+LeavesObservations f server number (empty_ack mid) left = left ≡ with_acknowledged f.kept.observations server mid
 LeavesObservations f server number (empty_reset mid) left = left ≡ without_reset f.kept.observations server mid
 LeavesObservations f server number (repeated m r) left = left ≡ f.kept.observations
 LeavesObservations f server number (fresh m) left =

@@ -35,6 +35,7 @@ pub record OnlyStores (f : Machine) (event : Event) : Type 0 where
   pub accounts : (flat_after f event).kept.client.accounts ≡ f.kept.client.accounts
   pub catalogue : (flat_after f event).kept.client.catalogue ≡ f.kept.client.catalogue
   pub attributes : (flat_after f event).kept.client.attributes ≡ f.kept.client.attributes
+  pub notify : (flat_after f event).kept.client.notify ≡ f.kept.client.notify
   pub observations : (flat_after f event).kept.observations ≡ f.kept.observations
   pub clock : (flat_after f event).kept.clock ≡ f.kept.clock
   pub next_id : (flat_after f event).kept.next_id ≡ f.kept.next_id

@@ -2,7 +2,9 @@
 use Rattle.std.specs.Prelude.{◌≡◌, ℕ, ◌+◌, ◌<◌, List, [], map}
 use Rattle.std.specs.List.{AllByRecursion, Contains}
 use Rattle.notifier.specs.declared.observation.Observation.{Observation}
-use Rattle.device_notifications.specs.Laws.{Notifies}
+use Rattle.notifier.specs.Resending.{turn_at}
+use Rattle.notifier.specs.declared.turn.Turn.TheVariants.{Resend}
+use Rattle.device_notifications.specs.Laws.{Notifies, Repeats}
 use Rattle.device_notifications.specs.declared.datagram.Datagram.{Datagram}
 use Rattle.device_machine.specs.declared.event.Event.TheVariants.{Tick}
 use Rattle.device_machine.specs.Reactions.{flat_after, outputs_of, send_of}
@@ -10,7 +12,7 @@ use Rattle.device_machine.specs.State.{Machine}
 use Rattle.device_laws.specs.Notifying.{IsCausedBy, IsDue, IsSettled}
 
 -- a datagram is sent in a second of a tick by an observation that is there then: it notifies for a cause, or ends the
--- observation
+-- observation, or is its open notification once more
 abbrev pub IsCausedIn : Machine → ℕ → Datagram → Type 0
 IsCausedIn f n d =
     (k : ℕ) × (k < n) × IsCausedBy f.kept.client (f.kept.clock + (k + 1)) (flat_after f (Tick k)).kept.observations d
@@ -24,13 +26,21 @@ pub record SendsForCause (f : Machine) (n : ℕ) : Type 0 where
 abbrev pub TicksNotifyForCause : Type 0
 TicksNotifyForCause = (f : Machine) (n : ℕ) → SendsForCause f n
 
--- an observation that is to be notified in a second of a tick, is not inside pmin and has content is notified in it
+-- a closed observation that is to be notified in a second of a tick, is not inside pmin and has content is notified in
+-- it
 abbrev pub TicksSendCaused : Type 0
 TicksSendCaused =
     (f : Machine) (n k : ℕ) (o : Observation) → k < n → Contains (flat_after f (Tick k)).kept.observations o
     → IsDue f.kept.client (f.kept.clock + (k + 1)) o
     → (d : Datagram) × Contains (outputs_of f (Tick n)) (send_of d)
     × Notifies f.kept.client (f.kept.clock + (k + 1)) o d
+
+-- and an open notification that is to be sent again in a second of a tick is sent again
+abbrev pub TicksSendAgain : Type 0
+TicksSendAgain =
+    (f : Machine) (n k : ℕ) (o : Observation) → k < n → Contains (flat_after f (Tick k)).kept.observations o
+    → turn_at o (f.kept.clock + (k + 1)) ≡ Resend
+    → (d : Datagram) × Contains (outputs_of f (Tick n)) (send_of d) × Repeats (f.kept.clock + (k + 1)) o d
 
 -- a tick outputs nothing, and only the clock goes on
 pub record IsQuiet (f : Machine) (n : ℕ) : Type 0 where

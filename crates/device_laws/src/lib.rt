@@ -2,6 +2,7 @@
 //! are the laws.
 #![tactic(auto)]
 
+mod confirming;
 mod messages;
 mod notifying;
 mod receiving;
@@ -9,8 +10,9 @@ mod sending;
 mod serving;
 mod ticking;
 
+pub use confirming::{nons_await_nothing, unanswered_are_sent_five_times};
 pub use messages::datagrams_are_messages;
-pub use notifying::{notifies_for_cause, settled_are_quiet};
+pub use notifying::{notifies_for_cause, sends_again, settled_are_quiet};
 pub use receiving::reactions_are_said;
 pub use sending::{changes_send_nothing, only_the_asker_is_answered, strangers_are_ignored};
 pub use serving::{refusals_are_bare, requests_are_served};

@@ -3,8 +3,8 @@
 ghost use Rattle.device_laws.specs.Messages.{DatagramsAreMessages, StartsSound};
 
 /// From a state whose message ID has 16 bits, whose tokens have at most 8 bytes and whose recorded
-/// replies are messages, each datagram is the spelling of a message, which is read as that message;
-/// and the state is so then. So is the state in which a device starts.
+/// replies and open notifications are messages, each datagram is the spelling of a message, which is
+/// read as that message; and the state is so then. So is the state in which a device starts.
 pub fn datagrams_are_messages()
     ensures starts { StartsSound }
     ensures events { DatagramsAreMessages }

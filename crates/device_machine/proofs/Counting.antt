@@ -27,7 +27,7 @@ use Rattle.device_machine.specs.Laws.{IsCounted, RegistrationsCount, number_note
 use Rattle.device_machine.proofs.Refusing.{observations_after}
 use Rattle.device_machine.proofs.Repeating.{all_true, first_con, first_non}
 
-named_self : (o : Observation) → is_named o.server o.token o ≡ true
+pub named_self : (o : Observation) → is_named o.server o.token o ≡ true
 named_self o = all_true (o.server == o.server) (bytes_eq o.token o.token) ((Decides-eqb o.server o.server).1 refl)
     ((bytes_eq-Decides o.token o.token).1 refl)
 

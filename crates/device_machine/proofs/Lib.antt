@@ -1,4 +1,5 @@
 mod Answering
+pub mod Closing
 mod Counting
 mod Keyed
 mod Lives
@@ -6,7 +7,7 @@ mod Living
 mod Naming
 mod Places
 mod Putting
-mod Refusing
-mod Repeating
+pub mod Refusing
+pub mod Repeating
 mod Sending
 mod Ticks

@@ -22,7 +22,7 @@ use Rattle.instance_store.specs.Stored.{Stored}
 use Rattle.lwm2m_values.specs.declared.value.Value.{Value}
 use Rattle.object_defs.specs.Path.{full_path}
 use Rattle.object_defs.specs.declared.path.FullPath.{FullPath}
-use Rattle.notifier.specs.Observed.{without_reset}
+use Rattle.notifier.specs.Observed.{with_acknowledged, without_reset}
 use Rattle.notifier.specs.declared.observation.Observation.{Observation}
 use Rattle.device_machine.specs.Observing.{Noted, noted}
 use Rattle.device_machine.specs.Memory.{remembered}
@@ -31,8 +31,8 @@ use Rattle.device_requests.specs.Client.{Client, has_account, with_stored}
 use Rattle.device_requests.specs.Answer.{Outcome}
 use Rattle.device_requests.specs.Request.{outcome_of}
 use Rattle.device_machine.specs.Reactions.{Reaction, reply_to, kept_after, later, on_firmware, on_fresh, on_noted}
-use Rattle.device_machine.specs.Reactions.{on_outcome, on_reset, repeat_of, is_same, on_request, on_message}
-use Rattle.device_machine.specs.Reactions.{on_datagram, claims_confirmable, is_request, reaction_to}
+use Rattle.device_machine.specs.Reactions.{on_acknowledgement, on_outcome, on_reset, repeat_of, is_same, on_request}
+use Rattle.device_machine.specs.Reactions.{on_datagram, on_message, claims_confirmable, is_request, reaction_to}
 
 -- a filter after a weaker one
 pub filter-filter : {X : Type 0} (p q : X → Bool) → ((x : X) → q x ≡ true → p x ≡ true) → (xs : List X)
@@ -174,13 +174,23 @@ alike_reset k xs ys server mid h =
           ap (λ rs. flat_of (with_observations k (without_reset k.observations server mid)) rs) h;
     }
 
+alike_acknowledgement : (k : Kept) (xs ys : List Recorded) (server mid : ℕ) → SameLiving k.clock xs ys
+    → Alike (on_acknowledgement (flat_of k xs) server mid) (on_acknowledgement (flat_of k ys) server mid)
+alike_acknowledgement k xs ys server mid h =
+    record {
+      outputs = refl;
+      living_then =
+          ap (λ rs. flat_of (with_observations k (with_acknowledged k.observations server mid)) rs) h;
+    }
+
 alike_message : (k : Kept) (xs ys : List Recorded) (server : ℕ) (m : Message) (kind : Kind) → SameLiving k.clock xs ys
     → Alike (on_message (flat_of k xs) server m kind) (on_message (flat_of k ys) server m kind)
 alike_message k xs ys server m Con h =
     alike_choice (is_request m.code) _ _ _ _ (alike_asked k xs ys server m h) (alike_quiet k xs ys _ h)
 alike_message k xs ys server m Non h =
     alike_choice (is_request m.code) _ _ _ _ (alike_asked k xs ys server m h) (alike_quiet k xs ys _ h)
-alike_message k xs ys server m Ack h = alike_quiet k xs ys _ h
+alike_message k xs ys server m Ack h =
+    alike_choice (m.code == 0) _ _ _ _ (alike_acknowledgement k xs ys server m.mid h) (alike_quiet k xs ys _ h)
 alike_message k xs ys server m Rst h =
     alike_choice (m.code == 0) _ _ _ _ (alike_reset k xs ys server m.mid h) (alike_quiet k xs ys _ h)
 

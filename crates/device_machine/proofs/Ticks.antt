@@ -8,15 +8,15 @@ use Rattle.device_notifications.proofs.Spans.{seconds_add, seconds_send_after_pm
 use Rattle.device_notifications.proofs.Turns.{seconds_send_before_pmax}
 use Rattle.device_requests.specs.Client.{Client}
 use Rattle.device_machine.specs.Laws.{TicksAdd, TicksCount, TicksSendAfterPmin, TicksSendBeforePmax}
-use Rattle.device_machine.specs.Reactions.{later, send_of, turn_in}
+use Rattle.device_machine.specs.Reactions.{later, send_of, sweep_in}
 
 pub add : TicksAdd
 add f a b =
     let all = seconds_add f.kept.client f.kept.clock a b f.kept.next_id f.kept.observations in
     let at : f.kept.clock + (a + b) ≡ f.kept.clock + a + b = omega arith in
     record {
-      sent = ap (λ t. map send_of t.sent) all ∙ map-append send_of (turn_in f.kept a).sent
-          (turn_in (later f a).kept b).sent;
+      sent = ap (λ t. map send_of t.sent) all ∙ map-append send_of (sweep_in f.kept a).sent
+          (sweep_in (later f a).kept b).sent;
       then_flat = λ j. record {
         kept = record { client = f.kept.client; observations = (all j).left; clock = at j; next_id = (all j).next_id };
         recorded = f.recorded;
@@ -26,7 +26,7 @@ add f a b =
 pub after_pmin : TicksSendAfterPmin
 after_pmin f n =
     record {
-      datagrams = (turn_in f.kept n).sent;
+      datagrams = (sweep_in f.kept n).sent;
       sent = refl;
       each = seconds_send_after_pmin f.kept.client f.kept.clock n f.kept.next_id f.kept.observations;
     }
@@ -37,7 +37,7 @@ before_pmax f n = seconds_send_before_pmax f.kept.client f.kept.clock n f.kept.n
 pub count : TicksCount
 count f n before after o is =
     record {
-      datagrams = (turn_in f.kept n).sent;
+      datagrams = (sweep_in f.kept n).sent;
       sent = refl;
       rises = subst (λ os. RisesByOne o (before ++ after) (seconds f.kept.client f.kept.clock n f.kept.next_id os).sent
           (seconds f.kept.client f.kept.clock n f.kept.next_id os).left)

@@ -1,6 +1,6 @@
 -- What follows from the tables, in the words of the standard.
 use Rattle.std.specs.Prelude.{◌≡◌, ℕ, ◌+◌, ◌<◌, is_some, if◌then◌else◌, Bool, true, false, ◌⊎◌, List, [], ◌∷◌, ◌++◌}
-use Rattle.std.specs.Prelude.{find, map, Option, None, Some, option_map, Ok}
+use Rattle.std.specs.Prelude.{◌≢◌, find, map, slice_get, Option, None, Some, option_and_then, option_map, Ok}
 use Rattle.std.specs.List.{AllByRecursion, filter, list_any}
 use Rattle.coap_codec.specs.Message.{Message, spelling}
 use Rattle.coap_codec.specs.Reading.{reading_of}
@@ -16,8 +16,9 @@ use Rattle.device_machine.specs.declared.recorded.Recorded.{Recorded}
 use Rattle.device_requests.specs.Answer.{code_byte, is_content}
 use Rattle.object_defs.specs.Lines.{first_line}
 use Rattle.device_requests.specs.Request.{outcome_of}
-use Rattle.notifier.specs.Observed.{cancelled, has_name, is_named, number_for, was_sent}
+use Rattle.notifier.specs.Observed.{as_closed, cancelled, has_name, is_awaited, is_named, number_for, was_sent}
 use Rattle.notifier.specs.declared.observation.Observation.{Observation}
+use Rattle.notifier.specs.declared.observation.Timer.{Timer}
 use Rattle.object_defs.specs.declared.path.Path.{Path}
 use Rattle.device_notifications.specs.declared.datagram.Datagram.{Datagram}
 use Rattle.device_notifications.specs.Laws.{IsOf, RisesByOne}
@@ -25,13 +26,14 @@ use Rattle.device_notifications.specs.Laws.{IsYoung}
 use Rattle.device_notifications.specs.Message.{observe_options}
 use Rattle.device_machine.specs.Observing.{lacks_place}
 use Rattle.device_requests.specs.Observe.{interest_of}
+use Rattle.device_requests.specs.declared.observe.Interest.{Interest}
 use Rattle.device_requests.specs.declared.observe.Interest.TheVariants.{Cancel, Register}
-use Rattle.device_machine.specs.State.{Machine, lifetime}
+use Rattle.device_machine.specs.State.{Machine, lifetime, with_observations}
 use Rattle.device_requests.specs.Client.{has_account}
 use Rattle.device_requests.specs.Options.{has_unrecognized_critical}
 use Rattle.device_requests.specs.Laws.{is_refusal, request_lines}
 use Rattle.device_machine.specs.Reactions.{Reaction, acted, outputs_of, flat_after, is_request, later, reaction_to}
-use Rattle.device_machine.specs.Reactions.{repeat_of, send_of}
+use Rattle.device_machine.specs.Reactions.{repeat_of, send_of, silence}
 
 -- the bytes are a request of this server that is no repeat
 pub record IsFresh (f : Machine) (server : ℕ) (bytes : List ℕ) (m : Message) : Type 0 where
@@ -130,13 +132,54 @@ CancelsEnd =
     ⊎ (m.kind ≡ Non)
     → interest_of m ≡ Some Cancel → has_name (flat_after f (Recv server bytes)).kept.observations server m.token ≡ false
 
--- after an empty Reset there is no observation of its server whose last message was a NON with its message ID
+-- after an Empty Reset there is no observation of its server whose last message was a NON with its message ID, or is
+-- such a CON that is still open
 abbrev pub ResetsEnd : Type 0
 ResetsEnd =
     (f : Machine) (server : ℕ) (bytes : List ℕ) (m : Message) → has_account f.kept.client server ≡ true
     → reading_of bytes ≡ Ok m
     → m.kind ≡ Rst → m.code ≡ 0
     → list_any (was_sent server m.mid) (flat_after f (Recv server bytes)).kept.observations ≡ false
+
+-- nothing is sent; the observations of this server that awaited an acknowledgement with this message ID are closed, and
+-- all else is as it was
+pub record OnlyCloses (f : Machine) (server mid : ℕ) (reaction : Reaction) : Type 0 where
+  pub sent : reaction.outputs ≡ []
+  pub closed : list_any (is_awaited server mid) reaction.flat.kept.observations ≡ false
+  pub timers : map as_closed reaction.flat.kept.observations ≡ map as_closed f.kept.observations
+  pub others : (place : ℕ) (o : Observation) → slice_get f.kept.observations place ≡ Some o
+      → is_awaited server mid o ≡ false → slice_get reaction.flat.kept.observations place ≡ Some o
+  pub frame : reaction.flat
+      ≡ record { kept = with_observations f.kept reaction.flat.kept.observations; recorded = f.recorded }
+
+-- an Empty ACK does no more than that (RFC 7252 section 4.2)
+abbrev pub AcknowledgementsClose : Type 0
+AcknowledgementsClose =
+    (f : Machine) (server : ℕ) (bytes : List ℕ) (m : Message) → has_account f.kept.client server ≡ true
+    → reading_of bytes ≡ Ok m
+    → m.kind ≡ Ack → m.code ≡ 0
+    → OnlyCloses f server m.mid (reaction_to f (Recv server bytes))
+
+-- one that no observation awaits is ignored, and so is an ACK that is not Empty
+abbrev pub OthersAreIgnored : Type 0
+OthersAreIgnored =
+    (f : Machine) (server : ℕ) (bytes : List ℕ) (m : Message) → has_account f.kept.client server ≡ true
+    → reading_of bytes ≡ Ok m
+    → m.kind ≡ Ack → (m.code ≢ 0) ⊎ (list_any (is_awaited server m.mid) f.kept.observations ≡ false)
+    → reaction_to f (Recv server bytes) ≡ silence f
+
+-- what the last message of the observation of this name is sent again by, where there is one that is open
+abbrev pub timer_noted : List Observation → ℕ → List ℕ → Option Timer
+timer_noted observations server token = option_and_then (λ o. o.timer) (find (is_named server token) observations)
+
+-- after a Read that says Observe 0 or 1 the observation of its name, where there is one, is closed, whatever it was
+-- answered
+abbrev pub UpdatesClose : Type 0
+UpdatesClose =
+    (f : Machine) (server : ℕ) (bytes : List ℕ) (m : Message) (interest : Interest) → IsFresh f server bytes m
+    → (m.kind ≡ Con) ⊎ (m.kind ≡ Non)
+    → interest_of m ≡ Some interest
+    → timer_noted (flat_after f (Recv server bytes)).kept.observations server m.token ≡ None
 
 -- the Observe number of the last message of the observation of this name, where there is one
 abbrev pub number_noted : List Observation → ℕ → List ℕ → Option ℕ
@@ -170,7 +213,7 @@ abbrev pub TicksAdd : Type 0
 TicksAdd = (f : Machine) (a b : ℕ) → AddsUp f a b
 
 -- a datagram is sent in a second of a tick by an observation that is there then: a notification that keeps it, pmin
--- seconds or more after its last message, or the message that ends it
+-- seconds or more after its last message, the message that ends it, or its open notification once more
 abbrev pub IsSentIn : Machine → ℕ → Datagram → Type 0
 IsSentIn f n d =
     (k : ℕ) × (k < n) × IsOf f.kept.client (f.kept.clock + (k + 1)) (flat_after f (Tick k)).kept.observations d
@@ -184,15 +227,16 @@ pub record SendsInTime (f : Machine) (n : ℕ) : Type 0 where
 abbrev pub TicksSendAfterPmin : Type 0
 TicksSendAfterPmin = (f : Machine) (n : ℕ) → SendsInTime f n
 
--- after each second no observation whose pmax has effect has a last message that is pmax seconds old
+-- after each second no closed observation whose pmax has effect has a last message that is pmax seconds old, and no
+-- open one has been so for all of its timeouts
 abbrev pub TicksSendBeforePmax : Type 0
 TicksSendBeforePmax =
     (f : Machine) (n : ℕ)
     → AllByRecursion (IsYoung f.kept.client (flat_after f (Tick (n + 1))).kept.clock)
     (flat_after f (Tick (n + 1))).kept.observations
 
--- the Observe numbers of an observation's messages rise by one with each of them, modulo 2^24, whatever is sent between
--- (RFC 7641 section 3.4)
+-- the Observe numbers of an observation's messages rise by one with each of them, modulo 2^24, whatever is sent
+-- between, open notifications once more among it (RFC 7641 section 3.4)
 pub record CountsOn (f : Machine) (n : ℕ) (o : Observation) (others : List Observation) : Type 0 where
   pub datagrams : List Datagram
   pub sent : outputs_of f (Tick n) ≡ map send_of datagrams

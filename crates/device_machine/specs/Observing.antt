@@ -44,7 +44,7 @@ replies_non Non = true
 replies_non Ack = false
 replies_non Rst = false
 
--- an observation that begins with the reply of this content
+-- an observation that begins with the reply of this content, closed: the reply awaits no acknowledgement
 abbrev pub begun : Kept → ℕ → Message → Path → Option ℕ → List ℕ → Observation
 begun kept server m path accept payload =
     record {
@@ -57,6 +57,7 @@ begun kept server m path accept payload =
       number = 0;
       non = replies_non m.kind;
       mid = reply_mid kept.next_id m m.kind;
+      timer = None;
     }
 
 -- there are 32, none of them of this name

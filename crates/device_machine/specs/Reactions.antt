@@ -30,9 +30,9 @@ use Rattle.device_requests.specs.Client.{has_account, with_stored}
 use Rattle.device_requests.specs.Options.{has_unrecognized_critical}
 use Rattle.device_requests.specs.Request.{outcome_of}
 use Rattle.device_machine.specs.declared.recorded.Recorded.{Recorded}
-use Rattle.notifier.specs.Observed.{without_reset}
+use Rattle.notifier.specs.Observed.{with_acknowledged, without_reset}
 use Rattle.device_notifications.specs.Message.{format_options, observe_options}
-use Rattle.device_notifications.specs.Second.{Turn, seconds}
+use Rattle.device_notifications.specs.Second.{Sweep, seconds}
 use Rattle.device_notifications.specs.declared.datagram.Datagram.{Datagram}
 use Rattle.device_machine.specs.Observing.{Noted, noted}
 use Rattle.device_machine.specs.State.{Kept, Machine, Device, is_live, with_client, with_observations}
@@ -171,8 +171,8 @@ abbrev pub on_request : Machine → ℕ → Message → Option Recorded → Reac
 on_request f server m None = on_outcome f server m (outcome_of f.kept.client server m)
 on_request f server m (Some r) = record { outputs = again server m.kind r.reply; flat = f }
 
--- an empty Reset ends the observations of its server whose last message was a NON with its message ID (RFC 7641 section
--- 3.6)
+-- an Empty Reset ends the observations of its server whose last message was a NON with its message ID, or is such a CON
+-- that no acknowledgement has answered (RFC 7641 section 3.6)
 abbrev pub on_reset : Machine → ℕ → ℕ → Reaction
 on_reset f server mid =
     record {
@@ -184,12 +184,24 @@ on_reset f server mid =
       };
     }
 
--- requests are answered; another confirmable message is reset, all else but an empty Reset ignored
+-- an Empty ACK closes the observations of its server whose last message is a CON with its message ID that no
+-- acknowledgement has answered (RFC 7252 section 4.2); nothing is sent and nothing is recorded
+abbrev pub on_acknowledgement : Machine → ℕ → ℕ → Reaction
+on_acknowledgement f server mid =
+    record {
+      outputs = [];
+      flat = record {
+        kept = with_observations f.kept (with_acknowledged f.kept.observations server mid);
+        recorded = f.recorded;
+      };
+    }
+
+-- requests are answered; another confirmable message is reset, all else but an Empty Reset and an Empty ACK ignored
 abbrev pub on_message : Machine → ℕ → Message → Kind → Reaction
 on_message f server m Con =
     if is_request m.code then on_request f server m (repeat_of f server m) else sends f server (reset m.mid)
 on_message f server m Non = if is_request m.code then on_request f server m (repeat_of f server m) else silence f
-on_message f server m Ack = silence f
+on_message f server m Ack = if m.code == 0 then on_acknowledgement f server m.mid else silence f
 on_message f server m Rst = if m.code == 0 then on_reset f server m.mid else silence f
 
 -- there is a header of version 1, and its type is confirmable
@@ -210,8 +222,8 @@ on_datagram f server bytes (Ok m) = on_message f server m m.kind
 on_datagram f server bytes (Err fault) = on_noise f server bytes
 
 -- what the observations do in n seconds
-abbrev pub turn_in : Kept → ℕ → Turn
-turn_in kept count = seconds kept.client kept.clock count kept.next_id kept.observations
+abbrev pub sweep_in : Kept → ℕ → Sweep
+sweep_in kept count = seconds kept.client kept.clock count kept.next_id kept.observations
 
 -- the flat state n seconds later: the clock is set on, second by second, and the observations have their turns
 abbrev pub later : Machine → ℕ → Machine
@@ -219,9 +231,9 @@ later f count =
     record {
       kept = record {
         client = f.kept.client;
-        observations = (turn_in f.kept count).left;
+        observations = (sweep_in f.kept count).left;
         clock = f.kept.clock + count;
-        next_id = (turn_in f.kept count).next_id;
+        next_id = (sweep_in f.kept count).next_id;
       };
       recorded = f.recorded;
     }
@@ -231,7 +243,7 @@ send_of datagram = Send datagram.server datagram.bytes
 
 -- seconds pass, and what the observations send in them is sent
 abbrev pub on_tick : Machine → ℕ → Reaction
-on_tick f count = record { outputs = map send_of (turn_in f.kept count).sent; flat = later f count }
+on_tick f count = record { outputs = map send_of (sweep_in f.kept count).sent; flat = later f count }
 
 -- a value is set where it fits; else the device does no more than say so
 abbrev pub on_put : Machine → Option FullPath → Value → Reaction

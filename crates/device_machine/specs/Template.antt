@@ -14,6 +14,7 @@ start_of class =
         store =
             with_idle_firmware class.store;
         attributes = map.empty;
+        notify = class.notify;
       };
       observations = [];
       clock = 0;

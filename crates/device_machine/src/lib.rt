@@ -17,8 +17,9 @@ pub use device_template::{Template, TemplateFault};
 pub use event::Event;
 pub use fault::StepFault;
 pub use laws::{
-    answers_once, counts_notifications, counts_registrations, ends_observations,
-    notifies_after_pmin, notifies_before_pmax, refusals_change_nothing, repeats, ticks_add,
+    answers_once, closes_observations, counts_notifications, counts_registrations,
+    ends_observations, notifies_after_pmin, notifies_before_pmax, refusals_change_nothing, repeats,
+    ticks_add,
 };
 pub use output::{Output, Outputs};
 pub use recorded::Recorded;

@@ -84,7 +84,7 @@ impl Machine {
         let catalog = template.catalog().copy()?;
         let store = template.start_store()?;
         Ok(Machine {
-            client: Client::new(alloc, accounts, catalog, store),
+            client: Client::new(alloc, accounts, catalog, store, template.notify()),
             observations: Observations::new(alloc),
             clock: 0,
             next_id: 0,

@@ -8,7 +8,7 @@ use Rattle.device_requests.specs.Client.{Client}
 use Rattle.device_notifications.specs.Outbox.{Outbox}
 use Rattle.device_notifications.specs.Pendings.{AreAtRest, pendings_of}
 use Rattle.device_notifications.specs.Progress.{Elapsed, Leaves, Stops, StopsIn}
-use Rattle.device_notifications.specs.Second.{Turn, second, seconds}
+use Rattle.device_notifications.specs.Second.{Sweep, second, seconds}
 use Rattle.device_notifications.proofs.Places.{begun, elapsed, over, started, stopped_in}
 use Rattle.device_notifications.proofs.Resting.{skipped}
 
@@ -25,9 +25,9 @@ elapsed_quietly client clock count all before passed later os now after within r
     ap (λ k. seconds client (clock + passed) k now.next_id os) n
     ∙ skipped client (clock + passed) (later - passed) (count - later) (clock + later) now.next_id os rest at in
     record {
-      sent = ap (λ (r : Turn). now.sent ++ r.sent) (sym whole) ∙ h.sent;
-      left = ap (λ (r : Turn). r.left) (sym whole) ∙ h.left;
-      next_id = ap (λ (r : Turn). r.next_id) (sym whole) ∙ h.next_id;
+      sent = ap (λ (r : Sweep). now.sent ++ r.sent) (sym whole) ∙ h.sent;
+      left = ap (λ (r : Sweep). r.left) (sym whole) ∙ h.left;
+      next_id = ap (λ (r : Sweep). r.next_id) (sym whole) ∙ h.next_id;
     }
 
 -- the seconds before one that is due have passed
@@ -143,8 +143,8 @@ one_passed client clock count all left before after one leaves =
 pub one_stopped : (client : Client) (clock count : ℕ) (all left : List Observation) (before after : Outbox) → count ≡ 1
     → Stops client (clock + 1) all before left after → StopsIn client clock count all before left after
 one_stopped client clock count all left before after one stops =
-    stopped_in client clock count all before 0 all left before after (clock + 1) (omega (arith, one)) (omega arith) stops
-    (started client clock count all before)
+    stopped_in client clock count all before 0 all left before after (clock + 1) (omega (arith, one)) (omega arith)
+    stops (started client clock count all before)
 
 -- said of the result of the one second
 pub one_done : {X E : Type 0} (r : Result X E) (client : Client) (clock count : ℕ) (all left : List Observation)

@@ -6,7 +6,7 @@ use Rattle.notifier.specs.declared.observation.Observation.{Observation}
 use Rattle.device_requests.specs.Client.{Client}
 use Rattle.device_notifications.specs.Outbox.{Outbox}
 use Rattle.device_notifications.specs.Progress.{Elapsed, Leaves, Passes, Progress, Stops, StopsIn}
-use Rattle.device_notifications.specs.Second.{Turn, quiet, beside, and_then, second, seconds, turn_of}
+use Rattle.device_notifications.specs.Second.{Sweep, quiet, beside, and_then, second, seconds, turn_of}
 
 -- ---- places of a list
 
@@ -76,11 +76,11 @@ pub begun : (client : Client) (clock : ℕ) (all : List Observation) (before : O
 begun client clock all before = record { sent = refl; left = refl; next_id = refl }
 
 -- what a turn and those after it do
-behind : Client → ℕ → Turn → List Observation → Turn
+behind : Client → ℕ → Sweep → List Observation → Sweep
 behind client clock t rest = beside t (second client clock t.next_id rest)
 
 moved : (client : Client) (clock : ℕ) (all : List Observation) (before : Outbox) (os left : List Observation)
-    (place next : ℕ) (now after : Outbox) (t : Turn)
+    (place next : ℕ) (now after : Outbox) (t : Sweep)
     → Passes t os left place next now after
     → now.sent ++ (behind client clock t (drop (place + 1) os)).sent ≡ before.sent
     ++ (second client clock before.next_id all).sent
@@ -173,7 +173,7 @@ one_more : (clock count passed : ℕ) → passed < count → (clock + passed + 1
 one_more clock count passed h = (omega arith, omega (arith, h))
 
 -- a second and those after it
-then_more : Client → ℕ → ℕ → Turn → Turn
+then_more : Client → ℕ → ℕ → Sweep → Sweep
 then_more client clock count t = and_then t (seconds client clock count t.next_id t.left)
 
 pub elapsed : (client : Client) (clock count : ℕ) (all : List Observation) (before : Outbox) (passed : ℕ)

@@ -8,7 +8,6 @@ use Rattle.std.proofs.lemmas.List.{take-map, take_all, length-map}
 use Rattle.std.proofs.lemmas.Option.{slice_get-get_or}
 use Rattle.std.specs.List.{drop-map}
 use Rattle.notifier.specs.Due.{is_due_at}
-use Rattle.notifier.specs.Observed.{notified}
 use Rattle.notifier.specs.declared.observation.Observation.{Observation}
 use Rattle.notifier.specs.declared.pending.Pending.{Pending}
 use Rattle.notifier.specs.declared.pending.Pending.TheVariants as pending
@@ -16,8 +15,7 @@ use Rattle.device_requests.specs.Client.{Client}
 use Rattle.device_notifications.specs.Outbox.{Outbox}
 use Rattle.device_notifications.specs.Pendings.{content_of, pending_of, pendings_of}
 use Rattle.device_notifications.specs.Progress.{Passes}
-use Rattle.device_notifications.specs.Report.{report_of}
-use Rattle.device_notifications.specs.Second.{Turn, present, turn_by, turn_of}
+use Rattle.device_notifications.specs.Second.{Sweep, evaluated, present, told, turn_by}
 use Rattle.device_notifications.proofs.Places.{taken}
 use Rattle.device_notifications.proofs.Resting.{by_due}
 
@@ -108,11 +106,19 @@ gone client all left place ps whole known =
     ∙ sym (map-append (pending_of client) (take place all) (drop (place + 1) all))
     ∙ ap (λ xs. pendings_of client xs) (sym whole)
 
+pub gone_both : (client : Client) (all left : List Observation) (place : ℕ) (ps qs : List Pending)
+    → left ≡ remove all place → qs ≡ remove ps place → ps ≡ pendings_of client all → qs ≡ pendings_of client left
+gone_both client all left place ps qs then_left then_pendings known =
+    let whole : left ≡ take place all ++ drop (place + 1) all =
+    then_left ∙ removes all place ∙ ap (λ n. take place all ++ drop n all) (next_is place) in
+    then_pendings ∙ gone client all left place ps whole known
+
 -- it is another, with this present answer
-told : (client : Client) (all left : List Observation) (place : ℕ) (ps : List Pending) (x : Observation) (p : Pending)
+renewed_at : (client : Client) (all left : List Observation) (place : ℕ) (ps : List Pending) (x : Observation)
+    (p : Pending)
     → place < length all → left ≡ take place all ++ x ∷ drop (place + 1) all → p ≡ pending_of client x
     → ps ≡ pendings_of client all → slice_set ps place p ≡ pendings_of client left
-told client all left place ps x p within whole same known =
+renewed_at client all left place ps x p within whole same known =
     let within_them : place < length (pendings_of client all) =
     omega (arith, within, length-map all (pending_of client)) in
     (λ j. slice_set (known j) place (same j))
@@ -131,7 +137,7 @@ lengths all place within = (
   omega (arith, within, length-drop (place + 1) all),
 )
 
-split : (client : Client) (t : Turn) (all left : List Observation) (place next : ℕ) (before after : Outbox)
+split : (client : Client) (t : Sweep) (all left : List Observation) (place next : ℕ) (before after : Outbox)
     → Passes t all left place next before after → left ≡ take place all ++ (t.left ++ drop (place + 1) all)
 split client t all left place next before after h =
     sym (take-append-drop next left) ∙ (λ j. h.passed j ++ h.coming j)
@@ -140,7 +146,7 @@ split client t all left place next before after h =
 pub renewed : (client : Client) (clock : ℕ) (all left : List Observation) (place next : ℕ) (before after : Outbox)
     (o : Observation) (ps qs : List Pending)
     → place < length all → is_due_at o.second (pending_of client o) clock ≡ true
-    → Passes (turn_of client clock before.next_id o) all left place next before after
+    → Passes (evaluated client clock before.next_id o) all left place next before after
     → ps ≡ pendings_of client all
     → (length left < length ps → qs ≡ remove ps place)
     → (length ps ≤ length left → (x : Observation) → slice_get left place ≡ Some x
@@ -154,15 +160,15 @@ renewed client clock all left place next before after o ps qs within due passes 
     → qs ≡ pendings_of client left) due
     (λ content whole.
     let answer = present client o in
-    let x = notified clock before.next_id (report_of client o.path answer.payload) o in
+    let x = told client clock before.next_id o answer in
     let size = ap length whole ∙ length-append (take place all) (x ∷ drop (place + 1) all) in
     let stays : length ps ≤ length left = omega (arith, as_many, size, sizes) in
     let is = ap (λ b. if b then content_of client x answer.payload else pending.Gone) (sym content) in
     notified_ stays x (ap (λ xs. slice_get xs place) whole
     ∙ in_the_middle (take place all) (drop (place + 1) all) x place sizes.0)
-    ∙ told client all left place ps x (content_of client x answer.payload) within whole is known)
+    ∙ renewed_at client all left place ps x (content_of client x answer.payload) within whole is known)
     (λ no_content whole.
     let size = ap length whole ∙ length-append (take place all) (drop (place + 1) all) in
     let goes : length left < length ps = omega (arith, as_many, size, sizes) in
     removed goes ∙ gone client all left place ps whole known)
-    (split client (turn_of client clock before.next_id o) all left place next before after passes)
+    (split client (evaluated client clock before.next_id o) all left place next before after passes)

@@ -1,12 +1,18 @@
 -- What an observation does in a second, by whether its present answer is due, and what all of them do.
-use Rattle.std.proofs.Common.{◌≡◌, ◌≢◌, ℕ, zero, suc, ◌+◌, ◌-◌, ◌≤◌, ◌∙◌, Bool, true, false, ◌||◌, List, []}
-use Rattle.std.proofs.Common.{◌∷◌, ◌++◌, Option, refl, sym, ap, subst, arith}
+use Rattle.std.proofs.Common.{◌≡◌, ◌≢◌, ℕ, zero, suc, ◌+◌, ◌-◌, ◌<◌, ◌≤◌, ◌∙◌, Bool, true, false, ◌||◌, List, [], ◌∷◌}
+use Rattle.std.proofs.Common.{◌++◌, length, Option, refl, sym, ap, subst, arith}
 use Rattle.std.specs.Bool.{if◌then◌else◌}
-use Rattle.notifier.specs.Due.{IsFirstDue, is_due_at, is_one_due}
+use Rattle.std.specs.Option.{option_to_list}
+use Rattle.std.proofs.lemmas.List.{length-append}
+use Rattle.std.proofs.Math.Logic.{◌⊎◌, inl, inr}
+use Rattle.notifier.specs.Due.{IsFirstDue, acts_at, acts_in, is_due_at, is_one_due}
+use Rattle.notifier.specs.Resending.{turn_at}
 use Rattle.notifier.specs.Trigger.{is_due}
 use Rattle.notifier.specs.declared.observation.Observation.{Observation}
 use Rattle.notifier.specs.declared.pending.Pending.TheVariants.{Content}
 use Rattle.notifier.specs.declared.pending.Pending.TheVariants as pending
+use Rattle.notifier.specs.declared.turn.Turn.{Turn}
+use Rattle.notifier.specs.declared.turn.Turn.TheVariants.{Evaluate, Wait, Resend, Expire}
 use Rattle.device_requests.specs.Answer.{is_content}
 use Rattle.device_requests.specs.Client.{Client}
 use Rattle.device_requests.specs.declared.answer.Answer.{Answer}
@@ -15,9 +21,10 @@ use Rattle.device_notifications.specs.declared.evaluation.Evaluation.TheVariants
 use Rattle.device_notifications.specs.Laws.{IsFirstSending}
 use Rattle.device_notifications.specs.Pendings.{AreAtRest, pending_of, pendings_of}
 use Rattle.device_notifications.specs.Period.{pmin_of, pmax_of}
-use Rattle.device_notifications.specs.Second.{Turn, and_then, beside, evaluation_of, present, quiet, second, seconds}
-use Rattle.device_notifications.specs.Second.{triggers_now, turn_by, turn_of}
+use Rattle.device_notifications.specs.Second.{Sweep, and_then, beside, evaluation_of, present, quiet, second, seconds}
+use Rattle.device_notifications.specs.Second.{triggers_now, turn_as, turn_by, turn_of}
 use Rattle.device_notifications.proofs.Spans.{seconds_add}
+use Rattle.device_notifications.proofs.Turns.{by_all, resends_one}
 
 -- ---- one observation
 
@@ -51,14 +58,35 @@ by_due client clock o P h s g =
     acts (is_content (present client o)) (triggers_now client o (present client o).payload) o.second clock
     (pmin_of client o.server o.path) (pmax_of client o.server o.path) (present client o) P h s g
 
-quiet_turn : (client : Client) (clock next_id : ℕ) (o : Observation)
-    → is_due_at o.second (pending_of client o) clock ≡ false → turn_of client clock next_id o ≡ quiet next_id (o ∷ [])
-quiet_turn client clock next_id o h = ap (λ v. turn_by client clock next_id o v) (is_quiet client clock o h)
+quiet_as : (client : Client) (clock next_id : ℕ) (o : Observation) (t : Turn)
+    → acts_in t o.second (pending_of client o) clock ≡ false → turn_as client clock next_id o t ≡ quiet next_id (o ∷ [])
+quiet_as client clock next_id o Evaluate h = ap (λ v. turn_by client clock next_id o v) (is_quiet client clock o h)
+quiet_as client clock next_id o Wait h = refl
+quiet_as client clock next_id o Resend h = let e : true ≡ false = h in cc
+quiet_as client clock next_id o Expire h = let e : true ≡ false = h in cc
+
+pub quiet_turn : (client : Client) (clock next_id : ℕ) (o : Observation)
+    → acts_at o (pending_of client o) clock ≡ false → turn_of client clock next_id o ≡ quiet next_id (o ∷ [])
+quiet_turn client clock next_id o h = quiet_as client clock next_id o (turn_at o clock) h
+
+-- something is sent, or one is removed
+abbrev Acts : Sweep → ℕ → Type 0
+Acts t n = (t.sent ≢ []) ⊎ (length t.left < n)
+
+loud_as : (client : Client) (clock next_id : ℕ) (o : Observation) (t : Turn) → turn_at o clock ≡ t
+    → acts_in t o.second (pending_of client o) clock ≡ true → Acts (turn_as client clock next_id o t) 1
+loud_as client clock next_id o Evaluate is h =
+    inl (by_due client clock o (λ v. (turn_by client clock next_id o v).sent ≢ []) h (λ content e. cc)
+    (λ no_content e. cc))
+loud_as client clock next_id o Wait is h = let e : false ≡ true = h in absurd (cc)
+loud_as client clock next_id o Resend is h =
+    let there = resends_one o clock is in
+    inl (λ none. let e : there.0 ∷ [] ≡ [] = sym (ap option_to_list there.1) ∙ none in cc)
+loud_as client clock next_id o Expire is h = inr (omega arith)
 
 loud_turn : (client : Client) (clock next_id : ℕ) (o : Observation)
-    → is_due_at o.second (pending_of client o) clock ≡ true → (turn_of client clock next_id o).sent ≢ []
-loud_turn client clock next_id o h =
-    by_due client clock o (λ v. (turn_by client clock next_id o v).sent ≢ []) h (λ content e. cc) (λ no_content e. cc)
+    → acts_at o (pending_of client o) clock ≡ true → Acts (turn_of client clock next_id o) 1
+loud_turn client clock next_id o h = loud_as client clock next_id o (turn_at o clock) refl h
 
 -- ---- a second
 
@@ -79,33 +107,70 @@ pub quiet_second : (client : Client) (clock next_id : ℕ) (os : List Observatio
     → is_one_due os (pendings_of client os) clock ≡ false → second client clock next_id os ≡ quiet next_id os
 quiet_second client clock next_id [] h = refl
 quiet_second client clock next_id (o ∷ os) h =
-    let parts = neither (is_due_at o.second (pending_of client o) clock) (is_one_due os (pendings_of client os) clock) h in
-    ap (λ (t : Turn). beside t (second client clock t.next_id os)) (quiet_turn client clock next_id o parts.0)
+    let parts = neither (acts_at o (pending_of client o) clock) (is_one_due os (pendings_of client os) clock) h in
+    ap (λ (t : Sweep). beside t (second client clock t.next_id os)) (quiet_turn client clock next_id o parts.0)
     ∙ ap (λ r. beside (quiet next_id (o ∷ [])) r) (quiet_second client clock next_id os parts.1)
 
-loud_by : (client : Client) (clock next_id : ℕ) (o : Observation) (os : List Observation) (b : Bool)
-    → is_due_at o.second (pending_of client o) clock ≡ b
-    → ((id : ℕ) → is_one_due os (pendings_of client os) clock ≡ true → (second client clock id os).sent ≢ [])
-    → (b || is_one_due os (pendings_of client os) clock) ≡ true
-    → (second client clock next_id (o ∷ os)).sent ≢ []
-loud_by client clock next_id o os true due later h =
-    λ none. loud_turn client clock next_id o due (none_left (turn_of client clock next_id o).sent _ none)
-loud_by client clock next_id o os false due later h =
-    λ none. later (turn_of client clock next_id o).next_id h (none_right (turn_of client clock next_id o).sent _ none)
+-- no more are left than there were
+few_left : (client : Client) (clock next_id : ℕ) (o : Observation) → length (turn_of client clock next_id o).left ≤ 1
+few_left client clock next_id o =
+    by_all client clock next_id o (λ t. length t.left ≤ 1) (λ is content due. omega arith)
+    (λ is content rests. omega arith) (λ is no_content. omega arith) (λ is. omega arith) (λ is. omega arith)
+    (λ is. omega arith)
 
--- where something is due, it sends
+no_more_left : (client : Client) (clock next_id : ℕ) (os : List Observation)
+    → length (second client clock next_id os).left ≤ length os
+no_more_left client clock next_id [] = omega arith
+no_more_left client clock next_id (o ∷ os) =
+    let t = turn_of client clock next_id o in
+    let rest = second client clock t.next_id os in
+    let few = few_left client clock next_id o in
+    let more = no_more_left client clock t.next_id os in
+    let sizes = length-append t.left rest.left in
+    omega (arith, few, more, sizes)
+
+acts_first : (t rest : Sweep) (n : ℕ) → length rest.left ≤ n → Acts t 1 → Acts (beside t rest) (suc n)
+acts_first t rest n more (inl some) = inl (λ none. some (none_left t.sent rest.sent none))
+acts_first t rest n more (inr fewer) =
+    let sizes = length-append t.left rest.left in
+    inr (omega (arith, more, fewer, sizes))
+
+acts_later : (t rest : Sweep) (n : ℕ) → length t.left ≤ 1 → Acts rest n → Acts (beside t rest) (suc n)
+acts_later t rest n few (inl some) = inl (λ none. some (none_right t.sent rest.sent none))
+acts_later t rest n few (inr fewer) =
+    let sizes = length-append t.left rest.left in
+    inr (omega (arith, few, fewer, sizes))
+
+loud_by : (client : Client) (clock next_id : ℕ) (o : Observation) (os : List Observation) (b : Bool)
+    → acts_at o (pending_of client o) clock ≡ b
+    → ((id : ℕ) → is_one_due os (pendings_of client os) clock ≡ true → Acts (second client clock id os) (length os))
+    → (b || is_one_due os (pendings_of client os) clock) ≡ true
+    → Acts (second client clock next_id (o ∷ os)) (suc (length os))
+loud_by client clock next_id o os true due later h =
+    let t = turn_of client clock next_id o in
+    acts_first t (second client clock t.next_id os) (length os) (no_more_left client clock t.next_id os)
+    (loud_turn client clock next_id o due)
+loud_by client clock next_id o os false due later h =
+    let t = turn_of client clock next_id o in
+    acts_later t (second client clock t.next_id os) (length os) (few_left client clock next_id o) (later t.next_id h)
+
+-- where something is due, it sends or is removed
 pub loud_second : (client : Client) (clock next_id : ℕ) (os : List Observation)
-    → is_one_due os (pendings_of client os) clock ≡ true → (second client clock next_id os).sent ≢ []
+    → is_one_due os (pendings_of client os) clock ≡ true → Acts (second client clock next_id os) (length os)
 loud_second client clock next_id [] h = let e : false ≡ true = h in absurd (cc)
 loud_second client clock next_id (o ∷ os) h =
-    loud_by client clock next_id o os (is_due_at o.second (pending_of client o) clock) refl
+    loud_by client clock next_id o os (acts_at o (pending_of client o) clock) refl
     (λ id due. loud_second client clock id os due) h
 
--- and so what a second sends says whether something is due
+still : (t : Sweep) (next_id : ℕ) (os : List Observation) → t ≡ quiet next_id os → Acts t (length os) → ⊥
+still t next_id os same (inl some) = some (ap (λ (x : Sweep). x.sent) same)
+still t next_id os same (inr fewer) = let size = ap (λ (x : Sweep). length x.left) same in omega (arith, size, fewer)
+
+-- and so what a second does says whether something is due
 due_or_not : (client : Client) (clock next_id : ℕ) (os : List Observation) (b : Bool)
     → is_one_due os (pendings_of client os) clock ≡ b → second client clock next_id os ≡ quiet next_id os → b ≡ false
 due_or_not client clock next_id os true due same =
-    absurd (loud_second client clock next_id os due (ap (λ (t : Turn). t.sent) same))
+    absurd (still (second client clock next_id os) next_id os same (loud_second client clock next_id os due))
 due_or_not client clock next_id os false due same = refl
 
 pub rests_by_second : (client : Client) (clock next_id : ℕ) (os : List Observation)
@@ -113,16 +178,16 @@ pub rests_by_second : (client : Client) (clock next_id : ℕ) (os : List Observa
 rests_by_second client clock next_id os same =
     due_or_not client clock next_id os (is_one_due os (pendings_of client os) clock) refl same
 
-sends_or_not : (client : Client) (clock next_id : ℕ) (os : List Observation) (b : Bool)
-    → is_one_due os (pendings_of client os) clock ≡ b → (second client clock next_id os).sent ≢ [] → b ≡ true
-sends_or_not client clock next_id os true due some = refl
-sends_or_not client clock next_id os false due some =
-    absurd (some (ap (λ (t : Turn). t.sent) (quiet_second client clock next_id os due)))
+acts_or_not : (client : Client) (clock next_id : ℕ) (os : List Observation) (b : Bool)
+    → is_one_due os (pendings_of client os) clock ≡ b → Acts (second client clock next_id os) (length os) → b ≡ true
+acts_or_not client clock next_id os true due some = refl
+acts_or_not client clock next_id os false due some =
+    absurd (still (second client clock next_id os) next_id os (quiet_second client clock next_id os due) some)
 
 pub due_by_second : (client : Client) (clock next_id : ℕ) (os : List Observation)
-    → (second client clock next_id os).sent ≢ [] → is_one_due os (pendings_of client os) clock ≡ true
+    → Acts (second client clock next_id os) (length os) → is_one_due os (pendings_of client os) clock ≡ true
 due_by_second client clock next_id os some =
-    sends_or_not client clock next_id os (is_one_due os (pendings_of client os) clock) refl some
+    acts_or_not client clock next_id os (is_one_due os (pendings_of client os) clock) refl some
 
 -- ---- seconds
 
@@ -131,7 +196,7 @@ pub quiet_seconds : (client : Client) (clock n next_id : ℕ) (os : List Observa
 quiet_seconds client clock zero next_id os rest = refl
 quiet_seconds client clock (suc n) next_id os rest =
     let here = quiet_second client (clock + 1) next_id os (rest (clock + 1) (omega arith) (omega arith)) in
-    ap (λ (t : Turn). and_then t (seconds client (clock + 1) n t.next_id t.left)) here
+    ap (λ (t : Sweep). and_then t (seconds client (clock + 1) n t.next_id t.left)) here
     ∙ ap (λ r. and_then (quiet next_id os) r)
     (quiet_seconds client (clock + 1) n next_id os
     (λ at after before. rest at (omega (arith, after)) (omega (arith, before))))
@@ -144,7 +209,7 @@ skipped client clock n m end next_id os rest at =
     let quietly = quiet_seconds client clock n next_id os
     (λ t after before. rest t after (omega (arith, before, at))) in
     seconds_add client clock n m next_id os
-    ∙ ap (λ (t : Turn). and_then t (seconds client (clock + n) m t.next_id t.left)) quietly
+    ∙ ap (λ (t : Sweep). and_then t (seconds client (clock + n) m t.next_id t.left)) quietly
     ∙ ap (λ c. seconds client c m next_id os) at
 
 pub jumps : (client : Client) (clock n next_id first : ℕ) (os : List Observation)
@@ -165,7 +230,7 @@ jumps client clock n next_id first os h within =
     ∙ ap (λ c. and_then (second client c next_id os)
     (seconds client c (clock + n - first) (second client c next_id os).next_id (second client c next_id os).left)) at
 
--- ---- the first second that sends
+-- ---- the first second that sends or removes
 
 pub first_sending : (client : Client) (now next_id : ℕ) (os : List Observation) (first : ℕ)
     → IsFirstDue now os (pendings_of client os) first → IsFirstSending client now next_id os first
@@ -173,7 +238,7 @@ first_sending client now next_id os first h =
     record {
       later = h.later;
       fits = h.fits;
-      sends = loud_second client first next_id os h.passes;
+      acts = loud_second client first next_id os h.passes;
       quiet_before = λ clock after before. quiet_second client clock next_id os (h.none_before clock after before);
     }
 
@@ -183,6 +248,6 @@ first_due client now next_id os first h =
     record {
       later = h.later;
       fits = h.fits;
-      passes = due_by_second client first next_id os h.sends;
+      passes = due_by_second client first next_id os h.acts;
       none_before = λ clock after before. rests_by_second client clock next_id os (h.quiet_before clock after before);
     }

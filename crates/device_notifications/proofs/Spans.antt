@@ -5,12 +5,12 @@ use Rattle.notifier.specs.declared.observation.Observation.{Observation}
 use Rattle.device_requests.specs.Client.{Client}
 use Rattle.device_notifications.specs.declared.datagram.Datagram.{Datagram}
 use Rattle.device_notifications.specs.Laws.{IsOf, IsInOneOf, SecondsAdd, SecondsSendAfterPmin}
-use Rattle.device_notifications.specs.Second.{Turn, and_then, second, seconds}
+use Rattle.device_notifications.specs.Second.{Sweep, and_then, second, seconds}
 use Rattle.device_notifications.proofs.Turns.{both, sends_after_pmin, weaker}
 
 -- ---- seconds add up
 
-in_turn : (a b c : Turn) → and_then a (and_then b c) ≡ and_then (and_then a b) c
+in_turn : (a b c : Sweep) → and_then a (and_then b c) ≡ and_then (and_then a b) c
 in_turn a b c = λ i. record { sent = sym (append_assoc a.sent b.sent c.sent) i; left = c.left; next_id = c.next_id }
 
 pub seconds_add : SecondsAdd

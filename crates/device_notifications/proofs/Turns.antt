@@ -1,25 +1,33 @@
--- What a turn does, by the three evaluations, and what a second does by its turns.
-use Rattle.std.proofs.Common.{◌≡◌, ℕ, zero, suc, ◌+◌, ◌-◌, ◌%◌, ◌<◌, ◌≤◌, Bool, true, false, List, [], ◌∷◌, ◌++◌}
-use Rattle.std.proofs.Common.{length, Option, None, Some, refl, sym, ap, subst, ◌∙◌, arith}
+-- What a turn does, by the four turns and the three evaluations, and what a second does by its turns.
+use Rattle.std.proofs.Common.{◌≡◌, ◌≢◌, ℕ, zero, suc, ◌+◌, ◌-◌, ◌*◌, ◌%◌, ◌<◌, ◌≤◌, Bool, true, false, List, [], ◌∷◌}
+use Rattle.std.proofs.Common.{◌++◌, ◌==◌, nat_le, Option, None, Some, refl, sym, ap, subst, ◌∙◌, arith}
 use Rattle.std.specs.Bool.{if◌then◌else◌}
 use Rattle.std.specs.List.{AllByRecursion, Contains}
+use Rattle.std.specs.Option.{option_map, option_to_list}
+use Rattle.std.proofs.lemmas.Bool.{leb-true}
 use Rattle.std.proofs.lemmas.Bool.Decides.{nat_tests}
-use Rattle.std.proofs.lemmas.List.{length-append}
 use Rattle.std.proofs.Math.Logic.{◌⊎◌, inl, inr}
+use Rattle.notifier.specs.Resending.{turn_at, turn_with}
 use Rattle.notifier.specs.Trigger.{is_due}
 use Rattle.notifier.specs.declared.observation.Observation.{Observation}
+use Rattle.notifier.specs.declared.observation.Timer.{Timer}
+use Rattle.notifier.specs.declared.turn.Turn.{Turn}
+use Rattle.notifier.specs.declared.turn.Turn.TheVariants.{Evaluate, Wait, Resend, Expire}
+use Rattle.notifier.proofs.Timeouts.{not_evaluated, timed_out}
+use Rattle.device_requests.specs.Answer.{is_content}
 use Rattle.device_requests.specs.Client.{Client}
 use Rattle.device_requests.specs.declared.answer.Answer.{Answer}
+use Rattle.device_notifications.specs.declared.datagram.Datagram.{Datagram}
 use Rattle.device_notifications.specs.declared.evaluation.Evaluation.{Evaluation}
 use Rattle.device_notifications.specs.declared.evaluation.Evaluation.TheVariants.{Quiet, Sends, Gone}
 use Rattle.device_notifications.specs.Laws.{IsOf, IsYoung, StayInOrder}
-use Rattle.device_notifications.specs.Laws.Stays.{as_it_was, told}
-use Rattle.device_notifications.specs.Laws.StayInOrder.{none, stays, goes}
-use Rattle.device_notifications.specs.Message.{datagram_of}
+use Rattle.device_notifications.specs.Laws.Stays.{as_it_was, notified_of}
+use Rattle.device_notifications.specs.Laws.StayInOrder.{none, stays, goes, expires}
+use Rattle.device_notifications.specs.Message.{datagram_of, open_notification, resent}
 use Rattle.device_notifications.specs.Period.{pmin_of, pmax_of}
-use Rattle.device_requests.specs.Answer.{is_content}
-use Rattle.device_notifications.specs.Second.{age_of, is_due_now, present, second, seconds, triggers_now}
-use Rattle.device_notifications.specs.Second.{turn_by, turn_of, evaluation_of}
+use Rattle.device_notifications.specs.Second.{Sweep, age_of, evaluated, evaluation_of, is_due_now, next_notification}
+use Rattle.device_notifications.specs.Second.{notified_kind, present, quiet, second, seconds, triggers_now, turn_as}
+use Rattle.device_notifications.specs.Second.{turn_by, turn_of}
 
 choose : (c d : Bool) (a : Answer) (P : Evaluation → Type 0) → (c ≡ true → d ≡ true → P (Sends a))
     → (c ≡ true → d ≡ false → P Quiet) → (c ≡ false → P (Gone a))
@@ -38,6 +46,81 @@ pub by_evaluation : (client : Client) (clock : ℕ) (o : Observation) (P : Evalu
 by_evaluation client clock o P s q g =
     choose (is_content (present client o)) (is_due_now client clock o (present client o).payload)
     (present client o) P s q g
+
+pick : (client : Client) (clock next_id : ℕ) (o : Observation) (P : Sweep → Type 0) (t : Turn)
+    → (t ≡ Evaluate → P (evaluated client clock next_id o))
+    → (t ≡ Wait → P (quiet next_id (o ∷ [])))
+    → (t ≡ Resend → P (record { sent = option_to_list (open_notification o); left = o ∷ []; next_id = next_id }))
+    → (t ≡ Expire → P (quiet next_id []))
+    → P (turn_as client clock next_id o t)
+pick client clock next_id o P Evaluate e w r x = e refl
+pick client clock next_id o P Wait e w r x = w refl
+pick client clock next_id o P Resend e w r x = r refl
+pick client clock next_id o P Expire e w r x = x refl
+
+-- the turn of an observation is its evaluation, or one of three while it is open
+pub by_turn : (client : Client) (clock next_id : ℕ) (o : Observation) (P : Sweep → Type 0)
+    → (turn_at o clock ≡ Evaluate → P (evaluated client clock next_id o))
+    → (turn_at o clock ≡ Wait → P (quiet next_id (o ∷ [])))
+    → (turn_at o clock ≡ Resend
+    → P (record { sent = option_to_list (open_notification o); left = o ∷ []; next_id = next_id }))
+    → (turn_at o clock ≡ Expire → P (quiet next_id []))
+    → P (turn_of client clock next_id o)
+by_turn client clock next_id o P e w r x = pick client clock next_id o P (turn_at o clock) e w r x
+
+-- both together
+pub by_all : (client : Client) (clock next_id : ℕ) (o : Observation) (P : Sweep → Type 0)
+    → (turn_at o clock ≡ Evaluate → is_content (present client o) ≡ true
+    → is_due_now client clock o (present client o).payload ≡ true
+    → P (turn_by client clock next_id o (Sends (present client o))))
+    → (turn_at o clock ≡ Evaluate → is_content (present client o) ≡ true
+    → is_due_now client clock o (present client o).payload ≡ false → P (quiet next_id (o ∷ [])))
+    → (turn_at o clock ≡ Evaluate → is_content (present client o) ≡ false
+    → P (turn_by client clock next_id o (Gone (present client o))))
+    → (turn_at o clock ≡ Wait → P (quiet next_id (o ∷ [])))
+    → (turn_at o clock ≡ Resend
+    → P (record { sent = option_to_list (open_notification o); left = o ∷ []; next_id = next_id }))
+    → (turn_at o clock ≡ Expire → P (quiet next_id []))
+    → P (turn_of client clock next_id o)
+by_all client clock next_id o P s q g w r x =
+    by_turn client clock next_id o P
+    (λ e. by_evaluation client clock o (λ v. P (turn_by client clock next_id o v)) (s e) (q e) (g e)) w r x
+
+-- ---- the open notification
+
+open_when : (second : ℕ) (timer : Option Timer) (clock : ℕ) → turn_with second timer clock ≢ Evaluate
+    → (t : Timer) × (timer ≡ Some t)
+open_when second None clock h = absurd (h refl)
+open_when second (Some t) clock h = (t, refl)
+
+not_that : (t u v : Turn) → t ≡ u → u ≢ v → t ≢ v
+not_that t u v is other h = other (sym is ∙ h)
+
+-- an observation that is not evaluated has something open
+pub has_open : (o : Observation) (clock : ℕ) → turn_at o clock ≢ Evaluate
+    → (d : Datagram) × (open_notification o ≡ Some d)
+has_open o clock h =
+    let there = open_when o.second o.timer clock h in
+    (resent o there.0, ap (λ t. option_map (resent o) t) there.1)
+
+resend_is_open : Resend ≢ Evaluate
+resend_is_open h = cc
+
+expire_is_open : Expire ≢ Evaluate
+expire_is_open h = cc
+
+pub resends_one : (o : Observation) (clock : ℕ) → turn_at o clock ≡ Resend
+    → (d : Datagram) × (open_notification o ≡ Some d)
+resends_one o clock is = has_open o clock (not_that (turn_at o clock) Resend Evaluate is resend_is_open)
+
+pub ends_one : (o : Observation) (clock : ℕ) → turn_at o clock ≡ Expire
+    → (d : Datagram) × (open_notification o ≡ Some d)
+ends_one o clock is = has_open o clock (not_that (turn_at o clock) Expire Evaluate is expire_is_open)
+
+pub of_option : {X : Type 0} (x : Option X) (Q : X → Type 0) → ((y : X) → x ≡ Some y → Q y)
+    → AllByRecursion Q (option_to_list x)
+of_option None Q h = tt
+of_option (Some y) Q h = (h y refl, tt)
 
 due_waits : (age pmin : ℕ) (pmax : Option ℕ) (t : Bool) → is_due age pmin pmax t ≡ true → pmin ≤ age
 due_waits age pmin None t h = grind (arith, nat_tests)
@@ -75,13 +158,14 @@ later_of y x xs h = (suc h.0, omega (arith, h.1), h.2)
 sent_by : (client : Client) (clock next_id : ℕ) (o : Observation) (os : List Observation)
     → AllByRecursion (IsOf client clock (o ∷ os)) (turn_of client clock next_id o).sent
 sent_by client clock next_id o os =
-    by_evaluation client clock o (λ v. AllByRecursion (IsOf client clock (o ∷ os)) (turn_by client clock next_id o v).sent)
-    (λ content due. (
+    by_all client clock next_id o (λ t. AllByRecursion (IsOf client clock (o ∷ os)) t.sent)
+    (λ is content due. (
       (
         o,
         first_of o os,
         inl (record {
           mid = next_id;
+          evaluated = is;
           message = refl;
           content = content;
           waited =
@@ -91,8 +175,19 @@ sent_by client clock next_id o os =
       ),
       tt,
     ))
-    (λ content rests. tt)
-    (λ no_content. ((o, first_of o os, inr (record { mid = next_id; message = refl; no_content = no_content })), tt))
+    (λ is content rests. tt)
+    (λ is no_content. (
+      (
+        o,
+        first_of o os,
+        inr (inl (record { mid = next_id; evaluated = is; message = refl; no_content = no_content })),
+      ),
+      tt,
+    ))
+    (λ is. tt)
+    (λ is. of_option (open_notification o) (IsOf client clock (o ∷ os))
+    (λ d is_open. (o, first_of o os, inr (inr (record { resends = is; message = is_open })))))
+    (λ is. tt)
 
 pub sends_after_pmin : (client : Client) (clock next_id : ℕ) (os : List Observation)
     → AllByRecursion (IsOf client clock os) (second client clock next_id os).sent
@@ -107,18 +202,100 @@ sends_after_pmin client clock next_id (o ∷ os) =
 none_old : (clock pmax : ℕ) → 0 < pmax → clock - clock < pmax
 none_old clock pmax above = omega (arith, above)
 
+under_by : (a b : ℕ) (past : Bool) → nat_le b a ≡ past → (b ≤ a → ⊥) → a < b
+under_by a b true is never = absurd (never (leb-true b a is))
+under_by a b false is never = grind (arith, nat_tests)
+
+under : (a b : ℕ) → (b ≤ a → ⊥) → a < b
+under a b never = under_by a b (nat_le b a) refl never
+
+soon : (clock first : ℕ) → 0 < first → clock < clock + 31 * first
+soon clock first some = omega (arith, some)
+
+abbrev first_in : Option Timer → ℕ → ℕ
+first_in None n = n
+first_in (Some timer) n = timer.first
+
+above_zero : (a b : ℕ) → (a == 0) ≡ false → a ≡ b → 0 < b
+above_zero a b some same = grind (arith, nat_tests)
+
+-- an observation that is evaluated has nothing open
+never_open : (o : Observation) (clock : ℕ) (timer : Timer) → turn_at o clock ≡ Evaluate → o.timer ≡ Some timer → ⊥
+never_open o clock timer is is_open =
+    not_evaluated o.second timer.first clock (sym (ap (λ t. turn_with o.second t clock) is_open) ∙ is)
+
+-- one that is open and stays has its last timeout to come
+to_come : (o : Observation) (clock : ℕ) (timer : Timer) → turn_at o clock ≢ Expire → o.timer ≡ Some timer
+    → clock < o.second + 31 * timer.first
+to_come o clock timer stays_ is_open =
+    under clock (o.second + 31 * timer.first)
+    (λ past. stays_ (ap (λ t. turn_with o.second t clock) is_open
+    ∙ (timed_out o.second timer.first clock).1 past))
+
+-- one that is closed is evaluated
+never_waits : (o : Observation) (clock : ℕ) → turn_at o clock ≢ Evaluate → o.timer ≡ None → ⊥
+never_waits o clock waits closed = waits (ap (λ t. turn_with o.second t clock) closed)
+
+wait_is_no_end : Wait ≢ Expire
+wait_is_no_end h = cc
+
+resend_is_no_end : Resend ≢ Expire
+resend_is_no_end h = cc
+
+wait_is_open : Wait ≢ Evaluate
+wait_is_open h = cc
+
+-- one that stays while it is open
+young_by : (client : Client) (clock : ℕ) (o : Observation) → turn_at o clock ≢ Expire → turn_at o clock ≢ Evaluate
+    → IsYoung client clock o
+young_by client clock o stays_ waits =
+    record {
+      closed = λ pmax closed is above follows. absurd (never_waits o clock waits closed);
+      open_yet = λ timer is_open. to_come o clock timer stays_ is_open;
+    }
+
+-- a timer has a first timeout above 0
+timed : (first : ℕ) (b : Bool) (bytes : List ℕ) (timer : Timer) → (first == 0) ≡ b
+    → (if b then None else Some (record { bytes = bytes; first = first })) ≡ Some timer → 0 < timer.first
+timed first true bytes timer is h = let f : ⊥ = cc in absurd f
+timed first false bytes timer is h =
+    let same : first ≡ timer.first = ap (λ (t : Option Timer). first_in t first) h in
+    above_zero first timer.first is same
+
 fresh_by : (client : Client) (clock next_id : ℕ) (o : Observation)
     → AllByRecursion (IsYoung client clock) (turn_of client clock next_id o).left
 fresh_by client clock next_id o =
-    by_evaluation client clock o (λ v. AllByRecursion (IsYoung client clock) (turn_by client clock next_id o v).left)
-    (λ content due. ((λ pmax is above follows. none_old clock pmax above), tt))
-    (λ content rests. (
-      (λ pmax is above follows. not_due (age_of clock o) (pmin_of client o.server o.path)
-          (pmax_of client o.server o.path) (triggers_now client o (present client o).payload) pmax is rests above
-          follows),
+    by_all client clock next_id o (λ t. AllByRecursion (IsYoung client clock) t.left)
+    (λ is content due. (
+      record {
+        closed = λ pmax closed is above follows. none_old clock pmax above;
+        open_yet = λ timer is_open. soon clock timer.first
+            (timed client.notify (client.notify == 0)
+            (next_notification client next_id o (present client o)).bytes timer refl is_open);
+      },
       tt,
     ))
-    (λ no_content. tt)
+    (λ is content rests. (
+      record {
+        closed = λ pmax closed has above follows. not_due (age_of clock o) (pmin_of client o.server o.path)
+            (pmax_of client o.server o.path) (triggers_now client o (present client o).payload) pmax has rests above
+            follows;
+        open_yet = λ timer is_open. absurd (never_open o clock timer is is_open);
+      },
+      tt,
+    ))
+    (λ is no_content. tt)
+    (λ is. (
+      young_by client clock o (not_that (turn_at o clock) Wait Expire is wait_is_no_end)
+          (not_that (turn_at o clock) Wait Evaluate is wait_is_open),
+      tt,
+    ))
+    (λ is. (
+      young_by client clock o (not_that (turn_at o clock) Resend Expire is resend_is_no_end)
+          (not_that (turn_at o clock) Resend Evaluate is resend_is_open),
+      tt,
+    ))
+    (λ is. tt)
 
 pub sends_before_pmax : (client : Client) (clock next_id : ℕ) (os : List Observation)
     → AllByRecursion (IsYoung client clock) (second client clock next_id os).left
@@ -148,12 +325,15 @@ seconds_send_before_pmax client clock n next_id os =
 order_by : (client : Client) (clock next_id : ℕ) (o : Observation) (os ps : List Observation)
     → StayInOrder client clock os ps → StayInOrder client clock (o ∷ os) ((turn_of client clock next_id o).left ++ ps)
 order_by client clock next_id o os ps rest =
-    by_evaluation client clock o (λ v. StayInOrder client clock (o ∷ os) ((turn_by client clock next_id o v).left ++ ps))
-    (λ content due. stays o _ os ps (told next_id
+    by_all client clock next_id o (λ t. StayInOrder client clock (o ∷ os) (t.left ++ ps))
+    (λ is content due. stays o _ os ps (notified_of next_id is
     (due_waits (age_of clock o) (pmin_of client o.server o.path) (pmax_of client o.server o.path)
     (triggers_now client o (present client o).payload) due)) rest)
-    (λ content rests. stays o o os ps as_it_was rest)
-    (λ no_content. goes o os ps no_content rest)
+    (λ is content rests. stays o o os ps as_it_was rest)
+    (λ is no_content. goes o os ps is no_content rest)
+    (λ is. stays o o os ps as_it_was rest)
+    (λ is. stays o o os ps as_it_was rest)
+    (λ is. expires o os ps is rest)
 
 pub keeps_order : (client : Client) (clock next_id : ℕ) (os : List Observation)
     → StayInOrder client clock os (second client clock next_id os).left
@@ -171,47 +351,20 @@ no_more y h = cc
 
 pub counts_observe_numbers : (client : Client) (clock next_id : ℕ) (o p : Observation)
     → (turn_of client clock next_id o).left ≡ p ∷ []
-    → (((turn_of client clock next_id o).sent ≡ []) × (p ≡ o))
-    ⊎ (((turn_of client clock next_id o).sent ≡ datagram_of o next_id (Some p.number) (present client o) ∷ [])
+    → ((((turn_of client clock next_id o).sent ≡ [])
+    ⊎ ((turn_of client clock next_id o).sent ≡ option_to_list (open_notification o))) × (p ≡ o))
+    ⊎ (((turn_of client clock next_id o).sent
+    ≡ datagram_of (notified_kind client) o next_id (Some p.number) (present client o) ∷ [])
     × (p.number ≡ (o.number + 1) % 16777216))
 counts_observe_numbers client clock next_id o p =
-    by_evaluation client clock o (λ v. (turn_by client clock next_id o v).left ≡ p ∷ []
-    → (((turn_by client clock next_id o v).sent ≡ []) × (p ≡ o))
-    ⊎ (((turn_by client clock next_id o v).sent ≡ datagram_of o next_id (Some p.number) (present client o) ∷ [])
+    by_all client clock next_id o (λ t. t.left ≡ p ∷ []
+    → (((t.sent ≡ []) ⊎ (t.sent ≡ option_to_list (open_notification o))) × (p ≡ o))
+    ⊎ ((t.sent ≡ datagram_of (notified_kind client) o next_id (Some p.number) (present client o) ∷ [])
     × (p.number ≡ (o.number + 1) % 16777216)))
-    (λ content due h. let same = ap (λ (x : Observation). x.number) (one_of _ p h) in
-    inr (ap (λ n. datagram_of o next_id (Some n) (present client o) ∷ []) same, sym same))
-    (λ content rests h. inl (refl, sym (one_of o p h)))
-    (λ no_content h. absurd (no_more p h))
-
-id_fits : (n : ℕ) → (n + 1) % 65536 < 65536
-id_fits n = omega arith
-
-same_id : (n : ℕ) → n < 65536 → n ≡ (n + 0) % 65536
-same_id n h = omega (arith, h)
-
-id_by : (client : Client) (clock next_id : ℕ) (o : Observation) → next_id < 65536
-    → ((turn_of client clock next_id o).next_id ≡ (next_id + length (turn_of client clock next_id o).sent) % 65536)
-    × ((turn_of client clock next_id o).next_id < 65536)
-id_by client clock next_id o h =
-    by_evaluation client clock o (λ v. ((turn_by client clock next_id o v).next_id
-    ≡ (next_id + length (turn_by client clock next_id o v).sent) % 65536)
-    × ((turn_by client clock next_id o v).next_id < 65536))
-    (λ content due. (refl, id_fits next_id))
-    (λ content rests. (same_id next_id h, h))
-    (λ no_content. (refl, id_fits next_id))
-
-ids_add : (start middle finish a b : ℕ) → middle ≡ (start + a) % 65536 → finish ≡ (middle + b) % 65536
-    → finish ≡ (start + (a + b)) % 65536
-ids_add start middle finish a b h k = omega (arith, h, k)
-
-pub counts_message_ids : (client : Client) (clock next_id : ℕ) (os : List Observation) → next_id < 65536
-    → (second client clock next_id os).next_id ≡ (next_id + length (second client clock next_id os).sent) % 65536
-counts_message_ids client clock next_id [] h = same_id next_id h
-counts_message_ids client clock next_id (o ∷ os) h =
-    let here = id_by client clock next_id o h in
-    let t = turn_of client clock next_id o in
-    let rest = second client clock t.next_id os in
-    ids_add next_id t.next_id rest.next_id (length t.sent) (length rest.sent) here.0
-    (counts_message_ids client clock t.next_id os here.1)
-    ∙ ap (λ n. (next_id + n) % 65536) (sym (length-append t.sent rest.sent))
+    (λ is content due h. let same = ap (λ (x : Observation). x.number) (one_of _ p h) in
+    inr (ap (λ n. datagram_of (notified_kind client) o next_id (Some n) (present client o) ∷ []) same, sym same))
+    (λ is content rests h. inl (inl refl, sym (one_of o p h)))
+    (λ is no_content h. absurd (no_more p h))
+    (λ is h. inl (inl refl, sym (one_of o p h)))
+    (λ is h. inl (inr refl, sym (one_of o p h)))
+    (λ is h. absurd (no_more p h))

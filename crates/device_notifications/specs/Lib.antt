@@ -6,3 +6,4 @@ pub mod Second
 pub mod Pendings
 pub mod Progress
 pub mod Laws
+pub mod ConfirmableLaws

@@ -1,11 +1,12 @@
 -- The messages of an observation (RFC 7641 section 4).
-use Rattle.std.specs.Prelude.{ℕ, List, [], ◌∷◌, ◌++◌, Option, None, Some}
+use Rattle.std.specs.Prelude.{ℕ, List, ◌++◌, Option, option_map}
 use Rattle.coap_codec.specs.Message.{Message, spelling}
 use Rattle.coap_codec.specs.OptionNumber.{observe_option, content_format_option}
 use Rattle.coap_codec.specs.Options.{number_option}
-use Rattle.coap_codec.specs.declared.kind.Kind.TheVariants.{Non}
+use Rattle.coap_codec.specs.declared.kind.Kind.{Kind}
 use Rattle.coap_codec.specs.declared.option.Opt.{Opt}
 use Rattle.notifier.specs.declared.observation.Observation.{Observation}
+use Rattle.notifier.specs.declared.observation.Timer.{Timer}
 use Rattle.device_requests.specs.Answer.{code_byte}
 use Rattle.device_requests.specs.declared.answer.Answer.{Answer}
 use Rattle.device_notifications.specs.declared.datagram.Datagram.{Datagram}
@@ -17,11 +18,11 @@ observe_options number = number_option observe_option number
 abbrev pub format_options : Option ℕ → List Opt
 format_options format = number_option content_format_option format
 
--- an answer as a message of the device's own: a NON of this message ID, with the observation's token
-abbrev pub notification : Observation → ℕ → Option ℕ → Answer → Message
-notification o mid number answer =
+-- an answer as a message of the device's own: of this type and message ID, with the observation's token
+abbrev pub notification : Kind → Observation → ℕ → Option ℕ → Answer → Message
+notification kind o mid number answer =
     record {
-      kind = Non;
+      kind = kind;
       code = code_byte answer.code;
       mid = mid;
       token = o.token;
@@ -30,5 +31,14 @@ notification o mid number answer =
     }
 
 -- that message, on its way to the observation's server
-abbrev pub datagram_of : Observation → ℕ → Option ℕ → Answer → Datagram
-datagram_of o mid number answer = record { server = o.server; bytes = spelling (notification o mid number answer) }
+abbrev pub datagram_of : Kind → Observation → ℕ → Option ℕ → Answer → Datagram
+datagram_of kind o mid number answer =
+    record { server = o.server; bytes = spelling (notification kind o mid number answer) }
+
+-- bytes that an observation's notification is sent again with, on their way to its server
+abbrev pub resent : Observation → Timer → Datagram
+resent o timer = record { server = o.server; bytes = timer.bytes }
+
+-- the open notification of an observation, if it has one
+abbrev pub open_notification : Observation → Option Datagram
+open_notification o = option_map (resent o) o.timer

@@ -14,3 +14,7 @@ id_after next_id = (next_id + 1) % 65536
 -- with one datagram more
 abbrev pub posted : Outbox → Datagram → Outbox
 posted box datagram = record { sent = box.sent ++ datagram ∷ []; next_id = id_after box.next_id }
+
+-- with one more that is sent again: it has its message ID already
+abbrev pub reposted : Outbox → Datagram → Outbox
+reposted box datagram = record { sent = box.sent ++ datagram ∷ []; next_id = box.next_id }

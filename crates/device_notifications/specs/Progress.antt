@@ -3,17 +3,17 @@ use Rattle.std.specs.Prelude.{◌≡◌, ℕ, ◌+◌, ◌-◌, ◌<◌, List, �
 use Rattle.notifier.specs.declared.observation.Observation.{Observation}
 use Rattle.device_notifications.specs.Outbox.{Outbox}
 use Rattle.device_requests.specs.Client.{Client}
-use Rattle.device_notifications.specs.Second.{Turn, second, seconds}
+use Rattle.device_notifications.specs.Second.{Sweep, second, seconds}
 
 -- after what was to be sent already stands what the turn sends, and the rest is as the turn leaves it
-pub record Leaves (before : Outbox) (turn : Turn) (left : List Observation) (after : Outbox) : Type 0 where
+pub record Leaves (before : Outbox) (turn : Sweep) (left : List Observation) (after : Outbox) : Type 0 where
   pub sent : after.sent ≡ before.sent ++ turn.sent
   pub left_is : left ≡ turn.left
   pub next_id : after.next_id ≡ turn.next_id
 
 -- the observation at a place has had its turn: what is left of it stands before the next place, and those after it are
 -- still to come
-pub record Passes (turn : Turn) (all left : List Observation) (place next : ℕ) (before after : Outbox) : Type 0 where
+pub record Passes (turn : Sweep) (all left : List Observation) (place next : ℕ) (before after : Outbox) : Type 0 where
   pub sent : after.sent ≡ before.sent ++ turn.sent
   pub next_id : after.next_id ≡ turn.next_id
   pub passed : take next left ≡ take place all ++ turn.left

@@ -1,10 +1,18 @@
 -- What the observations of a device do in a second.
-use Rattle.std.specs.Prelude.{ℕ, zero, suc, ◌+◌, ◌-◌, Bool, List, [], ◌∷◌, ◌++◌, None, Some, if◌then◌else◌}
+use Rattle.std.specs.Prelude.{ℕ, zero, suc, ◌+◌, ◌-◌, ◌==◌, Bool, List, [], ◌∷◌, ◌++◌, Option, None, Some}
+use Rattle.std.specs.Prelude.{if◌then◌else◌}
+use Rattle.std.specs.Option.{option_to_list}
+use Rattle.coap_codec.specs.declared.kind.Kind.{Kind}
+use Rattle.coap_codec.specs.declared.kind.Kind.TheVariants.{Con, Non}
 use Rattle.notifier.specs.Attributes.{assigned}
 use Rattle.notifier.specs.Observed.{next_number, notified}
+use Rattle.notifier.specs.Resending.{turn_at}
 use Rattle.notifier.specs.Trigger.{is_due, is_triggered}
 use Rattle.notifier.specs.declared.attribute.Name.TheVariants as name
 use Rattle.notifier.specs.declared.observation.Observation.{Observation}
+use Rattle.notifier.specs.declared.observation.Timer.{Timer}
+use Rattle.notifier.specs.declared.turn.Turn.{Turn}
+use Rattle.notifier.specs.declared.turn.Turn.TheVariants.{Evaluate, Wait, Resend, Expire}
 use Rattle.device_requests.specs.Answer.{is_content}
 use Rattle.device_requests.specs.Client.{Client}
 use Rattle.device_requests.specs.Read.{read_answer}
@@ -12,7 +20,7 @@ use Rattle.device_requests.specs.declared.answer.Answer.{Answer}
 use Rattle.device_notifications.specs.declared.datagram.Datagram.{Datagram}
 use Rattle.device_notifications.specs.declared.evaluation.Evaluation.{Evaluation}
 use Rattle.device_notifications.specs.declared.evaluation.Evaluation.TheVariants.{Quiet, Sends, Gone}
-use Rattle.device_notifications.specs.Message.{datagram_of}
+use Rattle.device_notifications.specs.Message.{datagram_of, open_notification}
 use Rattle.device_notifications.specs.Period.{pmin_of, pmax_of}
 use Rattle.device_notifications.specs.Outbox.{id_after}
 use Rattle.device_notifications.specs.Report.{number_at, report_of}
@@ -51,47 +59,84 @@ abbrev pub evaluation_of : Client → ℕ → Observation → Evaluation
 evaluation_of client clock o = evaluation_on client clock o (present client o)
 
 -- what is sent, the observations that are left, and the device's next message ID then
-pub record Turn : Type 0 where
+pub record Sweep : Type 0 where
   pub sent : List Datagram
   pub left : List Observation
   pub next_id : ℕ
 
 -- nothing is sent, and nothing changes
-abbrev pub quiet : ℕ → List Observation → Turn
+abbrev pub quiet : ℕ → List Observation → Sweep
 quiet next_id os = record { sent = []; left = os; next_id = next_id }
 
--- a notification has the next Observe number, and an answer that ends the observation none
-abbrev pub turn_by : Client → ℕ → ℕ → Observation → Evaluation → Turn
+-- whether notifications of content are Non-confirmable
+abbrev pub sends_nons : Client → Bool
+sends_nons client = client.notify == 0
+
+-- the type of a notification of content
+abbrev pub notified_kind : Client → Kind
+notified_kind client = if sends_nons client then Non else Con
+
+-- what it is sent again by, where it is Confirmable: its bytes, and the first timeout
+abbrev pub timer_of : Client → List ℕ → Option Timer
+timer_of client bytes = if sends_nons client then None else Some (record { bytes = bytes; first = client.notify })
+
+-- a notification of content, with the next Observe number
+abbrev pub next_notification : Client → ℕ → Observation → Answer → Datagram
+next_notification client next_id o answer =
+    datagram_of (notified_kind client) o next_id (Some (next_number o.number)) answer
+
+-- an observation after it: a Confirmable one opens it
+abbrev pub told : Client → ℕ → ℕ → Observation → Answer → Observation
+told client clock next_id o answer =
+    notified clock next_id (report_of client o.path answer.payload)
+    (timer_of client (next_notification client next_id o answer).bytes) o
+
+-- content is notified, and keeps the observation; an answer that ends it is sent once, as a Non-confirmable message
+-- without an Observe number
+abbrev pub turn_by : Client → ℕ → ℕ → Observation → Evaluation → Sweep
 turn_by client clock next_id o Quiet = quiet next_id (o ∷ [])
 turn_by client clock next_id o (Sends answer) =
     record {
-      sent = datagram_of o next_id (Some (next_number o.number)) answer ∷ [];
-      left = notified clock next_id (report_of client o.path answer.payload) o ∷ [];
+      sent = next_notification client next_id o answer ∷ [];
+      left = told client clock next_id o answer ∷ [];
       next_id = id_after next_id;
     }
 turn_by client clock next_id o (Gone answer) =
-    record { sent = datagram_of o next_id None answer ∷ []; left = []; next_id = id_after next_id }
+    record { sent = datagram_of Non o next_id None answer ∷ []; left = []; next_id = id_after next_id }
+
+-- what an observation does that is evaluated
+abbrev pub evaluated : Client → ℕ → ℕ → Observation → Sweep
+evaluated client clock next_id o = turn_by client clock next_id o (evaluation_of client clock o)
+
+-- one that is open is not: its notification is sent again with the same bytes, and so with its message ID and its
+-- Observe number, or the observation ends with no message (RFC 7252 section 4.2; RFC 7641 section 4.5)
+abbrev pub turn_as : Client → ℕ → ℕ → Observation → Turn → Sweep
+turn_as client clock next_id o Evaluate = evaluated client clock next_id o
+turn_as client clock next_id o Wait = quiet next_id (o ∷ [])
+turn_as client clock next_id o Resend =
+    record { sent = option_to_list (open_notification o); left = o ∷ []; next_id = next_id }
+turn_as client clock next_id o Expire = quiet next_id []
 
 -- what one observation does in the second that the clock shows
-abbrev pub turn_of : Client → ℕ → ℕ → Observation → Turn
-turn_of client clock next_id o = turn_by client clock next_id o (evaluation_of client clock o)
+abbrev pub turn_of : Client → ℕ → ℕ → Observation → Sweep
+turn_of client clock next_id o = turn_as client clock next_id o (turn_at o clock)
 
 -- one after the other: what both send, and leave
-abbrev pub beside : Turn → Turn → Turn
+abbrev pub beside : Sweep → Sweep → Sweep
 beside a b = record { sent = a.sent ++ b.sent; left = a.left ++ b.left; next_id = b.next_id }
 
 -- what all of them do in this second, each in its turn
-abbrev pub second : Client → ℕ → ℕ → List Observation → Turn
+abbrev pub second : Client → ℕ → ℕ → List Observation → Sweep
 second client clock next_id [] = quiet next_id []
 second client clock next_id (o ∷ os) =
     beside (turn_of client clock next_id o) (second client clock (turn_of client clock next_id o).next_id os)
 
 -- one second after the other: what is sent in both, and what the later one leaves
-abbrev pub and_then : Turn → Turn → Turn
+abbrev pub and_then : Sweep → Sweep → Sweep
 and_then a b = record { sent = a.sent ++ b.sent; left = b.left; next_id = b.next_id }
 
 -- what they do in n seconds, where the clock shows this before: it goes up by one, then each of them has its turn
-abbrev pub seconds : Client → ℕ → ℕ → ℕ → List Observation → Turn
+abbrev pub seconds : Client → ℕ → ℕ → ℕ → List Observation → Sweep
 seconds client clock zero next_id os = quiet next_id os
 seconds client clock (suc n) next_id os =
     and_then (second client (clock + 1) next_id os)

@@ -1,6 +1,8 @@
 //! What follows of notifications, for those who observe. The calls do nothing; their contracts are
 //! the laws.
 
+ghost use Rattle.device_notifications.specs.ConfirmableLaws.{EvaluatesWithNons, LosesNothing, SendsFiveTimesAtMost};
+ghost use Rattle.device_notifications.specs.ConfirmableLaws.{StaysClosedWithNons};
 ghost use Rattle.device_notifications.specs.Laws.{CountsMessageIds, CountsObserveNumbers, KeepsOrder, SecondsAdd};
 ghost use Rattle.device_notifications.specs.Laws.{FindsNoSending, FindsTheFirstSending, QuietSecondsChangeNothing};
 ghost use Rattle.device_notifications.specs.Laws.{SecondsJump};
@@ -8,37 +10,58 @@ ghost use Rattle.device_notifications.specs.Laws.{SecondsCountObserveNumbers, Se
 ghost use Rattle.device_notifications.specs.Laws.{SecondsSendBeforePmax, SendsAfterPmin, SendsBeforePmax};
 
 /// A notification that keeps its observation is sent only where pmin seconds have passed since the
-/// observation's last message. Every other datagram of a second ends its observation. And so it is of
-/// each datagram of more seconds, in one of them.
+/// observation's last message. Every other datagram of a second ends its observation, or is its open
+/// notification once more. And so it is of each datagram of more seconds, in one of them.
 pub fn sends_after_pmin()
     ensures one { SendsAfterPmin }
     ensures more { SecondsSendAfterPmin }
 {}
 
-/// After a second no observation whose pmax has effect has a last message that is pmax seconds old
-/// or older; and so it is after more of them.
+/// After a second no closed observation whose pmax has effect has a last message that is pmax seconds old
+/// or older, and no open one whose last timeout has passed; and so it is after more of them.
 pub fn sends_before_pmax()
     ensures one { SendsBeforePmax }
     ensures more { SecondsSendBeforePmax }
 {}
 
 /// The observations that a second leaves are those before it in their order, each as it was or
-/// notified; one goes only where its present answer is no content. What differs from its last
-/// report inside pmin is not lost: the report stays.
+/// notified; one goes only where it is evaluated and its present answer is no content, or where the last
+/// timeout of its open notification has passed. What differs from its last report inside pmin, or while it
+/// is open, is not lost: the report stays.
 pub fn keeps_order()
     ensures { KeepsOrder }
 {}
 
 /// The Observe numbers of an observation's messages rise by one, modulo 2^24: in its turn, and with
-/// each message through more seconds, whatever the others send between.
+/// each message through more seconds, whatever the others send between. What is sent again keeps its number.
 pub fn counts_observe_numbers()
     ensures turn { CountsObserveNumbers }
     ensures more { SecondsCountObserveNumbers }
 {}
 
-/// Each datagram of a second takes one message ID, modulo 65,536.
+/// Each datagram of a second takes one message ID, modulo 65,536, but for those that are sent again.
 pub fn counts_message_ids()
     ensures { CountsMessageIds }
+{}
+
+/// An open notification that nothing answers is sent five times at most, with the same bytes, at seconds
+/// that only its first sending and its first timeout decide; 31 times the first timeout after the first
+/// sending its observation is removed, with no message.
+pub fn sends_five_times_at_most()
+    ensures { SendsFiveTimesAtMost }
+{}
+
+/// After an acknowledgement nothing is lost: the observation is evaluated in the next second, and what its
+/// answer is then is compared with the report of the last notification that was sent.
+pub fn loses_nothing()
+    ensures { LosesNothing }
+{}
+
+/// In a class whose notifications are Non-confirmable no observation is ever open: each is evaluated in each
+/// second, and each message is sent once, as a NON.
+pub fn never_opens_with_nons()
+    ensures turn { EvaluatesWithNons }
+    ensures closed { StaysClosedWithNons }
 {}
 
 /// n seconds, and m seconds after them, are n + m seconds.

@@ -15,7 +15,8 @@ pub use datagram::Datagram;
 pub use evaluation::Evaluation;
 pub use laws::{
     counts_message_ids, counts_observe_numbers, due_is_the_first_sending, keeps_order,
-    quiet_seconds_change_nothing, seconds_add, seconds_jump, sends_after_pmin, sends_before_pmax,
+    loses_nothing, never_opens_with_nons, quiet_seconds_change_nothing, seconds_add, seconds_jump,
+    sends_after_pmin, sends_before_pmax, sends_five_times_at_most,
 };
 pub use outbox::Outbox;
 pub use period::{pmax_of, pmin_of};

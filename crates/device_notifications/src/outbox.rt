@@ -1,5 +1,5 @@
 ghost use Rattle.std.specs.Prelude.{◌≡◌, [], OnErr, OnOk};
-ghost use Rattle.device_notifications.specs.Outbox.{posted};
+ghost use Rattle.device_notifications.specs.Outbox.{posted, reposted};
 
 use crate::datagram::Datagram;
 use std::alloc::{AllocError, Global};
@@ -45,6 +45,15 @@ impl Outbox {
     {
         self.items.push(datagram)?;
         self.next_id = self.next_id.wrapping_add(1);
+        Ok(())
+    }
+
+    /// Adds a datagram that is sent again, which has its message ID, after the others.
+    pub(crate) fn repost(&mut self, resent: Datagram) -> Result<(), AllocError>
+        ensures posted { OnOk result (self.new ≡ reposted self.old resent) }
+        ensures unchanged { OnErr result (self.new ≡ self.old) }
+    {
+        self.items.push(resent)?;
         Ok(())
     }
 

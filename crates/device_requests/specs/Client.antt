@@ -7,13 +7,15 @@ use Rattle.instance_store.specs.Stored.{Stored}
 use Rattle.notifier.specs.Attributes.{Numbers, key_code}
 use Rattle.object_defs.specs.declared.definition.ObjectDef.{ObjectDef}
 
--- the servers that have an account, the definitions of the objects, what is there of them, and the attributes that
--- servers set
+-- the servers that have an account, the definitions of the objects, what is there of them, the attributes that servers
+-- set, and how long the device waits for the Ack of a Confirmable notification before it sends it again for the first
+-- time, in seconds: 0 where its notifications are Non-confirmable
 pub record Client : Type 0 where
   pub accounts : List ℕ
   pub catalogue : List ObjectDef
   pub store : Stored
   pub attributes : Numbers
+  pub notify : ℕ
 
 abbrev pub attributes_code : Coded Numbers
 attributes_code = map.code key_code coded_ℤ
@@ -21,12 +23,24 @@ attributes_code = map.code key_code coded_ℤ
 -- the same with this store
 abbrev pub with_stored : Client → Stored → Client
 with_stored client stored =
-    record { accounts = client.accounts; catalogue = client.catalogue; store = stored; attributes = client.attributes }
+    record {
+      accounts = client.accounts;
+      catalogue = client.catalogue;
+      store = stored;
+      attributes = client.attributes;
+      notify = client.notify;
+    }
 
 -- the same with these attributes
 abbrev pub with_attributes : Client → Numbers → Client
 with_attributes client attributes =
-    record { accounts = client.accounts; catalogue = client.catalogue; store = client.store; attributes = attributes }
+    record {
+      accounts = client.accounts;
+      catalogue = client.catalogue;
+      store = client.store;
+      attributes = attributes;
+      notify = client.notify;
+    }
 
 -- whether a server has an account
 abbrev pub has_account : Client → ℕ → Bool

@@ -19,13 +19,14 @@ use std::alloc::{AllocError, Global};
 use std::marker::Model;
 
 /// What of a device the requests of device management look at and change: the servers' accounts, the
-/// objects' definitions, instances and values, and the attributes that servers set.
+/// objects' definitions, instances and values, the attributes that servers set, and how the device notifies.
 #[derive(Drop)]
 pub struct Client {
     pub(crate) accounts: Vec<u16>,
     pub(crate) catalog: Catalog,
     pub(crate) store: Store,
     pub(crate) attributes: Attributes,
+    pub(crate) notify: u8,
     pub(crate) alloc: Global,
 }
 
@@ -43,17 +44,27 @@ impl Model for Client {
       catalogue = c.catalog;
       store = c.store;
       attributes = c.attributes;
+      notify = c.notify;
     } };
 }
 
 impl Client {
-    /// A client of these accounts, definitions and values, with no attribute set.
-    pub fn new(alloc: Global, accounts: Vec<u16>, catalog: Catalog, store: Store) -> Client
+    /// A client of these accounts, definitions and values, with no attribute set. `notify` is 0 where its
+    /// notifications are Non-confirmable, else how many seconds it waits for the Ack of a Confirmable one
+    /// before it sends that again for the first time.
+    pub fn new(
+        alloc: Global,
+        accounts: Vec<u16>,
+        catalog: Catalog,
+        store: Store,
+        notify: u8,
+    ) -> Client
         ensures { result ≡ record {
           accounts = accounts.items;
           catalogue = catalog;
           store = store;
           attributes = map.empty;
+          notify = notify;
         } }
     {
         Client {
@@ -61,6 +72,7 @@ impl Client {
             catalog,
             store,
             attributes: Attributes::new(alloc),
+            notify,
             alloc,
         }
     }
@@ -74,6 +86,7 @@ impl Client {
             catalog: self.catalog.copy()?,
             store: self.store.copy()?,
             attributes: self.attributes.copy()?,
+            notify: self.notify,
             alloc: self.alloc,
         })
     }
@@ -97,6 +110,14 @@ impl Client {
         ensures { result.now ≡ self.now.attributes }
     {
         &self.attributes
+    }
+
+    /// How it notifies: 0 for Non-confirmable notifications, else how many seconds it waits for the Ack of a
+    /// Confirmable one before it sends that again for the first time.
+    pub fn notify(&self) -> u8
+        ensures { result ≡ self.now.notify }
+    {
+        self.notify
     }
 
     /// Whether a server has an account.

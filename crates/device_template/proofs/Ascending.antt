@@ -12,7 +12,7 @@ use Rattle.object_defs.specs.Lines.{first_line}
 use Rattle.object_defs.specs.Vendor.{inserted}
 use Rattle.device_template.specs.Template.{Template}
 use Rattle.device_template.specs.Built.{IsBuilt}
-use Rattle.device_template.specs.Built.IsBuilt.{nothing, account, object, resource, instance, value}
+use Rattle.device_template.specs.Built.IsBuilt.{nothing, account, object, resource, instance, value, notify}
 use Rattle.device_template.specs.declared.fault.TemplateFault.TheVariants.{Range, Duplicate, Full}
 
 -- each number is below all those after it
@@ -81,6 +81,7 @@ rises _ (object {class} id built free) = rises class built
 rises _ (resource {class} id d short built free) = rises class built
 rises _ (instance {class} place short built free) = rises class built
 rises _ (value {class} p v short good built free) = rises class built
+rises _ (notify {class} seconds built fits) = rises class built
 
 pub ascending : (class : Template) → IsBuilt class → IsStrictlyIncreasing class.accounts
 ascending class built = IsStrictlyIncreasing-from_sorted class.accounts (sorted class.accounts (rises class built))

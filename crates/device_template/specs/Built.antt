@@ -7,9 +7,9 @@ use Rattle.object_defs.specs.declared.definition.ResourceDef.{ResourceDef}
 use Rattle.object_defs.specs.declared.path.FullPath.{FullPath}
 use Rattle.object_defs.specs.declared.path.InstancePath.{InstancePath}
 use Rattle.instance_store.specs.Stored.{with_instance, with_value}
-use Rattle.device_template.specs.Template.{Template, empty_class, with_account, with_catalogue, with_store}
+use Rattle.device_template.specs.Template.{Template, empty_class, with_account, with_catalogue, with_notify, with_store}
 use Rattle.device_template.specs.Template.{account_fault, object_fault, definition_fault, instance_fault}
-use Rattle.device_template.specs.Template.{value_fault_at}
+use Rattle.device_template.specs.Template.{notify_fault, value_fault_at}
 
 -- each number of the path is one of 16 bits
 abbrev pub IsShort : FullPath → Type 0
@@ -32,3 +32,6 @@ pub data IsBuilt : Template → Type 0 where
   value : {class : Template} (p : FullPath) (value : Value) → IsShort p → IsGood value → IsBuilt class
       → value_fault_at class p value ≡ None
       → IsBuilt (with_store class (with_value class.store p value))
+  -- how its devices notify is one of the three ways
+  notify : {class : Template} (seconds : ℕ) → IsBuilt class → notify_fault seconds ≡ None
+      → IsBuilt (with_notify class seconds)

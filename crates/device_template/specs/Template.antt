@@ -28,21 +28,43 @@ pub record Template : Type 0 where
   pub accounts : List ℕ
   pub catalogue : List ObjectDef
   pub store : Stored
+  -- how long a device waits for the Ack of a Confirmable notification before it sends it again for the first time, in
+  -- seconds; 0 where its notifications are Non-confirmable
+  pub notify : ℕ
 
--- no account, no instance and no value; the base objects
+-- no account, no instance and no value; the base objects; Non-confirmable notifications
 abbrev pub empty_class : Template
-empty_class = record { accounts = []; catalogue = base; store = empty }
+empty_class = record { accounts = []; catalogue = base; store = empty; notify = 0 }
 
 -- with one account more, in ascending order
 abbrev pub with_account : Template → ℕ → Template
 with_account class server =
-    record { accounts = inserted (λ a. a) server class.accounts; catalogue = class.catalogue; store = class.store }
+    record {
+      accounts = inserted (λ a. a) server class.accounts;
+      catalogue = class.catalogue;
+      store = class.store;
+      notify = class.notify;
+    }
 
 abbrev pub with_catalogue : Template → List ObjectDef → Template
-with_catalogue class catalogue = record { accounts = class.accounts; catalogue = catalogue; store = class.store }
+with_catalogue class catalogue =
+    record { accounts = class.accounts; catalogue = catalogue; store = class.store; notify = class.notify }
 
 abbrev pub with_store : Template → Stored → Template
-with_store class stored = record { accounts = class.accounts; catalogue = class.catalogue; store = stored }
+with_store class stored =
+    record { accounts = class.accounts; catalogue = class.catalogue; store = stored; notify = class.notify }
+
+abbrev pub with_notify : Template → ℕ → Template
+with_notify class seconds =
+    record { accounts = class.accounts; catalogue = class.catalogue; store = class.store; notify = seconds }
+
+-- Non-confirmable, or Confirmable with a first timeout of 2 or 3 seconds: an ACK_TIMEOUT of 2 seconds times an
+-- ACK_RANDOM_FACTOR of 1 or 1.5 (RFC 7252 section 4.8)
+abbrev pub is_notify : ℕ → Bool
+is_notify seconds = seconds == 0 || (seconds == 2 || seconds == 3)
+
+abbrev pub notify_fault : ℕ → Option TemplateFault
+notify_fault seconds = first_line ((not (is_notify seconds), Range) ∷ [])
 
 -- how many accounts a class may have
 abbrev pub most_accounts : ℕ

@@ -2,8 +2,8 @@ use object_defs::CatalogFault;
 use std::alloc::{AllocError, AllocFailed};
 use thiserror::Error;
 
-/// Why a template refuses an account, an object, a resource, an instance or a value, in the order in which they are
-/// found.
+/// Why a template refuses an account, an object, a resource, an instance, a value or a way to notify, in the order in
+/// which they are found.
 #[derive(Clone, Copy, Debug, PartialEq, Eq, Error)]
 pub enum TemplateFault {
     /// A number, a kind, a length or a path that does not fit.

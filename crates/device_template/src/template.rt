@@ -3,8 +3,10 @@ ghost use Rattle.std.specs.List.Sorted.{IsStrictlyIncreasing};
 ghost use Rattle.instance_store.specs.Stored.{empty, has_instance, with_instance, with_value};
 ghost use Rattle.object_defs.specs.Path.{full_path};
 ghost use Rattle.device_template.specs.Template.{account_fault, definition_fault, empty_class, instance_fault};
-ghost use Rattle.device_template.specs.Template.{kind_taken, may_stand, object_fault, value_fault, value_fault_at};
-ghost use Rattle.device_template.specs.Template.{with_account, with_catalogue, with_idle_firmware, with_store};
+ghost use Rattle.device_template.specs.Template.{is_notify, kind_taken, may_stand, notify_fault, object_fault};
+ghost use Rattle.device_template.specs.Template.{value_fault, value_fault_at};
+ghost use Rattle.device_template.specs.Template.{with_account, with_catalogue, with_idle_firmware, with_notify};
+ghost use Rattle.device_template.specs.Template.{with_store};
 ghost use Rattle.device_template.specs.Built.{IsBuilt, IsShort};
 ghost use Rattle.lwm2m_values.specs.Value.{IsGood};
 ghost use Rattle.device_template.specs.Values.{has_kind, instance_at, is_one_too_many, with_value_at};
@@ -30,7 +32,7 @@ const MOST_VALUES: usize = 65535;
 /// How many accounts a class may have.
 const MOST_ACCOUNTS: usize = 4;
 
-/// What a device starts from: its accounts, the objects that it knows, its instances and values.
+/// What a device starts from: its accounts, the objects that it knows, its instances and values, and how it notifies.
 /// Contracts see the record of these.
 ///
 /// A refused call changes nothing.
@@ -39,6 +41,7 @@ pub struct Template {
     accounts: Accounts,
     catalog: Catalog,
     store: Store,
+    notify: u8,
     alloc: Global,
 }
 
@@ -52,9 +55,14 @@ impl Model for Template {
 
     ghost coded = { Prim.hlevel (codes, stored_code) };
 
-    ghost view = { λ t. record { accounts = t.accounts; catalogue = t.catalog; store = t.store } };
+    ghost view = { λ t. record { accounts = t.accounts; catalogue = t.catalog; store = t.store; notify = t.notify } };
 
-    ghost invariant = { λ t. IsBuilt (record { accounts = t.accounts; catalogue = t.catalog; store = t.store }) };
+    ghost invariant = { λ t. IsBuilt (record {
+      accounts = t.accounts;
+      catalogue = t.catalog;
+      store = t.store;
+      notify = t.notify;
+    }) };
 }
 
 /// Whether an instance may have these numbers.
@@ -70,8 +78,16 @@ fn may_stand(place: InstancePath) -> bool
     true
 }
 
+/// Whether a class may notify so.
+fn is_notify(seconds: u8) -> bool
+    ensures { result ≡ is_notify seconds }
+{
+    seconds == 0 || seconds == 2 || seconds == 3
+}
+
 impl Template {
-    /// A template with no account, no instance and no value, which knows the base objects.
+    /// A template with no account, no instance and no value, which knows the base objects. Its devices send
+    /// Non-confirmable notifications.
     pub fn new(alloc: Global) -> Result<Template, AllocError>
         ensures { IfOk result (λ t. t ≡ empty_class) }
     {
@@ -79,6 +95,7 @@ impl Template {
             accounts: Accounts::new(alloc),
             catalog: Catalog::base(alloc)?,
             store: Store::new(alloc),
+            notify: 0,
             alloc,
         })
     }
@@ -91,6 +108,7 @@ impl Template {
             accounts: self.accounts.clone()?,
             catalog: self.catalog.copy()?,
             store: self.store.copy()?,
+            notify: self.notify,
             alloc: self.alloc,
         })
     }
@@ -269,6 +287,32 @@ impl Template {
             Err(StoreFault::Memory) => Err(TemplateFault::Memory),
             Err(_) => unreachable!(),
         }
+    }
+
+    /// Says how the devices of the class notify: 0 for Non-confirmable notifications, 2 or 3 for Confirmable ones that
+    /// are sent again for the first time after that many seconds. The last call counts.
+    ///
+    /// `Range` for any other number.
+    pub fn set_notify(&mut self, seconds: u8) -> Result<(), TemplateFault>
+        ensures set { OnOk result (self.new ≡ with_notify self.old seconds) }
+        ensures fits { OnOk result (notify_fault seconds ≡ None) }
+        ensures refused { IfErr result (λ f. notify_fault seconds ≡ Some f) }
+        ensures unchanged { OnErr result (self.new ≡ self.old) }
+    {
+        if !is_notify(seconds) {
+            return Err(TemplateFault::Range);
+        }
+        self.notify = seconds;
+        Ok(())
+    }
+
+    /// How the devices of the class notify: 0 for Non-confirmable notifications, 2 or 3 for Confirmable ones that are
+    /// sent again for the first time after that many seconds.
+    pub fn notify(&self) -> u8
+        ensures seconds { result ≡ self.now.notify }
+        ensures fits { notify_fault result ≡ None }
+    {
+        self.notify
     }
 
     /// The Short Server IDs of the accounts, by ascending number.

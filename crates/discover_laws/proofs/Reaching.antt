@@ -19,8 +19,8 @@ use Rattle.device_requests.specs.Request.{outcome_of}
 use Rattle.device_requests.specs.declared.answer.Act.TheVariants.{Missed}
 use Rattle.device_machine.specs.Observing.{noted}
 use Rattle.device_machine.specs.Reactions.{Reaction, claimed_mid, claims_confirmable, is_request, kept_after}
-use Rattle.device_machine.specs.Reactions.{on_datagram, on_firmware, on_message, on_put, on_request, on_reset}
-use Rattle.device_machine.specs.Reactions.{reaction_to, repeat_of, reply_to, reset, sends, silence}
+use Rattle.device_machine.specs.Reactions.{on_acknowledgement, on_datagram, on_firmware, on_message, on_put, on_request}
+use Rattle.device_machine.specs.Reactions.{on_reset, reaction_to, repeat_of, reply_to, reset, sends, silence}
 use Rattle.device_machine.specs.State.{Kept, Machine, with_client, with_observations}
 use Rattle.device_machine.specs.Template.{start_of}
 use Rattle.device_machine.specs.declared.event.Event.{Event}
@@ -77,7 +77,7 @@ message_fit f server m Con h =
 message_fit f server m Non h =
     either LeavesFit (is_request m.code) (on_request f server m (repeat_of f server m)) (silence f)
     (request_fit f server m (repeat_of f server m) h) h
-message_fit f server m Ack h = h
+message_fit f server m Ack h = either LeavesFit (m.code == 0) (on_acknowledgement f server m.mid) (silence f) h h
 message_fit f server m Rst h = either LeavesFit (m.code == 0) (on_reset f server m.mid) (silence f) h h
 
 datagram_fit : (f : Machine) (server : ℕ) (bytes : List ℕ) (r : Result Message CoapFault) → IsFit f.kept.client

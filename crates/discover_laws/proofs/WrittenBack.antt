@@ -71,6 +71,7 @@ left_alone None client (Some w) same = λ i. record {
   catalogue = client.catalogue;
   store = client.store;
   attributes = same w refl i;
+  notify = client.notify;
 }
 
 pub written_back : WrittenBackIsTheSame

@@ -49,7 +49,7 @@ message_keeps f server m Con =
     either_keeps f (is_request m.code) _ _ (request_keeps f server m (repeat_of f server m)) refl
 message_keeps f server m Non =
     either_keeps f (is_request m.code) _ _ (request_keeps f server m (repeat_of f server m)) refl
-message_keeps f server m Ack = refl
+message_keeps f server m Ack = either_keeps f (m.code == 0) _ _ refl refl
 message_keeps f server m Rst = either_keeps f (m.code == 0) _ _ refl refl
 
 datagram_keeps : (f : Machine) (server : ℕ) (bytes : List ℕ) (reading : Result Message CoapFault)

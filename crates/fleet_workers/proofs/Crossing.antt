@@ -15,6 +15,7 @@ use Rattle.instance_store.specs.contracts.resource.Resource as Resource
 use Rattle.instance_store.specs.contracts.instance.Instance as Instance
 use Rattle.instance_store.specs.contracts.store.Store as Store
 use Rattle.notifier.specs.contracts.observation.Report as Report
+use Rattle.notifier.specs.contracts.observation.Timer as Timer
 use Rattle.notifier.specs.contracts.observation.Observation as Observation
 use Rattle.notifier.specs.contracts.observations.Observations as Observations
 use Rattle.notifier.specs.contracts.attributes.Attributes as Attributes
@@ -78,6 +79,9 @@ recorded_send = search (sendable, std.crosses, bytes_send) depth 30
 records_send : IsSend Records.the_row
 records_send = search (sendable, std.crosses, maps.crosses, recorded_send) depth 30 parts 12
 
+timer_send : IsSend Timer.the_row
+timer_send = search (sendable, bytes_send) depth 30
+
 observation_send : IsSend Observation.the_row
 observation_send =
     declared_send Observation.the_type (
@@ -88,7 +92,13 @@ observation_send =
           path_send,
           (
             search sendable depth 20,
-            (report_send, (search sendable, (search sendable, (search sendable, (search sendable, tt))))),
+            (
+              report_send,
+              (
+                search sendable,
+                (search sendable, (search sendable, (search sendable, (search (sendable, timer_send) depth 20, tt)))),
+              ),
+            ),
           ),
         ),
       ),

@@ -1,13 +1,15 @@
 -- A clone of an observation is that observation, and a clone of a key names the same.
-use Rattle.std.proofs.Common.{◌≡◌, List, [], ◌∷◌, refl, ap, subst, sym, ◌∙◌, rules}
+use Rattle.std.proofs.Common.{◌≡◌, List, [], ◌∷◌, Option, None, Some, refl, ap, subst, sym, ◌∙◌, rules}
 use Rattle.std.specs.List.{AllZip, AllByRecursion}
 use Rattle.std.specs.Map.{values_of}
 use Rattle.notifier.specs.declared.observation.Observation.{Observation}
 use Rattle.notifier.specs.declared.observation.Report.{Report}
-use Rattle.notifier.specs.declared.observations.Key.{Key}
+use Rattle.notifier.specs.declared.observation.Timer.{Timer}
+use Rattle.notifier.specs.declared.entries.Key.{Key}
 use Rattle.notifier.specs.Observed.{HasToken, HasNumber, IsKeyed}
-use Rattle.notifier.specs.contracts.observations.KeyClone.TheImpl.{is_clone-value as key_clone}
+use Rattle.notifier.specs.contracts.entries.KeyClone.TheImpl.{is_clone-value as key_clone}
 use Rattle.notifier.specs.contracts.observation.ReportClone.TheImpl.{is_clone-value as report_clone}
+use Rattle.notifier.specs.contracts.observation.TimerClone.TheImpl.{is_clone-value as timer_clone}
 use Rattle.notifier.specs.contracts.observation.ObservationClone.TheImpl.{is_clone-value as observation_clone}
 
 pub same_list : {X : Type 0} (C : X → X → Type 0) → ((x y : X) → C x y → y ≡ x) → (xs ys : List X) → AllZip C xs ys
@@ -26,6 +28,19 @@ same_report r s h =
     let number : s.number ≡ r.number = search rules in
     λ i. record { payload = payload i; number = number i }
 
+same_timer : (t u : Timer) → timer_clone.it t u → u ≡ t
+same_timer t u h =
+    let bytes : u.bytes ≡ t.bytes = sym h.0.3 ∙ same_list _ (λ x y e. e) _ _ h.0.4.0 ∙ h.0.2 in
+    let first : u.first ≡ t.first = search rules in
+    λ i. record { bytes = bytes i; first = first i }
+
+same_timers : (o w : Observation) (t u : Option Timer)
+    → observation_clone.it (record o { timer = t }) (record w { timer = u }) → u ≡ t
+same_timers o w None None h = refl
+same_timers o w None (Some u) h = absurd h.1.1.1.1.1.1.1.1.1
+same_timers o w (Some t) None h = absurd h.1.1.1.1.1.1.1.1.1
+same_timers o w (Some t) (Some u) h = ap Some (same_timer t u h.1.1.1.1.1.1.1.1.1)
+
 same_observation : (o w : Observation) → observation_clone.it o w → w ≡ o
 same_observation o w h =
     let token : w.token ≡ o.token = sym h.1.0.3 ∙ same_list _ (λ x y e. e) _ _ h.1.0.4.0 ∙ h.1.0.2 in
@@ -36,6 +51,7 @@ same_observation o w h =
     let number : w.number ≡ o.number = search rules in
     let non : w.non ≡ o.non = search rules in
     let mid : w.mid ≡ o.mid = search rules in
+    let timer : w.timer ≡ o.timer = same_timers o w o.timer w.timer h in
     λ i. record {
       server = h.0 i;
       token = token i;
@@ -47,6 +63,7 @@ same_observation o w h =
       number = number i;
       non = non i;
       mid = mid i;
+      timer = timer i;
     }
 
 abbrev IsEntryClone : Key × Observation → Key × Observation → Type 0

@@ -8,3 +8,4 @@ pub mod ObservedLaws
 pub mod Places
 pub mod QueryLaws
 pub mod Retained
+pub mod Timeouts

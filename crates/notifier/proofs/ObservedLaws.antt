@@ -1,6 +1,6 @@
 -- The observations of an insertion-ordered map whose keys are their names.
-use Rattle.std.proofs.Common.{◌≡◌, ℕ, ◌+◌, ◌<◌, ◌≤◌, length, arith, zero, suc, ◌==◌, Bool, true, false, cond, ◌&&◌}
-use Rattle.std.proofs.Common.{◌||◌, List, [], ◌∷◌, ◌++◌, Option, None, Some, filter, remove, slice_get, slice_set}
+use Rattle.std.proofs.Common.{◌≡◌, ℕ, ◌+◌, ◌<◌, ◌≤◌, length, arith, zero, suc, ◌==◌, Bool, true, false, cond, not, ◌&&◌}
+use Rattle.std.proofs.Common.{◌||◌, List, [], ◌∷◌, ◌++◌, Option, None, Some, filter, map, remove, slice_get, slice_set}
 use Rattle.std.proofs.Common.{IfSome, refl, sym, ap, subst, ◌∙◌, if◌then◌else◌, eqb-true}
 use Rattle.std.proofs.lemmas.Bool.{and_parts}
 use Rattle.std.proofs.lemmas.Nat.{mod_below}
@@ -11,9 +11,9 @@ use Rattle.std.specs.Map.{keys_of, values_of, lookup}
 use Rattle.std.specs.Str.{bytes_eq}
 use Rattle.indexmap.specs.IndexMap.{set_value_at}
 use Rattle.notifier.specs.declared.observation.Observation.{Observation}
-use Rattle.notifier.specs.declared.observations.Key.{Key}
+use Rattle.notifier.specs.declared.entries.Key.{Key}
 use Rattle.notifier.specs.Observed.{HasNumber, IsKeyed, HaveDistinctNames, is_named, next_number, number_for}
-use Rattle.notifier.specs.Observed.{registered}
+use Rattle.notifier.specs.Observed.{as_closed, registered}
 use Rattle.notifier.proofs.Places.{IsFirst, find_first, find_none, passes_first}
 
 -- ---- the values of a map
@@ -44,6 +44,15 @@ values-remove [] (suc i) = refl
 values-remove (e ∷ es) zero = refl
 values-remove (e ∷ es) (suc i) = ap (λ t. e.1 ∷ t) (values-remove es i)
 
+pub values-map : {K X : Type 0} (f : X → X) (es : List (K × X))
+    → values_of (map (λ e. (e.0, f e.1)) es) ≡ map f (values_of es)
+values-map f [] = refl
+values-map f (e ∷ es) = ap (λ t. f e.1 ∷ t) (values-map f es)
+
+pub length-map : {X : Type 0} (f : X → X) (xs : List X) → length (map f xs) ≡ length xs
+length-map f [] = refl
+length-map f (x ∷ xs) = ap suc (length-map f xs)
+
 -- ---- what holds of each entry
 
 pub each-remove : {X : Type 0} (P : X → Type 0) (xs : List X) (i : ℕ) → AllByRecursion P xs
@@ -72,6 +81,10 @@ pub next_fits : (n m : ℕ) → m ≡ next_number n → m < 16777216
 next_fits n m next = let positive : 0 < 16777216 =
     omega arith in subst (λ (k : ℕ). k < 16777216) (sym next) (mod_below (n + 1) 16777216 positive)
 
+pub negated : (b c : Bool) → c ≡ not b → b ≡ not c
+negated true c h = sym (ap not h)
+negated false c h = sym (ap not h)
+
 -- an observation that comes in the place of another of its name
 pub keyed_set : (es : List (Key × Observation)) (i : ℕ) (o w : Observation) → AllByRecursion IsKeyed es
     → slice_get (values_of es) i ≡ Some o → o.server ≡ w.server → o.token ≡ w.token → HasNumber w
@@ -88,6 +101,18 @@ keyed_set (e ∷ es) zero o w h at server token number =
       h.1,
     )
 keyed_set (e ∷ es) (suc i) o w h at server token number = (h.0, keyed_set es i o w h.1 at server token number)
+
+-- observations that are closed keep their names and their numbers
+pub keyed_closed : (test : Observation → Bool) (es : List (Key × Observation)) → AllByRecursion IsKeyed es
+    → AllByRecursion IsKeyed (map (λ e. (e.0, if test e.1 then as_closed e.1 else e.1)) es)
+keyed_closed test [] h = tt
+keyed_closed test (e ∷ es) h = (
+  elim (test e.1) as (λ b. IsKeyed (e.0, if b then as_closed e.1 else e.1)) [
+    | true ↦ record { server = h.0.server; token = h.0.token; short = h.0.short; number = h.0.number }
+    | false ↦ record { server = h.0.server; token = h.0.token; short = h.0.short; number = h.0.number }
+  ],
+  keyed_closed test es h.1,
+)
 
 -- what the keys say of each observation holds of the one at a place
 holds_at : (P : Observation → Type 0) → ((e : Key × Observation) → IsKeyed e → P e.1)

@@ -1,11 +1,13 @@
 -- The observations of a device, in the order of registration, and how a call changes them (RFC 7641).
-use Rattle.std.specs.Prelude.{◌≡◌, ℕ, ◌+◌, ◌%◌, ◌<◌, ◌≤◌, ◌==◌, Bool, true, not, ◌&&◌, if◌then◌else◌, List, [], ◌∷◌}
-use Rattle.std.specs.Prelude.{length, find, filter, slice_get, slice_set, bytes_eq, IsFalse}
+use Rattle.std.specs.Prelude.{◌≡◌, ℕ, ◌+◌, ◌%◌, ◌<◌, ◌≤◌, ◌==◌, Bool, not, ◌&&◌, if◌then◌else◌, List, [], ◌∷◌}
+use Rattle.std.specs.Prelude.{◌||◌, length, find, filter, map, slice_get, slice_set, bytes_eq, IsFalse, Option, None}
+use Rattle.std.specs.Prelude.{is_none, is_some, option_and_then, option_map}
 use Rattle.std.specs.List.{list_any}
 use Rattle.std.specs.Option.{option_map_or}
 use Rattle.notifier.specs.declared.observation.Observation.{Observation}
 use Rattle.notifier.specs.declared.observation.Report.{Report}
-use Rattle.notifier.specs.declared.observations.Key.{Key}
+use Rattle.notifier.specs.declared.observation.Timer.{Timer}
+use Rattle.notifier.specs.declared.entries.Key.{Key}
 
 -- whether an observation has this name: its server and its token
 abbrev pub is_named : ℕ → List ℕ → Observation → Bool
@@ -38,23 +40,48 @@ registered (o ∷ os) new =
 abbrev pub cancelled : List Observation → ℕ → List ℕ → List Observation
 cancelled all server token = filter (λ o. not (is_named server token o)) all
 
--- whether the last message of an observation was a NON to this server with this message ID
+-- whether the last message of an observation was a NON to this server with this message ID, or is such a CON that is
+-- still open
 abbrev pub was_sent : ℕ → ℕ → Observation → Bool
-was_sent server mid o = server == o.server && (o.non && o.mid == mid)
+was_sent server mid o = server == o.server && ((o.non || is_some o.timer) && o.mid == mid)
 
 -- without the observations whose last message a Reset of this server rejects
 abbrev pub without_reset : List Observation → ℕ → ℕ → List Observation
 without_reset all server mid = filter (λ o. not (was_sent server mid o)) all
 
--- an observation after a notification, which is a NON
-abbrev pub notified : ℕ → ℕ → Report → Observation → Observation
-notified now mid report o =
-    record o { report = report; second = now; number = next_number o.number; non = true; mid = mid }
+-- whether an Empty ACK of this server with this message ID answers the last message of an observation: a CON that is
+-- still open (RFC 7252 section 4.2)
+abbrev pub is_awaited : ℕ → ℕ → Observation → Bool
+is_awaited server mid o = server == o.server && (is_some o.timer && o.mid == mid)
+
+-- an observation after such an acknowledgement
+abbrev pub as_closed : Observation → Observation
+as_closed o = record o { timer = None }
+
+-- with the observations closed that this acknowledgement answers
+abbrev pub with_acknowledged : List Observation → ℕ → ℕ → List Observation
+with_acknowledged all server mid = map (λ o. if is_awaited server mid o then as_closed o else o) all
+
+-- an observation after a notification: a CON with what it is sent again by, which opens it, or a NON
+abbrev pub notified : ℕ → ℕ → Report → Option Timer → Observation → Observation
+notified now mid report timer o =
+    record o {
+      report = report;
+      second = now;
+      number = next_number o.number;
+      non = is_none timer;
+      mid = mid;
+      timer = timer;
+    }
 
 -- with the observation at a place after its notification
-abbrev pub with_sent : List Observation → ℕ → ℕ → ℕ → Report → List Observation
-with_sent all place now mid report =
-    option_map_or (λ o. slice_set all place (notified now mid report o)) (slice_get all place) all
+abbrev pub with_sent : List Observation → ℕ → ℕ → ℕ → Report → Option Timer → List Observation
+with_sent all place now mid report timer =
+    option_map_or (λ o. slice_set all place (notified now mid report timer o)) (slice_get all place) all
+
+-- the bytes of the notification of the observation at a place, where that is open
+abbrev pub open_bytes : List Observation → ℕ → Option (List ℕ)
+open_bytes all place = option_map (λ timer. timer.bytes) (option_and_then (λ o. o.timer) (slice_get all place))
 
 -- a token has at most 8 bytes (RFC 7252 section 3)
 abbrev pub HasToken : Observation → Type 0

@@ -1,22 +1,27 @@
 //! What a device keeps of notifications: the attributes that servers write, the observations, and
-//! when an observation sends.
+//! when an observation sends, or sends again.
 #![tactic(auto)]
 
 mod attribute;
 mod attributes;
+mod entries;
 mod fault;
+mod laws;
 mod numerals;
 mod observation;
 mod observations;
 mod pending;
 mod query;
 mod trigger;
+mod turn;
 
 pub use attribute::{AttributeKey, Change, Level, Name};
 pub use attributes::Attributes;
 pub use fault::{ObserveFault, QueryFault, WriteFault};
-pub use observation::{Observation, Report};
+pub use laws::{closed_is_evaluated, resends_at_doubled_timeouts};
+pub use observation::{Observation, Report, Timer};
 pub use observations::Observations;
 pub use pending::Pending;
 pub use query::{Changes, parse_query};
 pub use trigger::{is_due, triggers};
+pub use turn::Turn;

@@ -13,6 +13,15 @@ pub struct Report {
     pub number: Option<i64>,
 }
 
+/// What a confirmable notification is sent again by (RFC 7252 section 4.2).
+#[derive(Clone, Debug, Drop)]
+pub struct Timer {
+    /// The bytes of the message.
+    pub bytes: Bytes,
+    /// The first timeout, in seconds.
+    pub first: u8,
+}
+
 /// An observation (RFC 7641): a server's interest in a path, under a token.
 #[derive(Clone, Debug, Drop)]
 pub struct Observation {
@@ -34,6 +43,9 @@ pub struct Observation {
     pub non: bool,
     /// The message ID of the last message.
     pub mid: u16,
+    /// Set while the last message is a CON that no acknowledgement has answered: the observation is open.
+    /// `second` is that of its first sending.
+    pub timer: Option<Timer>,
 }
 
 /// The Observe number after this one.

@@ -26,7 +26,7 @@ use Rattle.scenario_words.specs.ValueWords.{kind_named, kind_word, value_of, val
 use Rattle.scenario_words.proofs.NumberLaws.{number_of-law, integer_of-law}
 use Rattle.scenario_words.proofs.Pairs.{hex_law, quoted_law}
 use Rattle.scenario_words.proofs.PathLaws.{bind_ok, path_law, link_law}
-use Rattle.scenario_statements.specs.Grammar.{ops_named, one_of, only_number}
+use Rattle.scenario_statements.specs.Grammar.{named, ops_named, one_of, only_number}
 use Rattle.scenario_statements.specs.Spelling.{IsWithin, ops_word}
 use Rattle.reading_laws.specs.Statements.{IsValueWord, multiple_word, mandatory_word}
 
@@ -135,6 +135,10 @@ mandatory_read w b =
 pub mandatory_again : (b : Bool) → one_of (codes "mandatory") (codes "optional") (mandatory_word b) ≡ Ok b
 mandatory_again true = refl
 mandatory_again false = refl
+
+pub con_read : (w : List ℕ) (u : Unit {0}) → named (codes "con") w ≡ Ok u → w ≡ codes "con"
+con_read w u =
+    by_name w (codes "con") _ _ (Ok u) (w ≡ codes "con") (λ e h. e) (λ h. cc)
 
 pub kind_read : (w : List ℕ) (k : ValueKind) → kind_named w ≡ Ok k → w ≡ kind_word k
 kind_read w k =

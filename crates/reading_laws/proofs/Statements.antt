@@ -25,14 +25,15 @@ use Rattle.scenario_mnemonics.specs.MnemonicWords.{keyword_of, keyword_word}
 use Rattle.scenario_mnemonics.specs.MnemonicWords.{mnemonic_at}
 use Rattle.scenario_statements.specs.declared.statement.Statement.{Statement}
 use Rattle.scenario_statements.specs.declared.statement.Statement.TheVariants as says
-use Rattle.scenario_statements.specs.Grammar.{ops_named, one_of, only_number, definition, instance, recv}
-use Rattle.scenario_statements.specs.Grammar.{need, request, of_device, statement_by, some, statement_of}
+use Rattle.scenario_statements.specs.Grammar.{named, ops_named, one_of, only_number, notify, definition}
+use Rattle.scenario_statements.specs.Grammar.{instance, recv, need, request, of_device, statement_by, some}
+use Rattle.scenario_statements.specs.Grammar.{statement_of}
 use Rattle.scenario_statements.specs.Spelling.{IsWithin}
 use Rattle.reading_laws.specs.Statements.{AreValueWords}
 use Rattle.reading_laws.specs.Statements.{IsSaidBy}
 use Rattle.reading_laws.specs.Statements.{StatementsAreSaid}
 use Rattle.reading_laws.proofs.ReadWords.{by_name, ended_read, with_words}
-use Rattle.reading_laws.proofs.ReadWords.{taken, number_read, number_again, only_read, ops_read}
+use Rattle.reading_laws.proofs.ReadWords.{con_read, taken, number_read, number_again, only_read, ops_read}
 use Rattle.reading_laws.proofs.ReadWords.{ops_again, multiple_read, multiple_again, mandatory_read, mandatory_again}
 use Rattle.reading_laws.proofs.ReadWords.{kind_read, kind_again}
 use Rattle.reading_laws.proofs.ReadWords.{value_at_read, value_at_again, path_again}
@@ -89,6 +90,16 @@ class_read y w ws same h =
     let end = ended_read ws says.Class y h in
     let all : codes "class" ∷ [] ≡ w ∷ ws = cc (same, end.0) in
     subst (λ z. IsSaidBy z (w ∷ ws)) end.1 (sym all)
+
+notify_read : (y : Statement) (w : List ℕ) (ws : List (List ℕ)) → w ≡ codes "notify" → notify ws ≡ Ok y
+    → IsSaidBy y (w ∷ ws)
+notify_read y w ws same h =
+    let a = taken (named (codes "con")) ws (λ c. only_number 2 3 c.1 >>= (λ n. Ok (says.Notify n))) y h in
+    let b = bind_ok (only_number 2 3 a.others) (λ n. Ok (says.Notify n)) y a.rest in
+    let con = con_read a.word a.value a.first in
+    let n = only_read 2 3 b.0 a.others (omega arith) b.1 in
+    let is : says.Notify b.0 ≡ y = cc (b.2) in
+    subst (λ z. IsSaidBy z (w ∷ ws)) is (cc (same, a.all, con, n.0), n.1)
 
 definition_read : (y : Statement) (w : List ℕ) (ws : List (List ℕ)) → w ≡ codes "def" → definition ws ≡ Ok y
     → IsSaidBy y (w ∷ ws)
@@ -221,6 +232,7 @@ by_read w ws y =
     by_name w (codes "scenario") _ _ (Ok y) (IsSaidBy y (w ∷ ws))
     (numbered (λ n. says.Scenario) 1 1 y w (codes "scenario") ws (omega arith) version)
     (by_name w (codes "class") _ _ (Ok y) (IsSaidBy y (w ∷ ws)) (class_read y w ws)
+    (by_name w (codes "notify") _ _ (Ok y) (IsSaidBy y (w ∷ ws)) (notify_read y w ws)
     (by_name w (codes "account") _ _ (Ok y) (IsSaidBy y (w ∷ ws))
     (numbered (λ n. says.Account n) 1 65534 y w (codes "account") ws (omega arith) (λ n h. (refl, h)))
     (by_name w (codes "object") _ _ (Ok y) (IsSaidBy y (w ∷ ws))
@@ -228,7 +240,7 @@ by_read w ws y =
     (by_name w (codes "def") _ _ (Ok y) (IsSaidBy y (w ∷ ws)) (definition_read y w ws)
     (by_name w (codes "instance") _ _ (Ok y) (IsSaidBy y (w ∷ ws)) (instance_read y w ws)
     (by_name w (codes "value") _ _ (Ok y) (IsSaidBy y (w ∷ ws))
-    (placed (λ p v. says.Value p v) y w (codes "value") ws (λ p v all h. h)) (device_read w ws y)))))))
+    (placed (λ p v. says.Value p v) y w (codes "value") ws (λ p v all h. h)) (device_read w ws y))))))))
 
 some_read : (r : Result Statement Cause) (y : Statement) → some r ≡ Ok (Some y) → r ≡ Ok y
 some_read (Ok s) y h = let same : s ≡ y = cc in ap Ok same
@@ -252,6 +264,9 @@ counted f r n e = ap (λ x. some (x >>= (λ m. Ok (f m)))) e
 read : (y : Statement) (ws : List (List ℕ)) → IsSaidBy y ws → statement_of ws ≡ Ok (Some y)
 read says.Scenario ws h = ap statement_of h
 read says.Class ws h = ap statement_of h
+read (says.Notify n) ws h =
+    ap statement_of h.0
+    ∙ counted (λ m. says.Notify m) (only_number 2 3 (decimal n ∷ [])) n (only_again 2 3 n (omega arith) h.1)
 read (says.Account s) ws h =
     ap statement_of h.0
     ∙ counted (λ m. says.Account m) (only_number 1 65534 (decimal s ∷ [])) s (only_again 1 65534 s (omega arith) h.1)

@@ -15,20 +15,19 @@ use Rattle.scenario_words.specs.Reading.{◌>>=◌, ended, word_by}
 use Rattle.scenario_words.specs.ValueWords.{kind_named, kind_word, value_at, value_of}
 use Rattle.scenario_statements.specs.declared.statement.Statement.{Statement}
 use Rattle.scenario_statements.specs.declared.statement.Statement.TheVariants as says
-use Rattle.scenario_statements.specs.Grammar.{definition, instance as read_instance, need as read_need}
-use Rattle.scenario_statements.specs.Grammar.{one_of, only_number, ops_named, recv as read_recv}
+use Rattle.scenario_statements.specs.Grammar.{definition, instance as read_instance, named, need as read_need}
+use Rattle.scenario_statements.specs.Grammar.{notify as read_notify, one_of, only_number, ops_named, recv as read_recv}
 use Rattle.reading_laws.specs.WrongStatements.{AreWrong}
 use Rattle.reading_laws.specs.WrongStatements.{AreWrongAsValue, IsTooMany}
 use Rattle.reading_laws.specs.WrongStatements.{IsWrongAt}
 use Rattle.reading_laws.specs.WrongStatements.{places_after}
-use Rattle.reading_laws.specs.WrongStatements.Place.{number, operations, multiple, mandatory, kind_name, path, bytes}
-use Rattle.reading_laws.specs.WrongStatements.Place.{value}
-use Rattle.reading_laws.specs.WrongStatements.Leading.{def, instance, recv}
-use Rattle.reading_laws.specs.WrongStatements.Leading.{need}
+use Rattle.reading_laws.specs.WrongStatements.Place.{number, con_name, operations, multiple, mandatory, kind_name}
+use Rattle.reading_laws.specs.WrongStatements.Place.{path, bytes, value}
+use Rattle.reading_laws.specs.WrongStatements.Leading.{notify, def, instance, recv, need}
 use Rattle.reading_laws.proofs.ReadWords.{kind_again, kind_read}
 use Rattle.reading_laws.proofs.WrongNames.{kinds_named}
 use Rattle.reading_laws.proofs.WrongPlaces.{Refuses, here_or_later, none_missing, placed, all_placed, made_of}
-use Rattle.reading_laws.proofs.WrongPlaces.{number_fills, operations_fill, multiple_fills, mandatory_fills}
+use Rattle.reading_laws.proofs.WrongPlaces.{number_fills, con_fills, operations_fill, multiple_fills, mandatory_fills}
 use Rattle.reading_laws.proofs.WrongPlaces.{kind_fills, path_fills, bytes_fill, value_fills}
 
 -- ---- lines
@@ -43,6 +42,12 @@ only_placed f low high small ws cause =
     made_of (only_number low high ws) f cause (AreWrong (number low high ∷ []) IsTooMany ws cause)
     (placed (number_of low high) (number low high) [] IsTooMany (λ n. ended n.1 >>= (λ e. Ok n.0))
     (number_fills low high small) (λ n. all_placed n) ws cause)
+
+pub notify_placed : Refuses read_notify (AreWrong (places_after notify) IsTooMany)
+notify_placed =
+    placed (named (codes "con")) con_name (number 2 3 ∷ []) IsTooMany
+    (λ c. only_number 2 3 c.1 >>= (λ n. Ok (says.Notify n))) con_fills
+    (λ c. only_placed (λ n. says.Notify n) 2 3 (omega arith))
 
 pub definition_placed : Refuses definition (AreWrong (places_after def) IsTooMany)
 definition_placed =

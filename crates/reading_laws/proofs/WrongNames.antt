@@ -15,14 +15,14 @@ use Rattle.scenario_words.specs.declared.cause.Cause.TheVariants.{Token, Unknown
 use Rattle.scenario_words.specs.Quoted.{IsQuoted, text_of}
 use Rattle.scenario_words.specs.ValueWords.{is_formed, kind_named, kind_word, name_fault}
 use Rattle.scenario_words.proofs.Pairs.{quoted_law}
-use Rattle.scenario_statements.specs.Grammar.{one_of, ops_named}
+use Rattle.scenario_statements.specs.Grammar.{named, one_of, ops_named}
 use Rattle.scenario_statements.specs.Spelling.{IsWithin, ops_word}
 use Rattle.reading_laws.specs.Statements.{mandatory_word, multiple_word}
-use Rattle.reading_laws.specs.WrongWords.{IsFormed, KindsAreNamed, MandatoryIsNamed, MultipleIsNamed}
-use Rattle.reading_laws.specs.WrongWords.{OperationsAreNamed}
+use Rattle.reading_laws.specs.WrongWords.{ConIsNamed, IsFormed, KindsAreNamed, MandatoryIsNamed}
+use Rattle.reading_laws.specs.WrongWords.{MultipleIsNamed, OperationsAreNamed}
 use Rattle.reading_laws.proofs.Refused.{Reads, each_said, each_tested, refused, same_cause, is_wrong}
-use Rattle.reading_laws.proofs.ReadWords.{kind_again, kind_read, mandatory_again, mandatory_read, multiple_again}
-use Rattle.reading_laws.proofs.ReadWords.{multiple_read, ops_again, ops_read}
+use Rattle.reading_laws.proofs.ReadWords.{con_read, kind_again, kind_read, mandatory_again, mandatory_read}
+use Rattle.reading_laws.proofs.ReadWords.{multiple_again, multiple_read, ops_again, ops_read}
 
 -- ---- the form of a word
 
@@ -114,6 +114,22 @@ pub operations_named : OperationsAreNamed
 operations_named w cause =
     is_wrong (ops_named w) (IsFormed w) ((o : Ops) × (w ≡ ops_word o)) UnknownWord cause (is_formed w)
     (by_names (ops_named w) w ops_word (ops_read w) (λ o e. ap ops_named e ∙ ops_again o) ops_formed (ops_fault w))
+
+con_fault : (w : List ℕ) (e : Cause) → named (codes "con") w ≡ Err e → e ≡ name_fault w
+con_fault w e = named_or w (codes "con") tt _ e (no_name w e)
+
+pub con_named : ConIsNamed
+con_named w cause =
+    let reads = by_names (named (codes "con") w) w (λ (u : Unit {0}). codes "con") (con_read w)
+    (λ u e. ap (named (codes "con")) e) (λ u. refl) (con_fault w) in
+    is_wrong (named (codes "con") w) (IsFormed w) (w ≡ codes "con") UnknownWord cause (is_formed w) (record {
+      tested = reads.tested;
+      passes = reads.passes;
+      unformed = reads.unformed;
+      formed = reads.formed;
+      takes = λ u h. con_read w u h;
+      taken = λ h. reads.taken (tt, h);
+    })
 
 kind_formed : (k : ValueKind) → is_formed (kind_word k) ≡ true
 kind_formed kind.Text = refl

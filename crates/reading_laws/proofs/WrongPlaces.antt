@@ -20,21 +20,21 @@ use Rattle.scenario_words.specs.Reading.{◌>>=◌, ended, word_by}
 use Rattle.scenario_words.specs.ValueWords.{kind_named, value_of}
 use Rattle.scenario_words.proofs.PathLaws.{path_law}
 use Rattle.scenario_words.proofs.Pairs.{hex_law}
-use Rattle.scenario_statements.specs.Grammar.{one_of, ops_named}
+use Rattle.scenario_statements.specs.Grammar.{named, one_of, ops_named}
 use Rattle.scenario_statements.specs.Spelling.{IsWithin}
 use Rattle.reading_laws.specs.Statements.{IsValueWord}
 use Rattle.reading_laws.specs.WrongStatements.{AreWrong}
 use Rattle.reading_laws.specs.WrongStatements.{HasValueForm, IsTooMany}
 use Rattle.reading_laws.specs.WrongStatements.{IsRight, IsWrongAt, Place}
 use Rattle.reading_laws.specs.WrongStatements.{refusal_at}
-use Rattle.reading_laws.specs.WrongStatements.Place.{number, operations, multiple, mandatory, kind_name, path, bytes}
-use Rattle.reading_laws.specs.WrongStatements.Place.{value}
+use Rattle.reading_laws.specs.WrongStatements.Place.{number, con_name, operations, multiple, mandatory, kind_name}
+use Rattle.reading_laws.specs.WrongStatements.Place.{path, bytes, value}
 use Rattle.reading_laws.specs.WrongWords.{IsWrong}
 use Rattle.reading_laws.proofs.Refused.{refused, same_cause}
-use Rattle.reading_laws.proofs.ReadWords.{flag_read, kind_again, kind_read, mandatory_again}
+use Rattle.reading_laws.proofs.ReadWords.{con_read, flag_read, kind_again, kind_read, mandatory_again}
 use Rattle.reading_laws.proofs.ReadWords.{mandatory_read, multiple_again, multiple_read, number_again, number_read}
 use Rattle.reading_laws.proofs.ReadWords.{ops_again, ops_read, value_again, value_read}
-use Rattle.reading_laws.proofs.WrongNames.{kinds_named, mandatory_named, multiple_named}
+use Rattle.reading_laws.proofs.WrongNames.{con_named, kinds_named, mandatory_named, multiple_named}
 use Rattle.reading_laws.proofs.WrongNames.{operations_named}
 use Rattle.reading_laws.proofs.WrongNumbers.{bytes_hex, integers_fit, links_paired, numbers_within, paths_slashed}
 use Rattle.reading_laws.proofs.WrongNumbers.{texts_quoted}
@@ -131,6 +131,14 @@ number_fills low high small =
       wrong = λ w cause. numbers_within low high w cause small;
       right = λ w n h. let r = number_read low high n w small h in (n, r.1, r.0);
       again = λ w h. (h.0, ap (number_of low high) h.2 ∙ number_again low high h.0 small h.1);
+    }
+
+pub con_fills : Fills (named (codes "con")) con_name
+con_fills =
+    record {
+      wrong = con_named;
+      right = λ w u h. con_read w u h;
+      again = λ w h. (tt, ap (named (codes "con")) h);
     }
 
 pub operations_fill : Fills ops_named operations

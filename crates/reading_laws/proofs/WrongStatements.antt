@@ -22,16 +22,16 @@ use Rattle.reading_laws.specs.WrongStatements.{AreWrong, AreWrongAfter}
 use Rattle.reading_laws.specs.WrongStatements.{IsTooMany}
 use Rattle.reading_laws.specs.WrongStatements.{IsKeyword, IsRefused, Leading}
 use Rattle.reading_laws.specs.WrongStatements.{WrongStatementsAreSaid, leading_word, places_after}
-use Rattle.reading_laws.specs.WrongStatements.Leading.{scenario, class, account, object, def, instance, device, recv}
-use Rattle.reading_laws.specs.WrongStatements.Leading.{tick, firmware, post, need}
+use Rattle.reading_laws.specs.WrongStatements.Leading.{scenario, class, notify, account, object, def, instance}
+use Rattle.reading_laws.specs.WrongStatements.Leading.{device, recv, tick, firmware, post, need}
 use Rattle.reading_laws.specs.WrongStatements.IsRefused.{after_leading, after_value, after_mnemonic, no_keyword}
 use Rattle.reading_laws.specs.WrongWords.{IsFormed, IsWrong}
 use Rattle.reading_laws.proofs.Refused.{refused, same_cause}
 use Rattle.reading_laws.proofs.Mnemonics.{keyword_read}
 use Rattle.reading_laws.proofs.WrongNames.{formed_said, formed_tested}
 use Rattle.reading_laws.proofs.WrongPlaces.{Refuses, all_placed, chained}
-use Rattle.reading_laws.proofs.WrongLines.{only_placed, definition_placed, instance_placed, need_placed}
-use Rattle.reading_laws.proofs.WrongLines.{recv_placed, path_placed}
+use Rattle.reading_laws.proofs.WrongLines.{only_placed, notify_placed, definition_placed, instance_placed}
+use Rattle.reading_laws.proofs.WrongLines.{need_placed, recv_placed, path_placed}
 use Rattle.reading_laws.proofs.WrongMnemonics.{made, mnemonic_placed}
 
 -- ---- the first word
@@ -39,6 +39,7 @@ use Rattle.reading_laws.proofs.WrongMnemonics.{made, mnemonic_placed}
 leading_placed : (l : Leading) → Refuses (statement_by (leading_word l)) (AreWrong (places_after l) IsTooMany)
 leading_placed scenario = only_placed (λ n. says.Scenario) 1 1 (omega arith)
 leading_placed class = all_placed says.Class
+leading_placed notify = notify_placed
 leading_placed account = only_placed (λ n. says.Account n) 1 65534 (omega arith)
 leading_placed object = only_placed (λ n. says.Object n) 10241 32768 (omega arith)
 leading_placed def = definition_placed
@@ -120,27 +121,29 @@ requested_or w ws cause None other e h =
     let none = not_keyword w other e in
     no_keyword none (named_wrong w cause (IsKeyword w) none (same_cause {A = Statement} (name_fault w) cause h))
 
-no_leading : (w : List ℕ) → (w ≡ codes "scenario" → ⊥) → (w ≡ codes "class" → ⊥) → (w ≡ codes "account" → ⊥)
-    → (w ≡ codes "object" → ⊥) → (w ≡ codes "def" → ⊥) → (w ≡ codes "instance" → ⊥) → (w ≡ codes "device" → ⊥)
-    → (w ≡ codes "recv" → ⊥) → (w ≡ codes "tick" → ⊥) → (w ≡ codes "firmware" → ⊥) → (w ≡ codes "post" → ⊥)
-    → (w ≡ codes "need" → ⊥) → (l : Leading) → w ≡ leading_word l → ⊥
-no_leading w a b c d e f g h i j k l scenario = a
-no_leading w a b c d e f g h i j k l class = b
-no_leading w a b c d e f g h i j k l account = c
-no_leading w a b c d e f g h i j k l object = d
-no_leading w a b c d e f g h i j k l def = e
-no_leading w a b c d e f g h i j k l instance = f
-no_leading w a b c d e f g h i j k l device = g
-no_leading w a b c d e f g h i j k l recv = h
-no_leading w a b c d e f g h i j k l tick = i
-no_leading w a b c d e f g h i j k l firmware = j
-no_leading w a b c d e f g h i j k l post = k
-no_leading w a b c d e f g h i j k l need = l
+no_leading : (w : List ℕ) → (w ≡ codes "scenario" → ⊥) → (w ≡ codes "class" → ⊥) → (w ≡ codes "notify" → ⊥)
+    → (w ≡ codes "account" → ⊥) → (w ≡ codes "object" → ⊥) → (w ≡ codes "def" → ⊥) → (w ≡ codes "instance" → ⊥)
+    → (w ≡ codes "device" → ⊥) → (w ≡ codes "recv" → ⊥) → (w ≡ codes "tick" → ⊥) → (w ≡ codes "firmware" → ⊥)
+    → (w ≡ codes "post" → ⊥) → (w ≡ codes "need" → ⊥) → (l : Leading) → w ≡ leading_word l → ⊥
+no_leading w a b o c d e f g h i j k l scenario = a
+no_leading w a b o c d e f g h i j k l class = b
+no_leading w a b o c d e f g h i j k l notify = o
+no_leading w a b o c d e f g h i j k l account = c
+no_leading w a b o c d e f g h i j k l object = d
+no_leading w a b o c d e f g h i j k l def = e
+no_leading w a b o c d e f g h i j k l instance = f
+no_leading w a b o c d e f g h i j k l device = g
+no_leading w a b o c d e f g h i j k l recv = h
+no_leading w a b o c d e f g h i j k l tick = i
+no_leading w a b o c d e f g h i j k l firmware = j
+no_leading w a b o c d e f g h i j k l post = k
+no_leading w a b o c d e f g h i j k l need = l
 
 refused_by : (w : List ℕ) (ws : List (List ℕ)) (cause : Cause) → statement_by w ws ≡ Err cause → IsRefused w ws cause
 refused_by w ws cause =
     by_other w (codes "scenario") _ _ (Err cause) (IsRefused w ws cause) (led w ws cause scenario _ refl) (λ a.
     by_other w (codes "class") _ _ (Err cause) (IsRefused w ws cause) (led w ws cause class _ refl) (λ b.
+    by_other w (codes "notify") _ _ (Err cause) (IsRefused w ws cause) (led w ws cause notify _ refl) (λ o.
     by_other w (codes "account") _ _ (Err cause) (IsRefused w ws cause) (led w ws cause account _ refl) (λ c.
     by_other w (codes "object") _ _ (Err cause) (IsRefused w ws cause) (led w ws cause object _ refl) (λ d.
     by_other w (codes "def") _ _ (Err cause) (IsRefused w ws cause) (led w ws cause def _ refl) (λ e.
@@ -156,10 +159,10 @@ refused_by w ws cause =
     by_other w (codes "post") _ _ (Err cause) (IsRefused w ws cause) (led w ws cause post _ refl) (λ k.
     by_other w (codes "need") _ _ (Err cause) (IsRefused w ws cause) (led w ws cause need _ refl) (λ l.
     requested_or w ws cause (keyword_named w) (record {
-      leading = no_leading w a b c d e f g h i j k l;
+      leading = no_leading w a b o c d e f g h i j k l;
       value_is = m;
       put_is = n;
-    }) refl))))))))))))))
+    }) refl)))))))))))))))
 
 -- ---- what is wrong is refused
 
@@ -185,6 +188,7 @@ other_refused w ws h =
     rw (
       no scenario,
       no class,
+      no notify,
       no account,
       no object,
       no def,

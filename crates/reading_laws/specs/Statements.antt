@@ -86,6 +86,7 @@ IsAsked server m ws =
 abbrev pub IsSaidBy : Statement → List (List ℕ) → Type 0
 IsSaidBy says.Scenario ws = ws ≡ codes "scenario" ∷ codes "1" ∷ []
 IsSaidBy says.Class ws = ws ≡ codes "class" ∷ []
+IsSaidBy (says.Notify n) ws = (ws ≡ codes "notify" ∷ codes "con" ∷ decimal n ∷ []) × IsWithin 2 3 n
 IsSaidBy (says.Account s) ws = (ws ≡ codes "account" ∷ decimal s ∷ []) × IsWithin 1 65534 s
 IsSaidBy (says.Object o) ws = (ws ≡ codes "object" ∷ decimal o ∷ []) × IsWithin 10241 32768 o
 IsSaidBy (says.Def d) ws =

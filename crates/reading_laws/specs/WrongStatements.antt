@@ -30,9 +30,11 @@ use Rattle.reading_laws.specs.WrongWords.{IsFormed, IsNumber, IsPair, IsSlashed,
 
 -- ---- the places of a line
 
--- what stands in a place: a number from low to high, one of some names, a path, bytes, a token, or a value of a kind
+-- what stands in a place: a number from low to high, one name or one of some, a path, bytes, a token, or a value of a
+-- kind
 pub data Place : Type 0 where
   number : ℕ → ℕ → Place
+  con_name : Place
   operations : Place
   multiple : Place
   mandatory : Place
@@ -47,6 +49,7 @@ pub data Place : Type 0 where
 -- the words that are allowed there
 abbrev pub IsRight : Place → List ℕ → Type 0
 IsRight (number low high) w = (n : ℕ) × IsWithin low high n × (w ≡ decimal n)
+IsRight con_name w = w ≡ codes "con"
 IsRight operations w = (ops : Ops) × (w ≡ ops_word ops)
 IsRight multiple w = (b : Bool) × (w ≡ multiple_word b)
 IsRight mandatory w = (b : Bool) × (w ≡ mandatory_word b)
@@ -70,6 +73,7 @@ HasValueForm kind.Link w = IsPair w
 -- the form of the words there
 abbrev pub HasForm : Place → List ℕ → Type 0
 HasForm (number low high) w = IsNumber w
+HasForm con_name w = IsFormed w
 HasForm operations w = IsFormed w
 HasForm multiple w = IsFormed w
 HasForm mandatory w = IsFormed w
@@ -83,6 +87,7 @@ HasForm (value k) w = HasValueForm k w
 
 -- why a word of that form is refused
 abbrev pub refusal_at : Place → Cause
+refusal_at con_name = UnknownWord
 refusal_at operations = UnknownWord
 refusal_at multiple = UnknownWord
 refusal_at mandatory = UnknownWord
@@ -144,6 +149,7 @@ AreWrongAfter (keyword.Request v) =
 pub data Leading : Type 0 where
   scenario : Leading
   class : Leading
+  notify : Leading
   account : Leading
   object : Leading
   def : Leading
@@ -158,6 +164,7 @@ pub data Leading : Type 0 where
 abbrev pub leading_word : Leading → List ℕ
 leading_word scenario = codes "scenario"
 leading_word class = codes "class"
+leading_word notify = codes "notify"
 leading_word account = codes "account"
 leading_word object = codes "object"
 leading_word def = codes "def"
@@ -172,6 +179,7 @@ leading_word need = codes "need"
 abbrev pub places_after : Leading → List Place
 places_after scenario = number 1 1 ∷ []
 places_after class = []
+places_after notify = con_name ∷ number 2 3 ∷ []
 places_after account = number 1 65534 ∷ []
 places_after object = number 10241 32768 ∷ []
 places_after def = number 0 65535 ∷ operations ∷ multiple ∷ mandatory ∷ kind_name ∷ []

@@ -16,7 +16,7 @@ use Rattle.scenario_words.specs.Number.{integer_of, number_of}
 use Rattle.scenario_words.specs.PathWord.{IsPath, link_of, link_word, path_of}
 use Rattle.scenario_words.specs.Quoted.{IsQuoted, text_of}
 use Rattle.scenario_words.specs.ValueWords.{kind_named, kind_word}
-use Rattle.scenario_statements.specs.Grammar.{one_of, ops_named}
+use Rattle.scenario_statements.specs.Grammar.{named, one_of, ops_named}
 use Rattle.scenario_statements.specs.Spelling.{IsWithin, ops_word}
 use Rattle.reading_laws.specs.Statements.{mandatory_word, multiple_word}
 
@@ -75,6 +75,11 @@ MandatoryIsNamed =
     (w : List ℕ) (cause : Cause)
     → (one_of (codes "mandatory") (codes "optional") w ≡ Err cause)
     ↔ IsWrongName ((b : Bool) × (w ≡ mandatory_word b)) w cause
+
+-- where one name alone may stand
+abbrev pub ConIsNamed : Type 0
+ConIsNamed =
+    (w : List ℕ) (cause : Cause) → (named (codes "con") w ≡ Err cause) ↔ IsWrongName (w ≡ codes "con") w cause
 
 abbrev pub KindsAreNamed : Type 0
 KindsAreNamed =

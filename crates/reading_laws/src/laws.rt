@@ -7,7 +7,7 @@ ghost use Rattle.reading_laws.specs.Line.{LinesHaveWords};
 ghost use Rattle.reading_laws.specs.Queries.{ChangesAreSaid, FirstFaultDecides, QueriesAreSaid};
 ghost use Rattle.reading_laws.specs.Statements.{StatementsAreSaid};
 ghost use Rattle.reading_laws.specs.WrongStatements.{WrongStatementsAreSaid};
-ghost use Rattle.reading_laws.specs.WrongWords.{BytesAreHex, IntegersFit, KindsAreNamed, LinksArePairs};
+ghost use Rattle.reading_laws.specs.WrongWords.{BytesAreHex, ConIsNamed, IntegersFit, KindsAreNamed, LinksArePairs};
 ghost use Rattle.reading_laws.specs.WrongWords.{MandatoryIsNamed, MultipleIsNamed, NumbersAreWithin};
 ghost use Rattle.reading_laws.specs.WrongWords.{OperationsAreNamed, PathsAreSlashed, TextsAreQuoted};
 
@@ -46,6 +46,7 @@ pub fn statements_are_said()
 /// has it and is none of the words that are allowed there: `UnknownWord` of a name, `Range` of a number, a
 /// path or a link.
 pub fn wrong_words_are_said()
+    ensures con { ConIsNamed }
     ensures operations { OperationsAreNamed }
     ensures multiple { MultipleIsNamed }
     ensures mandatory { MandatoryIsNamed }

@@ -72,6 +72,7 @@ fn state_once(
     line: &mut Line,
 ) -> Result<bool, AllocError> {
     match statement {
+        Statement::Notify(seconds) => notify_once(class, *seconds, marks, line),
         Statement::Account(server) => account_once(class, *server, marks, line),
         Statement::Object(object) => object_once(class, *object, marks, line),
         Statement::Def(definition) => definition_once(class, *definition, marks, line),
@@ -81,6 +82,18 @@ fn state_once(
         }
         _ => line.answer("no statement of a class"),
     }
+}
+
+fn notify_once(
+    class: &mut Template,
+    seconds: u8,
+    marks: &mut Marks,
+    line: &mut Line,
+) -> Result<bool, AllocError> {
+    marks.begin();
+    let set = class.set_notify(seconds);
+    marks.end();
+    answer(set, line)
 }
 
 fn account_once(

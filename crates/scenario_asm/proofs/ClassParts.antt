@@ -19,7 +19,7 @@ use Rattle.device_template.specs.declared.fault.TemplateFault.{TemplateFault}
 use Rattle.device_template.specs.declared.fault.TemplateFault.TheVariants.{Range, Missing, Duplicate, Full}
 use Rattle.device_template.specs.Template.{Template, most_accounts, account_fault, instance_fault, may_stand}
 use Rattle.device_template.specs.Built.{IsBuilt, IsShort}
-use Rattle.device_template.specs.Built.IsBuilt.{nothing, account, object, resource, instance, value}
+use Rattle.device_template.specs.Built.IsBuilt.{nothing, account, object, resource, instance, value, notify}
 use Rattle.scenario_layout.proofs.Items.{object_vendor}
 use Rattle.scenario_statements.specs.Spelling.{IsWithin}
 use Rattle.scenario_asm.proofs.Each.{each_inserted, each_put}
@@ -127,4 +127,12 @@ has_words _ (value {class} p v short good built free) =
       values = subst (AllByRecursion (λ (e : FullPath × Value). IsShort e.0 × IsGood e.1))
           (sym (finite.entries-insert path_total class.store.values p v))
           (each_put path_cmp IsShort IsGood p v (finite.entries class.store.values) short good before.values);
+    }
+has_words _ (notify {class} seconds built fits) =
+    let before = has_words class built in
+    record {
+      accounts = before.accounts;
+      objects = before.objects;
+      instances = before.instances;
+      values = before.values;
     }

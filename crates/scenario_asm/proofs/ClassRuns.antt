@@ -8,7 +8,7 @@ use Rattle.std.specs.Ordering.{is_lt}
 use Rattle.std.proofs.lemmas.Bool.{eqb-true}
 use Rattle.std.proofs.lemmas.Bool.Decides.{nat_tests}
 use Rattle.std.proofs.lemmas.List.{append-nil}
-use Rattle.byte_layout.specs.Layout.{Layout, each}
+use Rattle.byte_layout.specs.Layout.{each}
 use Rattle.byte_layout.proofs.Fields.{number_below}
 use Rattle.lwm2m_values.specs.declared.kind.ValueKind.{ValueKind}
 use Rattle.lwm2m_values.specs.declared.kind.ValueKind.TheVariants as kinds
@@ -29,15 +29,16 @@ use Rattle.instance_store.specs.Stored.{has_instance, instances_of, value_at, va
 use Rattle.scenario_layout.specs.Value.{kind_numbered, kind_number, of_kind, opaque, text, value}
 use Rattle.std.specs.Int.{w8}
 use Rattle.scenario_layout.specs.Definition.{resource, resources}
-use Rattle.device_template.specs.Template.{Template, account_fault, empty_class, instance_fault, kind_taken}
+use Rattle.device_template.specs.Template.{Template, empty_class, instance_fault, kind_taken}
 use Rattle.device_template.specs.Template.{kind_taken_by, object_fault, plain, value_fault, value_fault_at, may_stand}
-use Rattle.device_template.specs.Template.{with_account, with_catalogue, with_store}
+use Rattle.device_template.specs.Template.{with_catalogue, with_notify, with_store}
 use Rattle.device_template.specs.Values.{fits_object, has_all_parts, has_place, with_value_at}
 use Rattle.lwm2m_values.specs.Value.{has_good_length}
 use Rattle.device_template.specs.Built.{IsBuilt}
 use Rattle.device_template.specs.declared.fault.TemplateFault.{TemplateFault}
 use Rattle.device_template.specs.declared.fault.TemplateFault.TheVariants as template
-use Rattle.scenario_layout.specs.Class.{account, accounts, class, behind_accounts, behind_instances, behind_objects}
+use Rattle.scenario_layout.specs.Class.{class, behind_accounts, behind_instances, behind_notify}
+use Rattle.scenario_layout.specs.Class.{behind_objects, notify, notify_in}
 use Rattle.scenario_layout.specs.Class.{defined, entry, instance, instances, instances_in, is_taken, object, object_id}
 use Rattle.scenario_layout.specs.Class.{objects, objects_in, value_path, values, values_in, with_accounts}
 use Rattle.scenario_layout.specs.Class.{with_instances, with_objects, with_values}
@@ -51,9 +52,8 @@ use Rattle.scenario_image.specs.Layout.{path_to, path_with}
 use Rattle.scenario_image.specs.Scenario.{Scenario, class_fault}
 use Rattle.scenario_image.specs.declared.fault.ScenarioFault.TheVariants as scenario
 use Rattle.scenario_words.specs.Reading.{◌>>=◌}
-use Rattle.scenario_statements.specs.declared.statement.Statement.{Statement}
 use Rattle.scenario_statements.specs.declared.statement.Statement.TheVariants as says
-use Rattle.scenario_asm.specs.Canonical.{of_class, of_object, of_value}
+use Rattle.scenario_asm.specs.Canonical.{of_class, of_notify, of_object, of_value}
 use Rattle.scenario_asm.specs.Causes.{needs, scenario_cause, template_cause, unless}
 use Rattle.scenario_asm.specs.ClassLines.{has_object, is_stated, value_cause}
 use Rattle.scenario_asm.specs.Draft.{Draft, closed}
@@ -61,55 +61,7 @@ use Rattle.scenario_asm.specs.Effect.{class_begun, effect}
 use Rattle.scenario_asm.specs.Denotes.{Lead}
 use Rattle.scenario_asm.proofs.Canonical.{lead_append}
 use Rattle.scenario_asm.proofs.ClassValues.{plain_short, same_fit, short_told, too_long}
-
--- a draft whose open class is this one, and whose object was stated last
-abbrev pub opened : Scenario → Template → Option ℕ → Draft
-opened s c o = record { begun = true; scenario = s; open_class = Some c; object = o }
-
-taken_is : (o : Option TemplateFault) → is_taken o ≡ true → o ≡ None
-taken_is None h = refl
-taken_is (Some f) h = absurd cc
-
--- items that are added one after another, each after those before it
-items_lead : {A : Type 0} (say : A → Statement) (part : List A → Layout A) (state : List A → Template)
-    (P : List A → Type 0) (s : Scenario) (o : Option ℕ)
-    → ((before : List A) (a : A) → P before → (part before).Good a
-    → (effect (say a) (opened s (state before) o) ≡ Ok (opened s (state (before ++ a ∷ [])) o))
-    × P (before ++ a ∷ []))
-    → (n : ℕ) (before xs : List A) → P before → (each part n before).Good xs
-    → Lead (opened s (state before) o) (map say xs) (opened s (state (before ++ xs)) o)
-unfolding each
-items_lead say part state P s o item zero before xs p good =
-    subst (λ ys. Lead (opened s (state before) o) (map say ys) (opened s (state (before ++ ys)) o)) (sym good)
-    (ap (λ ys. opened s (state ys) o) (sym (append-nil before)))
-items_lead say part state P s o item (suc n) before [] p good = absurd good
-items_lead say part state P s o item (suc n) before (x ∷ xs) p good =
-    let one = item before x p good.0 in (
-      opened s (state (before ++ x ∷ [])) o,
-      one.0,
-      subst (λ ys. Lead (opened s (state (before ++ x ∷ [])) o) (map say xs) (opened s (state ys) o))
-          (append_assoc before (x ∷ []) xs)
-          (items_lead say part state P s o item n (before ++ x ∷ []) xs one.1 good.1),
-    )
-
--- ---- accounts
-
-account_lead : (s : Scenario) (o : Option ℕ) (before : List ℕ) (n : ℕ) → (account before).Good n
-    → effect (says.Account n) (opened s (with_accounts before) o) ≡ Ok (opened s (with_accounts (before ++ n ∷ [])) o)
-unfolding account
-account_lead s o before n good =
-    let both = both_true (list_all (λ m. nat_lt m n) before)
-    (is_taken (account_fault (with_accounts before) n)) good.1 in
-    ap (λ f. unless (option_map template_cause f) (with_account (with_accounts before) n) >>= (λ e. Ok (opened s e o)))
-    (taken_is _ both.1)
-    ∙ ap (λ xs. Ok (opened s (with_accounts xs) o)) (inserted_end (λ a. a) n before both.0)
-
-accounts_lead : (s : Scenario) (xs : List ℕ) → accounts.Good xs
-    → Lead (opened s empty_class None) (map (λ n. says.Account n) xs) (opened s (with_accounts xs) None)
-unfolding accounts
-accounts_lead s xs good =
-    items_lead (λ n. says.Account n) account with_accounts (λ before. Unit {0}) s None
-    (λ before n p good. (account_lead s None before n good, tt)) (length xs) [] xs tt good.1
+use Rattle.scenario_asm.proofs.Opened.{opened, taken_is, items_lead, accounts_lead, notify_lead}
 
 -- ---- instances
 
@@ -438,10 +390,12 @@ begin_lead s d begun same room =
 -- the statements of a class make it, from a draft that has room for it
 pub class_lead : (s : Scenario) (c : Template) (d : Draft) → IsBuilt c → d.begun ≡ true → closed d ≡ s
     → length s.classes < 256 → (m : Option ℕ) × Lead d (of_class c) (opened s c m)
-unfolding class behind_accounts behind_objects behind_instances
+unfolding class notify_in notify behind_notify behind_accounts behind_objects behind_instances
 class_lead s c d built begun same room =
-    let good = class_good c built in
-    let k1 = with_accounts c.accounts in
+    let all = class_good c built in
+    let good = all.1 in
+    let k0 = with_notify empty_class c.notify in
+    let k1 = with_accounts k0 c.accounts in
     let objs = objects_lead s k1 (objects_in c) None refl good.1.0 in
     let k2 = with_objects k1 (objects_in c) in
     let k3 = with_instances k2 (instances_in c) in
@@ -451,13 +405,15 @@ class_lead s c d built begun same room =
       (
         opened s empty_class None,
         begin_lead s d begun same room,
-        lead_append (opened s empty_class None) (opened s k1 None) _ (map (λ n. says.Account n) c.accounts) _
-            (accounts_lead s c.accounts good.0)
+        lead_append (opened s empty_class None) (opened s k0 None) _ (of_notify c.notify) _
+            (notify_lead s c.notify all.0.1)
+            (lead_append (opened s k0 None) (opened s k1 None) _ (map (λ n. says.Account n) c.accounts) _
+            (accounts_lead s k0 c.accounts refl good.0)
             (lead_append (opened s k1 None) (opened s k2 objs.0) _ (flat_map of_object (objects_in c)) _ objs.1
             (lead_append (opened s k2 objs.0) (opened s k3 objs.0) _
             (map (λ p. says.Instance p) (instances_in c)) _ places
             (subst (λ (t : Template). Lead (opened s k3 objs.0) (map of_value (values_in c)) (opened s t objs.0))
-            (sym good.1.1.1.1) last))),
+            (sym good.1.1.1.1) last)))),
       ),
     )
 

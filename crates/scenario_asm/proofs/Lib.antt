@@ -7,6 +7,7 @@ pub mod Denoting
 pub mod Each
 pub mod Lines
 pub mod Numbers
+pub mod Opened
 pub mod OwnObjects
 pub mod Places
 pub mod ReadAgain

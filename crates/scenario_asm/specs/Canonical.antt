@@ -1,5 +1,5 @@
 -- The canonical text of a scenario: its statements in order, a line each.
-use Rattle.std.specs.Prelude.{ℕ, List, ◌∷◌, ◌++◌, map, Option, None, Some}
+use Rattle.std.specs.Prelude.{ℕ, ◌==◌, List, [], ◌∷◌, ◌++◌, map, Option, None, Some, if◌then◌else◌}
 use Rattle.std.specs.List.{flat_map}
 use Rattle.lwm2m_values.specs.declared.value.Value.{Value}
 use Rattle.object_defs.specs.declared.definition.ObjectDef.{ObjectDef}
@@ -18,7 +18,11 @@ use Rattle.scenario_statements.specs.declared.statement.Statement.{Statement}
 use Rattle.scenario_statements.specs.declared.statement.Statement.TheVariants as says
 use Rattle.scenario_statements.specs.Spelling.{line_of}
 
--- ---- a class: its accounts, the objects of its own, its instances, its values, each ascending
+-- ---- a class: how it notifies, its accounts, the objects of its own, its instances, its values, each ascending
+
+-- a class whose devices send Non-confirmable notifications does not say so
+abbrev pub of_notify : ℕ → List Statement
+of_notify seconds = if seconds == 0 then [] else says.Notify seconds ∷ []
 
 -- an object, and the resources that it has
 abbrev pub of_object : ObjectDef → List Statement
@@ -31,9 +35,10 @@ of_value e = says.Value (path_to e.0) e.1
 abbrev pub of_class : Template → List Statement
 of_class c =
     says.Class
-    ∷ (map (λ s. says.Account s) c.accounts
+    ∷ (of_notify c.notify
+    ++ (map (λ s. says.Account s) c.accounts
     ++ (flat_map of_object (objects_in c)
-    ++ (map (λ p. says.Instance p) (instances_in c) ++ map of_value (values_in c))))
+    ++ (map (λ p. says.Instance p) (instances_in c) ++ map of_value (values_in c)))))
 
 -- ---- a device: its class, and its steps
 

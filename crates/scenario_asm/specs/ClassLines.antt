@@ -1,7 +1,7 @@
 -- What a line adds to the open class, in the words of its builder, and why it is refused: what was not stated before
 -- comes first, then what does not fit, then what is there already, then limits.
-use Rattle.std.specs.Prelude.{ℕ, nat_le, Bool, true, not, ◌&&◌, [], ◌∷◌, Option, None, Some, is_some, option_map}
-use Rattle.std.specs.Prelude.{Result}
+use Rattle.std.specs.Prelude.{ℕ, ◌==◌, nat_le, Bool, true, not, ◌&&◌, [], ◌∷◌, Option, None, Some, is_some}
+use Rattle.std.specs.Prelude.{option_map, Result}
 use Rattle.lwm2m_values.specs.declared.value.Value.{Value}
 use Rattle.object_defs.specs.Catalogue.{object_of}
 use Rattle.object_defs.specs.Lines.{first_line}
@@ -13,8 +13,8 @@ use Rattle.object_defs.specs.declared.path.InstancePath.{InstancePath}
 use Rattle.object_defs.specs.declared.path.Path.{Path}
 use Rattle.object_defs.specs.declared.path.Path.TheVariants.{Object, Instance, Resource, Part}
 use Rattle.instance_store.specs.Stored.{has_instance, value_at, value_count, with_instance}
-use Rattle.device_template.specs.Template.{Template, account_fault, definition_fault, instance_fault, object_fault}
-use Rattle.device_template.specs.Template.{with_account, with_catalogue, with_store}
+use Rattle.device_template.specs.Template.{Template, account_fault, definition_fault, instance_fault, is_notify}
+use Rattle.device_template.specs.Template.{object_fault, with_account, with_catalogue, with_notify, with_store}
 use Rattle.device_template.specs.Values.{fits_object, has_all_parts, with_value_at}
 use Rattle.lwm2m_values.specs.Value.{has_good_length}
 use Rattle.scenario_words.specs.declared.cause.Cause.{Cause}
@@ -23,6 +23,12 @@ use Rattle.scenario_asm.specs.Causes.{needs, template_cause, unless}
 
 abbrev pub account_added : ℕ → Template → Result Template Cause
 account_added server c = unless (option_map template_cause (account_fault c server)) (with_account c server)
+
+-- how its devices notify is one of the three ways, and was not stated in its class before
+abbrev pub notify_set : ℕ → Template → Result Template Cause
+notify_set seconds c =
+    unless (first_line ((not (is_notify seconds), Range) ∷ (not (c.notify == 0), Duplicate) ∷ []))
+    (with_notify c seconds)
 
 abbrev pub object_added : ℕ → Template → Result Template Cause
 object_added id c =

@@ -17,7 +17,8 @@ use Rattle.scenario_mnemonics.specs.declared.mnemonic.Mnemonic.{Mnemonic}
 use Rattle.scenario_statements.specs.declared.statement.Statement.{Statement}
 use Rattle.scenario_statements.specs.declared.statement.Statement.TheVariants as says
 use Rattle.scenario_asm.specs.Causes.{needs, scenario_cause, unless}
-use Rattle.scenario_asm.specs.ClassLines.{account_added, definition_added, instance_added, object_added, value_added}
+use Rattle.scenario_asm.specs.ClassLines.{account_added, definition_added, instance_added, notify_set, object_added}
+use Rattle.scenario_asm.specs.ClassLines.{value_added}
 use Rattle.scenario_asm.specs.Draft.{Draft, closed}
 
 -- the draft, whose open class is this one
@@ -85,6 +86,7 @@ effect says.Scenario d =
     if d.begun then Err Duplicate else Ok (record
     { begun = true; scenario = d.scenario; open_class = d.open_class; object = d.object })
 effect says.Class d = needs d.begun (class_begun d)
+effect (says.Notify seconds) d = needs d.begun (in_class d (notify_set seconds) (reopened d) d.open_class)
 effect (says.Account server) d = needs d.begun (in_class d (account_added server) (reopened d) d.open_class)
 effect (says.Object id) d = needs d.begun (in_class d (object_added id) (reopened_with id d) d.open_class)
 effect (says.Def r) d =
@@ -108,6 +110,7 @@ effect (says.Need group count) d = needs d.begun (device_step (step.Need group c
 abbrev pub is_refused_first : Statement → Bool
 is_refused_first says.Scenario = true
 is_refused_first says.Class = false
+is_refused_first (says.Notify seconds) = true
 is_refused_first (says.Account server) = true
 is_refused_first (says.Object id) = true
 is_refused_first (says.Def r) = true

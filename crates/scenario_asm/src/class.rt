@@ -4,7 +4,7 @@ ghost use Rattle.std.specs.Prelude.{◌≡◌, Err};
 ghost use Rattle.scenario_words.specs.declared.cause.Cause.{Cause};
 ghost use Rattle.scenario_asm.specs.Causes.{Makes};
 ghost use Rattle.scenario_asm.specs.ClassLines.{account_added, definition_added, has_object, has_place, instance_added};
-ghost use Rattle.scenario_asm.specs.ClassLines.{is_stated, object_added, value_added};
+ghost use Rattle.scenario_asm.specs.ClassLines.{is_stated, notify_set, object_added, value_added};
 ghost use Rattle.lwm2m_values.specs.Value.{kind_of};
 ghost use Rattle.device_template.specs.Template.{plain};
 
@@ -21,6 +21,18 @@ pub(crate) fn add_account(class: &mut Template, server: u16) -> Result<(), Cause
     ensures refused { (c : Cause) → account_added server class.old ≡ Err c → result ≡ Err c }
 {
     of_class(class.add_account(server))
+}
+
+pub(crate) fn set_notify(class: &mut Template, seconds: u8) -> Result<(), Cause>
+    ensures made { Makes result class.new (notify_set seconds class.old) }
+    ensures refused { (c : Cause) → notify_set seconds class.old ≡ Err c → result ≡ Err c }
+{
+    let is_stated = class.notify() != 0;
+    of_class(class.set_notify(seconds))?;
+    if is_stated {
+        return Err(Cause::Duplicate);
+    }
+    Ok(())
 }
 
 pub(crate) fn add_object(class: &mut Template, id: u16) -> Result<(), Cause>

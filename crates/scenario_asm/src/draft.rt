@@ -12,7 +12,7 @@ ghost use Rattle.scenario_statements.specs.declared.statement.Statement.TheVaria
 ghost use Rattle.scenario_mnemonics.specs.Messages.{datagram_of};
 ghost use Rattle.scenario_asm.specs.Causes.{Makes, needs};
 ghost use Rattle.scenario_asm.specs.ClassLines.{account_added, definition_added, instance_added, object_added};
-ghost use Rattle.scenario_asm.specs.ClassLines.{value_added};
+ghost use Rattle.scenario_asm.specs.ClassLines.{notify_set, value_added};
 ghost use Rattle.scenario_asm.specs.Draft.{closed, nothing};
 ghost use Rattle.scenario_asm.specs.Effect.{class_begun, device_begun, device_step, effect, fitting, has_device};
 ghost use Rattle.scenario_asm.specs.Effect.{has_server, in_class, in_object, is_refused_first, last_class, reopened};
@@ -21,7 +21,7 @@ ghost use Rattle.scenario_asm.specs.Text.{line_after, whole};
 ghost use Rattle.scenario_asm.specs.declared.fault.AsmFault.{AsmFault};
 
 use crate::causes::of_scenario;
-use crate::class::{add_account, add_definition, add_instance, add_object, add_value};
+use crate::class::{add_account, add_definition, add_instance, add_object, add_value, set_notify};
 use crate::fault::AsmFault;
 use device_machine::{Event, Template};
 use lwm2m_values::Value;
@@ -146,6 +146,19 @@ impl Draft {
         match &mut self.open_class {
             None => Err(Cause::Missing),
             Some(class) => add_account(class, server),
+        }
+    }
+
+    fn notify(&mut self, seconds: u8) -> Result<(), Cause>
+        ensures made { Makes result self.new
+            (in_class self.old (notify_set seconds) (reopened self.old) self.old.open_class) }
+        ensures refused { (c : Cause)
+            → in_class self.old (notify_set seconds) (reopened self.old) self.old.open_class ≡ Err c
+            → result ≡ Err c }
+    {
+        match &mut self.open_class {
+            None => Err(Cause::Missing),
+            Some(class) => set_notify(class, seconds),
         }
     }
 
@@ -301,6 +314,7 @@ impl Draft {
             Statement::Scenario => self.begin(),
             _ if !self.begun => Err(Cause::Missing),
             Statement::Class => self.begin_class(alloc),
+            Statement::Notify(seconds) => self.notify(seconds),
             Statement::Account(server) => self.account(server),
             Statement::Object(id) => self.object(id),
             Statement::Def(definition) => self.definition(definition),

@@ -1,11 +1,14 @@
 //! What follows from the definitions, for their readers. The calls do nothing; their contracts are the laws.
 
 ghost use Rattle.std.specs.Prelude.{◌≡◌, ◌↔◌, [], ◌∷◌, ◌++◌, ℕ, List, map, Ok};
-ghost use Rattle.std.specs.List.{AllByRecursion};
+ghost use Rattle.std.specs.List.{AllByRecursion, flat_map};
+ghost use Rattle.device_template.specs.Template.{Template};
+ghost use Rattle.scenario_layout.specs.Class.{instances_in, objects_in, values_in};
 ghost use Rattle.scenario_image.specs.Scenario.{Scenario};
 ghost use Rattle.scenario_words.specs.Words.{lines};
 ghost use Rattle.scenario_statements.specs.Spelling.{IsSayable, line_of};
-ghost use Rattle.scenario_asm.specs.Canonical.{printed, statements};
+ghost use Rattle.scenario_statements.specs.declared.statement.Statement.TheVariants.{Account, Class, Instance};
+ghost use Rattle.scenario_asm.specs.Canonical.{of_class, of_object, of_value, printed, statements};
 ghost use Rattle.scenario_asm.specs.Denotes.{Denotes};
 ghost use Rattle.scenario_asm.specs.Reading.{IsScenario, said_by};
 ghost use Rattle.scenario_asm.specs.Text.{assembled};
@@ -21,6 +24,14 @@ pub fn canonical_lines()
     ensures lines { (s : Scenario) → IsScenario s → lines (printed s) ≡ map line_of (statements s) ++ [] ∷ [] }
     ensures read { (s : Scenario) → IsScenario s → said_by (printed s) ≡ Ok (statements s) }
     ensures one { (s t : Scenario) → IsScenario s → IsScenario t → printed s ≡ printed t → statements s ≡ statements t }
+{}
+
+/// A class whose devices send Non-confirmable notifications does not say so: it is said by its accounts, the objects of
+/// its own, its instances and its values alone.
+pub fn non_confirmable_is_not_said()
+    ensures { (c : Template) → c.notify ≡ 0 → of_class c ≡ Class ∷ (map (λ s. Account s) c.accounts
+        ++ (flat_map of_object (objects_in c)
+        ++ (map (λ p. Instance p) (instances_in c) ++ map of_value (values_in c)))) }
 {}
 
 /// The law of canonical texts: the canonical text of a scenario denotes it.

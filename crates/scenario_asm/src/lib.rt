@@ -12,6 +12,9 @@ mod printing;
 
 pub use assembling::assemble;
 pub use fault::AsmFault;
-pub use laws::{canonical_lines, canonical_text, statements_are_sayable, texts_denote};
+pub use laws::{
+    canonical_lines, canonical_text, non_confirmable_is_not_said, statements_are_sayable,
+    texts_denote,
+};
 pub use printing::disassemble;
 pub use scenario_words::spell;

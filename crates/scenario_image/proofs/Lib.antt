@@ -6,4 +6,5 @@ mod Adding
 pub mod Counting
 mod Fronts
 pub mod Imaged
+pub mod Versions
 pub mod Saving

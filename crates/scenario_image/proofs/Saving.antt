@@ -16,22 +16,22 @@ use Rattle.scenario_image.proofs.Valid.{all_push}
 use Rattle.scenario_image.proofs.Fits.{each_all, rows_good}
 
 -- one more of the classes has bytes
-pub one_more : (list : List Template) (i : ℕ) (x : Template) → i < length list → x ≡ get_or list i x → class.Good x
-    → AllByRecursion class.Good (take i list) → AllByRecursion class.Good (take (i + 1) list)
+pub one_more : (list : List Template) (i : ℕ) (x : Template) → i < length list → x ≡ get_or list i x → (class 2).Good x
+    → AllByRecursion (class 2).Good (take i list) → AllByRecursion (class 2).Good (take (i + 1) list)
 one_more list i x lt item good all =
-    subst (λ (ys : List Template). AllByRecursion class.Good ys)
+    subst (λ (ys : List Template). AllByRecursion (class 2).Good ys)
     (sym (take_more list i x lt ∙ ap (λ y. take i list ++ y ∷ []) (sym item)))
-    (all_push class.Good (take i list) x all good)
+    (all_push (class 2).Good (take i list) x all good)
 
 -- all of them have
-pub all_good : (list : List Template) (i : ℕ) → length list ≤ i → AllByRecursion class.Good (take i list)
-    → (each (λ before. class) (length list) []).Good list
+pub all_good : (list : List Template) (i : ℕ) → length list ≤ i → AllByRecursion (class 2).Good (take i list)
+    → (each (λ before. class 2) (length list) []).Good list
 all_good list i le all =
-    each_all class class.Good (λ a h. h) [] list
-    (subst (λ (ys : List Template). AllByRecursion class.Good ys) (take_all i list le) all)
+    each_all (class 2) (class 2).Good (λ a h. h) [] list
+    (subst (λ (ys : List Template). AllByRecursion (class 2).Good ys) (take_all i list le) all)
 
-pub few_good : (list : List Template) → length list ≤ 256 → (each (λ before. class) (length list) []).Good list
-    → classes.Good list
+pub few_good : (list : List Template) → length list ≤ 256 → (each (λ before. class 2) (length list) []).Good list
+    → (classes 2).Good list
 unfolding classes
 few_good list few good =
     ((number_good w16 (length list) (omega (arith, few)), lt-ltb (length list) 257 (omega (arith, few))), good)
@@ -40,10 +40,13 @@ few_good list few good =
 pub valid_rows : (s : Scenario) → IsValid s → (rows s.classes).Good s.rows
 valid_rows s valid = rows_good s.classes s.rows valid.classes valid.rows valid.each
 
-pub lists_good : (s : Scenario) → classes.Good s.classes → (rows s.classes).Good s.rows → lists.Good s
+pub lists_good : (s : Scenario) → (classes 2).Good s.classes → (rows s.classes).Good s.rows → (lists 2).Good s
 unfolding lists
 lists_good s first second = (first, (second, refl))
 
-pub image_good : (s : Scenario) → lists.Good s → image.Good s
+pub image_good : (s : Scenario) → (lists 2).Good s → image.Good (2, s)
 unfolding image
-image_good s good = ((number_good w32 0x4C575343 (omega arith), refl), ((number_good w8 1 (omega arith), refl), good))
+image_good s good = (
+  (number_good w32 0x4C575343 (omega arith), refl),
+  ((number_good w8 2 (omega arith), refl), (good, refl)),
+)

@@ -1,18 +1,19 @@
--- A scenario as bytes: this profile's image.
-use Rattle.std.specs.Prelude.{ℕ, List}
+-- A scenario as bytes: this profile's image of it, in two versions. In version 1 classes do not say how their devices
+-- notify. Version 2 is the one that is written.
+use Rattle.std.specs.Prelude.{ℕ, ◌==◌, ◌||◌, List}
 use Rattle.std.specs.Int.{w8, w16, w32}
 use Rattle.byte_layout.specs.declared.fault.Break.TheVariants.{Magic, Version}
 use Rattle.byte_layout.specs.declared.fault.LayoutFault.{LayoutFault}
-use Rattle.byte_layout.specs.Layout.{Layout, number, at_most, split, last, marked, done, counted}
+use Rattle.byte_layout.specs.Layout.{Layout, number, judged, at_most, split, last, marked, done, counted}
 use Rattle.byte_layout.specs.Whole.{IsAll, HasFault}
 use Rattle.device_template.specs.Template.{Template}
 use Rattle.scenario_layout.specs.Class.{class}
 use Rattle.scenario_image.specs.Scenario.{Row, Scenario}
 use Rattle.scenario_image.specs.Layout.{rows}
 
--- at most 256 classes
-unfoldable pub classes : Layout (List Template)
-classes = counted (at_most 256 (number w16)) (λ before. class)
+-- at most 256 classes, as a version has them
+unfoldable pub classes : ℕ → Layout (List Template)
+classes version = counted (at_most 256 (number w16)) (λ before. class version)
 
 abbrev pub script_of : List Template → List Row → Scenario
 script_of classes rows = record { classes = classes; rows = rows }
@@ -22,29 +23,41 @@ abbrev pub behind_classes : List Template → Layout Scenario
 behind_classes known = last (λ s. s.rows) (script_of known) (rows known)
 
 -- the classes, and the rows
-unfoldable pub lists : Layout Scenario
-lists = split (λ s. s.classes) classes behind_classes
+unfoldable pub lists : ℕ → Layout Scenario
+lists version = split (λ s. s.classes) (classes version) behind_classes
 
--- the image's mark and version, and this
-abbrev pub headed : {A : Type 0} → Layout A → Layout A
-headed part = marked Magic 0x4C575343 (number w32) (marked Version 1 (number w8) part)
+-- the version: 1 or 2
+abbrev pub version : Layout ℕ
+version = judged (λ left. Version) (λ n. n == 1 || n == 2) (number w8)
+
+-- a part, beside the version that it is laid out by
+abbrev pub in_version : {A : Type 0} → (ℕ → Layout A) → ℕ → Layout (ℕ × A)
+in_version part v = last (λ x. x.1) (λ a. (v, a)) (part v)
+
+-- the image's mark and version, and this as the version has it
+abbrev pub headed : {A : Type 0} → (ℕ → Layout A) → Layout (ℕ × A)
+headed part = marked Magic 0x4C575343 (number w32) (split (λ x. x.0) version (in_version part))
 
 -- the mark and the version alone
-abbrev pub header : Layout (Unit {0})
-header = headed (done tt)
+abbrev pub header : Layout (ℕ × Unit {0})
+header = headed (λ v. done tt)
 
--- the image's mark and version, the classes, and the rows
-unfoldable pub image : Layout Scenario
+-- the image's mark and version, the classes, and the rows: a version, and a scenario that it can say
+unfoldable pub image : Layout (ℕ × Scenario)
 image = headed lists
 
 -- its front: the mark, the version, and how many classes there are
-unfoldable pub front : Layout ℕ
-front = headed (at_most 256 (number w16))
+unfoldable pub front : Layout (ℕ × ℕ)
+front = headed (λ v. at_most 256 (number w16))
 
--- the bytes are the image of this scenario
+-- the bytes are the image of this scenario in this version
+abbrev pub IsImageIn : ℕ → List ℕ → Scenario → Type 0
+IsImageIn v bytes s = IsAll image bytes (v, s)
+
+-- the bytes are an image of this scenario, in either version
 abbrev pub IsImage : List ℕ → Scenario → Type 0
-IsImage bytes s = IsAll image bytes s
+IsImage bytes s = (v : ℕ) × IsImageIn v bytes s
 
--- the bytes are no scenario's image, and this is their fault, the first from the left
+-- the bytes are no scenario's image in any version, and this is their fault, the first from the left
 abbrev pub HasImageFault : List ℕ → LayoutFault → Type 0
 HasImageFault bytes fault = HasFault image bytes fault

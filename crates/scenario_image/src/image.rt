@@ -1,4 +1,4 @@
-//! Scenarios, read from this profile's image of them and written as it.
+//! Scenarios, read from this profile's images of them, of version 1 or 2, and written as that of version 2.
 
 ghost use Rattle.std.specs.Prelude.{◌≡◌, ◌≢◌, ◌≤◌, ◌++◌, [], length, Ok, Err, OnOk, IfOk, IfErr, IsErrAnd, MatchResult};
 ghost use Rattle.byte_layout.specs.declared.fault.Break.{Break};
@@ -10,7 +10,7 @@ ghost use Rattle.byte_layout.specs.Layout.{each};
 ghost use Rattle.byte_layout.specs.Whole.{placed, read_all};
 ghost use Rattle.scenario_layout.specs.Class.{class};
 ghost use Rattle.scenario_image.specs.Scenario.{Scenario};
-ghost use Rattle.scenario_image.specs.Image.{classes, lists, header, image, front, IsImage, HasImageFault};
+ghost use Rattle.scenario_image.specs.Image.{classes, lists, header, image, front, IsImage, IsImageIn, HasImageFault};
 
 use crate::rows::{put_rows, rows_at};
 use crate::scenario::Scenario;
@@ -22,15 +22,18 @@ use device_machine::Template;
 use scenario_layout::{class_at, put_class};
 use std::alloc::{AllocError, Global};
 
-/// Classes, one after another.
-struct Classes;
+/// Classes, one after another, as this version of the image has them.
+#[derive(Drop)]
+struct Classes {
+    version: u8,
+}
 
 impl Items for Classes {
     ghost use Rattle.scenario_layout.specs.Class.{class};
 
     type Item = Template;
 
-    ghost part = { λ _ before. class };
+    ghost part = { λ classes before. class classes.version };
 
     fn item_at<'a>(
         &self,
@@ -38,32 +41,32 @@ impl Items for Classes {
         _before: &[Template],
         bytes: &'a [u8],
     ) -> Result<(Template, &'a [u8]), ReadError> {
-        class_at(alloc, bytes)
+        class_at(alloc, self.version, bytes)
     }
 }
 
-/// The classes of a scenario, and the bytes after them.
+/// The classes of a scenario in an image of this version, and the bytes after them.
 #[tactic(auto, unfolding(crate::specs::Image::classes))]
-fn classes_at(alloc: Global, bytes: &[u8]) -> Result<(Vec<Template>, &[u8]), ReadError>
-    ensures { Gives (λ x. (x.0.items, x.1.now)) result (classes.read bytes.now) }
+fn classes_at(alloc: Global, version: u8, bytes: &[u8]) -> Result<(Vec<Template>, &[u8]), ReadError>
+    ensures { Gives (λ x. (x.0.items, x.1.now)) result ((classes version).read bytes.now) }
 {
     let (count, rest) = u16_at_most(256, bytes)?;
-    items_at(&Classes, alloc, usize::from(count), rest)
+    items_at(&Classes { version }, alloc, usize::from(count), rest)
 }
 
-/// The classes and the rows, and the bytes after them.
+/// The classes and the rows in an image of this version, and the bytes after them.
 #[tactic(auto, unfolding(crate::specs::Image::lists))]
-fn lists_at(alloc: Global, bytes: &[u8]) -> Result<(Scenario, &[u8]), ReadError>
-    ensures { Gives (λ x. (x.0, x.1.now)) result (lists.read bytes.now) }
+fn lists_at(alloc: Global, version: u8, bytes: &[u8]) -> Result<(Scenario, &[u8]), ReadError>
+    ensures { Gives (λ x. (x.0, x.1.now)) result ((lists version).read bytes.now) }
 {
-    let (classes, rest) = classes_at(alloc, bytes)?;
+    let (classes, rest) = classes_at(alloc, version, bytes)?;
     let (rows, rest) = rows_at(alloc, &classes, rest)?;
     Ok((Scenario::of_parts(alloc, classes, rows), rest))
 }
 
-/// The bytes after the mark and the version.
-fn header_at(bytes: &[u8]) -> Result<&[u8], ReadError>
-    ensures read { Gives (λ rest. (tt, rest.now)) result (header.read bytes.now) }
+/// The version, after the mark, and the bytes after it.
+fn header_at(bytes: &[u8]) -> Result<(u8, &[u8]), ReadError>
+    ensures read { Gives (λ x. ((x.0, tt), x.1.now)) result (header.read bytes.now) }
     ensures no_memory { IfErr result (λ e. e ≢ errors.Memory) }
 {
     let (mark, rest) = u32_at(bytes)?;
@@ -71,45 +74,49 @@ fn header_at(bytes: &[u8]) -> Result<&[u8], ReadError>
         return Err(ReadError::Fault(Break::Magic));
     }
     let (version, rest) = u8_at(rest)?;
-    if version != 1 {
+    if version != 1 && version != 2 {
         return Err(ReadError::Fault(Break::Version));
     }
-    Ok(rest)
+    Ok((version, rest))
 }
 
-/// How many classes there are, after the mark and the version, and the bytes after it.
+/// The version and how many classes there are, after the mark, and the bytes after them.
 #[tactic(auto, unfolding(crate::specs::Image::front))]
-fn front_at(bytes: &[u8]) -> Result<(u16, &[u8]), ReadError>
+fn front_at(bytes: &[u8]) -> Result<((u8, u16), &[u8]), ReadError>
     ensures read { Gives (λ x. (x.0, x.1.now)) result (front.read bytes.now) }
     ensures no_memory { IfErr result (λ e. e ≢ errors.Memory) }
 {
-    let rest = header_at(bytes)?;
-    u16_at_most(256, rest)
+    let (version, rest) = header_at(bytes)?;
+    let (count, rest) = u16_at_most(256, rest)?;
+    Ok(((version, count), rest))
 }
 
-/// The image of a scenario.
+/// The image of a scenario, read with its version.
 struct Image;
 
 impl Format for Image {
+    ghost use Rattle.std.specs.Prelude.{ℕ};
     ghost use Rattle.scenario_image.specs.Scenario.{Scenario};
     ghost use Rattle.scenario_image.specs.Image.{image};
 
-    type Value = Scenario;
+    type Value = (u8, Scenario);
 
-    ghost Data = { Scenario };
+    ghost Data = { ℕ × Scenario };
 
-    ghost view = { λ s. s };
+    ghost view = { λ x. (x.0, x.1) };
 
     ghost layout = { image };
 
     #[tactic(auto, unfolding(crate::specs::Image::image))]
-    fn read(alloc: Global, bytes: &[u8]) -> Result<(Scenario, &[u8]), ReadError> {
-        let rest = header_at(bytes)?;
-        lists_at(alloc, rest)
+    fn read(alloc: Global, bytes: &[u8]) -> Result<((u8, Scenario), &[u8]), ReadError> {
+        let (version, rest) = header_at(bytes)?;
+        let (scenario, rest) = lists_at(alloc, version, rest)?;
+        Ok(((version, scenario), rest))
     }
 }
 
-/// The scenario whose image these bytes are, all of them; else their first fault from the left.
+/// The scenario whose image these bytes are, all of them, in version 1 or 2; else their first fault from the left. The
+/// classes of version 1 send Non-confirmable notifications.
 ///
 /// A count or a length above its limit is `Limit`, one that is too large for the bytes `Cut`, and any other field that
 /// does not fit `BadField`. A place counts bytes from 0 and is the first byte of the field. No room is made for more
@@ -124,15 +131,18 @@ pub fn load(alloc: Global, bytes: &[u8]) -> Result<Scenario, LayoutFault>
     // Another file than an image is refused by its front, before memory is taken.
     match front_at(bytes) {
         Err(error) => Err(fault_at(bytes.len(), error)),
-        Ok(_) => load_all::<Image>(alloc, bytes),
+        Ok(_) => match load_all::<Image>(alloc, bytes) {
+            Err(fault) => Err(fault),
+            Ok((_, scenario)) => Ok(scenario),
+        },
     }
 }
 
-/// Writes classes, one after another. Each of them has bytes.
+/// Writes classes, one after another, as version 2 has them. Each of them has bytes.
 fn put_each_class(out: &mut Vec<u8>, list: &[Template]) -> Result<(), AllocError>
-    ensures good { OnOk result ((each (λ before. class) (length list.now) []).Good list.now) }
+    ensures good { OnOk result ((each (λ before. class 2) (length list.now) []).Good list.now) }
     ensures bytes { OnOk result (out.new.items ≡ out.old.items
-        ++ (each (λ before. class) (length list.now) []).spell list.now) }
+        ++ (each (λ before. class 2) (length list.now) []).spell list.now) }
 {
     for template in list {
         put_class(out, template)?;
@@ -144,8 +154,8 @@ fn put_each_class(out: &mut Vec<u8>, list: &[Template]) -> Result<(), AllocError
 #[tactic(auto, using(crate::proofs::Saving::few_good), unfolding(crate::specs::Image::classes))]
 fn put_classes(out: &mut Vec<u8>, list: &[Template]) -> Result<(), AllocError>
     requires { length list.now ≤ 256 }
-    ensures good { OnOk result (classes.Good list.now) }
-    ensures bytes { OnOk result (out.new.items ≡ out.old.items ++ classes.spell list.now) }
+    ensures good { OnOk result ((classes 2).Good list.now) }
+    ensures bytes { OnOk result (out.new.items ≡ out.old.items ++ (classes 2).spell list.now) }
 {
     put_u16(out, list.len() as u16)?;
     put_each_class(out, list)?;
@@ -155,8 +165,8 @@ fn put_classes(out: &mut Vec<u8>, list: &[Template]) -> Result<(), AllocError>
 /// Writes the classes and the rows.
 #[tactic(auto, using(crate::proofs::Saving::lists_good, crate::proofs::Saving::valid_rows), unfolding(crate::specs::Image::lists))]
 fn put_lists(out: &mut Vec<u8>, scenario: &Scenario) -> Result<(), AllocError>
-    ensures good { OnOk result (lists.Good scenario.now) }
-    ensures bytes { OnOk result (out.new.items ≡ out.old.items ++ lists.spell scenario.now) }
+    ensures good { OnOk result ((lists 2).Good scenario.now) }
+    ensures bytes { OnOk result (out.new.items ≡ out.old.items ++ (lists 2).spell scenario.now) }
 {
     let rows = scenario.all_rows();
     let classes = scenario.all_classes();
@@ -165,22 +175,22 @@ fn put_lists(out: &mut Vec<u8>, scenario: &Scenario) -> Result<(), AllocError>
     Ok(())
 }
 
-/// Writes the image.
+/// Writes the image of version 2.
 #[tactic(auto, using(crate::proofs::Saving::image_good), unfolding(crate::specs::Image::image))]
 fn put_image(out: &mut Vec<u8>, scenario: &Scenario) -> Result<(), AllocError>
-    ensures good { OnOk result (image.Good scenario.now) }
-    ensures bytes { OnOk result (out.new.items ≡ out.old.items ++ image.spell scenario.now) }
+    ensures good { OnOk result (image.Good (2, scenario.now)) }
+    ensures bytes { OnOk result (out.new.items ≡ out.old.items ++ image.spell (2, scenario.now)) }
 {
     put_u32(out, 0x4C57_5343)?;
-    put_u8(out, 1)?;
+    put_u8(out, 2)?;
     put_lists(out, scenario)?;
     Ok(())
 }
 
-/// The image of the scenario. Every scenario has one; it fails only where memory runs out.
+/// The image of the scenario in version 2. Every scenario has one; it fails only where memory runs out.
 pub fn save(alloc: Global, scenario: &Scenario) -> Result<Vec<u8>, AllocError>
-    ensures image { IfOk result (λ v. IsImage v.items scenario.now) }
-    ensures again { IfOk result (λ v. read_all image v.items ≡ Ok scenario.now) }
+    ensures image { IfOk result (λ v. IsImageIn 2 v.items scenario.now) }
+    ensures again { IfOk result (λ v. read_all image v.items ≡ Ok (2, scenario.now)) }
 {
     let mut out = Vec::new(alloc);
     put_image(&mut out, scenario)?;

@@ -1,13 +1,13 @@
 -- The layout of a class is exact.
-use Rattle.std.proofs.Common.{◌≡◌, ℕ, true, List, [], ◌++◌, map, length, refl, sym, ap, ◌∙◌}
-use Rattle.std.specs.Prelude.{nat_lt, ◌&&◌, is_some}
+use Rattle.std.proofs.Common.{◌≡◌, ℕ, Bool, true, false, List, [], ◌++◌, map, length, refl, sym, ap, ◌∙◌}
+use Rattle.std.specs.Prelude.{nat_lt, ◌==◌, ◌&&◌, is_some, not}
 use Rattle.std.specs.List.{list_all}
 use Rattle.std.specs.Ordering.{is_lt}
 use Rattle.std.specs.Int.{w8, w16}
 use Rattle.std.specs.FinMap as finite
 use Rattle.byte_layout.specs.Layout.{number, at_most, last}
 use Rattle.byte_layout.specs.Exact.{IsExact}
-use Rattle.byte_layout.proofs.Layouts.{fits_exact, at_most_exact, split_exact, last_exact}
+use Rattle.byte_layout.proofs.Layouts.{fits_exact, at_most_exact, done_exact, split_exact, last_exact}
 use Rattle.byte_layout.proofs.Lists.{counted_exact}
 use Rattle.lwm2m_values.specs.declared.value.Value.{Value}
 use Rattle.object_defs.specs.Base.{base}
@@ -20,17 +20,30 @@ use Rattle.scenario_layout.specs.Definition.{resources}
 use Rattle.scenario_layout.proofs.ExactValue.{byte_exact, short_exact, place_exact, path_exact, value_exact}
 use Rattle.scenario_layout.proofs.Definitions.{resources_exact}
 use Rattle.device_template.specs.Template.{Template, most_accounts, account_fault, object_fault, instance_fault}
-use Rattle.device_template.specs.Template.{kind_taken}
+use Rattle.device_template.specs.Template.{kind_taken, empty_class, is_notify, with_notify}
 use Rattle.scenario_layout.specs.Class.{objects_in, instances_in, values_in, with_accounts, with_objects}
 use Rattle.scenario_layout.specs.Class.{with_instances, with_values, is_taken, account, accounts, defined, object_id}
 use Rattle.scenario_layout.specs.Class.{object, objects, instance, instances, value_path, entry, values}
-use Rattle.scenario_layout.specs.Class.{behind_instances, behind_objects, behind_accounts, class}
+use Rattle.scenario_layout.specs.Class.{behind_instances, behind_objects, behind_accounts, behind_notify, class}
+use Rattle.scenario_layout.specs.Class.{notify, notify_if, notify_in}
 use Rattle.scenario_layout.proofs.Ordered.{both_true, is_true, ascends, map_same, map_units}
+
+notify_exact : IsExact notify
+unfolding notify
+notify_exact = fits_exact is_notify (number w8) byte_exact
+
+notify_if_exact : (b : Bool) → IsExact (notify_if b)
+notify_if_exact true = notify_exact
+notify_if_exact false = done_exact 0
+
+notify_in_exact : (version : ℕ) → IsExact (notify_in version)
+unfolding notify_in
+notify_in_exact version = notify_if_exact (not (version == 1))
 
 account_exact : (before : List ℕ) → IsExact (account before)
 unfolding account
 account_exact before =
-    fits_exact (λ n. list_all (λ m. nat_lt m n) before && is_taken (account_fault (with_accounts before) n))
+    fits_exact (λ n. list_all (λ m. nat_lt m n) before && is_taken (account_fault (with_accounts empty_class before) n))
     (number w16) short_exact
 
 accounts_exact : IsExact accounts
@@ -136,9 +149,16 @@ behind_accounts_exact c =
     (λ defs good. behind_objects_exact (with_objects c defs))
     (λ defs good a h. ap objects_in h.1.1)
 
-pub class_exact : IsExact class
-unfolding class behind_accounts behind_objects behind_instances
-class_exact =
-    split_exact (λ c. c.accounts) accounts (λ numbers. behind_accounts (with_accounts numbers)) accounts_exact
-    (λ numbers good. behind_accounts_exact (with_accounts numbers))
-    (λ numbers good a h. ap (λ c. c.accounts) h.1.1.1)
+behind_notify_exact : (c : Template) → IsExact (behind_notify c)
+unfolding behind_notify behind_accounts behind_objects behind_instances
+behind_notify_exact c =
+    split_exact (λ k. k.accounts) accounts (λ numbers. behind_accounts (with_accounts c numbers)) accounts_exact
+    (λ numbers good. behind_accounts_exact (with_accounts c numbers))
+    (λ numbers good a h. ap (λ k. k.accounts) h.1.1.1)
+
+pub class_exact : (version : ℕ) → IsExact (class version)
+unfolding class behind_notify behind_accounts behind_objects behind_instances
+class_exact version =
+    split_exact (λ c. c.notify) (notify_in version) (λ seconds. behind_notify (with_notify empty_class seconds))
+    (notify_in_exact version) (λ seconds good. behind_notify_exact (with_notify empty_class seconds))
+    (λ seconds good a h. ap (λ c. c.notify) h.1.1.1.1)

@@ -55,7 +55,7 @@ refused faults.Full left r h = h (λ (e : faults.Full ≡ faults.Memory). cc)
 pub accounts_same : (c : Template) (xs before : List ℕ) → account before ≡ account before
 accounts_same c xs before = refl
 
-pub accounts_twice : (c : Template) (xs ys : List ℕ) → with_accounts ys ≡ with_accounts ys
+pub accounts_twice : (c : Template) (xs ys : List ℕ) → with_accounts (with_accounts c xs) ys ≡ with_accounts c ys
 accounts_twice c xs ys = refl
 
 -- ---- objects

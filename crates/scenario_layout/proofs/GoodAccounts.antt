@@ -9,7 +9,7 @@ use Rattle.std.proofs.lemmas.Bool.Decides.{nat_tests}
 use Rattle.byte_layout.proofs.Fields.{number_good}
 use Rattle.device_template.specs.Template.{Template}
 use Rattle.device_template.specs.Built.{IsBuilt}
-use Rattle.device_template.specs.Built.IsBuilt.{nothing, account, object, resource, instance, value}
+use Rattle.device_template.specs.Built.IsBuilt.{nothing, account, object, resource, instance, value, notify}
 use Rattle.device_template.proofs.Ascending.{Rises, rises}
 use Rattle.scenario_layout.specs.Class.{accounts}
 use Rattle.scenario_layout.specs.Class as layout
@@ -40,6 +40,7 @@ has_accounts _ (object {class} id built free) = has_accounts class built
 has_accounts _ (resource {class} id d short built free) = has_accounts class built
 has_accounts _ (instance {class} place short built free) = has_accounts class built
 has_accounts _ (value {class} p v short good built free) = has_accounts class built
+has_accounts _ (notify {class} seconds built fits) = has_accounts class built
 
 small : (n : ℕ) → IsServer n → n < 65536
 small n h = grind (arith, nat_tests)

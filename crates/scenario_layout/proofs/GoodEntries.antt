@@ -37,7 +37,7 @@ use Rattle.device_template.specs.Values.{fits, fits_object, fits_resource, has_a
 use Rattle.device_template.specs.Values.{instance_at, is_set_at_start, resource_at}
 use Rattle.lwm2m_values.specs.Value.{has_good_length}
 use Rattle.device_template.specs.Built.{IsBuilt, IsShort}
-use Rattle.device_template.specs.Built.IsBuilt.{nothing, account, object, resource, instance, value as added}
+use Rattle.device_template.specs.Built.IsBuilt.{nothing, account, object, resource, instance, value as added, notify}
 use Rattle.scenario_layout.specs.Class.{values_in, with_values, values}
 use Rattle.scenario_layout.specs.Class as layout
 use Rattle.scenario_layout.proofs.Between.{all_of, all_more, all_weaker, length_more, taken_more, taken_before, shorter}
@@ -277,6 +277,7 @@ has_values _ (instance {class} place short built free) =
       few = before.few;
     }
 has_values _ (added {class} p v short good built free) = value_more class p v short good (has_values class built) free
+has_values _ (notify {class} seconds built fits) = has_values class built
 
 -- ---- their bytes
 

@@ -25,7 +25,7 @@ use Rattle.instance_store.specs.Stored.{Stored, instances_of}
 use Rattle.scenario_layout.proofs.GoodValue.{place_good}
 use Rattle.device_template.specs.Template.{Template, instance_fault, may_stand}
 use Rattle.device_template.specs.Built.{IsBuilt}
-use Rattle.device_template.specs.Built.IsBuilt.{nothing, account, object, resource, instance, value}
+use Rattle.device_template.specs.Built.IsBuilt.{nothing, account, object, resource, instance, value, notify}
 use Rattle.scenario_layout.specs.Class.{instances_in, with_instances, instances}
 use Rattle.scenario_layout.specs.Class as layout
 use Rattle.scenario_layout.proofs.Between.{all_of, all_more, all_weaker, taken_more, taken_before, each_good, found_any}
@@ -147,6 +147,7 @@ has_instances _ (instance {class} place short built free) =
     instance_more class.catalogue class.store place short (has_instances class built) (not_false _ lines.0)
     (not_false _ lines.1) (not_there _ lines.2) (below _ 64 lines.3)
 has_instances _ (value {class} p v short good built free) = has_instances class built
+has_instances _ (notify {class} seconds built fits) = has_instances class built
 
 -- ---- how many instances there are: 64 of an object at most
 

@@ -26,7 +26,7 @@ use Rattle.scenario_layout.specs.Definition as defs
 use Rattle.scenario_layout.proofs.Definitions.{resource_good}
 use Rattle.device_template.specs.Template.{Template, fault_of}
 use Rattle.device_template.specs.Built.{IsBuilt}
-use Rattle.device_template.specs.Built.IsBuilt.{nothing, account, object, resource, instance, value}
+use Rattle.device_template.specs.Built.IsBuilt.{nothing, account, object, resource, instance, value, notify}
 use Rattle.device_template.proofs.Ascending.{Rises, rises-inserted}
 use Rattle.scenario_layout.specs.Class.{objects_in, defined, objects}
 use Rattle.scenario_layout.specs.Class as layout
@@ -261,6 +261,7 @@ has_objects _ (resource {class} id d short built free) =
     resource_more class.catalogue id d short (has_objects class built) (no_fault _ free)
 has_objects _ (instance {class} place short built free) = has_objects class built
 has_objects _ (value {class} p v short good built free) = has_objects class built
+has_objects _ (notify {class} seconds built fits) = has_objects class built
 
 -- ---- their bytes
 

@@ -31,7 +31,7 @@ use Rattle.object_defs.proofs.PathOrder.{path_total, instance_total}
 use Rattle.scenario_layout.specs.Value.{place, path, value, kind_number, kind_numbered, fits}
 use Rattle.scenario_layout.proofs.ExactValue.{value_exact}
 use Rattle.device_template.specs.Template.{Template, with_catalogue, with_store, account_fault, object_fault, fault_of}
-use Rattle.device_template.specs.Template.{kind_taken, value_fault, value_fault_at}
+use Rattle.device_template.specs.Template.{empty_class, kind_taken, value_fault, value_fault_at, with_account}
 use Rattle.device_template.specs.Values.{has_kind, with_value_at}
 use Rattle.lwm2m_values.specs.Value.{has_good_length}
 use Rattle.device_template.specs.declared.fault.TemplateFault.{TemplateFault}
@@ -53,7 +53,8 @@ not_refused (Some f) r x ok refuses = let e : r ≡ Err f = refuses f refl in cc
 -- ---- accounts
 
 abbrev account_test : List ℕ → ℕ → Bool
-account_test before n = list_all (λ m. nat_lt m n) before && is_taken (account_fault (with_accounts before) n)
+account_test before n =
+    list_all (λ m. nat_lt m n) before && is_taken (account_fault (with_accounts empty_class before) n)
 
 pub account_low : (before : List ℕ) (bytes : List ℕ) (n : ℕ) (rest : List ℕ) → (number w16).read bytes ≡ Ok (n, rest)
     → list_all (λ m. nat_lt m n) before ≡ false
@@ -61,17 +62,20 @@ pub account_low : (before : List ℕ) (bytes : List ℕ) (n : ℕ) (rest : List 
 unfolding account
 account_low before bytes n rest read low =
     failed (account_test before) (number w16) before bytes n rest read
-    (ap (λ b. b && is_taken (account_fault (with_accounts before) n)) low)
+    (ap (λ b. b && is_taken (account_fault (with_accounts empty_class before) n)) low)
 
 pub account_fits : (before : List ℕ) (u : Template) (bytes : List ℕ) (n : ℕ) (rest : List ℕ)
     → (number w16).read bytes ≡ Ok (n, rest) → list_all (λ m. nat_lt m n) before ≡ true
-    → account_fault (with_accounts before) n ≡ None → u.accounts ≡ inserted (λ a. a) n before
+    → account_fault (with_accounts empty_class before) n ≡ None → u.accounts ≡ inserted (λ a. a) n before
     → grown before ((account before).read bytes) ≡ Ok (u.accounts, rest)
 unfolding account
 account_fits before u bytes n rest read above free more =
     passed (account_test before) (number w16) before bytes n rest read
-    (ap (λ b. b && is_taken (account_fault (with_accounts before) n)) above ∙ taken_none _ free)
+    (ap (λ b. b && is_taken (account_fault (with_accounts empty_class before) n)) above ∙ taken_none _ free)
     ∙ ap (λ xs. Ok (xs, rest)) (sym (more ∙ inserted_end (λ a. a) n before above))
+
+pub account_made : (c u : Template) (n : ℕ) → u ≡ with_account c n → u ≡ with_accounts c u.accounts
+account_made c u n e = e ∙ ap (with_accounts c) (sym (ap (λ k. k.accounts) e))
 
 -- ---- objects
 

@@ -1,11 +1,12 @@
--- A class of devices as bytes, in this profile's image of a scenario.
-use Rattle.std.specs.Prelude.{ℕ, ◌&&◌, not, Bool, nat_lt, List, ◌++◌, length, map, drop, Option, is_some}
+-- A class of devices as bytes, in this profile's images of a scenario. Version 2 begins with how its devices notify.
+use Rattle.std.specs.Prelude.{ℕ, ◌==◌, ◌&&◌, not, Bool, true, false, nat_lt, List, ◌++◌, length, map, drop, Option}
+use Rattle.std.specs.Prelude.{is_some}
 use Rattle.std.specs.List.{list_all}
 use Rattle.std.specs.Int.{w8, w16}
 use Rattle.std.specs.Ordering.{is_lt}
 use Rattle.std.specs.FinMap as finite
 use Rattle.byte_layout.specs.declared.fault.Break.TheVariants.{BadField}
-use Rattle.byte_layout.specs.Layout.{Layout, number, judged, at_most, split, last, counted}
+use Rattle.byte_layout.specs.Layout.{Layout, number, judged, at_most, done, split, last, counted}
 use Rattle.lwm2m_values.specs.declared.value.Value.{Value}
 use Rattle.object_defs.specs.Base.{base}
 use Rattle.object_defs.specs.Path.{path_cmp, instance_cmp}
@@ -16,8 +17,9 @@ use Rattle.object_defs.specs.declared.path.InstancePath.{InstancePath}
 use Rattle.scenario_layout.specs.Value.{place, path, value}
 use Rattle.scenario_layout.specs.Definition.{resources}
 use Rattle.device_template.specs.declared.fault.TemplateFault.{TemplateFault}
-use Rattle.device_template.specs.Template.{Template, empty_class, with_catalogue, with_store, most_accounts}
-use Rattle.device_template.specs.Template.{account_fault, object_fault, instance_fault, kind_taken}
+use Rattle.device_template.specs.Template.{Template, empty_class, with_catalogue, with_notify, with_store}
+use Rattle.device_template.specs.Template.{account_fault, object_fault, instance_fault, kind_taken, is_notify}
+use Rattle.device_template.specs.Template.{most_accounts}
 
 -- ---- what is written of a class, each in ascending order
 
@@ -33,8 +35,9 @@ values_in c = finite.entries c.store.values
 
 -- ---- a class that has these
 
-abbrev pub with_accounts : List ℕ → Template
-with_accounts accounts = record { accounts = accounts; catalogue = empty_class.catalogue; store = empty_class.store }
+abbrev pub with_accounts : Template → List ℕ → Template
+with_accounts c accounts =
+    record { accounts = accounts; catalogue = c.catalogue; store = c.store; notify = c.notify }
 
 abbrev pub with_objects : Template → List ObjectDef → Template
 with_objects c objects = with_catalogue c (base ++ objects)
@@ -52,11 +55,24 @@ with_values c values = with_store c (record { values = finite.from_sorted values
 abbrev pub is_taken : Option TemplateFault → Bool
 is_taken fault = not (is_some fault)
 
+-- how the devices of a class notify: the first timeout of their Confirmable notifications in seconds, or 0
+unfoldable pub notify : Layout ℕ
+notify = judged BadField is_notify (number w8)
+
+-- where there is no such byte, they send Non-confirmable notifications
+abbrev pub notify_if : Bool → Layout ℕ
+notify_if true = notify
+notify_if false = done 0
+
+-- version 1 has no such byte
+unfoldable pub notify_in : ℕ → Layout ℕ
+notify_in version = notify_if (not (version == 1))
+
 -- an account above those before it, which the class takes
 unfoldable pub account : List ℕ → Layout ℕ
 account before =
-    judged BadField (λ n. list_all (λ m. nat_lt m n) before && is_taken (account_fault (with_accounts before) n))
-    (number w16)
+    judged BadField (λ n. list_all (λ m. nat_lt m n) before
+    && is_taken (account_fault (with_accounts empty_class before) n)) (number w16)
 
 unfoldable pub accounts : Layout (List ℕ)
 accounts = counted (at_most most_accounts (number w8)) account
@@ -101,7 +117,7 @@ entry c before =
 unfoldable pub values : Template → Layout (List (FullPath × Value))
 values c = counted (number w16) (entry c)
 
--- ---- the class: its accounts, the objects of its own, its instances, its values
+-- ---- the class: how it notifies, its accounts, the objects of its own, its instances, its values
 
 unfoldable pub behind_instances : Template → Layout Template
 behind_instances c = last values_in (with_values c) (values c)
@@ -112,5 +128,9 @@ behind_objects c = split instances_in (instances c) (λ places. behind_instances
 unfoldable pub behind_accounts : Template → Layout Template
 behind_accounts c = split objects_in (objects c) (λ defs. behind_objects (with_objects c defs))
 
-unfoldable pub class : Layout Template
-class = split (λ c. c.accounts) accounts (λ numbers. behind_accounts (with_accounts numbers))
+unfoldable pub behind_notify : Template → Layout Template
+behind_notify c = split (λ c. c.accounts) accounts (λ numbers. behind_accounts (with_accounts c numbers))
+
+-- a class, in an image of this version
+unfoldable pub class : ℕ → Layout Template
+class version = split (λ c. c.notify) (notify_in version) (λ seconds. behind_notify (with_notify empty_class seconds))

@@ -1,10 +1,13 @@
-//! A class of devices: its accounts, the objects of its own, its instances, its values.
+//! A class of devices: how it notifies, its accounts, the objects of its own, its instances, its values.
 
-ghost use Rattle.std.specs.Prelude.{◌≡◌};
+ghost use Rattle.std.specs.Prelude.{◌≡◌, [], OnOk};
 ghost use Rattle.byte_layout.specs.Outcome.{Gives};
 ghost use Rattle.std.specs.FinMap as finite;
+ghost use Rattle.device_template.specs.Template.{empty_class, with_notify};
 ghost use Rattle.instance_store.specs.Stored.{empty};
-ghost use Rattle.scenario_layout.specs.Class.{behind_accounts, behind_instances, behind_objects, class, with_accounts};
+ghost use Rattle.object_defs.specs.Base.{base};
+ghost use Rattle.scenario_layout.specs.Class.{behind_accounts, behind_instances, behind_notify, behind_objects, class};
+ghost use Rattle.scenario_layout.specs.Class.{notify_in};
 
 mod accounts;
 mod definitions;
@@ -17,23 +20,60 @@ mod writing;
 use self::accounts::accounts_at;
 use self::instances::instances_at;
 use self::objects::objects_at;
+use self::refusal::refusal;
 use self::values::values_at;
-use byte_layout::ReadError;
+use byte_layout::{ReadError, u8_at};
 use device_template::Template;
 use std::alloc::Global;
 pub use writing::put_class;
 
-/// A class at the front of the bytes, and the bytes after it; else the first break from the left, or `Memory`.
+/// A class at the front of the bytes, in an image of this version, and the bytes after it; else the first break from
+/// the left, or `Memory`.
 ///
 /// No room is made for more than is read, so a count that is too large for the bytes costs nothing before it is Cut.
 #[tactic(auto, unfolding(crate::specs::Class::class))]
-pub fn class_at(alloc: Global, bytes: &[u8]) -> Result<(Template, &[u8]), ReadError>
-    ensures { Gives (λ x. (x.0, x.1.now)) result (class.read bytes.now) }
+pub fn class_at(alloc: Global, version: u8, bytes: &[u8]) -> Result<(Template, &[u8]), ReadError>
+    ensures { Gives (λ x. (x.0, x.1.now)) result ((class version).read bytes.now) }
 {
     let mut template = Template::new(alloc)?;
-    let rest = accounts_at(&mut template, bytes)?;
-    let rest = behind_accounts_at(alloc, &mut template, rest)?;
+    let rest = notify_at(&mut template, version, bytes)?;
+    let rest = behind_notify_at(alloc, &mut template, rest)?;
     Ok((template, rest))
+}
+
+/// Sets how the devices of an empty class notify; version 1 does not say it.
+#[tactic(auto, unfolding(crate::specs::Class::notify_in, crate::specs::Class::notify))]
+fn notify_at<'a>(
+    template: &mut Template,
+    version: u8,
+    bytes: &'a [u8],
+) -> Result<&'a [u8], ReadError>
+    requires { template.now ≡ empty_class }
+    ensures read { Gives (λ rest. (template.new.notify, rest.now)) result ((notify_in version).read bytes.now) }
+    ensures made { OnOk result (template.new ≡ with_notify empty_class template.new.notify) }
+{
+    if version == 1 {
+        return Ok(bytes);
+    }
+    let (seconds, rest) = u8_at(bytes)?;
+    if let Err(fault) = template.set_notify(seconds) {
+        return Err(refusal(fault, bytes.len()));
+    }
+    Ok(rest)
+}
+
+/// Adds what stands after how it notifies to a class that has nothing else yet.
+#[tactic(auto, unfolding(crate::specs::Class::behind_notify))]
+fn behind_notify_at<'a>(
+    alloc: Global,
+    template: &mut Template,
+    bytes: &'a [u8],
+) -> Result<&'a [u8], ReadError>
+    requires { template.now ≡ with_notify empty_class template.now.notify }
+    ensures { Gives (λ rest. (template.new, rest.now)) result ((behind_notify template.old).read bytes.now) }
+{
+    let rest = accounts_at(template, bytes)?;
+    behind_accounts_at(alloc, template, rest)
 }
 
 /// Adds what stands after the accounts to a class that has nothing else yet.
@@ -43,7 +83,8 @@ fn behind_accounts_at<'a>(
     template: &mut Template,
     bytes: &'a [u8],
 ) -> Result<&'a [u8], ReadError>
-    requires { template.now ≡ with_accounts template.now.accounts }
+    requires base { template.now.catalogue ≡ base }
+    requires empty { template.now.store ≡ empty }
     ensures { Gives (λ rest. (template.new, rest.now)) result ((behind_accounts template.old).read bytes.now) }
 {
     let rest = objects_at(alloc, template, bytes)?;

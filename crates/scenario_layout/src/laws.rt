@@ -1,6 +1,6 @@
 //! What follows from the layouts, for their readers. The calls do nothing; their contracts are the laws.
 
-ghost use Rattle.std.specs.Prelude.{◌≡◌, ◌<◌, ◌≤◌, All, length, true, nat_lt, List, Option, IfSome};
+ghost use Rattle.std.specs.Prelude.{◌≡◌, ◌<◌, ◌≤◌, ℕ, ◌∷◌, All, length, true, nat_lt, List, Option, IfSome};
 ghost use Rattle.std.specs.List.{list_all};
 ghost use Rattle.byte_layout.specs.Exact.{IsBytes, IsExact};
 ghost use Rattle.lwm2m_values.specs.declared.kind.ValueKind.{ValueKind};
@@ -23,7 +23,7 @@ pub fn exact_layouts()
     ensures value { (wanted : Option ValueKind) → IsExact (value wanted) }
     ensures definition { (before : List ResourceDef) → IsExact (resource before) }
     ensures definitions { IsExact resources }
-    ensures class { IsExact class }
+    ensures class { (version : ℕ) → IsExact (class version) }
 {}
 
 /// What has bytes: paths of numbers below 65,536; valid values whose kind fits, and only those, if what they spell is
@@ -43,9 +43,12 @@ pub fn what_has_bytes()
         → (resource before).Good r }
 {}
 
-/// Each class that there is has bytes.
+/// Each class that there is has bytes in version 2, and in version 1 where its notifications are Non-confirmable. Those
+/// of version 2 are a byte more, the first, which says how it notifies.
 pub fn class_has_bytes(template: &Template)
-    ensures { class.Good template.now }
+    ensures second { (class 2).Good template.now }
+    ensures first { template.now.notify ≡ 0 → (class 1).Good template.now }
+    ensures longer { (class 2).spell template.now ≡ template.now.notify ∷ (class 1).spell template.now }
 {
     // A template's accounts are known to be those of a class that accepted additions made.
     let _accounts = template.accounts();

@@ -97,6 +97,8 @@ definition_again d h =
 pub statement_again : (s : Statement) → IsSayable s → statement_of (spelled s) ≡ Ok (Some s)
 statement_again says.Scenario h = refl
 statement_again says.Class h = refl
+statement_again (says.Notify n) h =
+    numbered (λ m. says.Notify m) (only_number 2 3 (decimal n ∷ [])) n (only_again 2 3 n (omega arith) h)
 statement_again (says.Account s) h =
     numbered (λ m. says.Account m) (only_number 1 65534 (decimal s ∷ [])) s (only_again 1 65534 s (omega arith) h)
 statement_again (says.Object o) h =
@@ -183,6 +185,9 @@ valued_shown keyword p v k h m =
 stands : (s : Statement) → IsSayable s → Stands s
 stands says.Scenario h = bare_stands says.Scenario refl
 stands says.Class h = bare_stands says.Class refl
+stands (says.Notify n) h =
+    bare_stands (says.Notify n) (two_bare (codes "notify") (codes "con") (decimal n) refl refl
+    (small_bare 3 n (omega arith) h.1))
 stands (says.Account s) h =
     bare_stands (says.Account s) (one_bare (codes "account") (decimal s) refl (small_bare 65534 s (omega arith) h.1))
 stands (says.Object o) h =

@@ -29,12 +29,23 @@ abbrev pub one_of : List ℕ → List ℕ → List ℕ → Result Bool Cause
 one_of first second w =
     if bytes_eq w first then Ok true else (if bytes_eq w second then Ok false else Err (name_fault w))
 
+-- this name and no other
+abbrev pub named : List ℕ → List ℕ → Result (Unit {0}) Cause
+named name w = if bytes_eq w name then Ok tt else Err (name_fault w)
+
 -- one number from low to high, and no word after it
 abbrev pub only_number : ℕ → ℕ → List (List ℕ) → Result ℕ Cause
 only_number low high ws = do
   n ← word_by (number_of low high) ws
   e ← ended n.1
   Ok n.0
+
+-- notify con T
+abbrev pub notify : List (List ℕ) → Result Statement Cause
+notify ws = do
+  c ← word_by (named (codes "con")) ws
+  n ← only_number 2 3 c.1
+  Ok (says.Notify n)
 
 -- def R r|w|rw|e single|multiple optional|mandatory KIND
 abbrev pub definition : List (List ℕ) → Result Statement Cause
@@ -108,11 +119,12 @@ abbrev pub statement_by : List ℕ → List (List ℕ) → Result Statement Caus
 statement_by w ws =
     if bytes_eq w (codes "scenario") then (only_number 1 1 ws >>= (λ n. Ok says.Scenario))
     else (if bytes_eq w (codes "class") then (ended ws >>= (λ e. Ok says.Class))
+    else (if bytes_eq w (codes "notify") then notify ws
     else (if bytes_eq w (codes "account") then (only_number 1 65534 ws >>= (λ n. Ok (says.Account n)))
     else (if bytes_eq w (codes "object") then (only_number 10241 32768 ws >>= (λ n. Ok (says.Object n)))
     else (if bytes_eq w (codes "def") then definition ws
     else (if bytes_eq w (codes "instance") then instance ws
-    else (if bytes_eq w (codes "value") then value ws else of_device w ws))))))
+    else (if bytes_eq w (codes "value") then value ws else of_device w ws)))))))
 
 -- what a statement was read as, where one was
 abbrev pub some : Result Statement Cause → Result (Option Statement) Cause

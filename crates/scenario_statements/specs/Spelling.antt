@@ -32,6 +32,7 @@ value_words keyword p v = keyword ∷ path_text p ∷ kind_word (kind_of v) ∷ 
 abbrev pub spelled : Statement → List (List ℕ)
 spelled says.Scenario = codes "scenario" ∷ codes "1" ∷ []
 spelled says.Class = codes "class" ∷ []
+spelled (says.Notify n) = codes "notify" ∷ codes "con" ∷ decimal n ∷ []
 spelled (says.Account s) = codes "account" ∷ decimal s ∷ []
 spelled (says.Object o) = codes "object" ∷ decimal o ∷ []
 spelled (says.Def d) =
@@ -61,6 +62,7 @@ IsWithin low high n = (low ≤ n) × (n ≤ high)
 abbrev pub IsSayable : Statement → Type 0
 IsSayable says.Scenario = Unit {0}
 IsSayable says.Class = Unit {0}
+IsSayable (says.Notify n) = IsWithin 2 3 n
 IsSayable (says.Account s) = IsWithin 1 65534 s
 IsSayable (says.Object o) = IsWithin 10241 32768 o
 IsSayable (says.Def d) = d.id < 65536

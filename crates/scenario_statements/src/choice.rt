@@ -1,9 +1,9 @@
-//! Words of which one of some names may stand: operations, and choices of two.
+//! Words of which one of some names may stand: operations, choices of two, and one name alone.
 
 ghost use Rattle.std.specs.Prelude.{◌≡◌};
 ghost use Rattle.scenario_words.specs.Words.{words};
 ghost use Rattle.scenario_words.specs.Reading.{Gives, word_by};
-ghost use Rattle.scenario_statements.specs.Grammar.{one_of, ops_named};
+ghost use Rattle.scenario_statements.specs.Grammar.{named, one_of, ops_named};
 
 use object_defs::Ops;
 use scenario_words::{Cause, first_word, is_name, name_fault};
@@ -58,4 +58,23 @@ pub(crate) fn choice<'a>(
     let (word, line) = first_word(line)?;
     let chosen = one_of(alloc, first, second, word)?;
     Ok((chosen, line))
+}
+
+fn named(alloc: Global, name: &str, word: &[u8]) -> Result<(), Cause>
+    ensures { Gives (λ u. u) result (named name.now word.now) }
+{
+    if is_name(word, name) {
+        Ok(())
+    } else {
+        Err(name_fault(alloc, word))
+    }
+}
+
+/// The line after its first word, which has to be this name.
+pub(crate) fn after_name<'a>(alloc: Global, name: &str, line: &'a [u8]) -> Result<&'a [u8], Cause>
+    ensures { Gives (λ rest. (tt, words rest.now)) result (word_by (named name.now) (words line.now)) }
+{
+    let (word, line) = first_word(line)?;
+    named(alloc, name, word)?;
+    Ok(line)
 }

@@ -4,10 +4,10 @@ ghost use Rattle.std.specs.Prelude.{◌≡◌, ◌≤◌, IfOk};
 ghost use Rattle.scenario_words.specs.Words.{words};
 ghost use Rattle.scenario_words.specs.Reading.{Gives, Reads};
 ghost use Rattle.scenario_mnemonics.specs.MnemonicWords.{keyword_named};
-ghost use Rattle.scenario_statements.specs.Grammar.{definition, instance, need, of_device, only_number, put, recv};
-ghost use Rattle.scenario_statements.specs.Grammar.{request, statement_by, statement_of, value};
+ghost use Rattle.scenario_statements.specs.Grammar.{definition, instance, need, notify, of_device, only_number, put};
+ghost use Rattle.scenario_statements.specs.Grammar.{recv, request, statement_by, statement_of, value};
 
-use crate::choice::{choice, ops};
+use crate::choice::{after_name, choice, ops};
 use crate::statement::Statement;
 use object_defs::{InstancePath, ResourceDef};
 use scenario_mnemonics::{Keyword, read as read_mnemonic};
@@ -25,6 +25,14 @@ fn only_number(line: &[u8], low: u64, high: u64) -> Result<u64, Cause>
     let (number, line) = natural(line, low, high)?;
     end(line)?;
     Ok(number)
+}
+
+fn notify(alloc: Global, line: &[u8]) -> Result<Statement, Cause>
+    ensures { Gives (λ s. s) result (notify (words line.now)) }
+{
+    let line = after_name(alloc, "con", line)?;
+    let seconds = only_number(line, 2, 3)?;
+    Ok(Statement::Notify(seconds as u8))
 }
 
 fn definition(alloc: Global, line: &[u8]) -> Result<Statement, Cause>
@@ -147,6 +155,8 @@ fn statement_by(alloc: Global, keyword: &[u8], line: &[u8]) -> Result<Statement,
     } else if is_name(keyword, "class") {
         end(line)?;
         Ok(Statement::Class)
+    } else if is_name(keyword, "notify") {
+        notify(alloc, line)
     } else if is_name(keyword, "account") {
         let server = only_number(line, 1, 65534)?;
         Ok(Statement::Account(server as u16))

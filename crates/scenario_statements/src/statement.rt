@@ -10,6 +10,8 @@ pub enum Statement {
     Scenario,
     /// `class`: a class begins.
     Class,
+    /// `notify con T`: the devices of the class send Confirmable notifications, with a first timeout of 2 or 3 seconds.
+    Notify(u8),
     /// `account S`: the class has an account, by its Short Server ID from 1 to 65534.
     Account(u16),
     /// `object O`: the class has an object of its own, by its number from 10241 to 32768.

@@ -73,6 +73,7 @@ pub fn line_of(alloc: Global, statement: &Statement) -> Result<String, AllocErro
     match statement {
         Statement::Scenario => String::from_str(alloc, "scenario 1"),
         Statement::Class => String::from_str(alloc, "class"),
+        Statement::Notify(seconds) => format!(in alloc; "notify con {seconds}"),
         Statement::Account(server) => format!(in alloc; "account {server}"),
         Statement::Object(object) => format!(in alloc; "object {object}"),
         Statement::Def(definition) => definition_line(alloc, definition),

@@ -99,6 +99,7 @@ first_begun d e f false cause kept h = let same : f ≡ e = cc in sym (ap (λ x.
 pub begun_behind : (s : Statement) (d e : Draft) → effect s d ≡ Ok e → e.begun ≡ true
 begun_behind says.Scenario d e h = first_begun d e _ d.begun _ refl h
 begun_behind says.Class d e h = same_begun d e _ _ refl h
+begun_behind (says.Notify seconds) d e h = class_begun_before d e _ _ (λ t. refl) h
 begun_behind (says.Account server) d e h = class_begun_before d e _ _ (λ t. refl) h
 begun_behind (says.Object id) d e h = class_begun_before d e _ _ (λ t. refl) h
 begun_behind (says.Def r) d e h = class_begun_before d e _ _ (λ t. refl) h

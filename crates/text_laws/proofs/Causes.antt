@@ -15,7 +15,7 @@ use Rattle.object_defs.specs.declared.definition.ResourceDef.{ResourceDef}
 use Rattle.object_defs.specs.declared.fault.CatalogFault.TheVariants as catalog
 use Rattle.object_defs.specs.declared.path.FullPath.{FullPath}
 use Rattle.instance_store.specs.Stored.{has_instance, instances_of, value_at, value_count}
-use Rattle.device_template.specs.Template.{Template, fault_of, may_stand, most_accounts}
+use Rattle.device_template.specs.Template.{Template, fault_of, is_notify, may_stand, most_accounts, with_notify}
 use Rattle.device_template.specs.Values.{fits_object, has_all_parts}
 use Rattle.device_template.specs.declared.fault.TemplateFault.TheVariants as template
 use Rattle.device_machine.specs.declared.event.Event.TheVariants as event
@@ -32,7 +32,7 @@ use Rattle.scenario_statements.specs.declared.statement.Statement.{Statement}
 use Rattle.scenario_statements.specs.declared.statement.Statement.TheVariants as says
 use Rattle.scenario_asm.specs.Causes.{needs, scenario_cause, template_cause, unless}
 use Rattle.scenario_asm.specs.ClassLines.{account_added, definition_added, has_object, instance_added, is_stated}
-use Rattle.scenario_asm.specs.ClassLines.{object_added, value_added, value_cause}
+use Rattle.scenario_asm.specs.ClassLines.{notify_set, object_added, value_added, value_cause}
 use Rattle.scenario_asm.specs.Draft.{Draft, closed}
 use Rattle.scenario_asm.specs.Effect.{effect, has_device, has_server, in_class, in_object, knows, reopened}
 use Rattle.scenario_asm.specs.Effect.{reopened_with, step_added}
@@ -79,6 +79,12 @@ of_template true q l x = refl
 of_template false true l x = refl
 of_template false false true x = refl
 of_template false false false x = refl
+
+of_notify : {X : Type 0} (r q : Bool) (x : X)
+    → cause_in (unless (first_line ((r, Range) ∷ (q, Duplicate) ∷ [])) x) ≡ four false r q false
+of_notify true q x = refl
+of_notify false true x = refl
+of_notify false false x = refl
 
 of_catalogue : {X : Type 0} (r q l : Bool) (x : X)
     → cause_in (unless (option_map template_cause (option_map fault_of (first_line ((r, catalog.IdRange)
@@ -229,6 +235,11 @@ begun_twice false x = refl
 pub cause_is : (s : Statement) (d : Draft) → cause_in (effect s d) ≡ first_cause s d
 cause_is says.Scenario d = begun_twice d.begun _
 cause_is says.Class d = needs_only d.begun false false _ _ (of_class_room (nat_le 256 (length (closed d).classes)) _)
+cause_is (says.Notify seconds) d =
+    needs_too d.begun _ _ _ false _ (at_open d (notify_set seconds) (reopened d) (λ o. not (is_some o))
+    (λ o. not (is_notify seconds))
+    (λ o. option_map_or (λ c. not (eqb c.notify 0)) o false) (λ o. false) refl
+    (λ c. of_notify (not (is_notify seconds)) (not (eqb c.notify 0)) (with_notify c seconds)) d.open_class)
 cause_is (says.Account server) d =
     needs_too d.begun _ _ _ _ _ (at_open d (account_added server) (reopened d) (λ o. not (is_some o))
     (λ o. is_unfit (says.Account server) d)

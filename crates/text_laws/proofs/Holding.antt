@@ -1,6 +1,6 @@
 -- A class holds what its part states.
-use Rattle.std.proofs.Common.{◌≡◌, ◌↔◌, ◌⊎◌, inl, inr, ℕ, Bool, true, false, List, [], ◌∷◌, Option, None, Some, Ok}
-use Rattle.std.proofs.Common.{option_map, eqb, refl, sym, ap, subst, ◌∙◌}
+use Rattle.std.proofs.Common.{◌≡◌, ◌↔◌, ◌⊎◌, inl, inr, ℕ, ◌<◌, Bool, true, false, List, [], ◌∷◌, Option, None, Some, Ok}
+use Rattle.std.proofs.Common.{option_map, eqb, eqb-true, refl, sym, ap, subst, ◌∙◌, arith}
 use Rattle.std.specs.Prelude.{is_some, nat_le, not}
 use Rattle.std.specs.FinMap.{get-empty}
 use Rattle.std.specs.List.{list_any}
@@ -16,7 +16,8 @@ use Rattle.object_defs.specs.declared.path.InstancePath.{InstancePath}
 use Rattle.object_defs.specs.declared.path.Path.{Path}
 use Rattle.object_defs.proofs.LookUps.{same_number}
 use Rattle.instance_store.specs.Stored.{has_instance, value_at, value_count, with_instance, with_value}
-use Rattle.device_template.specs.Template.{Template, empty_class, fault_of, with_account, with_catalogue, with_store}
+use Rattle.device_template.specs.Template.{Template, empty_class, fault_of, is_notify, with_account, with_catalogue}
+use Rattle.device_template.specs.Template.{with_notify, with_store}
 use Rattle.device_template.specs.Values.{has_all_parts, with_value_at}
 use Rattle.scenario_words.specs.declared.cause.Cause.TheVariants.{Duplicate, Limit, Range}
 use Rattle.scenario_statements.specs.declared.statement.Statement.{Statement}
@@ -34,6 +35,7 @@ use Rattle.text_laws.proofs.Parted.{parts_are_said}
 
 -- a statement about a class
 abbrev is_of_class : Statement → Bool
+is_of_class (says.Notify seconds) = true
 is_of_class (says.Account server) = true
 is_of_class (says.Object id) = true
 is_of_class (says.Def d) = true
@@ -43,6 +45,8 @@ is_of_class s = false
 
 data IsChange : Statement → Option ℕ → Template → Template → Type 0 where
   none : (s : Statement) (o : Option ℕ) (c : Template) → is_of_class s ≡ false → IsChange s o c c
+  notify : (seconds : ℕ) (o : Option ℕ) (c : Template) → c.notify ≡ 0
+      → IsChange (says.Notify seconds) o c (with_notify c seconds)
   account : (server : ℕ) (o : Option ℕ) (c : Template) → IsChange (says.Account server) o c (with_account c server)
   object : (id : ℕ) (o : Option ℕ) (c : Template) → vendor_fault c.catalogue id ≡ None
       → IsChange (says.Object id) o c (with_catalogue c (with_object c.catalogue id))
@@ -60,6 +64,11 @@ unmapped f (Some x) h = absurd cc
 is_new : {A : Type 0} (o : Option A) → is_some o ≡ false → o ≡ None
 is_new None h = refl
 is_new (Some x) h = absurd cc
+
+is_unset : (a b : Bool) → first_line ((a, Range) ∷ (not b, Duplicate) ∷ []) ≡ None → b ≡ true
+is_unset true b h = absurd cc
+is_unset false true h = refl
+is_unset false false h = absurd cc
 
 is_free : (a b c d e : Bool)
     → first_line ((a, Range) ∷ (b, Duplicate) ∷ (c, Limit) ∷ (d, Limit) ∷ (e, Limit) ∷ []) ≡ None → b ≡ false
@@ -83,6 +92,10 @@ no_change s o c e is h = subst (IsChange s o c) h (none s o c is)
 change : (s : Statement) (o : Option ℕ) (c e : Template) → Adds s o c e → IsChange s o c e
 change says.Scenario o c e h = no_change says.Scenario o c e refl h
 change says.Class o c e h = no_change says.Class o c e refl h
+change (says.Notify seconds) o c e h =
+    let u = unrefused _ _ e h in
+    subst (IsChange (says.Notify seconds) o c) u.1
+    (notify seconds o c (eqb-true c.notify 0 (is_unset (not (is_notify seconds)) (eqb c.notify 0) u.0)))
 change (says.Account server) o c e h =
     subst (IsChange (says.Account server) o c) (unrefused _ _ e h).1 (account server o c)
 change (says.Object id) o c e h =
@@ -127,6 +140,7 @@ grows_so to from g = ((λ h. renamed to (g.0 h)), (λ h. g.1 (renamed from h)))
 
 -- statements of different kinds
 abbrev kind : Statement → ℕ
+kind (says.Notify seconds) = 6
 kind (says.Account server) = 1
 kind (says.Object id) = 2
 kind (says.Def d) = 3
@@ -136,6 +150,9 @@ kind s = 0
 
 other_kind : (s t : Statement) → eqb (kind s) (kind t) ≡ false → s ≡ t → ⊥
 other_kind s t is h = let bad : true ≡ false = sym (same_number (kind s)) ∙ ap (λ x. eqb (kind s) (kind x)) h ∙ is in cc
+
+notify_same : (m n : ℕ) → says.Notify m ≡ says.Notify n → m ≡ n
+notify_same m n h = cc
 
 account_same : (m n : ℕ) → says.Account m ≡ says.Account n → m ≡ n
 account_same m n h = cc
@@ -164,12 +181,41 @@ value_same path other q p w v is at h =
     let same = path_same path other w v h in
     (full_same q p (sym is ∙ ap full_path same.0 ∙ at), same.1)
 
+added_or : {A B : Type 0} → (A → ⊥) → A ⊎ B → B
+added_or never (inl h) = absurd (never h)
+added_or never (inr h) = h
+
+abbrev HasNotify : ℕ → Template → Type 0
+HasNotify seconds c = c.notify ≡ seconds
+
+not_before : (before seconds : ℕ) → before ≡ 0 → 0 < seconds → before ≡ seconds → ⊥
+not_before before seconds free more h = omega (arith, free, more, h)
+
+set_grows : (n before seconds : ℕ) → before ≡ 0 → 0 < seconds → Grows (n ≡ seconds) (before ≡ seconds) (n ≡ seconds)
+set_grows n before seconds free more = ((λ h. inr h), (λ h. added_or (not_before before seconds free more) h))
+
+notify_step : (seconds : ℕ) → 0 < seconds → (s : Statement) (o : Option ℕ) (c e : Template) → IsChange s o c e
+    → Grows (HasNotify seconds e) (HasNotify seconds c) (s ≡ says.Notify seconds)
+notify_step seconds more _ _ _ _ (none s o c is) = unmoved (apart s (says.Notify seconds) is refl)
+notify_step seconds more _ _ _ _ (notify n o c free) =
+    grows_so (λ h. ap (λ x. says.Notify x) h) (λ h. notify_same n seconds h) (set_grows n c.notify seconds free more)
+notify_step seconds more _ _ _ _ (account n o c) = unmoved (other_kind (says.Account n) (says.Notify seconds) refl)
+notify_step seconds more _ _ _ _ (object id o c free) =
+    unmoved (other_kind (says.Object id) (says.Notify seconds) refl)
+notify_step seconds more _ _ _ _ (resource d id c free) =
+    unmoved (other_kind (says.Def d) (says.Notify seconds) refl)
+notify_step seconds more _ _ _ _ (instance place o c) =
+    unmoved (other_kind (says.Instance place) (says.Notify seconds) refl)
+notify_step seconds more _ _ _ _ (value path p v o c is free) =
+    unmoved (other_kind (says.Value path v) (says.Notify seconds) refl)
+
 abbrev HasAccount : ℕ → Template → Type 0
 HasAccount server c = list_any (λ a. eqb a server) c.accounts ≡ true
 
 account_step : (server : ℕ) (s : Statement) (o : Option ℕ) (c e : Template) → IsChange s o c e
     → Grows (HasAccount server e) (HasAccount server c) (s ≡ says.Account server)
 account_step server _ _ _ _ (none s o c is) = unmoved (apart s (says.Account server) is refl)
+account_step server _ _ _ _ (notify n o c free) = unmoved (other_kind (says.Notify n) (says.Account server) refl)
 account_step server _ _ _ _ (account n o c) =
     grows_so (λ h. ap (λ x. says.Account x) h) (λ h. account_same n server h) (account_grows c.accounts n server)
 account_step server _ _ _ _ (object id o c free) = unmoved (other_kind (says.Object id) (says.Account server) refl)
@@ -185,6 +231,7 @@ HasObject id c = is_some (object_of c.catalogue id) ≡ true
 object_step : (id : ℕ) (s : Statement) (o : Option ℕ) (c e : Template) → IsChange s o c e
     → Grows (HasObject id e) (HasObject id c) (s ≡ says.Object id)
 object_step id _ _ _ _ (none s o c is) = unmoved (apart s (says.Object id) is refl)
+object_step id _ _ _ _ (notify n o c free) = unmoved (other_kind (says.Notify n) (says.Object id) refl)
 object_step id _ _ _ _ (account n o c) = unmoved (other_kind (says.Account n) (says.Object id) refl)
 object_step id _ _ _ _ (object n o c free) =
     grows_so (λ h. ap (λ x. says.Object x) h) (λ h. object_same n id h) (object_grows c.catalogue n id free)
@@ -202,6 +249,7 @@ StatesDefinition id r d o s = (o ≡ Some id) × (s ≡ says.Def d) × (d.id ≡
 definition_step : (id r : ℕ) (d : ResourceDef) (s : Statement) (o : Option ℕ) (c e : Template) → IsChange s o c e
     → Grows (HasDefinition id r d e) (HasDefinition id r d c) (StatesDefinition id r d o s)
 definition_step id r d _ _ _ _ (none s o c is) = unmoved (λ k. apart s (says.Def d) is refl k.1)
+definition_step id r d _ _ _ _ (notify n o c free) = unmoved (λ k. other_kind (says.Notify n) (says.Def d) refl k.1)
 definition_step id r d _ _ _ _ (account n o c) = unmoved (λ k. other_kind (says.Account n) (says.Def d) refl k.1)
 definition_step id r d _ _ _ _ (object n o c free) =
     moved _ _ (Some d) (object_keeps c.catalogue n id r free)
@@ -220,6 +268,7 @@ HasInstance place c = has_instance c.store place ≡ true
 instance_step : (place : InstancePath) (s : Statement) (o : Option ℕ) (c e : Template) → IsChange s o c e
     → Grows (HasInstance place e) (HasInstance place c) (s ≡ says.Instance place)
 instance_step place _ _ _ _ (none s o c is) = unmoved (apart s (says.Instance place) is refl)
+instance_step place _ _ _ _ (notify n o c free) = unmoved (other_kind (says.Notify n) (says.Instance place) refl)
 instance_step place _ _ _ _ (account n o c) = unmoved (other_kind (says.Account n) (says.Instance place) refl)
 instance_step place _ _ _ _ (object n o c free) = unmoved (other_kind (says.Object n) (says.Instance place) refl)
 instance_step place _ _ _ _ (resource f n c free) = unmoved (other_kind (says.Def f) (says.Instance place) refl)
@@ -237,6 +286,8 @@ StatesValue p v o s = (path : Path) × (full_path path ≡ Some p) × (s ≡ say
 value_step : (p : FullPath) (v : Value) (s : Statement) (o : Option ℕ) (c e : Template) → IsChange s o c e
     → Grows (HasValue p v e) (HasValue p v c) (StatesValue p v o s)
 value_step p v _ _ _ _ (none s o c is) = unmoved (λ k. apart s (says.Value k.0 v) is refl k.2)
+value_step p v _ _ _ _ (notify n o c free) =
+    unmoved (λ k. other_kind (says.Notify n) (says.Value k.0 v) refl k.2)
 value_step p v _ _ _ _ (account n o c) = unmoved (λ k. other_kind (says.Account n) (says.Value k.0 v) refl k.2)
 value_step p v _ _ _ _ (object n o c free) = unmoved (λ k. other_kind (says.Object n) (says.Value k.0 v) refl k.2)
 value_step p v _ _ _ _ (resource f n c free) = unmoved (λ k. other_kind (says.Def f) (says.Value k.0 v) refl k.2)
@@ -268,10 +319,6 @@ all_grow A B step [] o c e h =
 all_grow A B step (s ∷ ss) o c e h =
     then_grows (all_grow A B step ss (object_since s o) h.0 e h.2) (step s o c h.0 (change s o c h.0 h.1))
 
-added_or : {A B : Type 0} → (A → ⊥) → A ⊎ B → B
-added_or never (inl h) = absurd (never h)
-added_or never (inr h) = h
-
 from_nothing : {N A B : Type 0} → (A → ⊥) → Grows N A B → N ↔ B
 from_nothing never g = ((λ h. added_or never (g.0 h)), (λ h. g.1 (inr h)))
 
@@ -289,6 +336,9 @@ no_value p v h = none_some v (sym (get-empty path_cmp p) ∙ h)
 
 pub holds : (part : List Statement) (c : Template) → IsMadeBy part c → HoldsWhatIsStated part c
 holds part c h = record {
+  notify = λ seconds more. from_nothing (not_before 0 seconds refl more)
+      (all_grow (HasNotify seconds) (λ o s. s ≡ says.Notify seconds) (notify_step seconds more) part None empty_class c
+      h);
   accounts = λ server. from_nothing false_true
       (all_grow (HasAccount server) (λ o s. s ≡ says.Account server) (account_step server) part None empty_class c h);
   objects = λ id.

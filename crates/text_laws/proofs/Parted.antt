@@ -17,7 +17,8 @@ use Rattle.scenario_statements.specs.declared.statement.Statement.{Statement}
 use Rattle.scenario_statements.specs.declared.statement.Statement.TheVariants as says
 use Rattle.scenario_statements.specs.Grammar.{statement_of}
 use Rattle.scenario_asm.specs.Causes.{needs}
-use Rattle.scenario_asm.specs.ClassLines.{account_added, definition_added, instance_added, object_added, value_added}
+use Rattle.scenario_asm.specs.ClassLines.{account_added, definition_added, instance_added, notify_set}
+use Rattle.scenario_asm.specs.ClassLines.{object_added, value_added}
 use Rattle.scenario_asm.specs.Draft.{Draft, closed, nothing, with_open}
 use Rattle.scenario_asm.specs.Denotes.{AreSaid, Lead}
 use Rattle.scenario_asm.specs.Denotes.AreSaid.{done, blank, stated}
@@ -159,6 +160,10 @@ classes_by says.Class ss d next cs h k =
     let p = needed d.begun _ next h in
     let q = unrefused _ _ next p.1 in
     opened ss d.open_class d.object d.scenario cs (from_made _ next ss cs q.1 k)
+classes_by (says.Notify seconds) ss d next cs h k =
+    let a = added_to d (notify_set seconds) (reopened d) next h in
+    grown (says.Notify seconds) ss d.open_class d.object d.object d.scenario.classes cs a.class a.made a.class_is refl
+    refl a.added refl (from_made (reopened d a.made) next ss cs a.is k)
 classes_by (says.Account server) ss d next cs h k =
     let a = added_to d (account_added server) (reopened d) next h in
     grown (says.Account server) ss d.open_class d.object d.object d.scenario.classes cs a.class a.made a.class_is refl
@@ -334,6 +339,9 @@ rows_by says.Class ss d next rows h k =
     let q = unrefused _ _ next (needed d.begun _ next h).1 in
     rows_kept says.Class ss _ _ rows
     (sym (closed_rows d.open_class d.scenario) ∙ ap (λ x. x.scenario.rows) q.1) refl refl k
+rows_by (says.Notify seconds) ss d next rows h k =
+    let a = added_to d (notify_set seconds) (reopened d) next h in
+    rows_kept (says.Notify seconds) ss _ _ rows (ap (λ x. x.scenario.rows) a.is) refl refl k
 rows_by (says.Account server) ss d next rows h k =
     let a = added_to d (account_added server) (reopened d) next h in
     rows_kept (says.Account server) ss _ _ rows (ap (λ x. x.scenario.rows) a.is) refl refl k
@@ -429,6 +437,7 @@ same_stated o m n h k = cc
 one_addition : (s : Statement) (o : Option ℕ) (c e f : Template) → Adds s o c e → Adds s o c f → e ≡ f
 one_addition says.Scenario o c e f h k = sym h ∙ k
 one_addition says.Class o c e f h k = sym h ∙ k
+one_addition (says.Notify seconds) o c e f h k = same_made (notify_set seconds c) e f h k
 one_addition (says.Account server) o c e f h k = same_made (account_added server c) e f h k
 one_addition (says.Object id) o c e f h k = same_made (object_added id c) e f h k
 one_addition (says.Def d) o c e f h k =

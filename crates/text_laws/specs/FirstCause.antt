@@ -11,7 +11,7 @@ use Rattle.object_defs.specs.Path.{full_path}
 use Rattle.object_defs.specs.Vendor.{is_sound, is_vendor, vendor_object}
 use Rattle.object_defs.specs.declared.definition.ObjectDef.{ObjectDef}
 use Rattle.instance_store.specs.Stored.{has_instance, instances_of, value_at, value_count}
-use Rattle.device_template.specs.Template.{Template, may_stand, most_accounts}
+use Rattle.device_template.specs.Template.{Template, is_notify, may_stand, most_accounts}
 use Rattle.device_template.specs.Values.{fits_object, has_all_parts}
 use Rattle.scenario_image.specs.Scenario.{Row, is_within_limits, last_row, most_rows, most_steps}
 use Rattle.scenario_image.specs.declared.step.Step.{Step}
@@ -49,6 +49,7 @@ in_stated without d test =
 abbrev pub is_unstated : Statement → Draft → Bool
 is_unstated says.Scenario d = false
 is_unstated says.Class d = not d.begun
+is_unstated (says.Notify seconds) d = not d.begun || not (is_some d.open_class)
 is_unstated (says.Account server) d = not d.begun || not (is_some d.open_class)
 is_unstated (says.Object id) d = not d.begun || not (is_some d.open_class)
 is_unstated (says.Def r) d = not d.begun || (not (is_some d.open_class) || not (is_some d.object))
@@ -61,6 +62,7 @@ is_unstated s d = not d.begun || not (has_device d)
 
 -- it does not fit
 abbrev pub is_unfit : Statement → Draft → Bool
+is_unfit (says.Notify seconds) d = not (is_notify seconds)
 is_unfit (says.Account server) d = not (nat_le 1 server && nat_le server 65534)
 is_unfit (says.Object id) d = not (is_vendor id)
 is_unfit (says.Def r) d = in_stated true d (λ o. not (is_sound r))
@@ -78,6 +80,7 @@ is_unfit s d = false
 -- it was stated before
 abbrev pub is_repeated : Statement → Draft → Bool
 is_repeated says.Scenario d = d.begun
+is_repeated (says.Notify seconds) d = in_open false d (λ c. not (c.notify == 0))
 is_repeated (says.Account server) d = in_open false d (λ c. list_any (λ a. a == server) c.accounts)
 is_repeated (says.Object id) d = in_open false d (λ c. is_some (object_of c.catalogue id))
 is_repeated (says.Def r) d = in_stated false d (λ o. is_some (resource_in o.resources r.id))
@@ -96,6 +99,7 @@ is_step_over row step =
 abbrev pub is_over_limit : Statement → Draft → Bool
 is_over_limit says.Scenario d = false
 is_over_limit says.Class d = nat_le 256 (length (closed d).classes)
+is_over_limit (says.Notify seconds) d = false
 is_over_limit (says.Account server) d = in_open false d (λ c. nat_le most_accounts (length c.accounts))
 is_over_limit (says.Object id) d = in_open false d (λ c. nat_le 16 (length c.catalogue))
 is_over_limit (says.Def r) d = in_stated false d (λ o. nat_le 64 (length o.resources))

@@ -1,5 +1,5 @@
 -- What a class of a text's scenario holds: just what its part of the text states, in whatever order.
-use Rattle.std.specs.Prelude.{◌≡◌, ◌↔◌, ◌⊎◌, ℕ, ◌==◌, true, List, [], ◌∷◌, Option, None, Some, is_some, Ok}
+use Rattle.std.specs.Prelude.{◌≡◌, ◌↔◌, ◌⊎◌, ℕ, ◌<◌, ◌==◌, true, List, [], ◌∷◌, Option, None, Some, is_some, Ok}
 use Rattle.std.specs.List.{list_any}
 use Rattle.lwm2m_values.specs.declared.value.Value.{Value}
 use Rattle.object_defs.specs.Base.{base}
@@ -27,9 +27,12 @@ StatesOne P object (s ∷ ss) = P object s ⊎ StatesOne P (object_since s objec
 abbrev pub HasOne : (Option ℕ → Statement → Type 0) → List Statement → Type 0
 HasOne P part = StatesOne P None part
 
--- an account is there by its `account`, an object of the class's own by its `object`, its resource by a `def` after
--- that, an instance by its `instance`, a value by its `value`; and nothing else is there but the base objects
+-- a first timeout is there by its `notify`, and is 0 otherwise; an account is there by its `account`, an object of the
+-- class's own by its `object`, its resource by a `def` after that, an instance by its `instance`, a value by its
+-- `value`; and nothing else is there but the base objects
 pub record HoldsWhatIsStated (part : List Statement) (c : Template) : Type 0 where
+  pub notify : (seconds : ℕ)
+      → 0 < seconds → (c.notify ≡ seconds) ↔ HasOne (λ object s. s ≡ says.Notify seconds) part
   pub accounts : (server : ℕ)
       → (list_any (λ a. a == server) c.accounts ≡ true) ↔ HasOne (λ object s. s ≡ says.Account server) part
   pub objects : (id : ℕ)

@@ -9,7 +9,8 @@ use Rattle.scenario_image.specs.declared.step.Step.TheVariants as step
 use Rattle.scenario_mnemonics.specs.Messages.{datagram_of}
 use Rattle.scenario_statements.specs.declared.statement.Statement.{Statement}
 use Rattle.scenario_statements.specs.declared.statement.Statement.TheVariants as says
-use Rattle.scenario_asm.specs.ClassLines.{account_added, definition_added, instance_added, object_added, value_added}
+use Rattle.scenario_asm.specs.ClassLines.{account_added, definition_added, instance_added, notify_set}
+use Rattle.scenario_asm.specs.ClassLines.{object_added, value_added}
 use Rattle.scenario_asm.specs.Reading.{said_by}
 use Rattle.scenario_asm.specs.Text.{assembled}
 
@@ -30,6 +31,7 @@ class_parts (s ∷ ss) = class_parts ss
 
 -- a statement adds this to a class in which that object was stated last; one of a device adds nothing to it
 abbrev pub Adds : Statement → Option ℕ → Template → Template → Type 0
+Adds (says.Notify seconds) object c e = notify_set seconds c ≡ Ok e
 Adds (says.Account server) object c e = account_added server c ≡ Ok e
 Adds (says.Object id) object c e = object_added id c ≡ Ok e
 Adds (says.Def d) object c e = (id : ℕ) × (object ≡ Some id) × (definition_added id d c ≡ Ok e)

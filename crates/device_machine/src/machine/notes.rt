@@ -71,6 +71,7 @@ fn enter(
           number = 0;
           non = non;
           mid = mid;
+          timer = None;
         })).number) }
     ensures left { OnOk result (observations.new
         ≡ (entered observations.old (record {
@@ -84,6 +85,7 @@ fn enter(
           number = 0;
           non = non;
           mid = mid;
+          timer = None;
         })).left) }
 
     // Only a new name takes memory, where there is a place for it.

@@ -146,7 +146,12 @@ impl Machine {
                     Ok(Outputs::none(self.alloc))
                 }
             }
-            Kind::Ack => Ok(Outputs::none(self.alloc)),
+            Kind::Ack => {
+                if message.code() == 0 {
+                    self.observations.acknowledge(server, message.mid());
+                }
+                Ok(Outputs::none(self.alloc))
+            }
             Kind::Rst => {
                 if message.code() == 0 {
                     self.observations.reset(server, message.mid());

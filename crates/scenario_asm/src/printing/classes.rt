@@ -8,7 +8,8 @@ ghost use Rattle.device_template.specs.Built.{IsBuilt};
 ghost use Rattle.scenario_layout.specs.Class.{objects_in};
 ghost use Rattle.scenario_image.specs.Layout.{path_to};
 ghost use Rattle.scenario_statements.specs.declared.statement.Statement.TheVariants.{Account, Def, Instance};
-ghost use Rattle.scenario_asm.specs.Canonical.{of_class, of_object, of_value, printed_line, printed_lines};
+ghost use Rattle.scenario_asm.specs.Canonical.{of_class, of_notify, of_object, of_value, printed_line};
+ghost use Rattle.scenario_asm.specs.Canonical.{printed_lines};
 
 use crate::printing::lines::{put_line, put_statement};
 use device_template::Template;
@@ -17,6 +18,16 @@ use object_defs::{FullPath, InstancePath, ObjectDef, Path, ResourceDef};
 use scenario_image::Scenario;
 use scenario_statements::{Statement, value_line};
 use std::alloc::{AllocError, Global};
+
+/// Writes how the devices of a class notify, where their notifications are Confirmable.
+fn put_notify(alloc: Global, out: &mut String, seconds: u8) -> Result<(), AllocError>
+    ensures { OnOk result (string_bytes out.new ≡ string_bytes out.old ++ printed_lines (of_notify seconds)) }
+{
+    if seconds == 0 {
+        return Ok(());
+    }
+    put_statement(alloc, out, &Statement::Notify(seconds))
+}
 
 fn put_accounts(alloc: Global, out: &mut String, accounts: &[u16]) -> Result<(), AllocError>
     ensures { OnOk result (string_bytes out.new ≡ string_bytes out.old
@@ -119,12 +130,13 @@ fn own_objects(class: &Template) -> &[ObjectDef]
     }
 }
 
-/// Writes a class: its accounts, the objects of its own, its instances and its values, each ascending.
+/// Writes a class: how it notifies, its accounts, the objects of its own, its instances and its values, each ascending.
 fn put_class(alloc: Global, out: &mut String, class: &Template) -> Result<(), AllocError>
     ensures text { OnOk result (string_bytes out.new ≡ string_bytes out.old ++ printed_lines (of_class class.now)) }
     ensures built { OnOk result (IsBuilt class.now) }
 {
     put_statement(alloc, out, &Statement::Class)?;
+    put_notify(alloc, out, class.notify())?;
     put_accounts(alloc, out, class.accounts())?;
     put_objects(alloc, out, own_objects(class))?;
     let instances = class.store().all_instances()?;

@@ -2,7 +2,6 @@ ghost use Rattle.std.specs.Prelude.{◌≡◌, ◌≢◌, nat_lt, [], OnOk};
 ghost use Rattle.std.specs.List.{list_all};
 ghost use Rattle.byte_layout.specs.Outcome.{Gives};
 ghost use Rattle.byte_layout.specs.Layout.{each};
-ghost use Rattle.device_template.specs.Template.{empty_class};
 ghost use Rattle.scenario_layout.specs.Growing.{grown};
 ghost use Rattle.scenario_layout.specs.Class.{account, accounts, with_accounts};
 
@@ -10,15 +9,15 @@ use crate::class::refusal::refusal;
 use byte_layout::{Break, ReadError, u8_at_most, u16_at};
 use device_template::Template;
 
-/// Adds the accounts at the front of the bytes to an empty class, and gives the bytes after them.
+/// Adds the accounts at the front of the bytes to a class that has none, and gives the bytes after them.
 #[tactic(auto, unfolding(crate::specs::Class::accounts))]
 pub(crate) fn accounts_at<'a>(
     template: &mut Template,
     bytes: &'a [u8],
 ) -> Result<&'a [u8], ReadError>
-    requires { template.now ≡ empty_class }
+    requires { template.now.accounts ≡ [] }
     ensures read { Gives (λ rest. (template.new.accounts, rest.now)) result (accounts.read bytes.now) }
-    ensures made { OnOk result (template.new ≡ with_accounts template.new.accounts) }
+    ensures made { OnOk result (template.new ≡ with_accounts template.old template.new.accounts) }
 {
     let (count, rest) = u8_at_most(4, bytes)?;
     accounts_each(template, count, rest)
@@ -29,9 +28,9 @@ fn accounts_each<'a>(
     count: u8,
     bytes: &'a [u8],
 ) -> Result<&'a [u8], ReadError>
-    requires { template.now ≡ empty_class }
+    requires { template.now.accounts ≡ [] }
     ensures read { Gives (λ rest. (template.new.accounts, rest.now)) result ((each account count []).read bytes.now) }
-    ensures made { OnOk result (template.new ≡ with_accounts template.new.accounts) }
+    ensures made { OnOk result (template.new ≡ with_accounts template.old template.new.accounts) }
 {
     let mut rest = bytes;
     for _ in 0..count {
@@ -44,10 +43,9 @@ fn accounts_each<'a>(
 /// Adds the account at the front of the bytes.
 #[tactic(auto, unfolding(crate::specs::Class::account))]
 fn account_at<'a>(template: &mut Template, bytes: &'a [u8]) -> Result<&'a [u8], ReadError>
-    requires { template.now ≡ with_accounts template.now.accounts }
     ensures read { Gives (λ rest. (template.new.accounts, rest.now)) result
         (grown template.old.accounts ((account template.old.accounts).read bytes.now)) }
-    ensures made { OnOk result (template.new ≡ with_accounts template.new.accounts) }
+    ensures made { OnOk result (template.new ≡ with_accounts template.old template.new.accounts) }
 {
     let (number, rest) = u16_at(bytes)?;
     if !is_above(number, template.accounts()) {

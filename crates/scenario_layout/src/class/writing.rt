@@ -22,15 +22,16 @@ use lwm2m_values::Value;
 use object_defs::{Catalog, FullPath, InstancePath, ObjectDef};
 use std::alloc::AllocError;
 
-/// Writes a class: each that there is has bytes, so nothing is refused. Where memory runs out, some of its bytes may
-/// have been written.
-#[tactic(auto, unfolding(crate::specs::Class::class, crate::specs::Class::behind_accounts, crate::specs::Class::behind_objects, crate::specs::Class::behind_instances))]
+/// Writes a class as version 2 has it: each that there is has bytes, so nothing is refused. Where memory runs out, some
+/// of its bytes may have been written.
+#[tactic(auto, unfolding(crate::specs::Class::class, crate::specs::Class::notify_in, crate::specs::Class::notify, crate::specs::Class::behind_notify, crate::specs::Class::behind_accounts, crate::specs::Class::behind_objects, crate::specs::Class::behind_instances))]
 pub fn put_class(out: &mut Vec<u8>, template: &Template) -> Result<(), AllocError>
-    ensures good { class.Good template.now }
-    ensures bytes { OnOk result (out.new.items ≡ out.old.items ++ class.spell template.now) }
+    ensures good { (class 2).Good template.now }
+    ensures bytes { OnOk result (out.new.items ≡ out.old.items ++ (class 2).spell template.now) }
 {
     class_has_bytes(template);
     good_parts(template);
+    put_u8(out, template.notify())?;
     put_accounts(out, template.accounts())?;
     put_objects(out, own_objects(template.catalog()))?;
     let places = template.store().all_instances()?;

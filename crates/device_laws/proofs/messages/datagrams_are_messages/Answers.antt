@@ -1,4 +1,5 @@
-use Rattle.device_laws.proofs.Spelled.{messages, starts}
+use Rattle.device_laws.proofs.Replied.{messages}
+use Rattle.device_laws.proofs.Spelled.{starts}
 use Rattle.device_laws.proofs.messages.datagrams_are_messages.Goals as goal
 
 pub returns-clause-starts : goal.returns-clause-starts

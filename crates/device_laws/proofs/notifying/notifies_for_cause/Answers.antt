@@ -1,4 +1,5 @@
-use Rattle.device_laws.proofs.Causes.{caused_is_sent, for_cause, seconds_for_cause, seconds_send_caused}
+use Rattle.device_laws.proofs.Causes.{for_cause, seconds_for_cause}
+use Rattle.device_laws.proofs.Sent.{caused_is_sent, seconds_send_caused}
 use Rattle.device_laws.proofs.notifying.notifies_for_cause.Goals as goal
 
 pub returns-clause-one : goal.returns-clause-one

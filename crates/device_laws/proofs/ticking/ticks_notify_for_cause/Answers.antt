@@ -1,4 +1,4 @@
-use Rattle.device_laws.proofs.Ticks.{for_cause, send_caused}
+use Rattle.device_laws.proofs.Ticks.{for_cause, send_again, send_caused}
 use Rattle.device_laws.proofs.ticking.ticks_notify_for_cause.Goals as goal
 
 pub returns-clause-cause : goal.returns-clause-cause
@@ -6,3 +6,6 @@ returns-clause-cause c = for_cause
 
 pub returns-clause-sent : goal.returns-clause-sent
 returns-clause-sent c = send_caused
+
+pub returns-clause-again : goal.returns-clause-again
+returns-clause-again c = send_again

@@ -1,4 +1,4 @@
-use Rattle.device_notifications.proofs.Turns.{counts_message_ids}
+use Rattle.device_notifications.proofs.MessageIds.{counts_message_ids}
 use Rattle.device_notifications.proofs.laws.counts_message_ids.Goals as goal
 
 pub returns : goal.returns

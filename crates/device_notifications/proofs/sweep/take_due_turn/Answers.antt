@@ -1,42 +1,38 @@
-use Rattle.std.proofs.Common.{◌≡◌, Some, true, false, sym, ap, ◌∙◌}
-use Rattle.notifier.specs.Due.{is_due_at}
-use Rattle.notifier.specs.declared.observation.Observation.{Observation}
-use Rattle.device_notifications.specs.Pendings.{pending_of}
-use Rattle.device_notifications.proofs.Passing.{passes_quiet}
-use Rattle.device_notifications.proofs.Places.{there}
-use Rattle.device_notifications.proofs.Renewals.{pending_at, renewed}
-use Rattle.device_notifications.proofs.Resting.{is_quiet}
+use Rattle.std.proofs.Common.{◌∙◌}
+use Rattle.std.proofs.lemmas.Result.{IfOk-weaker}
+use Rattle.device_notifications.proofs.Passing.{passes_evaluated, passes_expired, passes_resent, passes_waiting}
+use Rattle.device_notifications.proofs.Passing.{turn_is}
+use Rattle.device_notifications.proofs.Renewals.{gone_both}
 use Rattle.device_notifications.proofs.sweep.take_due_turn.Goals as goal
 
-some_same : (a b : Observation) → Some a ≡ Some b → a ≡ b
-some_same a b h = cc
+pub returns-in-Evaluate-clause-passes : goal.returns-in-Evaluate-clause-passes
+returns-in-Evaluate-clause-passes c =
+    IfOk-weaker c.evaluate_due.result _ _ (λ next h o at.
+    passes_evaluated c.args.client.now c.args.clock c.args.observations.now c.evaluate_due.new.observations c.args.place
+    next o c.args.outbox.now c.evaluate_due.new.outbox
+    (turn_is c.args.observations.now c.args.place c.args.clock o c.turn.result at c.turn.ensures ∙ c.in-Evaluate.is)
+    (h o at)) c.evaluate_due.ensures.passes
 
-pub returns-then-not-is_due-clause-passes : goal.returns-then-not-is_due-clause-passes
-returns-then-not-is_due-clause-passes c =
-    λ o at.
-    let client = c.args.client.now in
-    let same = some_same c.in-Some.observation.now o (c.in-Some.ensures.value ∙ at) in
-    let pending = pending_at client c.args.observations.now c.args.place c.args.pendings.now.items o c.index.result.now
-    c.requires.within c.requires.known at c.index.ensures in
-    let due : is_due_at c.in-Some.observation.now.second c.index.result.now c.args.clock ≡ false =
-    cc (c.is_due.ensures, c.if-not-is_due.true) in
-    passes_quiet client c.args.clock c.args.observations.now c.args.place o c.args.outbox.now at
-    (sym (is_quiet client c.args.clock o
-    (ap (λ (x : Observation). is_due_at x.second (pending_of client o) c.args.clock) (sym same)
-    ∙ ap (λ p. is_due_at c.in-Some.observation.now.second p c.args.clock) (sym pending) ∙ due)))
+pub returns-in-Wait-clause-passes : goal.returns-in-Wait-clause-passes
+returns-in-Wait-clause-passes c =
+    λ o at. passes_waiting c.args.client.now c.args.clock c.args.observations.now c.args.place o c.args.outbox.now at
+    (turn_is c.args.observations.now c.args.place c.args.clock o c.turn.result at c.turn.ensures ∙ c.in-Wait.is)
 
-pub returns-clause-known : goal.returns-clause-known
-returns-clause-known c =
-    let client = c.args.client.now in
-    let here = there c.args.observations.now c.args.place c.requires.within in
-    let same = some_same c.in-Some.observation.now here.0 (c.in-Some.ensures.value ∙ here.1) in
-    let pending = pending_at client c.args.observations.now c.args.place c.args.pendings.now.items here.0
-    c.index.result.now c.requires.within c.requires.known here.1 c.index.ensures in
-    let due : is_due_at c.in-Some.observation.now.second c.index.result.now c.args.clock ≡ true =
-    cc (c.is_due.ensures, c.if-not-is_due.false) in
-    renewed client c.args.clock c.args.observations.now c.take_turn.new.observations c.args.place c.in_ok-next.next
-    c.args.outbox.now c.take_turn.new.outbox here.0 c.args.pendings.now.items c.renew.new.pendings.items
-    c.requires.within
-    (ap (λ (x : Observation). is_due_at x.second (pending_of client here.0) c.args.clock) (sym same)
-    ∙ ap (λ p. is_due_at c.in-Some.observation.now.second p c.args.clock) (sym pending) ∙ due)
-    (c.in_ok-next.ensures.passes here.0 here.1) c.requires.known c.renew.ensures.removed c.renew.ensures.notified
+pub returns-in_ok-resend-in-Resend-clause-passes : goal.returns-in_ok-resend-in-Resend-clause-passes
+returns-in_ok-resend-in-Resend-clause-passes c =
+    λ o at. passes_resent c.args.client.now c.args.clock c.args.observations.now c.args.place o c.args.outbox.now
+    c.resend.new.outbox at
+    (turn_is c.args.observations.now c.args.place c.args.clock o c.turn.result at c.turn.ensures ∙ c.in-Resend.is)
+    (c.in_ok-resend-in-Resend.ensures.sent o at) c.resend.ensures.next_id
+
+pub returns-in-Expire-clause-passes : goal.returns-in-Expire-clause-passes
+returns-in-Expire-clause-passes c =
+    λ o at. passes_expired c.args.client.now c.args.clock c.args.observations.now c.remove.new.self c.args.place o
+    c.args.outbox.now
+    (turn_is c.args.observations.now c.args.place c.args.clock o c.turn.result at c.turn.ensures ∙ c.in-Expire.is)
+    c.remove.ensures
+
+pub returns-in-Expire-clause-known : goal.returns-in-Expire-clause-known
+returns-in-Expire-clause-known c =
+    gone_both c.args.client.now c.args.observations.now c.remove.new.self c.args.place c.args.pendings.now.items
+    c.remove-in-Expire.new.self.items c.remove.ensures c.remove-in-Expire.ensures.items c.requires.known

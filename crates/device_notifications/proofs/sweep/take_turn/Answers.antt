@@ -1,47 +1,32 @@
-use Rattle.std.proofs.Common.{◌≡◌, None, Some, sym, ap, ◌∙◌}
-use Rattle.notifier.specs.Observed.{next_number, with_sent}
-use Rattle.notifier.specs.declared.observation.Observation.{Observation}
-use Rattle.device_notifications.specs.Message.{datagram_of}
-use Rattle.device_notifications.specs.Report.{report_of}
-use Rattle.device_notifications.specs.Second.{evaluation_of}
-use Rattle.device_notifications.proofs.Passing.{passes_quiet, passes_sends, passes_gone}
+use Rattle.std.proofs.Common.{◌∙◌}
+use Rattle.std.proofs.lemmas.Result.{IfOk-weaker}
+use Rattle.device_notifications.proofs.Passing.{passes_evaluated, passes_expired, passes_resent, passes_waiting}
+use Rattle.device_notifications.proofs.Passing.{turn_is}
 use Rattle.device_notifications.proofs.sweep.take_turn.Goals as goal
 
-some_same : (a b : Observation) → Some a ≡ Some b → a ≡ b
-some_same a b h = cc
+pub returns-in-Evaluate-clause-passes : goal.returns-in-Evaluate-clause-passes
+returns-in-Evaluate-clause-passes c =
+    IfOk-weaker c.evaluate.result _ _ (λ next h o at.
+    passes_evaluated c.args.client.now c.args.clock c.args.observations.now c.evaluate.new.observations c.args.place
+    next o c.args.outbox.now c.evaluate.new.outbox
+    (turn_is c.args.observations.now c.args.place c.args.clock o c.turn.result at c.turn.ensures ∙ c.in-Evaluate.is)
+    (h o at)) c.evaluate.ensures.passes
 
-pub returns-in-Quiet-clause-passes : goal.returns-in-Quiet-clause-passes
-returns-in-Quiet-clause-passes c =
-    λ o at.
-    let same = some_same c.in-Some.observation.now o (c.in-Some.ensures.value ∙ at) in
-    passes_quiet c.args.client.now c.args.clock c.args.observations.now c.args.place o c.args.outbox.now at
-    (sym c.in-Quiet.is ∙ c.in_ok-judge.ensures ∙ ap (λ x. evaluation_of c.args.client.now c.args.clock x) same)
+pub returns-in-Wait-clause-passes : goal.returns-in-Wait-clause-passes
+returns-in-Wait-clause-passes c =
+    λ o at. passes_waiting c.args.client.now c.args.clock c.args.observations.now c.args.place o c.args.outbox.now at
+    (turn_is c.args.observations.now c.args.place c.args.clock o c.turn.result at c.turn.ensures ∙ c.in-Wait.is)
 
-pub returns-in_ok-post-in-Sends-clause-passes : goal.returns-in_ok-post-in-Sends-clause-passes
-returns-in_ok-post-in-Sends-clause-passes c =
-    λ o at.
-    let same = some_same c.in-Some.observation.now o (c.in-Some.ensures.value ∙ at) in
-    let number = c.next_number.ensures ∙ ap (λ (x : Observation). next_number x.number) same in
-    let report = c.report_of-report.ensures ∙ ap
-    (λ (x : Observation). report_of c.args.client.now x.path c.in-Sends.answer.payload) same in
-    passes_sends c.args.client.now c.args.clock c.args.observations.now c.sent.new.self c.args.place o c.args.outbox.now
-    c.post.new.self
-    c.in-Sends.answer c.in_ok-datagram_of-in-Sends.field-0 at
-    (sym c.in-Sends.is ∙ c.in_ok-judge.ensures ∙ ap (λ x. evaluation_of c.args.client.now c.args.clock x) same)
-    (c.in_ok-datagram_of-in-Sends.ensures ∙ (λ j. datagram_of (same j) (c.next_id-mid.ensures j)
-    (Some (number j)) c.in-Sends.answer))
-    (c.sent.ensures.sent ∙ (λ j. with_sent c.args.observations.now c.args.place c.args.clock (c.next_id-mid.ensures j)
-    (report j)))
-    c.in_ok-post-in-Sends.ensures.posted
+pub returns-in_ok-resend-in-Resend-clause-passes : goal.returns-in_ok-resend-in-Resend-clause-passes
+returns-in_ok-resend-in-Resend-clause-passes c =
+    λ o at. passes_resent c.args.client.now c.args.clock c.args.observations.now c.args.place o c.args.outbox.now
+    c.resend.new.outbox at
+    (turn_is c.args.observations.now c.args.place c.args.clock o c.turn.result at c.turn.ensures ∙ c.in-Resend.is)
+    (c.in_ok-resend-in-Resend.ensures.sent o at) c.resend.ensures.next_id
 
-pub returns-in_ok-post-in-Gone-clause-passes : goal.returns-in_ok-post-in-Gone-clause-passes
-returns-in_ok-post-in-Gone-clause-passes c =
-    λ o at.
-    let same = some_same c.in-Some.observation.now o (c.in-Some.ensures.value ∙ at) in
-    passes_gone c.args.client.now c.args.clock c.args.observations.now c.remove.new.self c.args.place o
-    c.args.outbox.now c.post-in-Gone.new.self
-    c.in-Gone.answer c.in_ok-datagram_of-in-Gone.field-0
-    (sym c.in-Gone.is ∙ c.in_ok-judge.ensures ∙ ap (λ x. evaluation_of c.args.client.now c.args.clock x) same)
-    (c.in_ok-datagram_of-in-Gone.ensures ∙ (λ j. datagram_of (same j) (c.next_id-mid.ensures j) None c.in-Gone.answer))
+pub returns-in-Expire-clause-passes : goal.returns-in-Expire-clause-passes
+returns-in-Expire-clause-passes c =
+    λ o at. passes_expired c.args.client.now c.args.clock c.args.observations.now c.remove.new.self c.args.place o
+    c.args.outbox.now
+    (turn_is c.args.observations.now c.args.place c.args.clock o c.turn.result at c.turn.ensures ∙ c.in-Expire.is)
     c.remove.ensures
-    c.in_ok-post-in-Gone.ensures.posted

@@ -1,7 +1,11 @@
-use Rattle.reading_laws.proofs.WrongNames.{kinds_named, mandatory_named, multiple_named, operations_named}
+use Rattle.reading_laws.proofs.WrongNames.{con_named, kinds_named, mandatory_named, multiple_named}
+use Rattle.reading_laws.proofs.WrongNames.{operations_named}
 use Rattle.reading_laws.proofs.WrongNumbers.{bytes_hex, integers_fit, links_paired, numbers_within, paths_slashed}
 use Rattle.reading_laws.proofs.WrongNumbers.{texts_quoted}
 use Rattle.reading_laws.proofs.laws.wrong_words_are_said.Goals as goal
+
+pub returns-clause-con : goal.returns-clause-con
+returns-clause-con c = con_named
 
 pub returns-clause-operations : goal.returns-clause-operations
 returns-clause-operations c = operations_named

@@ -10,8 +10,8 @@ load-requires c = image_exact
 
 pub returns-in-Err-clause-only : goal.returns-in-Err-clause-only
 returns-in-Err-clause-only c = λ s h.
-    rw c.fault_at.ensures (failed_only image image_exact c.args.bytes.now (length c.args.bytes.now) c.in-Err.error s
-    (front_fails _ _ c.in-Err.ensures.read) h)
+    rw c.fault_at.ensures (failed_only image image_exact c.args.bytes.now (length c.args.bytes.now) c.in-Err.error
+    (h.0, s) (front_fails _ _ c.in-Err.ensures.read) h.1)
 
 pub returns-in-Err-clause-fault : goal.returns-in-Err-clause-fault
 returns-in-Err-clause-fault c =
@@ -30,5 +30,8 @@ returns-in-Err-clause-front c = λ b h.
     let f = c.fault_at.ensures in
     cc
 
-pub returns-in-Ok-clause-front : goal.returns-in-Ok-clause-front
-returns-in-Ok-clause-front c = λ b h. absurd (front_whole c.args.bytes.now _ _ b c.in-Ok.ensures.read h)
+pub returns-in-Ok-load_all-clause-front : goal.returns-in-Ok-load_all-clause-front
+returns-in-Ok-load_all-clause-front c = λ b h. absurd (front_whole c.args.bytes.now _ _ b c.in-Ok.ensures.read h)
+
+pub returns-in-Err-load_all-clause-front : goal.returns-in-Err-load_all-clause-front
+returns-in-Err-load_all-clause-front c = λ b h. absurd (front_whole c.args.bytes.now _ _ b c.in-Ok.ensures.read h)

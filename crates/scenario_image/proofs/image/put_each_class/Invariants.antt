@@ -7,6 +7,6 @@ use Rattle.scenario_image.proofs.image.put_each_class.Given as goal
 
 abbrev pub invariant-loop-template : goal.invariant-loop-template
 invariant-loop-template l = record {
-  good : AllByRecursion class.Good (take l.template-index l.list);
-  bytes : l.out.items ≡ l.fn.out.items ++ spelled (λ before. class) [] (take l.template-index l.list);
+  good : AllByRecursion (class 2).Good (take l.template-index l.list);
+  bytes : l.out.items ≡ l.fn.out.items ++ spelled (λ before. class 2) [] (take l.template-index l.list);
 }

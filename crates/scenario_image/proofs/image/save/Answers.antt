@@ -7,14 +7,14 @@ use Rattle.scenario_image.proofs.image.save.Goals as goal
 pub returns-clause-image : goal.returns-clause-image
 returns-clause-image c = (
   c.in_ok-put_image.ensures.good,
-  c.in_ok-put_image.ensures.bytes ∙ ap (λ front. front ++ image.spell c.args.scenario.now)
+  c.in_ok-put_image.ensures.bytes ∙ ap (λ front. front ++ image.spell (2, c.args.scenario.now))
       c.new-out.ensures.items,
 )
 
 pub returns-clause-again : goal.returns-clause-again
 returns-clause-again c =
-    whole_again image image_exact c.put_image.new.out.items c.args.scenario.now (
+    whole_again image image_exact c.put_image.new.out.items (2, c.args.scenario.now) (
       c.in_ok-put_image.ensures.good,
-      c.in_ok-put_image.ensures.bytes ∙ ap (λ front. front ++ image.spell c.args.scenario.now)
+      c.in_ok-put_image.ensures.bytes ∙ ap (λ front. front ++ image.spell (2, c.args.scenario.now))
           c.new-out.ensures.items,
     )

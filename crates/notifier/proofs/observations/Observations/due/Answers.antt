@@ -14,4 +14,4 @@ loop-place-preserved c =
     (λ clock. one_more_due os ps i c.index.result.now _ clock
     (ap (λ xs. slice_get xs i) (sym c.self.view_is) ∙ c.index.ensures)
     (slice_get-get_or ps i _ c.loop-place-test.true))
-    (c.earlier-first.ensures p _ c.args.now c.loop-place.invariant c.due_of.ensures)
+    (c.earlier-first.ensures p _ c.args.now c.loop-place.invariant c.next_of.ensures)

@@ -1,7 +1,7 @@
 use Rattle.std.proofs.Common.{refl, subst}
 use Rattle.std.specs.List.{AllByRecursion}
 use Rattle.notifier.specs.Observed.{HasNumber, HaveDistinctNames}
-use Rattle.notifier.specs.contracts.observations.KeyPartialEq.TheImpl.{eq-value}
+use Rattle.notifier.specs.contracts.entries.KeyPartialEq.TheImpl.{eq-value}
 use Rattle.notifier.proofs.ObservedLaws.{names_differ, numbers_fit}
 use Rattle.notifier.proofs.observations.Observations.len.Goals as goal
 

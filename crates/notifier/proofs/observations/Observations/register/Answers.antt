@@ -62,6 +62,7 @@ returns-in_ok-add-in-None-clause-ok c =
       number = 0;
       non = c.args.non;
       mid = c.args.mid;
+      timer = None;
     } in
     c.in_ok-add-in-None.ensures.ok ∙ ap (λ all. all ++ new ∷ []) c.self.view_is
     ∙ sym (registered-none c.args.self.now new absent)

@@ -1,8 +1,7 @@
 use Rattle.std.proofs.Common.{ap, sym, ◌∙◌}
 use Rattle.std.specs.Prelude.{nat_lt}
 use Rattle.std.specs.List.{list_all}
-use Rattle.device_template.specs.Template.{account_fault}
-use Rattle.scenario_layout.proofs.Items.{not_refused, account_low, account_fits}
+use Rattle.scenario_layout.proofs.Items.{not_refused, account_low, account_fits, account_made}
 use Rattle.scenario_layout.proofs.class.accounts.account_at.Goals as goal
 
 pub returns-then-not-is_above-clause-read : goal.returns-then-not-is_above-clause-read
@@ -18,6 +17,9 @@ returns-clause-read c =
     c.in_ok-number.rest.now c.in_ok-number.ensures.read
     (ap (list_all (λ m. nat_lt m c.in_ok-number.number)) (sym c.accounts.ensures.lent) ∙ sym c.is_above.ensures
     ∙ c.if-not-is_above.false)
-    (ap (λ k. account_fault k c.in_ok-number.number) (sym c.requires)
-    ∙ not_refused _ c.add_account.result c.in_default.field-0 c.in_default.is c.add_account.ensures.refuses)
+    (not_refused _ c.add_account.result c.in_default.field-0 c.in_default.is c.add_account.ensures.refuses)
     (ap (λ k. k.accounts) c.in_default.ensures.added)
+
+pub returns-clause-made : goal.returns-clause-made
+returns-clause-made c =
+    account_made c.args.template.now c.add_account.new.self c.in_ok-number.number c.in_default.ensures.added

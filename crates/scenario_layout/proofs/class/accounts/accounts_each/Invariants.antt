@@ -7,5 +7,5 @@ use Rattle.scenario_layout.proofs.class.accounts.accounts_each.Given as goal
 -- the class has the accounts that were read
 abbrev pub invariant-loop : goal.invariant-loop
 invariant-loop l =
-    IsFilled (λ c. account) (λ c. c.accounts) (λ c. with_accounts) l.fn.template l.template (l.count - l.counter) l.rest
+    IsFilled (λ c. account) (λ c. c.accounts) with_accounts l.fn.template l.template (l.count - l.counter) l.rest
     ((each account l.count []).read l.fn.bytes)

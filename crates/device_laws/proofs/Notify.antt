@@ -1,0 +1,94 @@
+-- No request changes how a device notifies.
+use Rattle.std.proofs.Common.{◌≡◌, ℕ, Bool, true, false, Option, None, Some, Result, Err, refl}
+use Rattle.std.specs.Bool.{if◌then◌else◌}
+use Rattle.coap_codec.specs.Message.{Message}
+use Rattle.instance_store.specs.Stored.{Stored}
+use Rattle.object_defs.specs.Lines.{first_line}
+use Rattle.object_defs.specs.Path.{object_in}
+use Rattle.object_defs.specs.declared.path.Path.{Path}
+use Rattle.notifier.specs.Attributes.{Numbers}
+use Rattle.device_requests.specs.Client.{Client}
+use Rattle.device_requests.specs.Create.{Newborn, create_lines, create_unless, newborn}
+use Rattle.device_requests.specs.Delete.{delete_lines, delete_unless}
+use Rattle.device_requests.specs.Execute.{execute_lines, execute_unless}
+use Rattle.device_requests.specs.Operation.{operation_of}
+use Rattle.device_requests.specs.Options.{accept_of, content_format_of, has_query, has_unrecognized_critical}
+use Rattle.device_requests.specs.Options.{queries_of, segments_of, path_of}
+use Rattle.device_requests.specs.Request.{outcome_at, outcome_for, outcome_of, request_by, request_on, request_with}
+use Rattle.device_requests.specs.Write.{write_unless}
+use Rattle.device_requests.specs.WriteAttributes.{annotate_unless, attribute_lines, attributes_given}
+use Rattle.device_requests.specs.declared.answer.Code.{Code}
+use Rattle.device_requests.specs.declared.answer.Code.TheVariants.{BadOption}
+use Rattle.device_requests.specs.declared.operation.Operation.{Operation}
+use Rattle.device_requests.specs.declared.operation.Operation.TheVariants.{Read, Discover, WriteAttributes}
+use Rattle.device_requests.specs.declared.operation.Operation.TheVariants.{WriteReplace, WritePartial, Create, Execute}
+use Rattle.device_requests.specs.declared.operation.Operation.TheVariants.{Delete}
+use Rattle.device_requests.specs.declared.request.Request.{Request}
+
+unless_keeps : (code : Option Code) (client : Client) (stored : Stored)
+    → (write_unless code client stored).client.notify ≡ client.notify
+unless_keeps None client stored = refl
+unless_keeps (Some code) client stored = refl
+
+create_keeps : (code : Option Code) (client : Client) (server o : ℕ) (new : Option Newborn)
+    → (create_unless code client server o new).client.notify ≡ client.notify
+create_keeps None client server o None = refl
+create_keeps None client server o (Some n) = refl
+create_keeps (Some code) client server o new = refl
+
+execute_keeps : (code : Option Code) (client : Client) (path : Path)
+    → (execute_unless code client path).client.notify ≡ client.notify
+execute_keeps None client path = refl
+execute_keeps (Some code) client path = refl
+
+delete_keeps : (code : Option Code) (client : Client) (path : Path)
+    → (delete_unless code client path).client.notify ≡ client.notify
+delete_keeps None client path = refl
+delete_keeps (Some code) client path = refl
+
+attributes_keep : (code : Option Code) (client : Client) (given : Option Numbers)
+    → (annotate_unless code client given).client.notify ≡ client.notify
+attributes_keep None client None = refl
+attributes_keep None client (Some m) = refl
+attributes_keep (Some code) client given = refl
+
+keeps_at : (client : Client) (server : ℕ) (m : Message) (path : Path) (operation : Operation)
+    → (outcome_at client server m (request_with m path operation)).client.notify ≡ client.notify
+keeps_at client server m path Read = refl
+keeps_at client server m path Discover = refl
+keeps_at client server m path WriteAttributes =
+    attributes_keep (first_line (attribute_lines client server path
+    (attributes_given client server path (queries_of m.options)))) client
+    (attributes_given client server path (queries_of m.options))
+keeps_at client server m path WriteReplace = unless_keeps _ client _
+keeps_at client server m path WritePartial = unless_keeps _ client _
+keeps_at client server m path Create =
+    create_keeps (first_line (create_lines client server path (content_format_of m.options) m.payload)) client server
+    (object_in path)
+    (newborn client (object_in path) m.payload)
+keeps_at client server m path Execute =
+    execute_keeps (first_line (execute_lines client server path (content_format_of m.options) m.payload)) client path
+keeps_at client server m path Delete = delete_keeps (first_line (delete_lines client server path)) client path
+
+keeps_by : (client : Client) (server : ℕ) (m : Message) (path : Path) (operation : Option Operation)
+    → (outcome_for client server m (request_by m path operation)).client.notify ≡ client.notify
+keeps_by client server m path None = refl
+keeps_by client server m path (Some operation) = keeps_at client server m path operation
+
+keeps_on : (client : Client) (server : ℕ) (m : Message) (path : Option Path)
+    → (outcome_for client server m (request_on m path)).client.notify ≡ client.notify
+keeps_on client server m None = refl
+keeps_on client server m (Some path) =
+    keeps_by client server m path (operation_of m.code (accept_of m.options) (has_query m.options) path)
+
+keeps_if : (b : Bool) (client : Client) (server : ℕ) (m : Message) (request : Result Request Code)
+    → (outcome_for client server m request).client.notify ≡ client.notify
+    → (outcome_for client server m (if b then Err BadOption else request)).client.notify ≡ client.notify
+keeps_if true client server m request k = refl
+keeps_if false client server m request k = k
+
+pub keeps_notify : (client : Client) (server : ℕ) (m : Message)
+    → (outcome_of client server m).client.notify ≡ client.notify
+keeps_notify client server m =
+    keeps_if (has_unrecognized_critical m.options) client server m (request_on m (path_of (segments_of m.options)))
+    (keeps_on client server m (path_of (segments_of m.options)))
