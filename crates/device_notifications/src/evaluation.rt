@@ -1,11 +1,16 @@
-ghost use Rattle.std.specs.Prelude.{◌≡◌, IfOk};
-ghost use Rattle.device_notifications.specs.Second.{is_due_now, triggers_now, evaluation_of};
+ghost use Rattle.std.specs.Prelude.{◌≡◌, ◌<◌, length, slice_get, IfOk, OnErr, Some};
+ghost use Rattle.notifier.specs.declared.observation.Observation.{Observation};
+ghost use Rattle.device_notifications.specs.Progress.{Passes};
+ghost use Rattle.device_notifications.specs.Second.{evaluated, evaluation_of, is_due_now, triggers_now};
 
+use crate::notification::{datagram_of, next_notification, timer_of};
+use crate::outbox::Outbox;
 use crate::period::{pmax_of, pmin_of};
-use crate::report::number_at;
+use crate::report::{number_at, report_of};
+use coap_codec::Kind;
 use device_requests::{Answer, Client};
-use notifier::{Name, Observation, is_due, triggers};
-use std::alloc::AllocError;
+use notifier::{Name, Observation, Observations, is_due, triggers};
+use std::alloc::{AllocError, Global};
 
 /// What an observation does in a second.
 #[derive(Clone, Debug, Drop)]
@@ -46,11 +51,7 @@ fn is_due_now(client: &Client, clock: u64, observation: &Observation, payload: &
 }
 
 /// What an observation does in the second that the clock shows.
-pub(crate) fn judge(
-    client: &Client,
-    clock: u64,
-    observation: &Observation,
-) -> Result<Evaluation, AllocError>
+fn judge(client: &Client, clock: u64, observation: &Observation) -> Result<Evaluation, AllocError>
     ensures { IfOk result (λ v. v ≡ evaluation_of client.now clock observation.now) }
 {
     let answer = client.read(observation.server, observation.path, observation.accept)?;
@@ -61,4 +62,44 @@ pub(crate) fn judge(
         return Ok(Evaluation::Sends(answer));
     }
     Ok(Evaluation::Quiet)
+}
+
+/// Evaluates the observation at a place. Returns the place of the next one. All that it allocates is there
+/// before anything is changed.
+pub(crate) fn evaluate(
+    alloc: Global,
+    client: &Client,
+    observations: &mut Observations,
+    clock: u64,
+    place: usize,
+    outbox: &mut Outbox,
+) -> Result<usize, AllocError>
+    requires within { place < length observations.old }
+    requires few { place < 32 }
+    ensures passes { IfOk result (λ next. (o : Observation) → slice_get observations.old place ≡ Some o
+        → Passes (evaluated client.now clock outbox.old.next_id o) observations.old observations.new place next
+        outbox.old outbox.new) }
+    ensures unchanged { OnErr result (observations.new ≡ observations.old) }
+    ensures unposted { OnErr result (outbox.new ≡ outbox.old) }
+{
+    let Some(observation) = observations.at(place) else {
+        return Ok(place);
+    };
+    let mid = outbox.next_id();
+    match judge(client, clock, observation)? {
+        Evaluation::Quiet => Ok(place + 1),
+        Evaluation::Sends(answer) => {
+            let datagram = next_notification(alloc, client, observation, mid, &answer)?;
+            let timer = timer_of(client, &datagram)?;
+            outbox.post(datagram)?;
+            let report = report_of(client, observation.path, answer.payload);
+            observations.sent(place, clock, mid, report, timer);
+            Ok(place + 1)
+        }
+        Evaluation::Gone(answer) => {
+            outbox.post(datagram_of(alloc, Kind::Non, observation, mid, None, &answer)?)?;
+            observations.remove(place);
+            Ok(place)
+        }
+    }
 }

@@ -3,6 +3,7 @@
 
 mod datagram;
 mod evaluation;
+mod jumping;
 mod laws;
 mod notification;
 mod outbox;

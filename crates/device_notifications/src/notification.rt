@@ -1,17 +1,20 @@
 //! The messages of observations.
 
-ghost use Rattle.std.specs.Prelude.{◌≡◌, ◌≢◌, ◌++◌, ℕ, Option, IfOk, OnErr};
+ghost use Rattle.std.specs.Prelude.{◌≡◌, ◌≢◌, ◌++◌, ℕ, Option, slice_get, IfOk, OnErr, OnOk, Some};
+ghost use Rattle.std.specs.Option.{option_to_list};
 ghost use Rattle.coap_codec.specs.Message.{IsOptionList, spelling};
 ghost use Rattle.notifier.specs.Observed.{HasToken};
+ghost use Rattle.notifier.specs.declared.observation.Observation.{Observation};
 ghost use Rattle.device_notifications.specs.Message.{datagram_of, format_options, notification, observe_options};
-ghost use Rattle.device_notifications.specs.Message.{resent};
+ghost use Rattle.device_notifications.specs.Message.{open_notification, resent};
 ghost use Rattle.device_notifications.specs.Second.{next_notification, notified_kind, timer_of};
 
 use crate::datagram::Datagram;
+use crate::outbox::Outbox;
 use coap_codec::option_number::{CONTENT_FORMAT, OBSERVE};
 use coap_codec::{Kind, Message, Options, encode};
 use device_requests::{Answer, Client};
-use notifier::{Observation, Timer};
+use notifier::{Observation, Observations, Timer};
 use octets::Bytes;
 use std::alloc::{AllocError, Global};
 
@@ -114,7 +117,7 @@ pub(crate) fn timer_of(client: &Client, datagram: &Datagram) -> Result<Option<Ti
 }
 
 /// The notification that an observation has open, with the same bytes.
-pub(crate) fn resent(observation: &Observation, timer: &Timer) -> Result<Datagram, AllocError>
+fn resent(observation: &Observation, timer: &Timer) -> Result<Datagram, AllocError>
     ensures { IfOk result (λ d. d ≡ resent observation.now timer.now) }
 {
     let bytes = timer.bytes.clone()?;
@@ -122,4 +125,24 @@ pub(crate) fn resent(observation: &Observation, timer: &Timer) -> Result<Datagra
         server: observation.server,
         bytes,
     })
+}
+
+/// Sends the notification of the observation at a place again, if it is open.
+pub(crate) fn resend(
+    observations: &Observations,
+    place: usize,
+    outbox: &mut Outbox,
+) -> Result<(), AllocError>
+    ensures sent { OnOk result ((o : Observation) → slice_get observations.now place ≡ Some o
+        → outbox.new.sent ≡ outbox.old.sent ++ option_to_list (open_notification o)) }
+    ensures next_id { outbox.new.next_id ≡ outbox.old.next_id }
+    ensures unchanged { OnErr result (outbox.new ≡ outbox.old) }
+{
+    let Some(observation) = observations.at(place) else {
+        return Ok(());
+    };
+    let Some(timer) = &observation.timer else {
+        return Ok(());
+    };
+    outbox.repost(resent(observation, timer)?)
 }

@@ -1,7 +1,7 @@
 use Rattle.std.proofs.Common.{◌<◌, length, arith}
 use Rattle.notifier.proofs.Answers.{on_error}
 use Rattle.device_notifications.proofs.Places.{there, fewer, continued, some_there, stopped}
-use Rattle.device_notifications.proofs.sweep.due_second.Goals as goal
+use Rattle.device_notifications.proofs.jumping.due_second.Goals as goal
 
 pub loop-next-smaller : goal.loop-next-smaller
 loop-next-smaller c =

@@ -2,7 +2,7 @@ use Rattle.std.proofs.Common.{◌≤◌, ◌+◌, ◌∙◌, ap, arith, refl}
 use Rattle.device_notifications.specs.Second.{second}
 use Rattle.notifier.proofs.Answers.{on_error}
 use Rattle.device_notifications.proofs.Jumps.{begins, finished, jumped, stopped_at, stopped_first}
-use Rattle.device_notifications.proofs.sweep.jump.Goals as goal
+use Rattle.device_notifications.proofs.jumping.jump.Goals as goal
 
 pub loop-due-init : goal.loop-due-init
 loop-due-init c = (

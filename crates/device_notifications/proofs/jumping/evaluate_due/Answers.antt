@@ -6,7 +6,7 @@ use Rattle.device_notifications.proofs.Passing.{passes_quiet}
 use Rattle.device_notifications.proofs.Places.{there}
 use Rattle.device_notifications.proofs.Renewals.{pending_at, renewed}
 use Rattle.device_notifications.proofs.Resting.{is_quiet}
-use Rattle.device_notifications.proofs.sweep.evaluate_due.Goals as goal
+use Rattle.device_notifications.proofs.jumping.evaluate_due.Goals as goal
 
 some_same : (a b : Observation) → Some a ≡ Some b → a ≡ b
 some_same a b h = cc

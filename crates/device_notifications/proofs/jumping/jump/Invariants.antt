@@ -2,7 +2,7 @@
 use Rattle.std.proofs.Common.{◌≡◌, ◌+◌, ◌-◌, ◌≤◌, []}
 use Rattle.device_notifications.specs.Pendings.{pendings_of}
 use Rattle.device_notifications.specs.Progress.{Elapsed}
-use Rattle.device_notifications.proofs.sweep.jump.Given as goal
+use Rattle.device_notifications.proofs.jumping.jump.Given as goal
 
 abbrev pub invariant-loop-due : goal.invariant-loop-due
 invariant-loop-due l =

@@ -3,7 +3,7 @@ use Rattle.std.proofs.lemmas.Result.{IfOk-weaker}
 use Rattle.device_notifications.proofs.Passing.{passes_evaluated, passes_expired, passes_resent, passes_waiting}
 use Rattle.device_notifications.proofs.Passing.{turn_is}
 use Rattle.device_notifications.proofs.Renewals.{gone_both}
-use Rattle.device_notifications.proofs.sweep.take_due_turn.Goals as goal
+use Rattle.device_notifications.proofs.jumping.take_due_turn.Goals as goal
 
 pub returns-in-Evaluate-clause-passes : goal.returns-in-Evaluate-clause-passes
 returns-in-Evaluate-clause-passes c =

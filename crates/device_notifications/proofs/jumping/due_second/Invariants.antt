@@ -3,7 +3,7 @@
 use Rattle.std.proofs.Common.{◌≡◌, ◌-◌, [], length}
 use Rattle.device_notifications.specs.Pendings.{pendings_of}
 use Rattle.device_notifications.specs.Progress.{Progress}
-use Rattle.device_notifications.proofs.sweep.due_second.Given as goal
+use Rattle.device_notifications.proofs.jumping.due_second.Given as goal
 
 abbrev pub invariant-loop-next : goal.invariant-loop-next
 invariant-loop-next l =

@@ -6,7 +6,7 @@ use Rattle.device_notifications.specs.Message.{datagram_of}
 use Rattle.device_notifications.specs.Report.{report_of}
 use Rattle.device_notifications.specs.Second.{evaluation_of, next_notification}
 use Rattle.device_notifications.proofs.Passing.{passes_quiet, passes_sends, passes_gone}
-use Rattle.device_notifications.proofs.sweep.evaluate.Goals as goal
+use Rattle.device_notifications.proofs.evaluation.evaluate.Goals as goal
 
 some_same : (a b : Observation) → Some a ≡ Some b → a ≡ b
 some_same a b h = cc
