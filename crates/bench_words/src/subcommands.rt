@@ -1,6 +1,6 @@
 //! The subcommands of the program and their arguments, as `clap` takes them.
 ghost use Rattle.std.specs.Prelude.{◌≡◌, codes, false, true, IfOk};
-ghost use Rattle.clap.specs.Words.{app_of, new_app, rule_of, with_rule, with_subcommand};
+ghost use Rattle.clap.specs.Words.{App, app_of, new_app, rule_of, with_rule, with_subcommand};
 ghost use Rattle.bench_words.specs.Words.{asm_app, batch, bench_app, check_app, debug_app, dis_app, file, flag};
 ghost use Rattle.bench_words.specs.Words.{live_app, needed, needed_number, one_app, optional_number, pcap_app};
 ghost use Rattle.bench_words.specs.Words.{run_app, show_app, with_port, with_range, with_settings, with_trace};
@@ -23,38 +23,40 @@ fn with_texts<'a>(alloc: Global, command: Command<'a>) -> Result<Command<'a>, Al
     ensures { IfOk result (λ c. app_of c ≡ with_subcommand (with_subcommand
         (with_subcommand (app_of command.entry) one_app.top) asm_app.top) dis_app.top) }
 {
-    let one = with_subcommand(command, one_command(alloc)?)?;
-    let asm = with_subcommand(one, asm_command(alloc)?)?;
-    with_subcommand(asm, dis_command(alloc)?)
+    let one = with_subcommand(Ok(command), one_command(alloc));
+    let asm = with_subcommand(one, asm_command(alloc));
+    with_subcommand(asm, dis_command(alloc))
 }
 
 fn with_runs<'a>(alloc: Global, command: Command<'a>) -> Result<Command<'a>, AllocError>
     ensures { IfOk result (λ c. app_of c ≡ with_subcommand (with_subcommand
         (with_subcommand (app_of command.entry) run_app.top) check_app.top) show_app.top) }
 {
-    let run = with_subcommand(command, run_command(alloc)?)?;
-    let check = with_subcommand(run, check_command(alloc)?)?;
-    with_subcommand(check, show_command(alloc)?)
+    let run = with_subcommand(Ok(command), run_command(alloc));
+    let check = with_subcommand(run, check_command(alloc));
+    with_subcommand(check, show_command(alloc))
 }
 
 fn with_traces<'a>(alloc: Global, command: Command<'a>) -> Result<Command<'a>, AllocError>
     ensures { IfOk result (λ c. app_of c ≡ with_subcommand (with_subcommand
         (with_subcommand (app_of command.entry) pcap_app.top) debug_app.top) live_app.top) }
 {
-    let pcap = with_subcommand(command, pcap_command(alloc)?)?;
-    let debug = with_subcommand(pcap, debug_command(alloc)?)?;
-    with_subcommand(debug, live_command(alloc)?)
+    let pcap = with_subcommand(Ok(command), pcap_command(alloc));
+    let debug = with_subcommand(pcap, debug_command(alloc));
+    with_subcommand(debug, live_command(alloc))
 }
 
-/// Adds a subcommand that has no global argument.
+/// Adds a subcommand that has no global argument. Either may have failed, so a chain of these needs no `?`, each of which
+/// would drop a command: that makes it cheap to prove.
 fn with_subcommand<'a>(
-    command: Command<'a>,
-    subcommand: Command<'a>,
+    command: Result<Command<'a>, AllocError>,
+    subcommand: Result<Command<'a>, AllocError>,
 ) -> Result<Command<'a>, AllocError>
-    requires { (app_of subcommand).top.is_plain ≡ true }
-    ensures { IfOk result (λ c. app_of c ≡ with_subcommand (app_of command.entry) (app_of subcommand.entry).top) }
+    ensures { (app added : App) → IfOk command.entry (λ c. app_of c ≡ app) → IfOk subcommand.entry
+        (λ c. app_of c ≡ added) → added.top.is_plain ≡ true → IfOk result
+        (λ c. app_of c ≡ with_subcommand app added.top) }
 {
-    command.subcommand(subcommand)
+    command?.subcommand(subcommand?)
 }
 
 /// The program, with no subcommand yet.

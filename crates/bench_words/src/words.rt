@@ -17,7 +17,7 @@ pub const NO_TEXT: &str =
      For more information, try '--help'.\n";
 
 /// What the words ask the program to do. It borrows them.
-#[derive(Clone, Copy, Debug, PartialEq, Eq)]
+#[derive(Clone, Copy)]
 pub enum Job<'a> {
     /// The DEMO device takes one datagram.
     One {
@@ -86,7 +86,7 @@ pub enum Job<'a> {
 }
 
 /// A device that receives the datagrams of the network, and answers them.
-#[derive(Clone, Copy, Debug, PartialEq, Eq)]
+#[derive(Clone, Copy)]
 pub struct Live<'a> {
     /// The path of the scenario's image.
     pub image: &'a str,
@@ -103,7 +103,7 @@ pub struct Live<'a> {
 }
 
 /// What the words ask for.
-#[derive(Debug, Drop)]
+#[derive(Drop)]
 pub enum Asked<'a> {
     /// Something to do, whose answer is printed at its end.
     Job(Job<'a>),
