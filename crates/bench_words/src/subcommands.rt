@@ -46,8 +46,8 @@ fn with_traces<'a>(alloc: Global, command: Command<'a>) -> Result<Command<'a>, A
     with_subcommand(debug, live_command(alloc))
 }
 
-/// Adds a subcommand that has no global argument. Either may have failed, so a chain of these needs no `?`, each of which
-/// would drop a command: that makes it cheap to prove.
+/// Adds a subcommand that has no global argument. Either may have failed, so a chain of these needs no `?`, each of
+/// which would drop a command: that makes it cheap to prove.
 fn with_subcommand<'a>(
     command: Result<Command<'a>, AllocError>,
     subcommand: Result<Command<'a>, AllocError>,
