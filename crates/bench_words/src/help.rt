@@ -1,8 +1,8 @@
 //! What the help of the program and of each command says below their arguments.
 
-/// The version, and the line of the toolchain that proved it (`rt version`).
+/// The version, and the program logic in which it is proved, as `rt version` names it at the end of its line.
 pub const VERSION: &str = "0.1.0
-rattle-kit-13f logic dac8208d650f15bf";
+logic dac8208d650f15bf";
 
 pub const BENCH: &str =
     "An answer goes to standard output. A fault is the line `fault: NAME` there, and a line on standard
@@ -79,7 +79,7 @@ Writes no file.
 
 Example:
   lwbench show reader.image reader.trace
-  0 worker 0 device 0 step 0 second 0: read 1 con 1 - /3/0/9 any
+  0 worker 1 device 0 step 0 second 0: read 1 con 1 - /3/0/9 any
       # CON 0.01 GET, message 1, /3/0/9
   => send 1 60450001C0FF313030
       # ACK 2.05 Content, message 1, text/plain \"100\"";
@@ -112,10 +112,11 @@ Example:
   quit";
 
 pub const LIVE: &str =
-    "Reads IMAGE. Lets the device DEVICE of it, as its row begins, answer the datagrams that arrive at the UDP
-port PORT of this machine, until TURNS turns are over, 1 to 100000. Writes the image of what happened to
-the FILE of `--save`, which is replaced where it exists, and no file without it. With `--show` prints
-what happens while it goes on.
+    "Reads IMAGE. Starts the device DEVICE of it, without the steps of its row, and lets it answer the datagrams
+that arrive at the UDP port PORT of this machine, until TURNS turns are over, 1 to 100000. Writes the
+image of what happened to the FILE of `--save`, which is replaced where it exists, and no file without
+it. With `--show` prints what happens while it goes on. At the end prints
+  end NAME steps N sent M
 
 Example:
   lwbench live reader.image 0 5683 1000 --show";
