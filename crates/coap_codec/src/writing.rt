@@ -10,12 +10,42 @@ pub fn encode(alloc: Global, message: &Message) -> Result<Vec<u8>, AllocError>
     ensures spells { IfOk result (λ v. Spells v.items message.now) }
     ensures spelling { IfOk result (λ v. v.items ≡ spelling message.now) }
 {
-    let mut out = Vec::new(alloc);
+    let mut out = Vec::with_capacity(alloc, room_for(message))?;
     put_header(&mut out, message)?;
     out.extend_from_slice(message.token().as_slice())?;
     put_options(&mut out, message.options().as_slice())?;
     put_payload(&mut out, message.payload().as_slice())?;
     Ok(out)
+}
+
+/// How many bytes the message takes, so that its buffer is made once. It is only a hint: the buffer grows where it is
+/// too small.
+fn room_for(message: &Message) -> usize {
+    let mut room = 4usize.saturating_add(message.token().len());
+    let mut number: u16 = 0;
+    for option in message.options().as_slice() {
+        let length = option.value.len();
+        let delta = usize::from(option.number.saturating_sub(number));
+        room = room
+            .saturating_add(1 + extension_room(delta) + extension_room(length))
+            .saturating_add(length);
+        number = option.number;
+    }
+    if message.payload().is_empty() {
+        return room;
+    }
+    room.saturating_add(1)
+        .saturating_add(message.payload().len())
+}
+
+/// How many bytes extend a delta or a length.
+fn extension_room(n: usize) -> usize
+    ensures { result ≤ 2 }
+{
+    if n < 13 {
+        return 0;
+    }
+    if n < 269 { 1 } else { 2 }
 }
 
 /// The two bits of a type.

@@ -5,6 +5,7 @@ use crate::entry_lines::{entries_of, text_of};
 use crate::named::layout_fault;
 use crate::words::{decimal, joined, put_words};
 use byte_layout::LayoutFault;
+use octets::Bytes;
 use scenario_asm::{AsmFault, assemble, disassemble};
 use scenario_image::{Scenario, load, save};
 use scenario_words::{Cause, cause_words};
@@ -33,7 +34,7 @@ pub struct Found {
     /// The canonical text of a scenario, or the entries of a trace in words.
     pub text: String,
     /// The image of a scenario, or the trace file of entries.
-    pub file: Vec<u8>,
+    pub file: Bytes,
 }
 
 impl Found {
@@ -76,7 +77,7 @@ pub fn refused(alloc: Global, verdict: String) -> Found {
     Found {
         verdict,
         text: String::new(alloc),
-        file: Vec::new(alloc),
+        file: Bytes::new(alloc),
     }
 }
 
@@ -136,7 +137,7 @@ fn of_scenario(alloc: Global, scenario: &Scenario) -> Result<Found, AllocError> 
     Ok(Found {
         verdict,
         text: disassemble(alloc, scenario)?,
-        file: save(alloc, &copy)?,
+        file: Bytes::from_vec(save(alloc, &copy)?),
     })
 }
 
@@ -161,7 +162,7 @@ fn of_entries(alloc: Global, entries: &Entries) -> Result<Found, AllocError> {
         Ok(file) => Ok(Found {
             verdict: joined(alloc, &["ok ", count.as_str(), " entries"])?,
             text: text_of(alloc, entries.as_slice())?,
-            file: file.into_vec(),
+            file,
         }),
         Err(WriteFault::TooLarge) => refused_as(alloc, "fault too large"),
         Err(WriteFault::Memory) => Err(AllocError),

@@ -38,7 +38,7 @@ use Rattle.shared_trace.specs.contracts.trace.Trace as Trace
 use Rattle.fleet_workers.specs.contracts.loops.LoopEnd as LoopEnd
 
 bytes_send : IsSend Bytes.the_row
-bytes_send = search (sendable, std.crosses) depth 20
+bytes_send = search (sendable, std.crosses) depth 40 parts 12
 
 value_send : IsSend Value.the_row
 value_send = search (sendable, std.crosses, bytes_send) depth 30
@@ -135,7 +135,7 @@ end_send = search sendable depth 30
 -- ---- sync
 
 bytes_sync : IsSync Bytes.the_row
-bytes_sync = search (sendable, std.crosses) depth 20
+bytes_sync = search (sendable, std.crosses) depth 40 parts 12
 
 value_sync : IsSync Value.the_row
 value_sync = search (sendable, std.crosses, bytes_sync) depth 30

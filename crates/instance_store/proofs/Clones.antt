@@ -1,5 +1,5 @@
 -- A clone of a value, and of what a store keeps, is that value.
-use Rattle.std.proofs.Common.{◌≡◌, ℕ, List, [], ◌∷◌, refl, ap, sym, ◌∙◌, rules}
+use Rattle.std.proofs.Common.{◌≡◌, ℕ, List, [], ◌∷◌, refl, ap, ◌∙◌, rules}
 use Rattle.std.specs.List.{AllZip}
 use Rattle.lwm2m_values.specs.declared.value.Value.{Value}
 use Rattle.lwm2m_values.specs.declared.value.Value.TheVariants.{Text, Whole, Flag, Opaque, Moment, Link}
@@ -17,7 +17,7 @@ pub same_value : (v w : Value) → by_variants v w → w ≡ v
 same_value (Text a) (Text b) h = search rules
 same_value (Whole a) (Whole b) h = search rules
 same_value (Flag a) (Flag b) h = search rules
-same_value (Opaque a) (Opaque b) h = ap Opaque (sym h.3 ∙ same_list _ (λ x y k. k) _ _ h.4.0 ∙ h.2)
+same_value (Opaque a) (Opaque b) h = ap Opaque h
 same_value (Moment a) (Moment b) h = search rules
 same_value (Link a x) (Link b y) h = search rules
 same_value v w h = absurd h

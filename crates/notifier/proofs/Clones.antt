@@ -24,13 +24,13 @@ same_key k j h = (h.0, same_list _ (λ x y e. e) _ _ h.1.0)
 
 same_report : (r s : Report) → report_clone.it r s → s ≡ r
 same_report r s h =
-    let payload : s.payload ≡ r.payload = sym h.0.3 ∙ same_list _ (λ x y e. e) _ _ h.0.4.0 ∙ h.0.2 in
+    let payload : s.payload ≡ r.payload = h.0 in
     let number : s.number ≡ r.number = search rules in
     λ i. record { payload = payload i; number = number i }
 
 same_timer : (t u : Timer) → timer_clone.it t u → u ≡ t
 same_timer t u h =
-    let bytes : u.bytes ≡ t.bytes = sym h.0.3 ∙ same_list _ (λ x y e. e) _ _ h.0.4.0 ∙ h.0.2 in
+    let bytes : u.bytes ≡ t.bytes = h.0 in
     let first : u.first ≡ t.first = search rules in
     λ i. record { bytes = bytes i; first = first i }
 
@@ -43,7 +43,7 @@ same_timers o w (Some t) (Some u) h = ap Some (same_timer t u h.1.1.1.1.1.1.1.1.
 
 same_observation : (o w : Observation) → observation_clone.it o w → w ≡ o
 same_observation o w h =
-    let token : w.token ≡ o.token = sym h.1.0.3 ∙ same_list _ (λ x y e. e) _ _ h.1.0.4.0 ∙ h.1.0.2 in
+    let token : w.token ≡ o.token = h.1.0 in
     let report : w.report ≡ o.report = same_report o.report w.report h.1.1.1.1.0 in
     let path : w.path ≡ o.path = search rules in
     let accept : w.accept ≡ o.accept = search rules in

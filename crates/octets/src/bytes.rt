@@ -1,14 +1,15 @@
 ghost use Rattle.std.specs.Prelude.{◌≡◌, ◌==◌, ◌↔◌, List, [], length, IfOk, IsTrue};
 
+use smallvec::SmallVec;
 use std::alloc::{AllocError, Global};
 use std::marker::Model;
 
-/// Bytes that are owned: a token, an option's value, a payload, a datagram.
+/// Bytes that are owned: a token, an option's value, a payload, a datagram. Up to 16 bytes lie in the value itself.
 ///
 /// Contracts see the list of the bytes, and nothing of the memory that holds them.
-#[derive(Clone, Debug, Drop)]
+#[derive(Debug, Drop)]
 pub struct Bytes {
-    items: Vec<u8>,
+    items: SmallVec<u8, 16>,
 }
 
 impl Model for Bytes {
@@ -25,7 +26,7 @@ impl Bytes {
         ensures { result ≡ [] }
     {
         Bytes {
-            items: Vec::new(alloc),
+            items: SmallVec::new(alloc),
         }
     }
 
@@ -34,22 +35,17 @@ impl Bytes {
         ensures { IfOk result (λ b. b ≡ bytes.now) }
     {
         Ok(Bytes {
-            items: Vec::from_slice(alloc, bytes)?,
+            items: SmallVec::from_slice(alloc, bytes)?,
         })
     }
 
-    /// The bytes of a vector, which keeps its memory.
+    /// The bytes of a vector, which keeps its memory if that has room for more than 16.
     pub fn from_vec(items: Vec<u8>) -> Bytes
         ensures { result ≡ items.items }
     {
-        Bytes { items }
-    }
-
-    /// The vector that holds the bytes.
-    pub fn into_vec(self) -> Vec<u8>
-        ensures { result.items ≡ self }
-    {
-        self.items
+        Bytes {
+            items: SmallVec::from_vec(items),
+        }
     }
 
     /// The bytes.
@@ -71,6 +67,16 @@ impl Bytes {
         ensures { IsTrue result ↔ (length self.now ≡ 0) }
     {
         self.items.len() == 0
+    }
+}
+
+impl Clone for Bytes {
+    ghost use Rattle.std.specs.Prelude.{◌≡◌};
+
+    ghost is_clone = { λ bytes copy. copy ≡ bytes };
+
+    fn clone(&self) -> Result<Bytes, AllocError> {
+        Bytes::from_slice(*self.items.allocator(), self.as_slice())
     }
 }
 
