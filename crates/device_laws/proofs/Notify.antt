@@ -3,20 +3,20 @@ use Rattle.std.proofs.Common.{◌≡◌, ℕ, Bool, true, false, Option, None, S
 use Rattle.std.specs.Bool.{if◌then◌else◌}
 use Rattle.coap_codec.specs.Message.{Message}
 use Rattle.instance_store.specs.Stored.{Stored}
-use Rattle.object_defs.specs.Lines.{first_line}
 use Rattle.object_defs.specs.Path.{object_in}
 use Rattle.object_defs.specs.declared.path.Path.{Path}
 use Rattle.notifier.specs.Attributes.{Numbers}
 use Rattle.device_requests.specs.Client.{Client}
-use Rattle.device_requests.specs.Create.{Newborn, create_lines, create_unless, newborn}
-use Rattle.device_requests.specs.Delete.{delete_lines, delete_unless}
-use Rattle.device_requests.specs.Execute.{execute_lines, execute_unless}
+use Rattle.device_requests.specs.Create.{Newborn, create_unless, newborn}
+use Rattle.device_requests.specs.Delete.{delete_unless}
+use Rattle.device_requests.specs.Execute.{execute_unless}
 use Rattle.device_requests.specs.Operation.{operation_of}
 use Rattle.device_requests.specs.Options.{accept_of, content_format_of, has_query, has_unrecognized_critical}
 use Rattle.device_requests.specs.Options.{queries_of, segments_of, path_of}
+use Rattle.device_requests.specs.Refusals.{refusal_of, to_create, to_delete, to_execute, to_write_attributes}
 use Rattle.device_requests.specs.Request.{outcome_at, outcome_for, outcome_of, request_by, request_on, request_with}
 use Rattle.device_requests.specs.Write.{write_unless}
-use Rattle.device_requests.specs.WriteAttributes.{annotate_unless, attribute_lines, attributes_given}
+use Rattle.device_requests.specs.WriteAttributes.{annotate_unless, attributes_given}
 use Rattle.device_requests.specs.declared.answer.Code.{Code}
 use Rattle.device_requests.specs.declared.answer.Code.TheVariants.{BadOption}
 use Rattle.device_requests.specs.declared.operation.Operation.{Operation}
@@ -57,18 +57,17 @@ keeps_at : (client : Client) (server : ℕ) (m : Message) (path : Path) (operati
 keeps_at client server m path Read = refl
 keeps_at client server m path Discover = refl
 keeps_at client server m path WriteAttributes =
-    attributes_keep (first_line (attribute_lines client server path
-    (attributes_given client server path (queries_of m.options)))) client
+    attributes_keep (refusal_of client server path (to_write_attributes (queries_of m.options))) client
     (attributes_given client server path (queries_of m.options))
 keeps_at client server m path WriteReplace = unless_keeps _ client _
 keeps_at client server m path WritePartial = unless_keeps _ client _
 keeps_at client server m path Create =
-    create_keeps (first_line (create_lines client server path (content_format_of m.options) m.payload)) client server
+    create_keeps (refusal_of client server path (to_create (content_format_of m.options) m.payload)) client server
     (object_in path)
     (newborn client (object_in path) m.payload)
 keeps_at client server m path Execute =
-    execute_keeps (first_line (execute_lines client server path (content_format_of m.options) m.payload)) client path
-keeps_at client server m path Delete = delete_keeps (first_line (delete_lines client server path)) client path
+    execute_keeps (refusal_of client server path (to_execute (content_format_of m.options) m.payload)) client path
+keeps_at client server m path Delete = delete_keeps (refusal_of client server path to_delete) client path
 
 keeps_by : (client : Client) (server : ℕ) (m : Message) (path : Path) (operation : Option Operation)
     → (outcome_for client server m (request_by m path operation)).client.notify ≡ client.notify

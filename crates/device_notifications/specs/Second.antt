@@ -15,7 +15,7 @@ use Rattle.notifier.specs.declared.turn.Turn.{Turn}
 use Rattle.notifier.specs.declared.turn.Turn.TheVariants.{Evaluate, Wait, Resend, Expire}
 use Rattle.device_requests.specs.Answer.{is_content}
 use Rattle.device_requests.specs.Client.{Client}
-use Rattle.device_requests.specs.Read.{read_answer}
+use Rattle.device_requests.specs.Outcomes.{read_answer}
 use Rattle.device_requests.specs.declared.answer.Answer.{Answer}
 use Rattle.device_notifications.specs.declared.datagram.Datagram.{Datagram}
 use Rattle.device_notifications.specs.declared.evaluation.Evaluation.{Evaluation}

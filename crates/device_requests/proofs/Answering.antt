@@ -1,4 +1,4 @@
--- A request is answered by the first line that it meets.
+-- A request is answered by the first rule that holds.
 use Rattle.std.proofs.Common.{◌≡◌, ℕ, Bool, true, false, not, cond, ◌==◌, List, [], ◌∷◌, ◌++◌, Option, None, Some}
 use Rattle.std.proofs.Common.{is_some, Result, Err, refl, ap, ◌∙◌}
 use Rattle.std.specs.Bool.{if◌then◌else◌}
@@ -27,24 +27,28 @@ use Rattle.device_requests.specs.Answer.{content, refused_or}
 use Rattle.object_defs.specs.Lines.{first_line}
 use Rattle.device_requests.specs.Create.{Newborn, create_unless, is_tlv, lacks_room, newborn}
 use Rattle.device_requests.specs.Targets.{is_fixed, exists}
-use Rattle.device_requests.specs.Delete.{delete_lines, delete_unless}
-use Rattle.device_requests.specs.Execute.{execute_lines, execute_unless}
-use Rattle.device_requests.specs.Discover.{discover_answer, discover_lines, discover_payload}
+use Rattle.device_requests.specs.Delete.{delete_unless}
+use Rattle.device_requests.specs.Execute.{execute_unless}
+use Rattle.device_requests.specs.Discover.{discover_payload}
 use Rattle.device_requests.specs.Operation.{operation_of}
 use Rattle.device_requests.specs.Options.{accept_of, content_format_of, has_query, has_unrecognized_critical}
 use Rattle.device_requests.specs.Options.{queries_of, segments_of, path_of}
 use Rattle.device_requests.specs.Read.{can_be_read, content_in, format_at, read_payload}
-use Rattle.device_requests.specs.Request.{outcome_at, outcome_for, outcome_of, request_by, request_on, request_with}
+use Rattle.device_requests.specs.Outcomes.{discover_answer, write_outcome}
+use Rattle.device_requests.specs.Refusals.{refusal_of, refusals_of, rules_of, to_delete, to_discover, to_execute}
+use Rattle.device_requests.specs.Refusals.{to_write}
+use Rattle.device_requests.specs.Request.{outcome_at, outcome_for, outcome_of, purpose_of, request_by, request_on}
+use Rattle.device_requests.specs.Request.{request_with}
 use Rattle.device_requests.specs.Access.{may_read, rights_on}
-use Rattle.device_requests.specs.Write.{event_of, left, mode_at, new_values, write_lines, write_outcome, write_unless}
+use Rattle.device_requests.specs.Write.{event_of, left, mode_at, new_values, write_unless}
 use Rattle.device_requests.specs.Client.{Client}
-use Rattle.device_requests.specs.Laws.{operation_lines, lines_by, lines_on, request_lines}
+use Rattle.device_requests.specs.Laws.{lines_by, lines_on, request_lines}
 
--- the code is that of the first line that applies
+-- the code is that of the first rule that holds
 abbrev Says : Answer → List (Bool × Code) → Type 0
 Says answer lines = first_line lines ≡ Some answer.code
 
--- lines with one after them that always applies
+-- rules with one after them that always holds
 ended : (lines : List (Bool × Code)) (code : Code) → first_line (lines ++ (true, code) ∷ [])
     ≡ Some (unwrap_or (first_line lines) code)
 ended [] code = refl
@@ -113,23 +117,23 @@ attributes_says false false false client None = refl
 attributes_says false false false client (Some m) = refl
 
 discover_says : (client : Client) (server : ℕ) (path : Path)
-    → Says (discover_answer client server path) (discover_lines client server path ++ (true, Content) ∷ [])
+    → Says (discover_answer client server path) (rules_of client server path to_discover)
 discover_says client server path =
-    ended (discover_lines client server path) Content
-    ∙ ap Some (refused_code (first_line (discover_lines client server path)) 40 (discover_payload client server path))
+    ended (refusals_of client server path to_discover) Content
+    ∙ ap Some (refused_code (refusal_of client server path to_discover) 40 (discover_payload client server path))
 
 write_says : (client : Client) (server : ℕ) (mode : Mode) (path : Path) (number : Option ℕ) (payload : List ℕ)
     → Says (write_outcome client server mode path number payload).answer
-    (write_lines client server mode path number payload ++ (true, Changed) ∷ [])
+    (rules_of client server path (to_write mode number payload))
 write_says client server mode path number payload =
-    ended (write_lines client server mode path number payload) Changed
-    ∙ ap Some (write_code (first_line (write_lines client server mode path number payload)) client
+    ended (refusals_of client server path (to_write mode number payload)) Changed
+    ∙ ap Some (write_code (refusal_of client server path (to_write mode number payload)) client
     (left (mode_at mode path) client path (new_values client path number payload)
     (event_of path (new_values client path number payload))))
 
 says_at : (client : Client) (server : ℕ) (m : Message) (path : Path) (operation : Operation)
     → Says (outcome_at client server m (request_with m path operation)).answer
-    (operation_lines client server m path operation)
+    (rules_of client server path (purpose_of m operation))
 says_at client server m path Read =
     read_says (object_in path == 0) (not (exists client.catalogue client.store path))
     (not (may_read client server path)) (not (can_be_read client.catalogue path))
@@ -149,12 +153,12 @@ says_at client server m path Create =
     (is_fixed o)
     (not (is_tlv (content_format_of m.options))) (lacks_room client o new) client server o new
 says_at client server m path Execute =
-    ended (execute_lines client server path (content_format_of m.options) m.payload) Changed
-    ∙ ap Some (execute_code (first_line (execute_lines client server path (content_format_of m.options) m.payload))
-    client path)
+    let purpose = to_execute (content_format_of m.options) m.payload in
+    ended (refusals_of client server path purpose) Changed
+    ∙ ap Some (execute_code (refusal_of client server path purpose) client path)
 says_at client server m path Delete =
-    ended (delete_lines client server path) Deleted
-    ∙ ap Some (delete_code (first_line (delete_lines client server path)) client path)
+    ended (refusals_of client server path to_delete) Deleted
+    ∙ ap Some (delete_code (refusal_of client server path to_delete) client path)
 
 says_by : (client : Client) (server : ℕ) (m : Message) (path : Path) (operation : Option Operation)
     → Says (outcome_for client server m (request_by m path operation)).answer
@@ -174,7 +178,7 @@ says_if : (b : Bool) (client : Client) (server : ℕ) (m : Message) (request : R
 says_if true client server m request lines h = refl
 says_if false client server m request lines h = h
 
--- the answer's code is that of the first line that the request meets
+-- the answer's code is that of the first rule that holds
 pub says : (client : Client) (server : ℕ) (m : Message) → first_line (request_lines client server m)
     ≡ Some (outcome_of client server m).answer.code
 says client server m =

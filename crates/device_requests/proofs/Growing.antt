@@ -14,9 +14,12 @@ use Rattle.device_requests.specs.declared.write.NewValues.{NewValues}
 use Rattle.device_requests.specs.Access.{rights_on}
 use Rattle.device_requests.specs.Answer.{takes_memory}
 use Rattle.device_requests.specs.Client.{Client}
+use Rattle.device_requests.specs.Inside.{value_rules}
+use Rattle.device_requests.specs.Outcomes.{write_outcome}
 use Rattle.device_requests.specs.Read.{format_at}
-use Rattle.device_requests.specs.Write.{can_be_written, event_of, is_target, left, mode_at, new_values, turn_lines}
-use Rattle.device_requests.specs.Write.{value_lines, write_outcome, write_unless}
+use Rattle.device_requests.specs.Refusals.{is_refused_now, unless_taken}
+use Rattle.device_requests.specs.Write.{can_be_written, event_of, exceeds, is_target, left, mode_at, new_values}
+use Rattle.device_requests.specs.Write.{write_unless}
 
 -- what an error says, said otherwise
 pub of_error : {X E : Type 0} (r : Result X E) (P Q : Type 0) → (P → Q) → OnErr r P → OnErr r Q
@@ -28,18 +31,20 @@ late_code : (b : Bool) (code : Code) (client : Client) (stored : Stored) → tak
 late_code true code client stored h = h
 late_code false code client stored h = refl
 
-late_turn : (client : Client) (mode : Mode) (path : Path) (values : Option NewValues) (event : Option FirmwareEvent)
-    (stored : Stored)
-    → takes_memory (write_unless (first_line (turn_lines client mode path values event)) client stored).answer.code
+late_turn : (client : Client) (event : Option FirmwareEvent) (much : Bool) (stored : Stored)
+    → takes_memory (write_unless (first_line ((is_refused_now client.store event, MethodNotAllowed)
+    ∷ (unless_taken event much, InternalServerError) ∷ [])) client stored).answer.code
     ≡ true
-late_turn client mode path values None stored = late_code _ InternalServerError client stored refl
-late_turn client mode path values (Some event) stored = late_code _ MethodNotAllowed client stored refl
+late_turn client None much stored = late_code much InternalServerError client stored refl
+late_turn client (Some event) much stored =
+    late_code (is_refused_now client.store (Some event)) MethodNotAllowed client stored refl
 
 late_values : (client : Client) (mode : Mode) (path : Path) (values : Option NewValues) (stored : Stored)
-    → takes_memory (write_unless (first_line (value_lines client mode path values)) client stored).answer.code ≡ true
+    → takes_memory (write_unless (first_line (value_rules client mode path values)) client stored).answer.code ≡ true
 late_values client mode path None stored = refl
 late_values client mode path (Some values) stored =
-    late_turn client (mode_at mode path) path (Some values) (event_of path (Some values)) stored
+    late_turn client (event_of path (Some values))
+    (exceeds (mode_at mode path) client.catalogue client.store path (Some values)) stored
 
 late_write : (o t r w f : Bool) (lines : List (Bool × Code)) → o ≡ false → t ≡ true → r ≡ true → w ≡ true → f ≡ true
     → first_line
@@ -67,5 +72,5 @@ write_grows client server mode path number payload other target may can served =
     (late_write (object_in path == 0) (is_target client.catalogue client.store path)
     (rights_on client server path).write
     (can_be_written client.catalogue path) (is_some (format_at client.catalogue path number))
-    (value_lines client mode path values) other target may can served)
+    (value_rules client mode path values) other target may can served)
     ∙ late_values client mode path values stored

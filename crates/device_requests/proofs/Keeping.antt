@@ -3,7 +3,6 @@ use Rattle.std.proofs.Common.{ℕ, Bool, true, false, List, Option, None, Some, 
 use Rattle.std.specs.Bool.{if◌then◌else◌}
 use Rattle.coap_codec.specs.Message.{Message}
 use Rattle.instance_store.specs.Stored.{Stored}
-use Rattle.object_defs.specs.Lines.{first_line}
 use Rattle.object_defs.specs.declared.path.Path.{Path}
 use Rattle.lwm2m_payloads.specs.declared.given.Mode.{Mode}
 use Rattle.lwm2m_payloads.specs.declared.given.Mode.TheVariants.{Replace, Update}
@@ -15,17 +14,19 @@ use Rattle.device_requests.specs.declared.operation.Operation.TheVariants.{Write
 use Rattle.device_requests.specs.declared.operation.Operation.TheVariants.{Delete}
 use Rattle.device_requests.specs.declared.request.Request.{Request}
 use Rattle.notifier.specs.Attributes.{Numbers}
-use Rattle.device_requests.specs.WriteAttributes.{annotate_unless, attribute_lines, attributes_given}
+use Rattle.device_requests.specs.WriteAttributes.{annotate_unless, attributes_given}
 use Rattle.device_requests.specs.Client.{Client}
 use Rattle.object_defs.specs.Path.{object_in}
-use Rattle.device_requests.specs.Create.{Newborn, create_lines, create_unless, newborn}
-use Rattle.device_requests.specs.Delete.{delete_lines, delete_unless}
-use Rattle.device_requests.specs.Execute.{execute_lines, execute_unless}
+use Rattle.device_requests.specs.Create.{Newborn, create_unless, newborn}
+use Rattle.device_requests.specs.Delete.{delete_unless}
+use Rattle.device_requests.specs.Execute.{execute_unless}
 use Rattle.device_requests.specs.Operation.{operation_of}
 use Rattle.device_requests.specs.Options.{accept_of, content_format_of, has_query, has_unrecognized_critical}
 use Rattle.device_requests.specs.Options.{queries_of, segments_of, path_of}
+use Rattle.device_requests.specs.Outcomes.{write_outcome}
+use Rattle.device_requests.specs.Refusals.{refusal_of, to_create, to_delete, to_execute, to_write, to_write_attributes}
 use Rattle.device_requests.specs.Request.{outcome_at, outcome_for, outcome_of, request_by, request_on, request_with}
-use Rattle.device_requests.specs.Write.{event_of, left, mode_at, new_values, write_lines, write_outcome, write_unless}
+use Rattle.device_requests.specs.Write.{event_of, left, mode_at, new_values, write_unless}
 use Rattle.device_requests.specs.Laws.{KeepsFrame}
 
 unless_keeps : (code : Option Code) (client : Client) (stored : Stored)
@@ -39,7 +40,7 @@ same client = record { accounts = refl; catalogue = refl }
 write_keeps : (client : Client) (server : ℕ) (mode : Mode) (path : Path) (number : Option ℕ) (payload : List ℕ)
     → KeepsFrame client (write_outcome client server mode path number payload).client
 write_keeps client server mode path number payload =
-    unless_keeps (first_line (write_lines client server mode path number payload)) client
+    unless_keeps (refusal_of client server path (to_write mode number payload)) client
     (left (mode_at mode path) client path (new_values client path number payload)
     (event_of path (new_values client path number payload)))
 
@@ -70,20 +71,19 @@ keeps_at : (client : Client) (server : ℕ) (m : Message) (path : Path) (operati
 keeps_at client server m path Read = same client
 keeps_at client server m path Discover = same client
 keeps_at client server m path WriteAttributes =
-    attributes_keep (first_line (attribute_lines client server path
-    (attributes_given client server path (queries_of m.options)))) client
+    attributes_keep (refusal_of client server path (to_write_attributes (queries_of m.options))) client
     (attributes_given client server path (queries_of m.options))
 keeps_at client server m path WriteReplace =
     write_keeps client server Replace path (content_format_of m.options) m.payload
 keeps_at client server m path WritePartial =
     write_keeps client server Update path (content_format_of m.options) m.payload
 keeps_at client server m path Create =
-    create_keeps (first_line (create_lines client server path (content_format_of m.options) m.payload)) client server
+    create_keeps (refusal_of client server path (to_create (content_format_of m.options) m.payload)) client server
     (object_in path)
     (newborn client (object_in path) m.payload)
 keeps_at client server m path Execute =
-    execute_keeps (first_line (execute_lines client server path (content_format_of m.options) m.payload)) client path
-keeps_at client server m path Delete = delete_keeps (first_line (delete_lines client server path)) client path
+    execute_keeps (refusal_of client server path (to_execute (content_format_of m.options) m.payload)) client path
+keeps_at client server m path Delete = delete_keeps (refusal_of client server path to_delete) client path
 
 keeps_by : (client : Client) (server : ℕ) (m : Message) (path : Path) (operation : Option Operation)
     → KeepsFrame client (outcome_for client server m (request_by m path operation)).client

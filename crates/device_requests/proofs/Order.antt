@@ -1,108 +1,35 @@
 -- The first rule that holds decides.
-use Rattle.std.proofs.Common.{◌≡◌, ℕ, Bool, true, false, not, cond, ◌||◌, ◌==◌, List, [], ◌∷◌, ◌++◌, Option, None, Some}
-use Rattle.std.proofs.Common.{is_some, Err, inl, inr, refl, sym, ap, ◌∙◌}
+use Rattle.std.proofs.Common.{◌≡◌, ℕ, Bool, true, false, cond, ◌||◌, ◌==◌, List, [], ◌∷◌, Option, None, Some}
+use Rattle.std.proofs.Common.{Err, inl, inr, refl, sym, ap, ◌∙◌}
 use Rattle.std.specs.Bool.{if◌then◌else◌}
 use Rattle.std.proofs.lemmas.Bool.{ne_eqb}
 use Rattle.coap_codec.specs.Message.{Message}
 use Rattle.object_defs.specs.Lines.{first_line}
 use Rattle.object_defs.specs.Path.{object_in}
 use Rattle.object_defs.specs.declared.path.Path.{Path}
-use Rattle.device_firmware.specs.declared.event.FirmwareEvent.{FirmwareEvent}
-use Rattle.lwm2m_payloads.specs.declared.given.Mode.{Mode}
-use Rattle.lwm2m_payloads.specs.declared.given.Mode.TheVariants.{Replace, Update}
 use Rattle.device_requests.specs.declared.answer.Code.{Code}
-use Rattle.device_requests.specs.declared.answer.Code.TheVariants.{Changed, BadRequest, Unauthorized, BadOption}
-use Rattle.device_requests.specs.declared.answer.Code.TheVariants.{NotFound, MethodNotAllowed, UnsupportedContentFormat}
-use Rattle.device_requests.specs.declared.answer.Code.TheVariants.{InternalServerError}
+use Rattle.device_requests.specs.declared.answer.Code.TheVariants.{BadRequest, Unauthorized, BadOption, NotFound}
+use Rattle.device_requests.specs.declared.answer.Code.TheVariants.{MethodNotAllowed, InternalServerError}
 use Rattle.device_requests.specs.declared.observe.Interest.{Interest}
 use Rattle.device_requests.specs.declared.operation.Operation.{Operation}
-use Rattle.device_requests.specs.declared.operation.Operation.TheVariants.{Read, Discover, WriteAttributes}
-use Rattle.device_requests.specs.declared.operation.Operation.TheVariants.{WriteReplace, WritePartial, Create, Execute}
-use Rattle.device_requests.specs.declared.operation.Operation.TheVariants.{Delete}
-use Rattle.device_requests.specs.declared.write.NewValues.{NewValues}
-use Rattle.device_requests.specs.Access.{rights_on}
+use Rattle.device_requests.specs.declared.operation.Operation.TheVariants.{Read}
 use Rattle.device_requests.specs.Client.{Client}
-use Rattle.device_requests.specs.Laws.{IsAmong, lines_by, lines_on, operation_lines, request_lines}
+use Rattle.device_requests.specs.Laws.{IsAmong, lines_by, lines_on, request_lines}
 use Rattle.device_requests.specs.Observe.{interest_for}
 use Rattle.device_requests.specs.Operation.{operation_of}
-use Rattle.device_requests.specs.Options.{accept_of, content_format_of, has_query, has_unrecognized_critical}
-use Rattle.device_requests.specs.Options.{segments_of, path_of}
+use Rattle.device_requests.specs.Options.{accept_of, has_query, has_unrecognized_critical, path_of, segments_of}
 use Rattle.device_requests.specs.Order.{Asks, AsksToRead, FormatsPrecedePayloads, MethodsPrecedeObjects, OneTable}
 use Rattle.device_requests.specs.Order.{OnlyReadsObserve, OperationsPrecedeFormats, OptionsComeFirst}
 use Rattle.device_requests.specs.Order.{PathsPrecedeMethods, PayloadsPrecedeStates, RefusalsHaveReasons}
 use Rattle.device_requests.specs.Order.{RightsPrecedeOperations, SecurityPrecedesTargets, TargetsPrecedeRights}
-use Rattle.device_requests.specs.Order.{done_code, format_refusal, given_by, has_reason, is_invalid, is_out_of_turn}
-use Rattle.device_requests.specs.Order.{is_refused_now, is_too_much, lacks_format, lacks_operation, lacks_right}
-use Rattle.device_requests.specs.Order.{lacks_target, rules_of, unless_taken}
-use Rattle.device_requests.specs.Read.{format_at}
-use Rattle.device_requests.specs.Request.{outcome_of, request_by, request_on}
-use Rattle.device_requests.specs.Write.{can_be_written, event_of, exceeds, is_target, mode_at, turn_lines, write_lines}
+use Rattle.device_requests.specs.Order.{has_reason}
+use Rattle.device_requests.specs.Refusals.{Purpose, done_code, format_refusal, is_invalid, is_out_of_turn, is_too_much}
+use Rattle.device_requests.specs.Refusals.{lacks_format, lacks_operation, lacks_right, lacks_target, rules_of}
+use Rattle.device_requests.specs.Refusals.{to_create, to_delete, to_discover, to_read}
+use Rattle.device_requests.specs.Request.{outcome_of, purpose_of, request_by, request_on}
 use Rattle.device_requests.proofs.Answering.{says}
 
--- lines that decide alike, after others
-alike : (lines xs ys : List (Bool × Code)) → first_line xs ≡ first_line ys
-    → first_line (lines ++ xs) ≡ first_line (lines ++ ys)
-alike [] xs ys h = h
-alike (line ∷ lines) xs ys h = ap (λ (said : Option Code). cond line.0 (Some line.1) said) (alike lines xs ys h)
-
--- the firmware or the count of parts, one of which a Write has to do with
-turned : (client : Client) (mode : Mode) (path : Path) (values : Option NewValues) (event : Option FirmwareEvent)
-    → first_line (turn_lines client mode path values event ++ (true, Changed) ∷ [])
-    ≡ first_line ((is_refused_now client.store event, MethodNotAllowed)
-    ∷ (unless_taken event (exceeds mode client.catalogue client.store path values), InternalServerError)
-    ∷ (true, Changed) ∷ [])
-turned client mode path values None = refl
-turned client mode path values (Some event) = refl
-
-same_write : (client : Client) (server : ℕ) (m : Message) (mode : Mode) (path : Path)
-    → let number = content_format_of m.options in
-    let values = given_by client m path in
-    let event = event_of path values in
-    first_line (write_lines client server mode path number m.payload ++ (true, Changed) ∷ [])
-    ≡ first_line ((object_in path == 0, Unauthorized)
-    ∷ (not (is_target client.catalogue client.store path), NotFound)
-    ∷ (not (rights_on client server path).write, Unauthorized)
-    ∷ (not (can_be_written client.catalogue path), MethodNotAllowed)
-    ∷ (not (is_some (format_at client.catalogue path number)), UnsupportedContentFormat)
-    ∷ (not (is_some values), BadRequest)
-    ∷ (is_refused_now client.store event, MethodNotAllowed)
-    ∷ (
-      unless_taken event (exceeds (mode_at mode path) client.catalogue client.store path values),
-      InternalServerError,
-    )
-    ∷ (true, Changed) ∷ [])
-same_write client server m mode path =
-    let number = content_format_of m.options in
-    let values = given_by client m path in
-    let event = event_of path values in
-    alike ((object_in path == 0, Unauthorized)
-    ∷ (not (is_target client.catalogue client.store path), NotFound)
-    ∷ (not (rights_on client server path).write, Unauthorized)
-    ∷ (not (can_be_written client.catalogue path), MethodNotAllowed)
-    ∷ (not (is_some (format_at client.catalogue path number)), UnsupportedContentFormat)
-    ∷ (not (is_some values), BadRequest) ∷ [])
-    (turn_lines client (mode_at mode path) path values event ++ (true, Changed) ∷ [])
-    ((is_refused_now client.store event, MethodNotAllowed)
-    ∷ (
-      unless_taken event (exceeds (mode_at mode path) client.catalogue client.store path values),
-      InternalServerError,
-    )
-    ∷ (true, Changed) ∷ [])
-    (turned client (mode_at mode path) path values event)
-
--- the lines of an operation are the rules for all
-same_lines : (client : Client) (server : ℕ) (m : Message) (path : Path) (operation : Operation)
-    → first_line (operation_lines client server m path operation) ≡ first_line (rules_of client server m path operation)
-same_lines client server m path Read = refl
-same_lines client server m path Discover = refl
-same_lines client server m path WriteAttributes = refl
-same_lines client server m path WriteReplace = same_write client server m Replace path
-same_lines client server m path WritePartial = same_write client server m Update path
-same_lines client server m path Create = refl
-same_lines client server m path Execute = refl
-same_lines client server m path Delete = refl
-
--- the lines of a request whose options are understood
+-- the rules of a request whose options are understood
 when_understood : (client : Client) (server : ℕ) (m : Message) → has_unrecognized_critical m.options ≡ false
     → first_line (request_lines client server m)
     ≡ first_line (lines_on client server m (path_of (segments_of m.options)))
@@ -121,8 +48,7 @@ addressed client server m path h k =
 pub one_table : OneTable
 one_table client server m path operation asks =
     sym (addressed client server m path asks.understood asks.goes_to
-    ∙ ap (λ (o : Option Operation). first_line (lines_by client server m path o)) asks.means
-    ∙ same_lines client server m path operation)
+    ∙ ap (λ (o : Option Operation). first_line (lines_by client server m path o)) asks.means)
     ∙ says client server m
 
 told : (said code : Code) → Some said ≡ Some code → said ≡ code
@@ -232,18 +158,17 @@ ordered false false false false false false format code lines h =
     }
 
 order : (client : Client) (server : ℕ) (m : Message) (path : Path) (operation : Operation) → Asks m path operation
-    → IsOrdered (object_in path == 0) (lacks_target client path operation) (lacks_right client server path operation)
-    (lacks_operation client.catalogue path operation)
-    (lacks_format client.catalogue m path operation) (is_invalid client server m path operation)
-    (format_refusal operation) (outcome_of client server m).answer.code
+    → let purpose = purpose_of m operation in
+    IsOrdered (object_in path == 0) (lacks_target client path purpose) (lacks_right client server path purpose)
+    (lacks_operation client.catalogue path purpose) (lacks_format client.catalogue path purpose)
+    (is_invalid client server path purpose) (format_refusal purpose) (outcome_of client server m).answer.code
 order client server m path operation asks =
-    ordered (object_in path == 0) (lacks_target client path operation) (lacks_right client server path operation)
-    (lacks_operation client.catalogue path operation)
-    (lacks_format client.catalogue m path operation) (is_invalid client server m path operation)
-    (format_refusal operation) (outcome_of client server m).answer.code
-    ((is_out_of_turn client m path operation, MethodNotAllowed)
-    ∷ (is_too_much client server m path operation, InternalServerError)
-    ∷ (true, done_code operation) ∷ [])
+    let purpose = purpose_of m operation in
+    ordered (object_in path == 0) (lacks_target client path purpose) (lacks_right client server path purpose)
+    (lacks_operation client.catalogue path purpose) (lacks_format client.catalogue path purpose)
+    (is_invalid client server path purpose) (format_refusal purpose) (outcome_of client server m).answer.code
+    ((is_out_of_turn client path purpose, MethodNotAllowed)
+    ∷ (is_too_much client server path purpose, InternalServerError) ∷ (true, done_code purpose) ∷ [])
     (one_table client server m path operation asks)
 
 pub security_fourth : SecurityPrecedesTargets
@@ -266,12 +191,12 @@ formats_eighth client server m path operation asks h = (order client server m pa
 pub payloads_ninth : PayloadsPrecedeStates
 payloads_ninth client server m path operation asks h k = (order client server m path operation asks).payload h k
 
--- where a line holds, its code has this property
+-- where a rule holds, its code has this property
 abbrev Each : (Code → Bool) → List (Bool × Code) → Type 0
 Each p [] = Unit {0}
 Each p (line ∷ lines) = (line.0 ≡ true → p line.1 ≡ true) × Each p lines
 
--- so has the code that the lines give
+-- so has the code that the rules give
 each_told : (p : Code → Bool) (lines : List (Bool × Code)) (code : Code) → Each p lines
     → first_line lines ≡ Some code → p code ≡ true
 each_told p [] code e h = cc
@@ -290,40 +215,41 @@ right_or : (a b : Bool) → b ≡ true → (a || b) ≡ true
 right_or true b h = refl
 right_or false b h = h
 
-format_reason : (client : Client) (server : ℕ) (m : Message) (path : Path) (operation : Operation)
-    → lacks_format client.catalogue m path operation ≡ true
-    → has_reason client server m path operation (format_refusal operation) ≡ true
-format_reason client server m path Read h = h
-format_reason client server m path operation h = h
+format_reason : (client : Client) (server : ℕ) (path : Path) (purpose : Purpose)
+    → lacks_format client.catalogue path purpose ≡ true
+    → has_reason client server path purpose (format_refusal purpose) ≡ true
+format_reason client server path (to_read accept) h = h
+format_reason client server path purpose h = h
 
-done_reason : (client : Client) (server : ℕ) (m : Message) (path : Path) (operation : Operation)
-    → has_reason client server m path operation (done_code operation) ≡ true
-done_reason client server m path Read = refl
-done_reason client server m path Discover = refl
-done_reason client server m path Create = refl
-done_reason client server m path Delete = refl
-done_reason client server m path operation = refl
+done_reason : (client : Client) (server : ℕ) (path : Path) (purpose : Purpose)
+    → has_reason client server path purpose (done_code purpose) ≡ true
+done_reason client server path (to_read accept) = refl
+done_reason client server path to_discover = refl
+done_reason client server path (to_create format payload) = refl
+done_reason client server path to_delete = refl
+done_reason client server path purpose = refl
 
 pub reasons : RefusalsHaveReasons
 reasons client server m path operation asks =
-    each_told (has_reason client server m path operation) (rules_of client server m path operation)
+    let purpose = purpose_of m operation in
+    each_told (has_reason client server path purpose) (rules_of client server path purpose)
     (outcome_of client server m).answer.code (
-      left_or (object_in path == 0) (lacks_right client server path operation),
+      left_or (object_in path == 0) (lacks_right client server path purpose),
       (
         (λ h. h),
         (
-          right_or (object_in path == 0) (lacks_right client server path operation),
+          right_or (object_in path == 0) (lacks_right client server path purpose),
           (
-            left_or (lacks_operation client.catalogue path operation) (is_out_of_turn client m path operation),
+            left_or (lacks_operation client.catalogue path purpose) (is_out_of_turn client path purpose),
             (
-              format_reason client server m path operation,
+              format_reason client server path purpose,
               (
                 (λ h. h),
                 (
-                  right_or (lacks_operation client.catalogue path operation) (is_out_of_turn client m path operation),
+                  right_or (lacks_operation client.catalogue path purpose) (is_out_of_turn client path purpose),
                   (
                     (λ h. h),
-                    ((λ h. done_reason client server m path operation), tt),
+                    ((λ h. done_reason client server path purpose), tt),
                   ),
                 ),
               ),

@@ -1,11 +1,11 @@
 -- A target that exists lies in an instance that is there, and a resource that was cleared has room.
 use Rattle.std.proofs.Common.{◌≡◌, ℕ, ◌==◌, Bool, true, false, not, ◌&&◌, ◌||◌, nat_le, List, [], ◌∷◌, length, Option}
-use Rattle.std.proofs.Common.{None, Some, refl, sym, ap, ◌∙◌, if◌then◌else◌}
+use Rattle.std.proofs.Common.{None, Some, cond, refl, sym, ap, ◌∙◌, if◌then◌else◌}
 use Rattle.std.specs.Option.{is_some, unwrap_or}
 use Rattle.std.proofs.lemmas.Bool.{and_parts}
 use Rattle.object_defs.specs.Catalogue.{object_of, definition_of}
 use Rattle.object_defs.specs.Lines.{first_line}
-use Rattle.object_defs.specs.Path.{part_of, object_in}
+use Rattle.object_defs.specs.Path.{part_of}
 use Rattle.object_defs.specs.declared.definition.ObjectDef.{ObjectDef}
 use Rattle.object_defs.specs.declared.path.Path.{Path}
 use Rattle.object_defs.specs.declared.path.Path.TheVariants.{Object, Instance, Resource, Part}
@@ -16,11 +16,8 @@ use Rattle.device_instances.specs.Numbers.{instance_at, number_for}
 use Rattle.device_instances.proofs.Found.{found_free}
 use Rattle.lwm2m_payloads.proofs.Apart.{none_held}
 use Rattle.device_requests.specs.declared.answer.Code.{Code}
-use Rattle.device_requests.specs.declared.answer.Code.TheVariants.{Unauthorized, NotFound, MethodNotAllowed}
-use Rattle.device_requests.specs.Access.{rights_on}
-use Rattle.device_requests.specs.Delete.{delete_lines}
-use Rattle.device_requests.specs.Targets.{is_fixed, definition_at, exists, place_of, resource_place, is_multiple}
-use Rattle.device_requests.specs.Execute.{execute_lines, argument_lines, is_executable}
+use Rattle.device_requests.specs.Refusals.{refusal_of, refusals_of, to_delete, to_execute}
+use Rattle.device_requests.specs.Targets.{exists, place_of, resource_place, is_multiple}
 use Rattle.device_requests.specs.Client.{Client}
 use Rattle.device_requests.specs.Inside.{has_place}
 use Rattle.device_requests.specs.Write.{is_target}
@@ -47,28 +44,35 @@ target_has catalogue stored (Resource o i r) h =
 target_has catalogue stored (Part o i r n) h =
     (and_parts (is_multiple (definition_of catalogue o r)) (has_instance stored (place_of o i)) h).1
 
--- where no line refuses, the second does not
-second_passes : (a b : Bool) (x y : Code) (lines : List (Bool × Code)) → first_line ((a, x) ∷ (not b, y) ∷ lines)
-    ≡ None → b ≡ true
-second_passes true b x y lines h = absurd cc
-second_passes false true x y lines h = refl
-second_passes false false x y lines h = absurd cc
+-- no rule holds
+abbrev NoneHolds : List (Bool × Code) → Type 0
+NoneHolds [] = Unit {0}
+NoneHolds (rule ∷ rules) = (rule.0 ≡ false) × NoneHolds rules
 
+none_holds : (rules : List (Bool × Code)) → first_line rules ≡ None → NoneHolds rules
+none_holds [] h = tt
+none_holds (rule ∷ rules) h =
+    elim rule.0 as (λ b. cond b (Some rule.1) (first_line rules) ≡ None → (b ≡ false) × NoneHolds rules) [
+      | true ↦ λ k. cc
+      | false ↦ λ k. (refl, none_holds rules k)
+    ] h
+
+is_there : (b : Bool) → not b ≡ false → b ≡ true
+is_there true h = refl
+is_there false h = cc
+
+-- what no rule refuses has a target
 pub execute_has : (client : Client) (server : ℕ) (path : Path) (number : Option ℕ) (payload : List ℕ)
-    → first_line (execute_lines client server path number payload) ≡ None → has_place client.store path ≡ true
+    → refusal_of client server path (to_execute number payload) ≡ None → has_place client.store path ≡ true
 execute_has client server path number payload h =
-    exists_has client.catalogue client.store path (second_passes (object_in path == 0)
-    (exists client.catalogue client.store path) Unauthorized NotFound
-    ((not (rights_on client server path).execute, Unauthorized)
-    ∷ (not (is_executable (definition_at client.catalogue path)), MethodNotAllowed)
-    ∷ argument_lines client path number payload) h)
+    exists_has client.catalogue client.store path (is_there (exists client.catalogue client.store path)
+    (none_holds (refusals_of client server path (to_execute number payload)) h).1.0)
 
-pub delete_has : (client : Client) (server : ℕ) (path : Path) → first_line (delete_lines client server path) ≡ None
+pub delete_has : (client : Client) (server : ℕ) (path : Path) → refusal_of client server path to_delete ≡ None
     → has_place client.store path ≡ true
 delete_has client server path h =
-    exists_has client.catalogue client.store path (second_passes (object_in path == 0)
-    (exists client.catalogue client.store path) Unauthorized NotFound
-    ((not (rights_on client server path).delete, Unauthorized) ∷ (is_fixed (object_in path), MethodNotAllowed) ∷ []) h)
+    exists_has client.catalogue client.store path (is_there (exists client.catalogue client.store path)
+    (none_holds (refusals_of client server path to_delete) h).1.0)
 
 and_false : (a : Bool) → (a && false) ≡ false
 and_false true = refl

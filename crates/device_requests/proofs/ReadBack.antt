@@ -38,10 +38,12 @@ use Rattle.device_requests.specs.declared.answer.Code.TheVariants.{InternalServe
 use Rattle.device_requests.specs.Access.{may_read, rights_on, shown_instances}
 use Rattle.device_requests.specs.Answer.{Outcome, refused_or}
 use Rattle.object_defs.specs.Lines.{first_line}
-use Rattle.device_requests.specs.Read.{content_in, format_at, payload_in, read_answer, read_payload}
+use Rattle.device_requests.specs.Outcomes.{read_answer}
+use Rattle.device_requests.specs.Read.{content_in, format_at, payload_in, read_payload}
+use Rattle.device_requests.specs.Refusals.{is_refused_now, unless_taken}
 use Rattle.device_requests.specs.Client.{Client, with_stored}
 use Rattle.device_requests.specs.Targets.{is_readable, place_of, resource_place}
-use Rattle.device_requests.specs.Write.{can_be_written, event_of, exceeds, left, turn_lines, values_given}
+use Rattle.device_requests.specs.Write.{can_be_written, event_of, exceeds, left, values_given}
 use Rattle.device_requests.specs.Write.{given_to_resource, is_target, resource_written, new_values, write_unless}
 use Rattle.device_requests.specs.Write.{written}
 use Rattle.device_requests.specs.Laws.{IsReadBack, WrittenIsRead}
@@ -97,7 +99,7 @@ of_one : (given : Option Given) (values : NewValues) → option_map One given �
 of_one None values h = cc
 of_one (Some g) values h = (g, refl, cc)
 
--- no line of a Write applies, and it is done
+-- no rule of a Write holds, and it is done
 record Passes (a b format values : Bool) (done : Outcome) (stored : Stored) : Type 0 where
   object : a ≡ false
   target : b ≡ false
@@ -119,7 +121,7 @@ passes false false false false false false true client stored h = cc
 passes false false false false false false false client stored h =
     record { object = refl; target = refl; served = refl; good = refl; store = refl }
 
--- no line of a Read applies but that of its payload's length
+-- no rule of a Read holds but that of its payload's length
 shown : (a b s c : Bool) (format : Option Format) (wanted : Format) (payload : Option (List ℕ)) → a ≡ false → b
     ≡ false → s ≡ false → c ≡ false → format ≡ Some wanted
     → refused_or (first_line ((a, Unauthorized) ∷ (b, NotFound) ∷ (s, Unauthorized) ∷ (c, MethodNotAllowed)
@@ -255,7 +257,9 @@ turned client server o i r number payload event =
     ∷ (not (can_be_written client.catalogue path), MethodNotAllowed)
     ∷ (not (is_some (format_at client.catalogue path number)), UnsupportedContentFormat)
     ∷ (not (is_some values), BadRequest)
-    ∷ turn_lines client Replace path values event)) client (left Replace client path values event)
+    ∷ (is_refused_now client.store event, MethodNotAllowed)
+    ∷ (unless_taken event (exceeds Replace client.catalogue client.store path values), InternalServerError)
+    ∷ [])) client (left Replace client path values event)
 
 pub read_back : WrittenIsRead
 read_back client server o i r d number payload defined alone readable other h =

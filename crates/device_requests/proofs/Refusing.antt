@@ -13,23 +13,25 @@ use Rattle.device_requests.specs.declared.operation.Operation.TheVariants.{Write
 use Rattle.device_requests.specs.declared.operation.Operation.TheVariants.{Delete}
 use Rattle.device_requests.specs.declared.request.Request.{Request}
 use Rattle.notifier.specs.Attributes.{Numbers}
-use Rattle.device_requests.specs.WriteAttributes.{annotate_unless, attribute_lines, attributes_given}
+use Rattle.device_requests.specs.WriteAttributes.{annotate_unless, attributes_given}
 use Rattle.device_requests.specs.Answer.{Outcome, answered, bare, content, refused_or}
-use Rattle.device_requests.specs.Discover.{discover_lines, discover_payload}
-use Rattle.device_requests.specs.Read.{content_in, format_at, read_lines, read_payload}
+use Rattle.device_requests.specs.Discover.{discover_payload}
+use Rattle.device_requests.specs.Read.{content_in, format_at, read_payload}
 use Rattle.lwm2m_payloads.specs.declared.format.Format.{Format}
 use Rattle.lwm2m_payloads.specs.declared.given.Mode.{Mode}
 use Rattle.lwm2m_payloads.specs.declared.given.Mode.TheVariants.{Replace, Update}
-use Rattle.object_defs.specs.Lines.{first_line}
 use Rattle.object_defs.specs.Path.{object_in}
-use Rattle.device_requests.specs.Create.{Newborn, create_lines, create_unless, newborn}
-use Rattle.device_requests.specs.Delete.{delete_lines, delete_unless}
-use Rattle.device_requests.specs.Execute.{execute_lines, execute_unless}
+use Rattle.device_requests.specs.Create.{Newborn, create_unless, newborn}
+use Rattle.device_requests.specs.Delete.{delete_unless}
+use Rattle.device_requests.specs.Execute.{execute_unless}
 use Rattle.device_requests.specs.Operation.{operation_of}
 use Rattle.device_requests.specs.Options.{accept_of, content_format_of, has_query, has_unrecognized_critical}
 use Rattle.device_requests.specs.Options.{queries_of, segments_of, path_of}
+use Rattle.device_requests.specs.Outcomes.{write_outcome}
+use Rattle.device_requests.specs.Refusals.{refusal_of, to_create, to_delete, to_discover, to_execute, to_read, to_write}
+use Rattle.device_requests.specs.Refusals.{to_write_attributes}
 use Rattle.device_requests.specs.Request.{outcome_at, outcome_for, outcome_of, request_by, request_on, request_with}
-use Rattle.device_requests.specs.Write.{event_of, left, mode_at, new_values, write_lines, write_outcome, write_unless}
+use Rattle.device_requests.specs.Write.{event_of, left, mode_at, new_values, write_unless}
 use Rattle.device_requests.specs.Client.{Client}
 use Rattle.device_requests.specs.Laws.{RefusalIsCodeAlone, RefusalKeeps, is_refusal}
 
@@ -45,7 +47,7 @@ unless_refused (Some code) client stored h = refl
 refused_write : (client : Client) (server : ℕ) (mode : Mode) (path : Path) (number : Option ℕ) (payload : List ℕ)
     → Keeps client (write_outcome client server mode path number payload)
 refused_write client server mode path number payload =
-    unless_refused (first_line (write_lines client server mode path number payload)) client
+    unless_refused (refusal_of client server path (to_write mode number payload)) client
     (left (mode_at mode path) client path (new_values client path number payload)
     (event_of path (new_values client path number payload)))
 
@@ -84,26 +86,25 @@ refused_discover (Some code) client payload h = refl
 refused_at : (client : Client) (server : ℕ) (m : Message) (path : Path) (operation : Operation)
     → Keeps client (outcome_at client server m (request_with m path operation))
 refused_at client server m path Read h =
-    refused_read (first_line (read_lines client server path (accept_of m.options))) client
+    refused_read (refusal_of client server path (to_read (accept_of m.options))) client
     (format_at client.catalogue path (accept_of m.options)) (read_payload client server path (accept_of m.options)) h
 refused_at client server m path Discover h =
-    refused_discover (first_line (discover_lines client server path)) client (discover_payload client server path) h
+    refused_discover (refusal_of client server path to_discover) client (discover_payload client server path) h
 refused_at client server m path WriteAttributes h =
-    refused_attributes (first_line (attribute_lines client server path
-    (attributes_given client server path (queries_of m.options)))) client
+    refused_attributes (refusal_of client server path (to_write_attributes (queries_of m.options))) client
     (attributes_given client server path (queries_of m.options)) h
 refused_at client server m path WriteReplace h =
     refused_write client server Replace path (content_format_of m.options) m.payload h
 refused_at client server m path WritePartial h =
     refused_write client server Update path (content_format_of m.options) m.payload h
 refused_at client server m path Create h =
-    refused_create (first_line (create_lines client server path (content_format_of m.options) m.payload)) client
+    refused_create (refusal_of client server path (to_create (content_format_of m.options) m.payload)) client
     server (object_in path)
     (newborn client (object_in path) m.payload) h
 refused_at client server m path Execute h =
-    refused_execute (first_line (execute_lines client server path (content_format_of m.options) m.payload)) client
+    refused_execute (refusal_of client server path (to_execute (content_format_of m.options) m.payload)) client
     path h
-refused_at client server m path Delete h = refused_delete (first_line (delete_lines client server path)) client path h
+refused_at client server m path Delete h = refused_delete (refusal_of client server path to_delete) client path h
 
 refused_by : (client : Client) (server : ℕ) (m : Message) (path : Path) (operation : Option Operation)
     → Keeps client (outcome_for client server m (request_by m path operation))

@@ -1,10 +1,5 @@
 -- What a Create answers and changes (OMA LwM2M 1.1 Core, Create).
-use Rattle.std.specs.Prelude.{ℕ, ◌==◌, Bool, true, false, not, List, [], ◌∷◌, length, Option, None, Some, option_map}
-use Rattle.std.specs.Prelude.{is_some}
-use Rattle.object_defs.specs.Numbers.{security_object}
-use Rattle.object_defs.specs.Lines.{first_line}
-use Rattle.object_defs.specs.Path.{object_in}
-use Rattle.object_defs.specs.declared.path.Path.{Path}
+use Rattle.std.specs.Prelude.{ℕ, ◌==◌, Bool, true, false, List, length, Option, None, Some, option_map}
 use Rattle.instance_store.specs.Stored.{Stored}
 use Rattle.device_instances.specs.Creations.{has_no_room, with_created}
 use Rattle.device_instances.specs.Numbers.{number_for}
@@ -14,12 +9,10 @@ use Rattle.lwm2m_payloads.specs.Given.{creation_given}
 use Rattle.lwm2m_payloads.specs.declared.given.Assignment.{Assignment}
 use Rattle.lwm2m_payloads.specs.declared.given.Creation.{Creation}
 use Rattle.device_requests.specs.declared.answer.Code.{Code}
-use Rattle.device_requests.specs.declared.answer.Code.TheVariants.{BadRequest, Unauthorized, NotFound, MethodNotAllowed}
-use Rattle.device_requests.specs.declared.answer.Code.TheVariants.{UnsupportedContentFormat, InternalServerError}
-use Rattle.device_requests.specs.Access.{rights_on}
+use Rattle.device_requests.specs.declared.answer.Code.TheVariants.{BadRequest}
 use Rattle.device_requests.specs.Answer.{Outcome, answered, bare, created}
 use Rattle.device_requests.specs.Client.{Client, with_stored}
-use Rattle.device_requests.specs.Targets.{defined, exists, is_fixed, place_of}
+use Rattle.device_requests.specs.Targets.{defined, place_of}
 
 -- the values of an instance are TLV; no Content-Format says the same
 abbrev pub is_tlv : Option ℕ → Bool
@@ -44,20 +37,6 @@ lacks_room client o None = false
 lacks_room client o (Some b) =
     has_no_room client.store (length client.accounts) (defined client.catalogue o) (place_of o b.number) b.given
 
--- what refuses the payload of a Create, in this order
-abbrev pub newborn_lines : Client → ℕ → Option Newborn → List (Bool × Code)
-newborn_lines client o new = (not (is_some new), BadRequest) ∷ (lacks_room client o new, InternalServerError) ∷ []
-
--- what refuses a Create, in this order
-abbrev pub create_lines : Client → ℕ → Path → Option ℕ → List ℕ → List (Bool × Code)
-create_lines client server path number payload =
-    (object_in path == security_object, Unauthorized)
-    ∷ (not (exists client.catalogue client.store path), NotFound)
-    ∷ (not (rights_on client server path).create, Unauthorized)
-    ∷ (is_fixed (object_in path), MethodNotAllowed)
-    ∷ (not (is_tlv number), UnsupportedContentFormat)
-    ∷ newborn_lines client (object_in path) (newborn client (object_in path) payload)
-
 -- a refusal changes nothing; else there is the new instance, which the server owns
 abbrev pub create_unless : Option Code → Client → ℕ → ℕ → Option Newborn → Outcome
 create_unless (Some code) client server o new = answered client (bare code)
@@ -69,9 +48,3 @@ create_unless None client server o (Some b) =
           (with_created client.store (length client.accounts) server (defined client.catalogue o)
           (place_of o b.number) b.given);
     }
-
--- a Create at a path, with the format that Content-Format names
-abbrev pub create_outcome : Client → ℕ → Path → Option ℕ → List ℕ → Outcome
-create_outcome client server path number payload =
-    create_unless (first_line (create_lines client server path number payload)) client server (object_in path)
-    (newborn client (object_in path) payload)

@@ -1,28 +1,16 @@
 -- What a Delete answers and changes (OMA LwM2M 1.1 Core, Delete).
-use Rattle.std.specs.Prelude.{ℕ, ◌==◌, Bool, not, filter, List, [], ◌∷◌, Option, None, Some}
-use Rattle.object_defs.specs.Numbers.{security_object, access_control_object}
-use Rattle.object_defs.specs.Lines.{first_line}
-use Rattle.object_defs.specs.Path.{object_in}
+use Rattle.std.specs.Prelude.{ℕ, not, filter, List, [], ◌∷◌, Option, None, Some}
+use Rattle.object_defs.specs.Numbers.{access_control_object}
 use Rattle.object_defs.specs.declared.path.Path.{Path}
 use Rattle.object_defs.specs.declared.path.Path.TheVariants.{Object, Instance, Resource, Part}
 use Rattle.instance_store.specs.Stored.{Stored, has_instance, instances_of}
 use Rattle.notifier.specs.Attributes.{Numbers, without_under}
 use Rattle.device_instances.specs.Deletions.{without_deleted}
 use Rattle.device_requests.specs.declared.answer.Code.{Code}
-use Rattle.device_requests.specs.declared.answer.Code.TheVariants.{Deleted, Unauthorized, NotFound, MethodNotAllowed}
-use Rattle.device_requests.specs.Access.{rights_on}
+use Rattle.device_requests.specs.declared.answer.Code.TheVariants.{Deleted}
 use Rattle.device_requests.specs.Answer.{Outcome, answered, bare}
 use Rattle.device_requests.specs.Client.{Client, with_attributes, with_stored}
-use Rattle.device_requests.specs.Targets.{exists, is_fixed, place_of}
-
--- what refuses a Delete, in this order
-abbrev pub delete_lines : Client → ℕ → Path → List (Bool × Code)
-delete_lines client server path =
-    (object_in path == security_object, Unauthorized)
-    ∷ (not (exists client.catalogue client.store path), NotFound)
-    ∷ (not (rights_on client server path).delete, Unauthorized)
-    ∷ (is_fixed (object_in path), MethodNotAllowed)
-    ∷ []
+use Rattle.device_requests.specs.Targets.{place_of}
 
 -- the instance goes, and each instance of Access Control for it
 abbrev pub deleted : Stored → Path → Stored
@@ -56,6 +44,3 @@ delete_unless None client path =
       client = with_attributes (with_stored client (deleted client.store path))
           (forgotten client path);
     }
-
-abbrev pub delete_outcome : Client → ℕ → Path → Outcome
-delete_outcome client server path = delete_unless (first_line (delete_lines client server path)) client path

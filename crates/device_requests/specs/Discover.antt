@@ -1,7 +1,7 @@
 -- What a Discover answers: its rules and its links (OMA LwM2M 1.1 Core; RFC 6690). Which links it shows is this
 -- profile's.
 use Rattle.std.specs.Prelude.{ℕ, ◌==◌, ◌/◌, ◌%◌, ℤ, unsigned_abs, Bool, true, false, ◌&&◌, List, [], ◌∷◌, ◌++◌, map}
-use Rattle.std.specs.Prelude.{length, Option, None, Some, codes, if◌then◌else◌, nat_lt, not}
+use Rattle.std.specs.Prelude.{length, Option, None, Some, codes, if◌then◌else◌}
 use Rattle.std.specs.List.{filter, flat_map}
 use Rattle.std.specs.Fmt.{decimal, signed_decimal}
 use Rattle.std.specs.Int.{is_negative}
@@ -9,7 +9,6 @@ use Rattle.notifier.specs.declared.attribute.Name.{Name}
 use Rattle.notifier.specs.declared.attribute.Name.TheVariants.{Pmin, Pmax, Gt, Lt, St}
 use Rattle.notifier.specs.declared.attribute.Name.TheVariants as name
 use Rattle.notifier.specs.Attributes.{Numbers, assigned, effective}
-use Rattle.object_defs.specs.Numbers.{security_object}
 use Rattle.object_defs.specs.Catalogue.{definition_of}
 use Rattle.object_defs.specs.declared.definition.ObjectDef.{ObjectDef}
 use Rattle.object_defs.specs.declared.definition.ResourceDef.{ResourceDef}
@@ -17,14 +16,8 @@ use Rattle.object_defs.specs.declared.path.Path.{Path}
 use Rattle.object_defs.specs.declared.path.Path.TheVariants.{Object, Instance, Resource, Part}
 use Rattle.instance_store.specs.Stored.{Stored, instances_of, parts_of}
 use Rattle.device_requests.specs.Client.{Client}
-use Rattle.device_requests.specs.Operation.{link_format}
 use Rattle.device_requests.specs.Targets.{defined, exists, is_multiple, resource_place}
-use Rattle.object_defs.specs.Path.{object_in, path_text}
-use Rattle.device_requests.specs.declared.answer.Answer.{Answer}
-use Rattle.device_requests.specs.declared.answer.Code.{Code}
-use Rattle.device_requests.specs.declared.answer.Code.TheVariants.{Unauthorized, NotFound, InternalServerError}
-use Rattle.device_requests.specs.Answer.{content, refused_or}
-use Rattle.object_defs.specs.Lines.{first_line}
+use Rattle.object_defs.specs.Path.{path_text}
 
 -- those of these resources of an instance that exist
 abbrev pub existing : List ObjectDef → Stored → ℕ → ℕ → List ResourceDef → List Path
@@ -146,16 +139,3 @@ links_text client server (p ∷ ps) = link client server (inherits_at p) p ++ mo
 -- the links of a path and of what lies below it
 abbrev pub discover_payload : Client → ℕ → Path → List ℕ
 discover_payload client server path = links_text client server (linked client.catalogue client.store path)
-
--- what refuses a Discover, in this order; it asks for no right
-abbrev pub discover_lines : Client → ℕ → Path → List (Bool × Code)
-discover_lines client server path =
-    (object_in path == security_object, Unauthorized)
-    ∷ (not (exists client.catalogue client.store path), NotFound)
-    ∷ (nat_lt 1024 (length (discover_payload client server path)), InternalServerError)
-    ∷ []
-
-abbrev pub discover_answer : Client → ℕ → Path → Answer
-discover_answer client server path =
-    refused_or (first_line (discover_lines client server path))
-    (content link_format (discover_payload client server path))

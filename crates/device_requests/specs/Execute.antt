@@ -1,14 +1,13 @@
 -- What an Execute answers and changes, and what the device does after it (OMA LwM2M 1.1 Core, Execute).
-use Rattle.std.specs.Prelude.{◌≡◌, ◌↔◌, ℕ, ◌==◌, Bool, true, false, not, ◌&&◌, List, [], ◌∷◌, pos, Option, None, Some}
+use Rattle.std.specs.Prelude.{◌≡◌, ◌↔◌, ℕ, ◌==◌, Bool, true, false, not, ◌&&◌, List, pos, Option, None, Some}
 use Rattle.std.specs.Prelude.{is_some, if◌then◌else◌}
 use Rattle.std.specs.Option.{unwrap_or}
 use Rattle.lwm2m_values.specs.declared.value.Value.TheVariants.{Whole}
-use Rattle.object_defs.specs.Numbers.{security_object, server_object, device_object}
+use Rattle.object_defs.specs.Numbers.{server_object, device_object}
 use Rattle.object_defs.specs.Numbers.{firmware_update_object, disable, registration_update_trigger}
 use Rattle.object_defs.specs.Numbers.{reboot, factory_reset, error_code, reset_error_code, update}
-use Rattle.object_defs.specs.Lines.{first_line}
 use Rattle.object_defs.specs.Operations.{can_execute}
-use Rattle.object_defs.specs.Path.{object_in, part_of}
+use Rattle.object_defs.specs.Path.{part_of}
 use Rattle.object_defs.specs.declared.definition.ResourceDef.{ResourceDef}
 use Rattle.object_defs.specs.declared.path.Path.{Path}
 use Rattle.object_defs.specs.declared.path.Path.TheVariants.{Object, Instance, Resource, Part}
@@ -22,12 +21,9 @@ use Rattle.lwm2m_payloads.specs.Scanning.{are_arguments}
 use Rattle.device_requests.specs.declared.answer.Act.{Act}
 use Rattle.device_requests.specs.declared.answer.Act.TheVariants.{Reboot, FactoryReset, RegUpdate, Disable}
 use Rattle.device_requests.specs.declared.answer.Code.{Code}
-use Rattle.device_requests.specs.declared.answer.Code.TheVariants.{BadRequest, Unauthorized, NotFound, MethodNotAllowed}
-use Rattle.device_requests.specs.declared.answer.Code.TheVariants.{UnsupportedContentFormat}
-use Rattle.device_requests.specs.Access.{rights_on}
 use Rattle.device_requests.specs.Answer.{Outcome, answered, bare, done}
 use Rattle.device_requests.specs.Client.{Client, with_stored}
-use Rattle.device_requests.specs.Targets.{definition_at, exists, resource_place}
+use Rattle.device_requests.specs.Targets.{resource_place}
 
 abbrev pub is_executable : Option ResourceDef → Bool
 is_executable None = false
@@ -52,23 +48,6 @@ is_resource object resource (Part o i r n) = false
 -- Update of Firmware Update is taken in some states only
 abbrev pub is_untimely : Stored → Path → Bool
 is_untimely stored path = is_resource firmware_update_object update path && not (is_some (firmware_after stored Update))
-
--- what refuses the arguments of an Execute, and the Execute where it is untimely, in this order
-abbrev pub argument_lines : Client → Path → Option ℕ → List ℕ → List (Bool × Code)
-argument_lines client path number payload =
-    (not (is_plain number), UnsupportedContentFormat)
-    ∷ (not (are_arguments payload), BadRequest)
-    ∷ (is_untimely client.store path, MethodNotAllowed)
-    ∷ []
-
--- what refuses an Execute, in this order
-abbrev pub execute_lines : Client → ℕ → Path → Option ℕ → List ℕ → List (Bool × Code)
-execute_lines client server path number payload =
-    (object_in path == security_object, Unauthorized)
-    ∷ (not (exists client.catalogue client.store path), NotFound)
-    ∷ (not (rights_on client server path).execute, Unauthorized)
-    ∷ (not (is_executable (definition_at client.catalogue path)), MethodNotAllowed)
-    ∷ argument_lines client path number payload
 
 -- what the device does then
 abbrev pub act_of : Path → Option Act
@@ -100,8 +79,3 @@ abbrev pub execute_unless : Option Code → Client → Path → Outcome
 execute_unless (Some code) client path = answered client (bare code)
 execute_unless None client path =
     record { answer = done (act_of path); client = with_stored client (executed client.store path) }
-
--- an Execute at a path, with the format that Content-Format names
-abbrev pub execute_outcome : Client → ℕ → Path → Option ℕ → List ℕ → Outcome
-execute_outcome client server path number payload =
-    execute_unless (first_line (execute_lines client server path number payload)) client path

@@ -8,7 +8,7 @@ use Rattle.device_requests.specs.declared.answer.Code.TheVariants.{Unauthorized,
 use Rattle.device_requests.specs.Access.{may_read, reads}
 use Rattle.device_requests.specs.Answer.{bare}
 use Rattle.device_requests.specs.Client.{Client, with_stored}
-use Rattle.device_requests.specs.Read.{read_answer}
+use Rattle.device_requests.specs.Outcomes.{read_answer}
 use Rattle.device_requests.specs.Targets.{defined}
 
 -- where a server may not read, the answer to its Read is a code alone

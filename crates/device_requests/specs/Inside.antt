@@ -1,9 +1,18 @@
 -- What clauses of private functions name. No promise rests on it.
-use Rattle.std.specs.Prelude.{ℕ, Bool, true, List, [], ◌∷◌, Option, None, Some}
+use Rattle.std.specs.Prelude.{ℕ, Bool, true, not, List, [], ◌∷◌, Option, None, Some, is_some}
+use Rattle.object_defs.specs.Lines.{first_line}
 use Rattle.object_defs.specs.declared.path.Path.{Path}
 use Rattle.object_defs.specs.declared.path.Path.TheVariants.{Object, Instance, Resource, Part}
 use Rattle.instance_store.specs.Stored.{Stored, has_instance}
+use Rattle.lwm2m_payloads.specs.declared.given.Mode.{Mode}
+use Rattle.device_requests.specs.declared.answer.Code.{Code}
+use Rattle.device_requests.specs.declared.answer.Code.TheVariants.{BadRequest, MethodNotAllowed, InternalServerError}
+use Rattle.device_requests.specs.declared.write.NewValues.{NewValues}
+use Rattle.device_requests.specs.Answer.{Outcome}
+use Rattle.device_requests.specs.Client.{Client}
+use Rattle.device_requests.specs.Refusals.{is_refused_now, unless_taken}
 use Rattle.device_requests.specs.Targets.{place_of}
+use Rattle.device_requests.specs.Write.{event_of, exceeds, left, mode_at, write_unless}
 
 -- the numbers of a path; none where there is no path yet
 abbrev pub numbers_in : Option Path → List ℕ
@@ -19,3 +28,19 @@ has_place stored (Object o) = true
 has_place stored (Instance o i) = has_instance stored (place_of o i)
 has_place stored (Resource o i r) = has_instance stored (place_of o i)
 has_place stored (Part o i r n) = has_instance stored (place_of o i)
+
+-- the last rules of a Write, once the format of its payload is served
+abbrev pub value_rules : Client → Mode → Path → Option NewValues → List (Bool × Code)
+value_rules client mode path values =
+    (not (is_some values), BadRequest)
+    ∷ (is_refused_now client.store (event_of path values), MethodNotAllowed)
+    ∷ (
+      unless_taken (event_of path values) (exceeds (mode_at mode path) client.catalogue client.store path values),
+      InternalServerError,
+    )
+    ∷ []
+
+-- what is given is written, where none of these rules refuses it
+abbrev pub give : List (Bool × Code) → Client → Mode → Path → Option NewValues → Outcome
+give rules client mode path values =
+    write_unless (first_line rules) client (left (mode_at mode path) client path values (event_of path values))

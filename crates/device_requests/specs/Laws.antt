@@ -1,5 +1,5 @@
 -- What follows from the tables, in the words of the standard.
-use Rattle.std.specs.Prelude.{◌≡◌, ◌≢◌, ℕ, ◌==◌, nat_le, Bool, true, false, List, [], ◌∷◌, ◌++◌, Option, None, Some}
+use Rattle.std.specs.Prelude.{◌≡◌, ◌≢◌, ℕ, ◌==◌, nat_le, Bool, true, false, List, [], ◌∷◌, Option, None, Some}
 use Rattle.std.specs.Prelude.{◌*◌, ◌&&◌, ◌⊎◌, ◌↔◌}
 use Rattle.coap_codec.specs.Message.{Message}
 use Rattle.lwm2m_values.specs.Tree.{single}
@@ -12,63 +12,40 @@ use Rattle.object_defs.specs.declared.path.Path.TheVariants.{Resource, Object, I
 use Rattle.instance_store.specs.Stored.{Stored}
 use Rattle.lwm2m_payloads.specs.declared.format.Format.{Format}
 use Rattle.lwm2m_payloads.specs.declared.given.Given.TheVariants.{Single}
-use Rattle.lwm2m_payloads.specs.declared.given.Mode.TheVariants.{Replace, Update}
+use Rattle.lwm2m_payloads.specs.declared.given.Mode.TheVariants.{Replace}
 use Rattle.lwm2m_payloads.specs.Formats.{one, format_for}
 use Rattle.lwm2m_payloads.specs.Given.{resource_given}
 use Rattle.lwm2m_payloads.specs.Nodes.{value_payload, within_limit}
 use Rattle.device_requests.specs.declared.answer.Answer.{Answer}
 use Rattle.device_requests.specs.declared.answer.Code.{Code}
-use Rattle.device_requests.specs.declared.answer.Code.TheVariants.{Created, Deleted, Changed, Content, BadOption}
-use Rattle.device_requests.specs.declared.answer.Code.TheVariants.{NotFound, MethodNotAllowed}
+use Rattle.device_requests.specs.declared.answer.Code.TheVariants.{Changed, BadOption, NotFound, MethodNotAllowed}
 use Rattle.device_requests.specs.declared.operation.Operation.{Operation}
-use Rattle.device_requests.specs.declared.operation.Operation.TheVariants.{Read, Discover, WriteAttributes}
-use Rattle.device_requests.specs.declared.operation.Operation.TheVariants.{WriteReplace, WritePartial, Create, Execute}
-use Rattle.device_requests.specs.declared.operation.Operation.TheVariants.{Delete}
 use Rattle.device_requests.specs.Access.{may_read}
-use Rattle.device_requests.specs.WriteAttributes.{attribute_lines, attributes_given}
 use Rattle.device_requests.specs.Answer.{code_byte}
-use Rattle.device_requests.specs.Create.{create_lines}
-use Rattle.device_requests.specs.Delete.{delete_lines}
-use Rattle.device_requests.specs.Discover.{discover_lines, linked}
-use Rattle.device_requests.specs.Execute.{execute_lines}
+use Rattle.device_requests.specs.Discover.{linked}
 use Rattle.object_defs.specs.Lines.{first_line}
 use Rattle.device_requests.specs.Operation.{operation_of}
-use Rattle.device_requests.specs.Options.{accept_of, content_format_of, has_query, has_unrecognized_critical}
-use Rattle.device_requests.specs.Options.{queries_of, segments_of, path_of}
-use Rattle.device_requests.specs.Read.{content_in, read_answer, read_lines}
-use Rattle.device_requests.specs.Request.{outcome_of}
+use Rattle.device_requests.specs.Options.{accept_of, has_query, has_unrecognized_critical, path_of, segments_of}
+use Rattle.device_requests.specs.Outcomes.{read_answer, write_outcome}
+use Rattle.device_requests.specs.Read.{content_in}
+use Rattle.device_requests.specs.Refusals.{rules_of}
+use Rattle.device_requests.specs.Request.{outcome_of, purpose_of}
 use Rattle.device_requests.specs.Client.{Client, with_stored}
-use Rattle.device_requests.specs.Write.{write_lines, write_outcome}
 use Rattle.object_defs.specs.declared.definition.ObjectDef.{ObjectDef}
 use Rattle.device_requests.specs.Targets.{exists}
 
--- the lines that an operation at a path meets, of which the last is its success
-abbrev pub operation_lines : Client → ℕ → Message → Path → Operation → List (Bool × Code)
-operation_lines client server m path Read = read_lines client server path (accept_of m.options) ++ (true, Content) ∷ []
-operation_lines client server m path Discover = discover_lines client server path ++ (true, Content) ∷ []
-operation_lines client server m path WriteReplace =
-    write_lines client server Replace path (content_format_of m.options) m.payload ++ (true, Changed) ∷ []
-operation_lines client server m path WritePartial =
-    write_lines client server Update path (content_format_of m.options) m.payload ++ (true, Changed) ∷ []
-operation_lines client server m path WriteAttributes =
-    attribute_lines client server path (attributes_given client server path (queries_of m.options))
-    ++ (true, Changed) ∷ []
-operation_lines client server m path Create =
-    create_lines client server path (content_format_of m.options) m.payload ++ (true, Created) ∷ []
-operation_lines client server m path Execute =
-    execute_lines client server path (content_format_of m.options) m.payload ++ (true, Changed) ∷ []
-operation_lines client server m path Delete = delete_lines client server path ++ (true, Deleted) ∷ []
-
+-- the rules from the operation on
 abbrev pub lines_by : Client → ℕ → Message → Path → Option Operation → List (Bool × Code)
 lines_by client server m path None = (true, MethodNotAllowed) ∷ []
-lines_by client server m path (Some operation) = operation_lines client server m path operation
+lines_by client server m path (Some operation) = rules_of client server path (purpose_of m operation)
 
+-- the rules from the path on
 abbrev pub lines_on : Client → ℕ → Message → Option Path → List (Bool × Code)
 lines_on client server m None = (true, NotFound) ∷ []
 lines_on client server m (Some path) =
     lines_by client server m path (operation_of m.code (accept_of m.options) (has_query m.options) path)
 
--- all the lines that a request meets, in their order
+-- all the rules of requests, in their order, of which the last is their success
 abbrev pub request_lines : Client → ℕ → Message → List (Bool × Code)
 request_lines client server m =
     (has_unrecognized_critical m.options, BadOption) ∷ lines_on client server m (path_of (segments_of m.options))
@@ -86,7 +63,7 @@ pub record KeepsFrame (old new : Client) : Type 0 where
 abbrev pub RequestsKeepFrame : Type 0
 RequestsKeepFrame = (client : Client) (server : ℕ) (m : Message) → KeepsFrame client (outcome_of client server m).client
 
--- the answer's code is that of the first line that the request meets
+-- the answer's code is that of the first rule that holds
 abbrev pub FirstLineAnswers : Type 0
 FirstLineAnswers =
     (client : Client) (server : ℕ) (m : Message)

@@ -12,7 +12,9 @@ pub mod Observe
 pub mod Operation
 pub mod Options
 pub mod Order
+pub mod Outcomes
 pub mod Read
+pub mod Refusals
 pub mod Request
 pub mod Targets
 pub mod Write

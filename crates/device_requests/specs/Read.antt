@@ -1,10 +1,9 @@
 -- The answer to a Read (OMA LwM2M 1.1 Core). A notification is the same answer.
-use Rattle.std.specs.Prelude.{ℕ, ◌==◌, Bool, true, not, List, [], ◌∷◌, length, Option, Some, option_and_then, is_some}
+use Rattle.std.specs.Prelude.{ℕ, Bool, true, List, length, Option, Some, option_and_then}
 use Rattle.std.specs.Prelude.{if◌then◌else◌}
 use Rattle.lwm2m_values.specs.Tlv.{shortest_tlv}
 use Rattle.lwm2m_values.specs.Tree.{Tree, part, single}
 use Rattle.lwm2m_values.specs.declared.value.Value.{Value}
-use Rattle.object_defs.specs.Numbers.{security_object}
 use Rattle.object_defs.specs.Path.{object_in, single_of, part_of}
 use Rattle.object_defs.specs.declared.definition.ObjectDef.{ObjectDef}
 use Rattle.object_defs.specs.declared.definition.ResourceDef.{ResourceDef}
@@ -15,14 +14,11 @@ use Rattle.lwm2m_payloads.specs.declared.format.Format.{Format}
 use Rattle.lwm2m_payloads.specs.Formats.{format_number, extent_of, format_for}
 use Rattle.lwm2m_payloads.specs.Nodes.{shown_in, nodes_of, object_nodes, value_payload, within_limit}
 use Rattle.device_requests.specs.declared.answer.Answer.{Answer}
-use Rattle.device_requests.specs.declared.answer.Code.{Code}
-use Rattle.device_requests.specs.declared.answer.Code.TheVariants.{Unauthorized, NotFound, MethodNotAllowed}
-use Rattle.device_requests.specs.declared.answer.Code.TheVariants.{NotAcceptable, InternalServerError}
-use Rattle.device_requests.specs.Access.{may_read, shown_instances}
-use Rattle.device_requests.specs.Answer.{bare, content, refused_or}
-use Rattle.object_defs.specs.Lines.{first_line}
+use Rattle.device_requests.specs.declared.answer.Code.TheVariants.{InternalServerError}
+use Rattle.device_requests.specs.Access.{shown_instances}
+use Rattle.device_requests.specs.Answer.{bare, content}
 use Rattle.device_requests.specs.Client.{Client}
-use Rattle.device_requests.specs.Targets.{defined, definition_at, exists, is_multiple, is_readable, resource_place}
+use Rattle.device_requests.specs.Targets.{defined, definition_at, is_multiple, is_readable, resource_place}
 
 -- an object and an instance can be read, a resource and its parts where the resource has that operation
 abbrev pub can_be_read : List ObjectDef → Path → Bool
@@ -69,24 +65,7 @@ read_payload client server path accept =
     (shown_instances client.store (length client.accounts) server (object_in path)) path)
     (format_at client.catalogue path accept)
 
--- what refuses a Read, in this order
-abbrev pub read_lines : Client → ℕ → Path → Option ℕ → List (Bool × Code)
-read_lines client server path accept =
-    (object_in path == security_object, Unauthorized)
-    ∷ (not (exists client.catalogue client.store path), NotFound)
-    ∷ (not (may_read client server path), Unauthorized)
-    ∷ (not (can_be_read client.catalogue path), MethodNotAllowed)
-    ∷ (not (is_some (format_at client.catalogue path accept)), NotAcceptable)
-    ∷ (not (is_some (read_payload client server path accept)), InternalServerError)
-    ∷ []
-
 -- a payload with its format
 abbrev pub content_in : Option Format → Option (List ℕ) → Answer
 content_in (Some format) (Some payload) = content (format_number format) payload
 content_in format payload = bare InternalServerError
-
--- the answer to a Read at a path, with the format that Accept names
-abbrev pub read_answer : Client → ℕ → Path → Option ℕ → Answer
-read_answer client server path accept =
-    refused_or (first_line (read_lines client server path accept))
-    (content_in (format_at client.catalogue path accept) (read_payload client server path accept))

@@ -10,18 +10,15 @@ use Rattle.device_requests.specs.declared.operation.Operation.TheVariants.{Read,
 use Rattle.device_requests.specs.declared.operation.Operation.TheVariants.{WriteReplace, WritePartial, Create, Execute}
 use Rattle.device_requests.specs.declared.operation.Operation.TheVariants.{Delete}
 use Rattle.device_requests.specs.declared.request.Request.{Request}
-use Rattle.device_requests.specs.WriteAttributes.{attributes_outcome}
 use Rattle.device_requests.specs.Answer.{Outcome, answered, bare}
-use Rattle.device_requests.specs.Create.{create_outcome}
-use Rattle.device_requests.specs.Delete.{delete_outcome}
-use Rattle.device_requests.specs.Discover.{discover_answer}
-use Rattle.device_requests.specs.Execute.{execute_outcome}
 use Rattle.device_requests.specs.Operation.{operation_of}
 use Rattle.device_requests.specs.Options.{accept_of, content_format_of, has_query, has_unrecognized_critical}
 use Rattle.device_requests.specs.Options.{observe_of, queries_of, segments_of, path_of}
-use Rattle.device_requests.specs.Read.{read_answer}
+use Rattle.device_requests.specs.Outcomes.{attributes_outcome, create_outcome, delete_outcome, discover_answer}
+use Rattle.device_requests.specs.Outcomes.{execute_outcome, read_answer, write_outcome}
+use Rattle.device_requests.specs.Refusals.{Purpose, to_create, to_delete, to_discover, to_execute, to_read, to_write}
+use Rattle.device_requests.specs.Refusals.{to_write_attributes}
 use Rattle.device_requests.specs.Client.{Client}
-use Rattle.device_requests.specs.Write.{write_outcome}
 
 -- an operation at a path, with the formats and the Observe that the options name (RFC 7252 section 5.10; RFC 7641
 -- section 2)
@@ -64,6 +61,17 @@ pub record AsksFor (m : Message) (r : Request) : Type 0 where
 -- a request is what the options say
 abbrev pub RequestsAreSaid : Type 0
 RequestsAreSaid = (m : Message) (r : Request) → (request_of m ≡ Ok r) ↔ AsksFor m r
+
+-- what an operation is for, with what the message says
+abbrev pub purpose_of : Message → Operation → Purpose
+purpose_of m Read = to_read (accept_of m.options)
+purpose_of m Discover = to_discover
+purpose_of m WriteReplace = to_write Replace (content_format_of m.options) m.payload
+purpose_of m WritePartial = to_write Update (content_format_of m.options) m.payload
+purpose_of m WriteAttributes = to_write_attributes (queries_of m.options)
+purpose_of m Create = to_create (content_format_of m.options) m.payload
+purpose_of m Execute = to_execute (content_format_of m.options) m.payload
+purpose_of m Delete = to_delete
 
 -- what an operation answers and changes, with the queries and the payload of its message
 abbrev pub outcome_by : Client → ℕ → Message → Request → Operation → Outcome

@@ -1,10 +1,9 @@
 -- What a Write answers and changes (OMA LwM2M 1.1 Core, Write: Replace and Partial Update).
-use Rattle.std.specs.Prelude.{ℕ, ◌==◌, Bool, false, not, ◌&&◌, List, [], ◌∷◌, Option, None, Some, option_map}
+use Rattle.std.specs.Prelude.{ℕ, ◌==◌, Bool, false, not, ◌&&◌, List, Option, None, Some, option_map}
 use Rattle.std.specs.Prelude.{option_and_then, is_some, if◌then◌else◌}
-use Rattle.object_defs.specs.Numbers.{security_object, firmware_update_object, update_package, package_uri}
+use Rattle.object_defs.specs.Numbers.{firmware_update_object, update_package, package_uri}
 use Rattle.object_defs.specs.Catalogue.{object_of, definition_of}
 use Rattle.object_defs.specs.Operations.{can_write}
-use Rattle.object_defs.specs.Path.{object_in}
 use Rattle.object_defs.specs.declared.definition.ObjectDef.{ObjectDef}
 use Rattle.object_defs.specs.declared.definition.ResourceDef.{ResourceDef}
 use Rattle.object_defs.specs.declared.path.Path.{Path}
@@ -25,12 +24,8 @@ use Rattle.lwm2m_payloads.specs.Given.{instance_given, resource_given, part_give
 use Rattle.device_requests.specs.declared.write.NewValues.{NewValues}
 use Rattle.device_requests.specs.declared.write.NewValues.TheVariants.{Several, One}
 use Rattle.device_requests.specs.declared.answer.Code.{Code}
-use Rattle.device_requests.specs.declared.answer.Code.TheVariants.{Changed, BadRequest, Unauthorized, NotFound}
-use Rattle.device_requests.specs.declared.answer.Code.TheVariants.{MethodNotAllowed, UnsupportedContentFormat}
-use Rattle.device_requests.specs.declared.answer.Code.TheVariants.{InternalServerError}
-use Rattle.device_requests.specs.Access.{rights_on}
+use Rattle.device_requests.specs.declared.answer.Code.TheVariants.{Changed}
 use Rattle.device_requests.specs.Answer.{Outcome, answered, bare}
-use Rattle.object_defs.specs.Lines.{first_line}
 use Rattle.device_requests.specs.Read.{format_at}
 use Rattle.device_requests.specs.Client.{Client, with_stored}
 use Rattle.device_requests.specs.Targets.{defined, is_multiple, place_of, resource_place}
@@ -145,33 +140,6 @@ abbrev pub event_of : Path → Option NewValues → Option FirmwareEvent
 event_of path None = None
 event_of path (Some values) = event_in path values
 
--- the firmware takes a Package and a Package URI in some states only; all else has to keep to the counts
-abbrev pub turn_lines : Client → Mode → Path → Option NewValues → Option FirmwareEvent → List (Bool × Code)
-turn_lines client mode path values (Some event) =
-    (not (is_some (firmware_after client.store event)), MethodNotAllowed) ∷ []
-turn_lines client mode path values None =
-    (exceeds mode client.catalogue client.store path values, InternalServerError) ∷ []
-
--- what refuses that which a payload gives, in this order
-abbrev pub value_lines : Client → Mode → Path → Option NewValues → List (Bool × Code)
-value_lines client mode path values =
-    (not (is_some values), BadRequest) ∷ turn_lines client (mode_at mode path) path values (event_of path values)
-
--- what refuses the payload of a Write, in this order
-abbrev pub payload_lines : Client → Mode → Path → Option ℕ → List ℕ → List (Bool × Code)
-payload_lines client mode path number payload =
-    (not (is_some (format_at client.catalogue path number)), UnsupportedContentFormat)
-    ∷ value_lines client mode path (new_values client path number payload)
-
--- what refuses a Write, in this order
-abbrev pub write_lines : Client → ℕ → Mode → Path → Option ℕ → List ℕ → List (Bool × Code)
-write_lines client server mode path number payload =
-    (object_in path == security_object, Unauthorized)
-    ∷ (not (is_target client.catalogue client.store path), NotFound)
-    ∷ (not (rights_on client server path).write, Unauthorized)
-    ∷ (not (can_be_written client.catalogue path), MethodNotAllowed)
-    ∷ payload_lines client mode path number payload
-
 -- a refusal changes nothing; else what is given is written
 abbrev pub write_unless : Option Code → Client → Stored → Outcome
 write_unless (Some code) client stored = answered client (bare code)
@@ -182,13 +150,3 @@ write_unless None client stored = record { answer = bare Changed; client = with_
 abbrev pub left : Mode → Client → Path → Option NewValues → Option FirmwareEvent → Stored
 left mode client path values (Some event) = unwrap_or (firmware_after client.store event) client.store
 left mode client path values None = written mode client.catalogue client.store path values
-
--- what is given is written, where these lines don't refuse it
-abbrev pub give : List (Bool × Code) → Client → Mode → Path → Option NewValues → Outcome
-give lines client mode path values =
-    write_unless (first_line lines) client (left (mode_at mode path) client path values (event_of path values))
-
--- a Write at a path, with the format that Content-Format names
-abbrev pub write_outcome : Client → ℕ → Mode → Path → Option ℕ → List ℕ → Outcome
-write_outcome client server mode path number payload =
-    give (write_lines client server mode path number payload) client mode path (new_values client path number payload)

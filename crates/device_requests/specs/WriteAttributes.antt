@@ -1,6 +1,6 @@
 -- What a Write-Attributes answers and changes (OMA LwM2M 1.1 Core, Write-Attributes).
-use Rattle.std.specs.Prelude.{ℕ, ◌==◌, Bool, true, false, not, ◌&&◌, List, [], ◌∷◌, Option, None, Some, option_and_then}
-use Rattle.std.specs.Prelude.{is_some, Result, Ok, Err, if◌then◌else◌}
+use Rattle.std.specs.Prelude.{ℕ, ◌==◌, Bool, true, false, not, ◌&&◌, List, [], Option, None, Some, option_and_then}
+use Rattle.std.specs.Prelude.{Result, Ok, Err, if◌then◌else◌}
 use Rattle.lwm2m_values.specs.declared.kind.ValueKind.{ValueKind}
 use Rattle.lwm2m_values.specs.declared.kind.ValueKind.TheVariants.{Text, Whole, Flag, Opaque, Moment, Link}
 use Rattle.access_control.specs.declared.letters.Rights.{Rights}
@@ -10,20 +10,17 @@ use Rattle.notifier.specs.declared.attribute.Level.TheVariants as level
 use Rattle.notifier.specs.declared.fault.QueryFault.{QueryFault}
 use Rattle.notifier.specs.Attributes.{Numbers, is_consistent, written}
 use Rattle.notifier.specs.Query.{changes_of}
-use Rattle.object_defs.specs.Numbers.{security_object, access_control_object}
+use Rattle.object_defs.specs.Numbers.{access_control_object}
 use Rattle.object_defs.specs.Catalogue.{definition_of}
-use Rattle.object_defs.specs.Lines.{first_line}
-use Rattle.object_defs.specs.Path.{object_in}
 use Rattle.object_defs.specs.declared.definition.ObjectDef.{ObjectDef}
 use Rattle.object_defs.specs.declared.definition.ResourceDef.{ResourceDef}
 use Rattle.object_defs.specs.declared.path.Path.{Path}
 use Rattle.object_defs.specs.declared.path.Path.TheVariants.{Object, Instance, Resource, Part}
 use Rattle.device_requests.specs.declared.answer.Code.{Code}
-use Rattle.device_requests.specs.declared.answer.Code.TheVariants.{Changed, BadRequest, Unauthorized, NotFound}
+use Rattle.device_requests.specs.declared.answer.Code.TheVariants.{Changed, BadRequest}
 use Rattle.device_requests.specs.Access.{rights_on}
 use Rattle.device_requests.specs.Answer.{Outcome, answered, bare}
 use Rattle.device_requests.specs.Client.{Client, with_attributes}
-use Rattle.device_requests.specs.Targets.{exists}
 
 -- Integers and Times are numbers
 abbrev pub is_numeric_kind : ValueKind → Bool
@@ -78,24 +75,8 @@ abbrev pub attributes_given : Client → ℕ → Path → List (List ℕ) → Op
 attributes_given client server path queries =
     option_and_then (agreed client.attributes server path) (changes_given client.catalogue path queries)
 
--- what refuses a Write-Attributes, in this order
-abbrev pub attribute_lines : Client → ℕ → Path → Option Numbers → List (Bool × Code)
-attribute_lines client server path given =
-    (object_in path == security_object, Unauthorized)
-    ∷ (not (exists client.catalogue client.store path), NotFound)
-    ∷ (not (may_annotate client server path), Unauthorized)
-    ∷ (not (is_some given), BadRequest)
-    ∷ []
-
 -- a refusal changes nothing; else the attributes are these
 abbrev pub annotate_unless : Option Code → Client → Option Numbers → Outcome
 annotate_unless (Some code) client given = answered client (bare code)
 annotate_unless None client None = answered client (bare BadRequest)
 annotate_unless None client (Some m) = record { answer = bare Changed; client = with_attributes client m }
-
--- a Write-Attributes at a path
-abbrev pub attributes_outcome : Client → ℕ → Path → List (List ℕ) → Outcome
-attributes_outcome client server path queries =
-    annotate_unless (first_line (attribute_lines client server path (attributes_given client server path queries)))
-    client
-    (attributes_given client server path queries)

@@ -1,9 +1,10 @@
 //! A Create: its rules, and the instance that it makes.
 
-ghost use Rattle.std.specs.Prelude.{◌≡◌, ◌≢◌, ◌∷◌, [], true, false, length, IfOk, OnErr, OnOk, Some};
+ghost use Rattle.std.specs.Prelude.{◌≡◌, ◌≢◌, ◌∷◌, [], true, false, length, not, IfOk, OnErr, OnOk, Some};
+ghost use Rattle.std.specs.Option.{is_some};
 ghost use Rattle.device_requests.specs.Answer.{Leaves, takes_memory};
-ghost use Rattle.device_requests.specs.Create.{create_outcome, create_unless, is_tlv, lacks_room, newborn};
-ghost use Rattle.device_requests.specs.Create.{newborn_lines};
+ghost use Rattle.device_requests.specs.Create.{create_unless, is_tlv, lacks_room, newborn};
+ghost use Rattle.device_requests.specs.Outcomes.{create_outcome};
 ghost use Rattle.device_requests.specs.Client.{with_stored};
 ghost use Rattle.device_requests.specs.Targets.{defined, is_fixed, place_of};
 ghost use Rattle.device_instances.specs.Creations.{with_created};
@@ -96,8 +97,8 @@ impl Client {
     fn create_in(&mut self, server: u16, object: u16, payload: &[u8]) -> Result<Answer, AllocError>
         requires { object ≢ access_control_object }
         ensures outcome { IfOk result (λ a. let new = newborn self.old object payload.now in
-            Leaves a self.new
-            (create_unless (first_line (newborn_lines self.old object new)) self.old server object new)) }
+            Leaves a self.new (create_unless (first_line ((not (is_some new), Code.BadRequest)
+            ∷ (lacks_room self.old object new, Code.InternalServerError) ∷ [])) self.old server object new)) }
         ensures unchanged { OnErr result (self.new ≡ self.old) }
     {
         let Some(creation) = creation_given(self.alloc, defined(&self.catalog, object), payload)?
@@ -110,7 +111,7 @@ impl Client {
         self.place(server, InstancePath { object, instance }, creation.assigned)
     }
 
-    /// Makes an instance of an object, where no line refuses it.
+    /// Makes an instance of an object, where no rule refuses it.
     pub(crate) fn create(
         &mut self,
         server: u16,

@@ -4,11 +4,12 @@ ghost use Rattle.std.specs.Prelude.{◌≡◌, true, false, filter, not, IfOk, N
 ghost use Rattle.object_defs.specs.Numbers.{access_control_object};
 ghost use Rattle.instance_store.specs.Stored.{has_instance};
 ghost use Rattle.notifier.specs.Attributes.{without_under};
-ghost use Rattle.object_defs.specs.Lines.{first_line};
 ghost use Rattle.object_defs.specs.Path.{object_in};
 ghost use Rattle.device_requests.specs.Answer.{Leaves};
-ghost use Rattle.device_requests.specs.Delete.{delete_lines, delete_outcome, deleted, taken_away, without_controls};
+ghost use Rattle.device_requests.specs.Delete.{deleted, taken_away, without_controls};
 ghost use Rattle.device_requests.specs.Inside.{has_place};
+ghost use Rattle.device_requests.specs.Outcomes.{delete_outcome};
+ghost use Rattle.device_requests.specs.Refusals.{refusal_of, to_delete};
 ghost use Rattle.device_requests.specs.Targets.{is_fixed, place_of};
 
 use crate::answer::{Answer, Code};
@@ -77,7 +78,7 @@ fn delete_at(
 impl Client {
     /// What refuses a Delete.
     fn delete_refusal(&self, server: u16, path: Path) -> Option<Code>
-        ensures { result ≡ first_line (delete_lines self.now server path) }
+        ensures { result ≡ refusal_of self.now server path to_delete }
     {
         if path.object() == SECURITY {
             return Some(Code::Unauthorized);
@@ -94,13 +95,13 @@ impl Client {
         None
     }
 
-    /// Deletes an instance, where no line refuses it.
+    /// Deletes an instance, where no rule refuses it.
     #[tactic(auto, using(crate::proofs::Present::delete_has))]
     pub(crate) fn delete(&mut self, server: u16, path: Path) -> Result<Answer, AllocError>
         ensures outcome { IfOk result (λ a. Leaves a self.new (delete_outcome self.old server path)) }
 
         // No refusal takes memory.
-        ensures grows { OnErr result (first_line (delete_lines self.old server path) ≡ None) }
+        ensures grows { OnErr result (refusal_of self.old server path to_delete ≡ None) }
         ensures takes { OnErr result (is_fixed (object_in path) ≡ false) }
         ensures unchanged { OnErr result (self.new ≡ self.old) }
     {

@@ -4,10 +4,11 @@ ghost use Rattle.std.specs.Prelude.{◌≡◌, ◌++◌, ◌∷◌, [], true, fa
 ghost use Rattle.std.specs.List.{filter, flat_map};
 ghost use Rattle.device_requests.specs.Answer.{takes_memory};
 ghost use Rattle.device_requests.specs.Discover.{attribute_text, attributes_text, behind, dimension, dimension_text};
-ghost use Rattle.device_requests.specs.Discover.{discover_answer, existing, fraction_text, inherits_at, instance_paths};
+ghost use Rattle.device_requests.specs.Discover.{existing, fraction_text, inherits_at, instance_paths};
 ghost use Rattle.device_requests.specs.Discover.{is_period, link, linked, links_text, more_links, name_text};
 ghost use Rattle.device_requests.specs.Discover.{number_text, paths_below, shown_attribute, shown_number};
 ghost use Rattle.device_requests.specs.Discover.{thousandths_text, unsigned_text};
+ghost use Rattle.device_requests.specs.Outcomes.{discover_answer};
 ghost use Rattle.device_requests.specs.Targets.{exists};
 
 use crate::answer::{Answer, Code};

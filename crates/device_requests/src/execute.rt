@@ -1,6 +1,6 @@
 //! An Execute: its rules, its arguments, what it changes, and what the device does after it.
 
-ghost use Rattle.std.specs.Prelude.{◌≡◌, ◌||◌, true, false, pos, IfOk, None, OnErr, OnOk};
+ghost use Rattle.std.specs.Prelude.{◌≡◌, ◌||◌, ◌∷◌, [], true, false, not, pos, IfOk, None, OnErr, OnOk};
 ghost use Rattle.lwm2m_values.specs.declared.value.Value.TheVariants.{Whole};
 ghost use Rattle.object_defs.specs.Numbers.{firmware_update_object, device_object, update, reset_error_code};
 ghost use Rattle.object_defs.specs.Lines.{first_line};
@@ -8,10 +8,13 @@ ghost use Rattle.object_defs.specs.Path.{part_of};
 ghost use Rattle.instance_store.specs.Stored.{has_instance, instance_of, is_full, resource_path, with_value};
 ghost use Rattle.instance_store.specs.Stored.{without_values};
 ghost use Rattle.device_requests.specs.Answer.{Leaves};
-ghost use Rattle.device_requests.specs.Execute.{act_of, argument_lines, execute_lines, execute_outcome, executed};
+ghost use Rattle.lwm2m_payloads.specs.Scanning.{are_arguments};
+ghost use Rattle.device_requests.specs.Execute.{act_of, executed};
 ghost use Rattle.device_requests.specs.Execute.{is_executable, is_plain, is_resource, is_untimely, with_no_error};
 ghost use Rattle.device_requests.specs.Client.{with_stored};
 ghost use Rattle.device_requests.specs.Inside.{has_place};
+ghost use Rattle.device_requests.specs.Outcomes.{execute_outcome};
+ghost use Rattle.device_requests.specs.Refusals.{refusal_of, to_execute};
 ghost use Rattle.device_requests.specs.Targets.{definition_at};
 
 use crate::answer::{Act, Answer, Code};
@@ -144,7 +147,9 @@ fn execute_at(alloc: Global, store: &mut Store, path: Path) -> Result<(), AllocE
 impl Client {
     /// What refuses the arguments of an Execute, or the Execute as untimely.
     fn argument_refusal(&self, path: Path, number: Option<u16>, payload: &[u8]) -> Option<Code>
-        ensures { result ≡ first_line (argument_lines self.now path number payload.now) }
+        ensures { result ≡ first_line ((not (is_plain number), Code.UnsupportedContentFormat)
+            ∷ (not (are_arguments payload.now), Code.BadRequest)
+            ∷ (is_untimely self.now.store path, Code.MethodNotAllowed) ∷ []) }
     {
         if !is_plain(number) {
             return Some(Code::UnsupportedContentFormat);
@@ -166,7 +171,7 @@ impl Client {
         number: Option<u16>,
         payload: &[u8],
     ) -> Option<Code>
-        ensures { result ≡ first_line (execute_lines self.now server path number payload.now) }
+        ensures { result ≡ refusal_of self.now server path (to_execute number payload.now) }
     {
         if path.object() == SECURITY {
             return Some(Code::Unauthorized);
@@ -183,7 +188,7 @@ impl Client {
         self.argument_refusal(path, number, payload)
     }
 
-    /// Executes a resource, where no line refuses it.
+    /// Executes a resource, where no rule refuses it.
     #[tactic(auto, using(crate::proofs::Present::execute_has))]
     pub(crate) fn execute(
         &mut self,
@@ -199,8 +204,7 @@ impl Client {
         // be gone.
         ensures grows { OnErr result ((is_resource firmware_update_object update path
             || is_resource device_object reset_error_code path) ≡ true) }
-        ensures unrefused { OnErr result
-            (first_line (execute_lines self.old server path number payload.now) ≡ None) }
+        ensures unrefused { OnErr result (refusal_of self.old server path (to_execute number payload.now) ≡ None) }
         ensures executable { OnErr result (is_executable (definition_at self.old.catalogue path) ≡ true) }
         ensures left { OnErr result (self.new ≡ with_stored self.old self.new.store) }
     {

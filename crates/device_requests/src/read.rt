@@ -5,7 +5,8 @@ ghost use Rattle.lwm2m_values.specs.Tree.{part, single};
 ghost use Rattle.object_defs.specs.Path.{object_in};
 ghost use Rattle.device_requests.specs.Access.{shown_instances};
 ghost use Rattle.device_requests.specs.Answer.{takes_memory};
-ghost use Rattle.device_requests.specs.Read.{can_be_read, one_payload, payload_in, read_answer, resource_payload};
+ghost use Rattle.device_requests.specs.Outcomes.{read_answer};
+ghost use Rattle.device_requests.specs.Read.{can_be_read, one_payload, payload_in, resource_payload};
 
 use crate::access::shown_instances;
 use crate::answer::{Answer, Code};

@@ -5,8 +5,8 @@ ghost use Rattle.device_requests.specs.Answer.{Leaves, is_bad_option, takes_memo
 ghost use Rattle.device_requests.specs.Client.{with_stored};
 ghost use Rattle.device_requests.specs.Observe.{interest_of};
 ghost use Rattle.device_requests.specs.Options.{has_unrecognized_critical};
-ghost use Rattle.device_requests.specs.Order.{lacks_operation};
-ghost use Rattle.device_requests.specs.Request.{outcome_at, outcome_of, request_of};
+ghost use Rattle.device_requests.specs.Refusals.{lacks_operation};
+ghost use Rattle.device_requests.specs.Request.{outcome_at, outcome_of, purpose_of, request_of};
 
 use crate::answer::{Answer, Code};
 use crate::client::Client;
@@ -91,7 +91,7 @@ impl Client {
         ensures grows { OnErr result
             (takes_memory (outcome_at self.old server message.now request).answer.code ≡ true) }
         ensures has { OnErr result
-            (lacks_operation self.old.catalogue request.path request.operation ≡ false) }
+            (lacks_operation self.old.catalogue request.path (purpose_of message.now request.operation) ≡ false) }
         ensures left { OnErr result (self.new ≡ with_stored self.old self.new.store) }
     {
         let path = request.path;
@@ -124,7 +124,7 @@ impl Client {
         // takes memory.
         ensures request { OnErr result (IsOk (request_of message.now)) }
         ensures has { OnErr result (IfOk (request_of message.now) (λ r.
-            lacks_operation self.old.catalogue r.path r.operation ≡ false)) }
+            lacks_operation self.old.catalogue r.path (purpose_of message.now r.operation) ≡ false)) }
         ensures grows { OnErr result (takes_memory (outcome_of self.old server message.now).answer.code ≡ true) }
         ensures left { OnErr result (self.new ≡ with_stored self.old self.new.store) }
     {

@@ -9,12 +9,12 @@ ghost use Rattle.object_defs.specs.Lines.{first_line};
 ghost use Rattle.device_requests.specs.Answer.{Leaves, takes_memory};
 ghost use Rattle.device_requests.specs.Client.{with_stored};
 ghost use Rattle.device_requests.specs.Read.{format_at};
-ghost use Rattle.device_requests.specs.Inside.{has_place};
-ghost use Rattle.device_requests.specs.Write.{can_be_written, event_at, event_in, give, given_to_part};
+ghost use Rattle.device_requests.specs.Inside.{give, has_place, value_rules};
+ghost use Rattle.device_requests.specs.Outcomes.{write_outcome};
+ghost use Rattle.device_requests.specs.Write.{can_be_written, event_at, event_in, given_to_part};
 ghost use Rattle.device_requests.specs.Write.{given_to_resource, is_target, is_writable, mode_at, new_values};
-ghost use Rattle.device_requests.specs.Write.{package_in, payload_lines, resource_exceeds, resource_written, uri_in};
-ghost use Rattle.device_requests.specs.Write.{value_lines, values_exceed, values_given, values_written, write_outcome};
-ghost use Rattle.device_requests.specs.Write.{write_unless};
+ghost use Rattle.device_requests.specs.Write.{package_in, resource_exceeds, resource_written, uri_in};
+ghost use Rattle.device_requests.specs.Write.{values_exceed, values_given, values_written, write_unless};
 
 use crate::answer::{Answer, Code};
 use crate::client::Client;
@@ -382,7 +382,7 @@ impl Client {
     ) -> Result<Answer, AllocError>
         requires { has_place self.old.store path ≡ true }
         ensures outcome { IfOk result (λ a. let values = values_given self.old.catalogue path payload.now format in
-            Leaves a self.new (give (value_lines self.old mode path values) self.old mode path values)) }
+            Leaves a self.new (give (value_rules self.old mode path values) self.old mode path values)) }
         ensures left { OnErr result (self.new ≡ with_stored self.old self.new.store) }
     {
         let Some(values) = values_given(self.alloc, &self.catalog, path, payload, format)? else {
@@ -404,9 +404,10 @@ impl Client {
         payload: &[u8],
     ) -> Result<Answer, AllocError>
         requires { has_place self.old.store path ≡ true }
-        ensures outcome { IfOk result (λ a. Leaves a self.new
-            (give (payload_lines self.old mode path number payload.now) self.old mode path
-            (new_values self.old path number payload.now))) }
+        ensures outcome { IfOk result (λ a. let values = new_values self.old path number payload.now in
+            Leaves a self.new (give
+            ((not (is_some (format_at self.old.catalogue path number)), Code.UnsupportedContentFormat)
+            ∷ value_rules self.old mode path values) self.old mode path values)) }
         ensures grows { OnErr result (is_some (format_at self.old.catalogue path number) ≡ true) }
         ensures left { OnErr result (self.new ≡ with_stored self.old self.new.store) }
     {
@@ -416,7 +417,7 @@ impl Client {
         self.write_in(mode, path, format, payload)
     }
 
-    /// Writes what a payload gives in the format of this number, where no line refuses it.
+    /// Writes what a payload gives in the format of this number, where no rule refuses it.
     #[tactic(auto, using(crate::proofs::Present::target_has))]
     pub(crate) fn write(
         &mut self,

@@ -6,9 +6,9 @@ ghost use Rattle.notifier.specs.Query.{BeginsWithChange, changes_of, reading_of}
 ghost use Rattle.object_defs.specs.Lines.{first_line};
 ghost use Rattle.device_requests.specs.Answer.{Leaves, takes_memory};
 ghost use Rattle.device_requests.specs.Options.{queries_of};
+ghost use Rattle.device_requests.specs.Outcomes.{attributes_outcome};
 ghost use Rattle.device_requests.specs.WriteAttributes.{agreed, annotate_unless, annotates, annotates_at};
-ghost use Rattle.device_requests.specs.WriteAttributes.{attributes_outcome, changes_given, is_numeric, is_numeric_kind};
-ghost use Rattle.device_requests.specs.WriteAttributes.{level_at, spelled};
+ghost use Rattle.device_requests.specs.WriteAttributes.{changes_given, is_numeric, is_numeric_kind, level_at, spelled};
 
 use crate::answer::{Answer, Code};
 use crate::client::Client;
@@ -159,7 +159,7 @@ impl Client {
         }
     }
 
-    /// Sets attributes by the queries among options, where no line refuses it.
+    /// Sets attributes by the queries among options, where no rule refuses it.
     pub(crate) fn write_attributes(
         &mut self,
         server: u16,

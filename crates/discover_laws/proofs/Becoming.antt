@@ -4,7 +4,6 @@ use Rattle.std.specs.Bool.{if◌then◌else◌}
 use Rattle.coap_codec.specs.Message.{Message}
 use Rattle.lwm2m_payloads.specs.declared.given.Mode.TheVariants.{Replace, Update}
 use Rattle.object_defs.specs.declared.path.Path.{Path}
-use Rattle.object_defs.specs.Lines.{first_line}
 use Rattle.object_defs.specs.Path.{object_in}
 use Rattle.instance_store.specs.Stored.{Stored}
 use Rattle.notifier.specs.Attributes.{Numbers}
@@ -15,15 +14,16 @@ use Rattle.device_requests.specs.declared.operation.Operation.TheVariants.{Creat
 use Rattle.device_requests.specs.declared.operation.Operation.TheVariants.{WriteAttributes, WritePartial, WriteReplace}
 use Rattle.device_requests.specs.declared.request.Request.{Request}
 use Rattle.device_requests.specs.Client.{Client}
-use Rattle.device_requests.specs.Create.{create_lines, create_unless, newborn, Newborn}
-use Rattle.device_requests.specs.Delete.{delete_lines, delete_unless, forgotten}
-use Rattle.device_requests.specs.Execute.{execute_lines, execute_unless}
+use Rattle.device_requests.specs.Create.{create_unless, newborn, Newborn}
+use Rattle.device_requests.specs.Delete.{delete_unless, forgotten}
+use Rattle.device_requests.specs.Execute.{execute_unless}
 use Rattle.device_requests.specs.Operation.{operation_of}
 use Rattle.device_requests.specs.Options.{accept_of, content_format_of, has_query, has_unrecognized_critical}
 use Rattle.device_requests.specs.Options.{path_of as path_in, queries_of, segments_of}
+use Rattle.device_requests.specs.Refusals.{refusal_of, to_create, to_delete, to_execute, to_write, to_write_attributes}
 use Rattle.device_requests.specs.Request.{outcome_at, outcome_for, outcome_of, request_by, request_on, request_with}
-use Rattle.device_requests.specs.Write.{event_of, left, mode_at, new_values, write_lines, write_unless}
-use Rattle.device_requests.specs.WriteAttributes.{annotate_unless, attribute_lines, attributes_given}
+use Rattle.device_requests.specs.Write.{event_of, left, mode_at, new_values, write_unless}
+use Rattle.device_requests.specs.WriteAttributes.{annotate_unless, attributes_given}
 
 pub data Becomes (client : Client) (server : ℕ) : Numbers → Type 0 where
   stays : Becomes client server client.attributes
@@ -65,22 +65,22 @@ becomes_at client server m path Read = stays
 becomes_at client server m path Discover = stays
 becomes_at client server m path WriteAttributes =
     let given = attributes_given client server path (queries_of m.options) in
-    annotated (first_line (attribute_lines client server path given)) client server path (queries_of m.options) given
-    refl
+    annotated (refusal_of client server path (to_write_attributes (queries_of m.options))) client server path
+    (queries_of m.options) given refl
 becomes_at client server m path WriteReplace =
     let values = new_values client path (content_format_of m.options) m.payload in
-    wrote (first_line (write_lines client server Replace path (content_format_of m.options) m.payload)) client server
+    wrote (refusal_of client server path (to_write Replace (content_format_of m.options) m.payload)) client server
     (left (mode_at Replace path) client path values (event_of path values))
 becomes_at client server m path WritePartial =
     let values = new_values client path (content_format_of m.options) m.payload in
-    wrote (first_line (write_lines client server Update path (content_format_of m.options) m.payload)) client server
+    wrote (refusal_of client server path (to_write Update (content_format_of m.options) m.payload)) client server
     (left (mode_at Update path) client path values (event_of path values))
 becomes_at client server m path Create =
-    made (first_line (create_lines client server path (content_format_of m.options) m.payload)) client server
+    made (refusal_of client server path (to_create (content_format_of m.options) m.payload)) client server
     (object_in path) (newborn client (object_in path) m.payload)
 becomes_at client server m path Execute =
-    did (first_line (execute_lines client server path (content_format_of m.options) m.payload)) client server path
-becomes_at client server m path Delete = took (first_line (delete_lines client server path)) client server path
+    did (refusal_of client server path (to_execute (content_format_of m.options) m.payload)) client server path
+becomes_at client server m path Delete = took (refusal_of client server path to_delete) client server path
 
 becomes_by : (client : Client) (server : ℕ) (m : Message) (path : Path) (operation : Option Operation)
     → Becomes client server (outcome_for client server m (request_by m path operation)).client.attributes

@@ -22,13 +22,14 @@ use Rattle.device_requests.specs.declared.operation.Operation.TheVariants.{Disco
 use Rattle.device_requests.specs.Answer.{answered, content, Outcome, refused_or}
 use Rattle.device_requests.specs.Client.{Client}
 use Rattle.device_requests.specs.Discover.{attribute_text, attributes_text, behind}
-use Rattle.device_requests.specs.Discover.{dimension, dimension_text, discover_answer}
+use Rattle.device_requests.specs.Discover.{dimension, dimension_text}
 use Rattle.device_requests.specs.Discover.{discover_payload, inherits_at, link, linked, links_text}
 use Rattle.device_requests.specs.Discover.{more_links, name_text, number_text, shown_attribute, shown_number}
 use Rattle.device_requests.specs.Laws.{LinksWhatExists}
 use Rattle.device_requests.specs.Operation.{link_format}
 use Rattle.device_requests.specs.Options.{path_of, segments_of}
 use Rattle.device_requests.specs.Order.{Asks}
+use Rattle.device_requests.specs.Outcomes.{discover_answer}
 use Rattle.device_requests.specs.Request.{outcome_for, outcome_of, request_by, request_on}
 use Rattle.device_requests.specs.Targets.{exists}
 use Rattle.reading_laws.specs.Queries.{IsSignedThousandths, IsThousandths, SaysNumber}

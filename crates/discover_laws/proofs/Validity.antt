@@ -12,7 +12,6 @@ use Rattle.lwm2m_payloads.specs.declared.given.Mode.TheVariants.{Replace, Update
 use Rattle.object_defs.specs.declared.definition.ObjectDef.{ObjectDef}
 use Rattle.object_defs.specs.declared.path.Path.{Path}
 use Rattle.object_defs.specs.declared.path.Path.TheVariants.{Instance, Object, Part, Resource}
-use Rattle.object_defs.specs.Lines.{first_line}
 use Rattle.object_defs.specs.Numbers.{access_control_object}
 use Rattle.object_defs.specs.Path.{object_in}
 use Rattle.instance_store.specs.Stored.{Stored}
@@ -32,15 +31,16 @@ use Rattle.device_requests.specs.declared.operation.Operation.TheVariants.{Creat
 use Rattle.device_requests.specs.declared.operation.Operation.TheVariants.{WriteAttributes, WritePartial, WriteReplace}
 use Rattle.device_requests.specs.declared.request.Request.{Request}
 use Rattle.device_requests.specs.Client.{Client}
-use Rattle.device_requests.specs.Create.{create_lines, create_unless, newborn, Newborn}
-use Rattle.device_requests.specs.Delete.{delete_lines, delete_unless, deleted, taken_away, without_controls}
-use Rattle.device_requests.specs.Execute.{execute_lines, execute_unless}
+use Rattle.device_requests.specs.Create.{create_unless, newborn, Newborn}
+use Rattle.device_requests.specs.Delete.{delete_unless, deleted, taken_away, without_controls}
+use Rattle.device_requests.specs.Execute.{execute_unless}
 use Rattle.device_requests.specs.Operation.{operation_of}
 use Rattle.device_requests.specs.Options.{accept_of, content_format_of, has_query, has_unrecognized_critical}
 use Rattle.device_requests.specs.Options.{path_of as path_in, queries_of, segments_of}
+use Rattle.device_requests.specs.Refusals.{refusal_of, to_create, to_delete, to_execute, to_write, to_write_attributes}
 use Rattle.device_requests.specs.Request.{outcome_at, outcome_for, request_by, request_on, request_with}
-use Rattle.device_requests.specs.Write.{event_of, left, mode_at, new_values, write_lines, write_unless}
-use Rattle.device_requests.specs.WriteAttributes.{agreed, annotate_unless, attribute_lines, attributes_given, level_at}
+use Rattle.device_requests.specs.Write.{event_of, left, mode_at, new_values, write_unless}
+use Rattle.device_requests.specs.WriteAttributes.{agreed, annotate_unless, attributes_given, level_at}
 use Rattle.device_requests.specs.WriteAttributes.{spelled}
 use Rattle.reading_laws.specs.Queries.{AreSaid, SaysTarget}
 use Rattle.reading_laws.proofs.Saying.{changes_are_said}
@@ -195,22 +195,22 @@ kept_at client server m path Read h = h
 kept_at client server m path Discover h = h
 kept_at client server m path WriteAttributes h =
     let given = attributes_given client server path (queries_of m.options) in
-    annotated (first_line (attribute_lines client server path given)) client given h
+    annotated (refusal_of client server path (to_write_attributes (queries_of m.options))) client given h
     (given_valid client.catalogue client.attributes server path (queries_of m.options) _ refl h)
 kept_at client server m path WriteReplace h =
     let values = new_values client path (content_format_of m.options) m.payload in
-    wrote (first_line (write_lines client server Replace path (content_format_of m.options) m.payload)) client
+    wrote (refusal_of client server path (to_write Replace (content_format_of m.options) m.payload)) client
     (left (mode_at Replace path) client path values (event_of path values)) h
 kept_at client server m path WritePartial h =
     let values = new_values client path (content_format_of m.options) m.payload in
-    wrote (first_line (write_lines client server Update path (content_format_of m.options) m.payload)) client
+    wrote (refusal_of client server path (to_write Update (content_format_of m.options) m.payload)) client
     (left (mode_at Update path) client path values (event_of path values)) h
 kept_at client server m path Create h =
-    made (first_line (create_lines client server path (content_format_of m.options) m.payload)) client server
+    made (refusal_of client server path (to_create (content_format_of m.options) m.payload)) client server
     (object_in path) (newborn client (object_in path) m.payload) h
 kept_at client server m path Execute h =
-    did (first_line (execute_lines client server path (content_format_of m.options) m.payload)) client path h
-kept_at client server m path Delete h = took (first_line (delete_lines client server path)) client path h
+    did (refusal_of client server path (to_execute (content_format_of m.options) m.payload)) client path h
+kept_at client server m path Delete h = took (refusal_of client server path to_delete) client path h
 
 kept_by : (client : Client) (server : ℕ) (m : Message) (path : Path) (operation : Option Operation)
     → HasValidAttributes client

@@ -8,7 +8,6 @@ use Rattle.std.specs.List.{flat_map}
 use Rattle.std.specs.Option.{option_and_then}
 use Rattle.std.specs.Ordering.{eq_by_cmp}
 use Rattle.object_defs.specs.declared.path.Path.{Path}
-use Rattle.object_defs.specs.Lines.{first_line}
 use Rattle.notifier.specs.declared.attribute.AttributeKey.{AttributeKey}
 use Rattle.notifier.specs.declared.attribute.Change.{Change}
 use Rattle.notifier.specs.declared.attribute.Name.{Name}
@@ -18,7 +17,8 @@ use Rattle.notifier.specs.Query.{changes_of}
 use Rattle.notifier.proofs.Keys.{key_exact, key_total}
 use Rattle.device_requests.specs.declared.answer.Code.{Code}
 use Rattle.device_requests.specs.Client.{Client}
-use Rattle.device_requests.specs.WriteAttributes.{agreed, annotate_unless, attribute_lines, attributes_given, level_at}
+use Rattle.device_requests.specs.Refusals.{refusal_of, to_write_attributes}
+use Rattle.device_requests.specs.WriteAttributes.{agreed, annotate_unless, attributes_given, level_at}
 use Rattle.device_requests.specs.WriteAttributes.{spelled}
 use Rattle.discover_laws.specs.Links.{attribute_names, attribute_parameters, query_of, settings, settings_shown}
 use Rattle.discover_laws.specs.Links.{WrittenBackIsTheSame}
@@ -78,7 +78,7 @@ pub written_back : WrittenBackIsTheSame
 written_back client server path h =
     let qs = map_list query_of (attribute_parameters client server false path) in
     let given = attributes_given client server path qs in
-    left_alone (first_line (attribute_lines client server path given)) client given
+    left_alone (refusal_of client server path (to_write_attributes qs)) client given
     (given_again client.attributes server path (settings_shown client server false path)
     (changes_of [] (level_at client.catalogue path) qs) (parameters_are_queries client server false path h)
     (written_again client.attributes server path (assigned client.attributes server path) (λ n z e. e)

@@ -22,8 +22,9 @@ use Rattle.device_requests.specs.declared.operation.Operation.TheVariants.{Disco
 use Rattle.device_requests.specs.Client.{Client}
 use Rattle.device_requests.specs.Discover.{dimension, inherits_at, linked, name_text, number_text, shown_number}
 use Rattle.device_requests.specs.Order.{Asks}
+use Rattle.device_requests.specs.Outcomes.{attributes_outcome}
 use Rattle.device_requests.specs.Request.{outcome_of}
-use Rattle.device_requests.specs.WriteAttributes.{attributes_outcome, level_at}
+use Rattle.device_requests.specs.WriteAttributes.{level_at}
 use Rattle.discover_laws.specs.Printed.{HasValidAttributes, setting}
 
 -- a character of a parameter's name: a digit, a letter or one of these marks (RFC 5987 section 3.2.1)

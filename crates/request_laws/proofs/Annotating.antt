@@ -19,8 +19,10 @@ use Rattle.notifier.specs.Query.{changes_of}
 use Rattle.notifier.proofs.Keys.{key_exact, key_total}
 use Rattle.device_requests.specs.declared.answer.Code.{Code}
 use Rattle.device_requests.specs.Laws.{is_refusal}
-use Rattle.device_requests.specs.WriteAttributes.{agreed, annotate_unless, attribute_lines, attributes_given}
-use Rattle.device_requests.specs.WriteAttributes.{attributes_outcome, level_at, spelled}
+use Rattle.device_requests.specs.Outcomes.{attributes_outcome}
+use Rattle.device_requests.specs.Refusals.{refusals_of, to_write_attributes}
+use Rattle.device_requests.specs.WriteAttributes.{agreed, annotate_unless, attributes_given}
+use Rattle.device_requests.specs.WriteAttributes.{level_at, spelled}
 use Rattle.request_laws.specs.Annotations.{AttributesAreSet, changed_by}
 use Rattle.request_laws.proofs.Asking.{fails, passes}
 
@@ -92,13 +94,13 @@ spelled_by m s p (Ok cs) h = (cs, refl, agreed_by (is_consistent (written m s p 
 pub attributes_set : AttributesAreSet
 attributes_set client server path queries h =
     let given = attributes_given client server path queries in
-    let lines = attribute_lines client server path given in
-    let none = passes lines (refl, (refl, (refl, (refl, tt))))
+    let rules = refusals_of client server path (to_write_attributes queries) in
+    let none = passes rules (refl, (refl, (refl, (refl, (refl, (refl, (refl, (refl, tt))))))))
     (λ (code : Option Code). annotate_unless code client given)
     (λ c. refl) (ap is_refusal h) in
-    let all = fails lines none in
+    let all = fails rules none in
     let cs = spelled_by client.attributes server path (changes_of [] (level_at client.catalogue path) queries)
-    all.1.1.1.0 in
+    all.1.1.1.1.1.0 in
     let is : (attributes_outcome client server path queries).client.attributes
     ≡ written client.attributes server path cs.0 =
     ap (λ (code : Option Code). (annotate_unless code client given).client.attributes) none

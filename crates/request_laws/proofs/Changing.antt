@@ -3,7 +3,6 @@ use Rattle.std.proofs.Common.{◌≡◌, ℕ, Bool, true, false, List, Option, N
 use Rattle.std.specs.Bool.{if◌then◌else◌}
 use Rattle.std.specs.Option.{option_and_then, unwrap_or}
 use Rattle.coap_codec.specs.Message.{Message}
-use Rattle.object_defs.specs.Lines.{first_line}
 use Rattle.object_defs.specs.Path.{object_in}
 use Rattle.object_defs.specs.declared.path.Path.{Path}
 use Rattle.object_defs.specs.declared.path.Path.TheVariants.{Object, Instance, Resource, Part}
@@ -30,15 +29,17 @@ use Rattle.device_requests.specs.declared.operation.Operation.TheVariants.{Write
 use Rattle.device_requests.specs.declared.operation.Operation.TheVariants.{Delete}
 use Rattle.device_requests.specs.Answer.{Outcome}
 use Rattle.device_requests.specs.Client.{Client}
-use Rattle.device_requests.specs.Create.{Newborn, create_lines, create_unless, newborn}
-use Rattle.device_requests.specs.Execute.{execute_lines, execute_unless, is_resource, with_no_error}
+use Rattle.device_requests.specs.Create.{Newborn, create_unless, newborn}
+use Rattle.device_requests.specs.Execute.{execute_unless, is_resource, with_no_error}
 use Rattle.device_requests.specs.Options.{content_format_of, queries_of}
+use Rattle.device_requests.specs.Outcomes.{write_outcome}
+use Rattle.device_requests.specs.Refusals.{refusal_of, to_create, to_execute, to_write, to_write_attributes}
 use Rattle.device_requests.specs.Request.{outcome_at, request_with}
 use Rattle.device_requests.specs.Targets.{defined, place_of, resource_place}
 use Rattle.device_requests.specs.Read.{format_at}
 use Rattle.device_requests.specs.Write.{event_of, given_to_part, given_to_resource, left, mode_at, new_values}
-use Rattle.device_requests.specs.Write.{values_given, write_lines, write_outcome, write_unless, written}
-use Rattle.device_requests.specs.WriteAttributes.{annotate_unless, attribute_lines, attributes_given}
+use Rattle.device_requests.specs.Write.{values_given, write_unless, written}
+use Rattle.device_requests.specs.WriteAttributes.{annotate_unless, attributes_given}
 use Rattle.request_laws.specs.Changes.{KeepsOthers, OperationsKeepOthers}
 use Rattle.request_laws.proofs.Asking.{comes_to}
 
@@ -141,7 +142,7 @@ pub wrote : (client : Client) (server : ℕ) (mode : Mode) (path : Path) (number
     → KeepsMost client (write_outcome client server mode path number payload).client
 wrote client server mode path number payload =
     let values = new_values client path number payload in
-    write_keeps (first_line (write_lines client server mode path number payload)) client
+    write_keeps (refusal_of client server path (to_write mode number payload)) client
     (left (mode_at mode path) client path values (event_of path values))
     (left_instances (mode_at mode path) client path number payload (event_of path values))
 
@@ -165,7 +166,7 @@ keeps_at client server m path Read = same client Read
 keeps_at client server m path Discover = same client Discover
 keeps_at client server m path WriteAttributes =
     let given = attributes_given client server path (queries_of m.options) in
-    annotated (first_line (attribute_lines client server path given)) client given
+    annotated (refusal_of client server path (to_write_attributes (queries_of m.options))) client given
 keeps_at client server m path WriteReplace =
     let k = wrote client server Replace path (content_format_of m.options) m.payload in
     record { attributes = λ h. k.attributes; instances = λ h. k.instances; values = λ h. cc }
@@ -174,13 +175,13 @@ keeps_at client server m path WritePartial =
     record { attributes = λ h. k.attributes; instances = λ h. k.instances; values = λ h. cc }
 keeps_at client server m path Create =
     record {
-      attributes = λ h. made (first_line (create_lines client server path (content_format_of m.options) m.payload))
+      attributes = λ h. made (refusal_of client server path (to_create (content_format_of m.options) m.payload))
           client server (object_in path) (newborn client (object_in path) m.payload);
       instances = λ h. cc;
       values = λ h. cc;
     }
 keeps_at client server m path Execute =
-    let k = did (first_line (execute_lines client server path (content_format_of m.options) m.payload)) client path in
+    let k = did (refusal_of client server path (to_execute (content_format_of m.options) m.payload)) client path in
     record { attributes = λ h. k.attributes; instances = λ h. k.instances; values = λ h. cc }
 keeps_at client server m path Delete = record { attributes = λ h. cc; instances = λ h. cc; values = λ h. cc }
 

@@ -28,8 +28,9 @@ use Rattle.device_instances.proofs.Within.{written_within}
 use Rattle.device_requests.specs.declared.answer.Code.{Code}
 use Rattle.device_requests.specs.Answer.{Outcome}
 use Rattle.device_requests.specs.Client.{Client}
-use Rattle.device_requests.specs.Create.{Newborn, create_lines, create_unless, newborn, numbered}
+use Rattle.device_requests.specs.Create.{Newborn, create_unless, newborn, numbered}
 use Rattle.device_requests.specs.Laws.{is_refusal}
+use Rattle.device_requests.specs.Refusals.{refusals_of, to_create}
 use Rattle.device_requests.specs.Targets.{defined, is_fixed, place_of}
 use Rattle.request_laws.specs.Creations.{CreatesAdd, IsControlOf, IsCreated, IsSame}
 use Rattle.request_laws.proofs.Asking.{chosen, fails, passes, there}
@@ -160,10 +161,10 @@ made client server o payload b gives free =
 pub creates_add : CreatesAdd
 creates_add client server o number payload h =
     let new = newborn client o payload in
-    let lines = create_lines client server (Object o) number payload in
-    let none = passes lines (refl, (refl, (refl, (refl, (refl, (refl, (refl, tt)))))))
+    let rules = refusals_of client server (Object o) (to_create number payload) in
+    let none = passes rules (refl, (refl, (refl, (refl, (refl, (refl, (refl, (refl, tt))))))))
     (λ (code : Option Code). create_unless code client server o new) (λ c. refl) (ap is_refusal h) in
-    let all = fails lines none in
+    let all = fails rules none in
     let b = there new all.1.1.1.1.1.0 in
     subst (λ (out : Outcome). IsCreated client server o payload out)
     (sym (ap (λ (code : Option Code). create_unless code client server o new) none

@@ -9,12 +9,13 @@ use Rattle.device_requests.specs.declared.answer.Code.{Code}
 use Rattle.device_requests.specs.declared.answer.Code.TheVariants.{BadRequest, Unauthorized, NotFound}
 use Rattle.device_requests.specs.declared.answer.Code.TheVariants.{MethodNotAllowed, InternalServerError}
 use Rattle.device_requests.specs.declared.operation.Operation.{Operation}
-use Rattle.device_requests.specs.declared.operation.Operation.TheVariants.{Read, Discover, Create, Delete}
 use Rattle.device_requests.specs.Client.{Client}
 use Rattle.device_requests.specs.Laws.{is_refusal}
-use Rattle.device_requests.specs.Order.{Asks, OneTable, done_code, format_refusal, is_invalid, is_out_of_turn}
-use Rattle.device_requests.specs.Order.{is_too_much, lacks_format, lacks_operation, lacks_right, lacks_target}
-use Rattle.device_requests.specs.Request.{outcome_of}
+use Rattle.device_requests.specs.Order.{Asks, OneTable}
+use Rattle.device_requests.specs.Refusals.{Purpose, done_code, format_refusal, is_invalid, is_out_of_turn, is_too_much}
+use Rattle.device_requests.specs.Refusals.{lacks_format, lacks_operation, lacks_right, lacks_target, to_create}
+use Rattle.device_requests.specs.Refusals.{to_delete, to_discover, to_read}
+use Rattle.device_requests.specs.Request.{outcome_of, purpose_of}
 use Rattle.request_laws.specs.Good.{GoodIsDone, IsGood, LimitsComeLast}
 
 told : (said code : Code) → Some said ≡ Some code → said ≡ code
@@ -101,44 +102,47 @@ decided false false false false false false true h format done code r s o is =
 decided false false false false false false false true format done code r s o is = limited done code s is
 decided false false false false false false false false format done code r s o is = finished done code s is
 
-format_refuses : (operation : Operation) → is_refusal (format_refusal operation) ≡ true
-format_refuses Read = refl
-format_refuses operation = refl
+format_refuses : (purpose : Purpose) → is_refusal (format_refusal purpose) ≡ true
+format_refuses (to_read accept) = refl
+format_refuses purpose = refl
 
-format_is_no_limit : (operation : Operation) → format_refusal operation ≡ InternalServerError → ⊥
-format_is_no_limit Read h = cc
-format_is_no_limit operation h = cc
+format_is_no_limit : (purpose : Purpose) → format_refusal purpose ≡ InternalServerError → ⊥
+format_is_no_limit (to_read accept) h = cc
+format_is_no_limit purpose h = cc
 
-done_succeeds : (operation : Operation) → is_refusal (done_code operation) ≡ false
-done_succeeds Read = refl
-done_succeeds Discover = refl
-done_succeeds Create = refl
-done_succeeds Delete = refl
-done_succeeds operation = refl
+done_succeeds : (purpose : Purpose) → is_refusal (done_code purpose) ≡ false
+done_succeeds (to_read accept) = refl
+done_succeeds to_discover = refl
+done_succeeds (to_create format payload) = refl
+done_succeeds to_delete = refl
+done_succeeds purpose = refl
 
 order : OneTable → (client : Client) (server : ℕ) (m : Message) (path : Path) (operation : Operation)
     → Asks m path operation
-    → IsDecided (object_in path == 0) (lacks_target client path operation) (lacks_right client server path operation)
-    (lacks_operation client.catalogue path operation)
-    (lacks_format client.catalogue m path operation) (is_invalid client server m path operation)
-    (is_out_of_turn client m path operation) (is_too_much client server m path operation) (done_code operation)
-    (outcome_of client server m).answer.code
+    → let purpose = purpose_of m operation in
+    IsDecided (object_in path == 0) (lacks_target client path purpose) (lacks_right client server path purpose)
+    (lacks_operation client.catalogue path purpose) (lacks_format client.catalogue path purpose)
+    (is_invalid client server path purpose) (is_out_of_turn client path purpose)
+    (is_too_much client server path purpose) (done_code purpose) (outcome_of client server m).answer.code
 order one_table client server m path operation asks =
-    decided (object_in path == 0) (lacks_target client path operation) (lacks_right client server path operation)
-    (lacks_operation client.catalogue path operation)
-    (lacks_format client.catalogue m path operation) (is_invalid client server m path operation)
-    (is_out_of_turn client m path operation) (is_too_much client server m path operation) (format_refusal operation)
-    (done_code operation)
-    (outcome_of client server m).answer.code (format_refuses operation) (done_succeeds operation)
-    (format_is_no_limit operation) (one_table client server m path operation asks)
+    let purpose = purpose_of m operation in
+    decided (object_in path == 0) (lacks_target client path purpose) (lacks_right client server path purpose)
+    (lacks_operation client.catalogue path purpose) (lacks_format client.catalogue path purpose)
+    (is_invalid client server path purpose) (is_out_of_turn client path purpose)
+    (is_too_much client server path purpose) (format_refusal purpose) (done_code purpose)
+    (outcome_of client server m).answer.code (format_refuses purpose) (done_succeeds purpose)
+    (format_is_no_limit purpose) (one_table client server m path operation asks)
 
-clear_good : (client : Client) (server : ℕ) (m : Message) (path : Path) (operation : Operation)
-    → AreClear (object_in path == 0) (lacks_target client path operation) (lacks_right client server path operation)
-    (lacks_operation client.catalogue path operation)
-    (lacks_format client.catalogue m path operation) (is_invalid client server m path operation)
-    (is_out_of_turn client m path operation)
-    → IsGood client server m path operation
-clear_good client server m path operation clear =
+-- none of the rules before the limits holds
+abbrev IsClear : Client → ℕ → Path → Purpose → Type 0
+IsClear client server path purpose =
+    AreClear (object_in path == 0) (lacks_target client path purpose) (lacks_right client server path purpose)
+    (lacks_operation client.catalogue path purpose) (lacks_format client.catalogue path purpose)
+    (is_invalid client server path purpose) (is_out_of_turn client path purpose)
+
+clear_good : (client : Client) (server : ℕ) (path : Path) (purpose : Purpose) → IsClear client server path purpose
+    → IsGood client server path purpose
+clear_good client server path purpose clear =
     record {
       object = λ p. let k : true ≡ false = sym (ap (λ (o : ℕ). o == 0) p) ∙ clear.a_is in cc;
       target = clear.b_is;
@@ -149,13 +153,9 @@ clear_good client server m path operation clear =
       state = clear.g_is;
     }
 
-good_clear : (client : Client) (server : ℕ) (m : Message) (path : Path) (operation : Operation)
-    → IsGood client server m path operation
-    → AreClear (object_in path == 0) (lacks_target client path operation) (lacks_right client server path operation)
-    (lacks_operation client.catalogue path operation)
-    (lacks_format client.catalogue m path operation) (is_invalid client server m path operation)
-    (is_out_of_turn client m path operation)
-good_clear client server m path operation good =
+good_clear : (client : Client) (server : ℕ) (path : Path) (purpose : Purpose) → IsGood client server path purpose
+    → IsClear client server path purpose
+good_clear client server path purpose good =
     record {
       a_is = ne_eqb (object_in path) 0 good.object;
       b_is = good.target;
@@ -169,13 +169,13 @@ good_clear client server m path operation good =
 pub good_is_done : OneTable → GoodIsDone
 good_is_done table client server m path operation asks =
     let is = order table client server m path operation asks in (
-      λ h. (clear_good client server m path operation (is.when_done h).0, (is.when_done h).1),
-      λ h. is.is_done (good_clear client server m path operation h.0) h.1,
+      λ h. (clear_good client server path (purpose_of m operation) (is.when_done h).0, (is.when_done h).1),
+      λ h. is.is_done (good_clear client server path (purpose_of m operation) h.0) h.1,
     )
 
 pub limits_come_last : OneTable → LimitsComeLast
 limits_come_last table client server m path operation asks =
     let is = order table client server m path operation asks in (
-      λ h. (clear_good client server m path operation (is.when_limit h).0, (is.when_limit h).1),
-      λ h. is.is_limit (good_clear client server m path operation h.0) h.1,
+      λ h. (clear_good client server path (purpose_of m operation) (is.when_limit h).0, (is.when_limit h).1),
+      λ h. is.is_limit (good_clear client server path (purpose_of m operation) h.0) h.1,
     )

@@ -21,9 +21,10 @@ use Rattle.device_instances.specs.Deletions.{instance_in, goes_with, without_del
 use Rattle.device_instances.proofs.Instances.{listed}
 use Rattle.device_requests.specs.declared.answer.Code.{Code}
 use Rattle.device_requests.specs.Client.{Client}
-use Rattle.device_requests.specs.Delete.{delete_lines, delete_unless, forgotten, taken_away}
+use Rattle.device_requests.specs.Delete.{delete_unless, forgotten, taken_away}
 use Rattle.device_requests.specs.Delete.{without_controls}
 use Rattle.device_requests.specs.Laws.{is_refusal}
+use Rattle.device_requests.specs.Refusals.{refusals_of, to_delete}
 use Rattle.device_requests.specs.Targets.{place_of}
 use Rattle.request_laws.specs.Deletions.{DeletesTake, TakesAway, goes_at}
 use Rattle.request_laws.proofs.Asking.{passes}
@@ -172,6 +173,7 @@ taken client o i =
 pub deletes_take : DeletesTake
 deletes_take client server o i h =
     subst (λ (code : Option Code). TakesAway client (delete_unless code client (Instance o i)).client (place_of o i))
-    (sym (passes (delete_lines client server (Instance o i)) (refl, (refl, (refl, (refl, tt))))
+    (sym (passes (refusals_of client server (Instance o i) to_delete)
+    (refl, (refl, (refl, (refl, (refl, (refl, (refl, (refl, tt))))))))
     (λ (code : Option Code). delete_unless code client (Instance o i)) (λ c. refl) (ap is_refusal h)))
     (taken client o i)

@@ -12,7 +12,6 @@ use Rattle.lwm2m_values.specs.declared.value.Value.{Value}
 use Rattle.std.proofs.lemmas.Bool.{eqb-true}
 use Rattle.std.proofs.lemmas.Bool.Decides.{nat_tests}
 use Rattle.lwm2m_values.specs.declared.value.Value.TheVariants.{Text, Whole, Flag, Opaque, Moment, Link}
-use Rattle.object_defs.specs.Lines.{first_line}
 use Rattle.object_defs.specs.Path.{part_of, path_cmp, single_of}
 use Rattle.object_defs.specs.declared.path.FullPath.{FullPath}
 use Rattle.object_defs.specs.declared.path.Path.{Path}
@@ -26,8 +25,10 @@ use Rattle.device_requests.specs.declared.answer.Code.{Code}
 use Rattle.device_requests.specs.declared.answer.Code.TheVariants.{Changed}
 use Rattle.device_requests.specs.Client.{Client, with_stored}
 use Rattle.device_requests.specs.Laws.{is_refusal}
-use Rattle.device_requests.specs.Execute.{executed, execute_lines, execute_outcome, execute_unless, is_resource}
+use Rattle.device_requests.specs.Execute.{executed, execute_unless, is_resource}
 use Rattle.device_requests.specs.Execute.{with_no_error}
+use Rattle.device_requests.specs.Outcomes.{execute_outcome}
+use Rattle.device_requests.specs.Refusals.{refusal_of, refusals_of, to_execute}
 use Rattle.device_requests.specs.Targets.{resource_place}
 use Rattle.request_laws.specs.Executions.{BeginsUpdate, ErrorsAreReset, ExecutesKeep, HasNoError, UpdatesBegin}
 use Rattle.request_laws.proofs.Asking.{fails, passes}
@@ -39,7 +40,7 @@ same_by (Some code) client path h = refl
 
 pub executes_keep : ExecutesKeep
 executes_keep client server path number payload h k =
-    same_by (first_line (execute_lines client server path number payload)) client path
+    same_by (refusal_of client server path (to_execute number payload)) client path
     (ap (λ (a : Bool). if a then unwrap_or (firmware_after client.store event.Update) client.store
     else if is_resource 3 12 path then with_no_error client.store path else client.store) h
     ∙ ap (λ (b : Bool). if b then with_no_error client.store path else client.store) k)
@@ -87,10 +88,10 @@ no_error s i =
 
 unrefused : (client : Client) (server : ℕ) (path : Path) (number : Option ℕ) (payload : List ℕ)
     → (execute_outcome client server path number payload).answer.code ≡ Changed
-    → first_line (execute_lines client server path number payload) ≡ None
+    → refusal_of client server path (to_execute number payload) ≡ None
 unrefused client server path number payload h =
-    passes (execute_lines client server path number payload)
-    (refl, (refl, (refl, (refl, (refl, (refl, (refl, tt)))))))
+    passes (refusals_of client server path (to_execute number payload))
+    (refl, (refl, (refl, (refl, (refl, (refl, (refl, (refl, tt))))))))
     (λ (code : Option Code). execute_unless code client path) (λ c. refl) (ap is_refusal h)
 
 pub errors_reset : ErrorsAreReset
@@ -162,7 +163,7 @@ begun_by s true h =
 pub updates_begin : UpdatesBegin
 updates_begin client server i number payload h =
     let none = unrefused client server (Resource 5 i 2) number payload h in
-    let all = fails (execute_lines client server (Resource 5 i 2) number payload) none in
+    let all = fails (refusals_of client server (Resource 5 i 2) (to_execute number payload)) none in
     subst (λ (code : Option Code). BeginsUpdate client.store (execute_unless code client (Resource 5 i 2)).client.store)
     (sym none)
     (begun_by client.store (has_instance client.store firmware) all.1.1.1.1.1.1.0)

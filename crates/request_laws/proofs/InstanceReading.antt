@@ -26,9 +26,10 @@ use Rattle.lwm2m_payloads.proofs.EachOnce.{instance_once}
 use Rattle.device_requests.specs.Access.{may_read, shown_instances}
 use Rattle.device_requests.specs.Client.{Client, with_stored}
 use Rattle.device_requests.specs.Laws.{IsAmong}
-use Rattle.device_requests.specs.Read.{content_in, format_at, payload_in, read_answer, read_payload}
+use Rattle.device_requests.specs.Outcomes.{read_answer, write_outcome}
+use Rattle.device_requests.specs.Read.{content_in, format_at, payload_in, read_payload}
+use Rattle.device_requests.specs.Refusals.{refusals_of, to_write}
 use Rattle.device_requests.specs.Targets.{defined, exists, is_readable, place_of, resource_place}
-use Rattle.device_requests.specs.Write.{write_lines, write_outcome}
 use Rattle.request_laws.specs.Instances.{HoldsGiven, InstancesAreReadBack, IsInstanceReadBack, left_by}
 use Rattle.request_laws.specs.Multiples.{HasPart, IsPartThen}
 use Rattle.request_laws.proofs.Asking.{fails}
@@ -181,7 +182,7 @@ instances_read client server mode o i number payload h =
     let path = Instance o i in
     let new = (write_outcome client server mode path number payload).client in
     let no_line = unrefused client server mode path number payload h in
-    let all = fails (write_lines client server mode path number payload) no_line in
+    let all = fails (refusals_of client server path (to_write mode number payload)) no_line in
     let place : has_instance new.store (place_of o i) ≡ true =
     ap (λ m. finite.contains_key m (place_of o i)) (wrote client server mode path number payload).instances
     ∙ target_there (is_some (object_of client.catalogue o)) (has_instance client.store (place_of o i)) all.1.0 in

@@ -31,9 +31,11 @@ use Rattle.lwm2m_payloads.proofs.EachOnce.{resource_once}
 use Rattle.lwm2m_payloads.proofs.Written.{at_given, given_instances}
 use Rattle.device_requests.specs.declared.answer.Code.{Code}
 use Rattle.device_requests.specs.Client.{Client, with_stored}
+use Rattle.device_requests.specs.Outcomes.{write_outcome}
 use Rattle.device_requests.specs.Read.{format_at}
+use Rattle.device_requests.specs.Refusals.{refusals_of, to_write}
 use Rattle.device_requests.specs.Targets.{place_of, resource_place}
-use Rattle.device_requests.specs.Write.{given_to_resource, write_lines, write_outcome, write_unless}
+use Rattle.device_requests.specs.Write.{given_to_resource, write_unless}
 use Rattle.request_laws.specs.Multiples.{ArePartsReadBack, HoldsParts, MultipleIsReadBack}
 use Rattle.request_laws.proofs.Asking.{fails}
 use Rattle.request_laws.proofs.Holding.{holds, multiple_read}
@@ -159,7 +161,7 @@ multiple_back client server o i r d number payload defined_as several readable h
     let path = Resource o i r in
     let p = resource_place o i r in
     let no_line = unrefused client server Replace path number payload h in
-    let all = fails (write_lines client server Replace path number payload) no_line in
+    let all = fails (refusals_of client server path (to_write Replace number payload)) no_line in
     let c = comes client server Replace path number payload h in
     let tlv = is_only_tlv client o i r d number c.format defined_as several c.served in
     let g = resource_good client o i r payload c.format

@@ -28,9 +28,11 @@ use Rattle.device_requests.specs.declared.answer.Code.TheVariants.{NotAcceptable
 use Rattle.device_requests.specs.Access.{may_read, shown_instances}
 use Rattle.device_requests.specs.Answer.{refused_or}
 use Rattle.device_requests.specs.Client.{Client, with_stored}
-use Rattle.device_requests.specs.Read.{content_in, format_at, payload_in, read_answer, read_payload}
+use Rattle.device_requests.specs.Outcomes.{read_answer, write_outcome}
+use Rattle.device_requests.specs.Read.{content_in, format_at, payload_in, read_payload}
+use Rattle.device_requests.specs.Refusals.{refusals_of, to_write}
 use Rattle.device_requests.specs.Targets.{exists, is_multiple, is_readable, place_of, resource_place}
-use Rattle.device_requests.specs.Write.{given_to_part, values_given, write_lines, write_outcome}
+use Rattle.device_requests.specs.Write.{given_to_part, values_given}
 use Rattle.device_requests.specs.Write.{write_unless}
 use Rattle.request_laws.specs.Readings.{IsPartReadBack, PartIsRead}
 use Rattle.request_laws.proofs.Asking.{fails}
@@ -154,7 +156,7 @@ part_read client server mode o i r n d number payload defined readable h =
     let path = Part o i r n in
     let p = resource_place o i r in
     let no_line = unrefused client server mode path number payload h in
-    let all = fails (write_lines client server mode path number payload) no_line in
+    let all = fails (refusals_of client server path (to_write mode number payload)) no_line in
     let c = comes client server mode path number payload h in
     let g = part_good client o i r n payload c.format
     (given_to_part (definition_of client.catalogue o r) n c.format payload) refl c.good in

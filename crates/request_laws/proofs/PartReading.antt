@@ -16,8 +16,9 @@ use Rattle.lwm2m_payloads.specs.declared.given.Given.TheVariants.{Parts}
 use Rattle.lwm2m_payloads.specs.declared.given.Mode.TheVariants.{Update}
 use Rattle.device_requests.specs.Client.{with_stored}
 use Rattle.device_requests.specs.Laws.{IsAmong}
+use Rattle.device_requests.specs.Outcomes.{write_outcome}
+use Rattle.device_requests.specs.Refusals.{refusals_of, to_write}
 use Rattle.device_requests.specs.Targets.{is_multiple, place_of, resource_place}
-use Rattle.device_requests.specs.Write.{write_lines, write_outcome}
 use Rattle.request_laws.specs.Multiples.{HasPart, IsPartReadAmong, PartIsReadAmong}
 use Rattle.request_laws.proofs.Asking.{fails}
 use Rattle.request_laws.proofs.Changing.{wrote}
@@ -57,7 +58,7 @@ part_read_among client server mode o i r n d number payload defined_as readable 
     let path = Part o i r n in
     let p = resource_place o i r in
     let new = (write_outcome client server mode path number payload).client in
-    let all = fails (write_lines client server mode path number payload)
+    let all = fails (refusals_of client server path (to_write mode number payload))
     (unrefused client server mode path number payload h) in
     let w = parts_written client server mode o i r n number payload h in
     let same = same_definition w.definition d (sym w.is_defined ∙ defined_as) in

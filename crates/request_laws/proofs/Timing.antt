@@ -16,9 +16,10 @@ use Rattle.device_requests.specs.declared.operation.Operation.{Operation}
 use Rattle.device_requests.specs.Client.{Client}
 use Rattle.device_requests.specs.Execute.{is_untimely}
 use Rattle.device_requests.specs.Laws.{IsAmong}
-use Rattle.device_requests.specs.Order.{OneTable, done_code, format_refusal, is_invalid, is_out_of_turn, is_refused_now}
-use Rattle.device_requests.specs.Order.{is_too_much, lacks_format, lacks_operation, lacks_right, lacks_target}
-use Rattle.device_requests.specs.Request.{outcome_of}
+use Rattle.device_requests.specs.Order.{OneTable}
+use Rattle.device_requests.specs.Refusals.{done_code, format_refusal, is_invalid, is_out_of_turn, is_refused_now}
+use Rattle.device_requests.specs.Refusals.{is_too_much, lacks_format, lacks_operation, lacks_right, lacks_target}
+use Rattle.device_requests.specs.Request.{outcome_of, purpose_of}
 use Rattle.request_laws.specs.Untimely.{IsUntimely, StatesDecide, StatesPrecedeLimits}
 use Rattle.request_laws.specs.Untimely.IsUntimely.{asks_for_update, replaces, updates_partially}
 use Rattle.request_laws.proofs.Asking.{told}
@@ -28,7 +29,7 @@ not_taken : (client : Client) (event : FirmwareEvent) (o : Option FirmwareEvent)
 not_taken client event o is none = ap (is_refused_now client.store) is ∙ ap (λ after. not (is_some after)) none
 
 out_of_turn : (client : Client) (m : Message) (path : Path) (operation : Operation)
-    → IsUntimely client m path operation → is_out_of_turn client m path operation ≡ true
+    → IsUntimely client m path operation → is_out_of_turn client path (purpose_of m operation) ≡ true
 out_of_turn client m path operation (replaces event is none) = not_taken client event _ is none
 out_of_turn client m path operation (updates_partially event is none) = not_taken client event _ is none
 out_of_turn client m path operation (asks_for_update i is none) =
@@ -68,19 +69,21 @@ decided false false false false false false true h format done code p q r s t u 
 
 pub states_precede : OneTable → StatesPrecedeLimits
 states_precede table client server m path operation asks untimely =
-    turned (object_in path == 0) (lacks_target client path operation) (lacks_right client server path operation)
-    (lacks_operation client.catalogue path operation) (lacks_format client.catalogue m path operation)
-    (is_invalid client server m path operation) (is_out_of_turn client m path operation)
-    (is_too_much client server m path operation) (format_refusal operation) (done_code operation)
+    let purpose = purpose_of m operation in
+    turned (object_in path == 0) (lacks_target client path purpose) (lacks_right client server path purpose)
+    (lacks_operation client.catalogue path purpose) (lacks_format client.catalogue path purpose)
+    (is_invalid client server path purpose) (is_out_of_turn client path purpose)
+    (is_too_much client server path purpose) (format_refusal purpose) (done_code purpose)
     (outcome_of client server m).answer.code (out_of_turn client m path operation untimely)
     (table client server m path operation asks)
 
 pub states_decide : OneTable → StatesDecide
 states_decide table client server m path operation asks untimely reaches =
-    decided (object_in path == 0) (lacks_target client path operation) (lacks_right client server path operation)
-    (lacks_operation client.catalogue path operation) (lacks_format client.catalogue m path operation)
-    (is_invalid client server m path operation) (is_out_of_turn client m path operation)
-    (is_too_much client server m path operation) (format_refusal operation) (done_code operation)
+    let purpose = purpose_of m operation in
+    decided (object_in path == 0) (lacks_target client path purpose) (lacks_right client server path purpose)
+    (lacks_operation client.catalogue path purpose) (lacks_format client.catalogue path purpose)
+    (is_invalid client server path purpose) (is_out_of_turn client path purpose)
+    (is_too_much client server path purpose) (format_refusal purpose) (done_code purpose)
     (outcome_of client server m).answer.code (ne_eqb (object_in path) 0 reaches.object) reaches.target reaches.right
     reaches.served reaches.format reaches.payload (out_of_turn client m path operation untimely)
     (table client server m path operation asks)

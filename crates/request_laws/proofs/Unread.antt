@@ -44,29 +44,31 @@ use Rattle.device_requests.specs.declared.request.Request.{Request}
 use Rattle.device_requests.specs.Access.{may_read, reads, rights_at, shown_instances}
 use Rattle.device_requests.specs.Answer.{bare, content, created, done, refused_or}
 use Rattle.device_requests.specs.Client.{Client, with_stored}
-use Rattle.device_requests.specs.Create.{Newborn, create_lines, create_outcome, create_unless, is_tlv, lacks_room}
+use Rattle.device_requests.specs.Create.{Newborn, create_unless, is_tlv, lacks_room}
 use Rattle.device_requests.specs.Create.{newborn, numbered}
-use Rattle.device_requests.specs.Delete.{delete_lines, delete_outcome, delete_unless}
-use Rattle.device_requests.specs.Discover.{attributes_text, dimension, dimension_text, discover_answer}
+use Rattle.device_requests.specs.Delete.{delete_unless}
+use Rattle.device_requests.specs.Discover.{attributes_text, dimension, dimension_text}
 use Rattle.device_requests.specs.Discover.{discover_payload}
 use Rattle.device_requests.specs.Discover.{inherits_at, paths_below}
-use Rattle.device_requests.specs.Execute.{act_of, execute_lines, execute_outcome, execute_unless, is_executable}
+use Rattle.device_requests.specs.Execute.{act_of, execute_unless, is_executable}
 use Rattle.device_requests.specs.Execute.{is_plain}
 use Rattle.device_requests.specs.Execute.{is_resource, is_untimely}
 use Rattle.lwm2m_payloads.specs.Scanning.{are_arguments}
 use Rattle.device_requests.specs.Operation.{link_format}
 use Rattle.device_requests.specs.Options.{queries_of}
 use Rattle.device_requests.specs.Order.{Asks}
-use Rattle.device_requests.specs.Read.{can_be_read, content_in, format_at, payload_in, read_answer, read_payload}
+use Rattle.device_requests.specs.Outcomes.{attributes_outcome, create_outcome, delete_outcome, discover_answer}
+use Rattle.device_requests.specs.Outcomes.{execute_outcome, read_answer, write_outcome}
+use Rattle.device_requests.specs.Read.{can_be_read, content_in, format_at, payload_in, read_payload}
+use Rattle.device_requests.specs.Refusals.{is_refused_now, refusal_of, to_create, to_delete, to_execute, to_write}
+use Rattle.device_requests.specs.Refusals.{to_write_attributes, unless_taken}
 use Rattle.device_requests.specs.Request.{outcome_by, outcome_for, request_of}
 use Rattle.device_requests.specs.Targets.{defined, definition_at, exists, is_fixed, is_multiple, place_of}
 use Rattle.device_requests.specs.Targets.{resource_place}
 use Rattle.device_requests.specs.Write.{can_be_written, event_of, exceeds, given_to_part, given_to_resource, left}
-use Rattle.device_requests.specs.Write.{mode_at, write_lines}
-use Rattle.device_requests.specs.Write.{new_values, package_in, resource_exceeds, turn_lines, uri_in, values_given}
-use Rattle.device_requests.specs.Write.{write_outcome, write_unless}
-use Rattle.device_requests.specs.WriteAttributes.{annotate_unless, annotates_at, attribute_lines, attributes_given}
-use Rattle.device_requests.specs.WriteAttributes.{attributes_outcome}
+use Rattle.device_requests.specs.Write.{mode_at, new_values, package_in, resource_exceeds, uri_in, values_given}
+use Rattle.device_requests.specs.Write.{write_unless}
+use Rattle.device_requests.specs.WriteAttributes.{annotate_unless, annotates_at, attributes_given}
 use Rattle.device_requests.proofs.Reading.{said}
 use Rattle.request_laws.specs.Unread.{AnswersHideUnread, DiffersUnread, asks_firmware, is_package}
 use Rattle.request_laws.proofs.Differing.{instance_below, resource_below, same_below, same_excess, same_excesses}
@@ -367,17 +369,12 @@ same_exceeding client stored server mode (Part o i r n) payload (Some f) h =
 abbrev IsSeen : Client → ℕ → Bool → Type 0
 IsSeen client server asks = (asks ≡ false) ⊎ (reads client.store (length client.accounts) server 5 0 ≡ true)
 
-same_turns : (client : Client) (stored : Stored) (server : ℕ) (mode : Mode) (path : Path) (number : Option ℕ)
-    (payload : List ℕ) (e : Option FirmwareEvent) → DiffersUnread client stored server
-    → (e ≡ None) ⊎ (reads client.store (length client.accounts) server 5 0 ≡ true)
-    → turn_lines (with_stored client stored) mode path (new_values client path number payload) e
-    ≡ turn_lines client mode path (new_values client path number payload) e
-same_turns client stored server mode path number payload None h seen =
-    ap (λ (b : Bool). (b, InternalServerError) ∷ [])
-    (same_exceeding client stored server mode path payload (format_at client.catalogue path number) h)
-same_turns client stored server mode path number payload (Some e) h (inl never) = cc
-same_turns client stored server mode path number payload (Some e) h (inr may) =
-    ap (λ (b : Bool). (not b, MethodNotAllowed) ∷ []) (same_turn client stored server e h may)
+same_refused : (client : Client) (stored : Stored) (server : ℕ) (e : Option FirmwareEvent)
+    → DiffersUnread client stored server → (e ≡ None) ⊎ (reads client.store (length client.accounts) server 5 0 ≡ true)
+    → is_refused_now stored e ≡ is_refused_now client.store e
+same_refused client stored server None h seen = refl
+same_refused client stored server (Some e) h (inl never) = cc
+same_refused client stored server (Some e) h (inr may) = ap not (same_turn client stored server e h may)
 
 event_seen : (client : Client) (server : ℕ) (path : Path) (number : Option ℕ) (payload : List ℕ)
     → IsSeen client server (is_package path)
@@ -388,10 +385,10 @@ event_seen client server path number payload (inr may) = inr may
 
 write_answers : (client : Client) (server : ℕ) (mode : Mode) (path : Path) (number : Option ℕ) (payload : List ℕ)
     → (write_outcome client server mode path number payload).answer
-    ≡ says Changed (first_line (write_lines client server mode path number payload))
+    ≡ says Changed (refusal_of client server path (to_write mode number payload))
 write_answers client server mode path number payload =
     let values = new_values client path number payload in
-    write_says (first_line (write_lines client server mode path number payload)) client
+    write_says (refusal_of client server path (to_write mode number payload)) client
     (left (mode_at mode path) client path values (event_of path values))
 
 same_write : (client : Client) (stored : Stored) (server : ℕ) (mode : Mode) (path : Path) (number : Option ℕ)
@@ -400,8 +397,10 @@ same_write : (client : Client) (stored : Stored) (server : ℕ) (mode : Mode) (p
     ≡ (write_outcome client server mode path number payload).answer
 same_write client stored server mode path number payload h seen =
     let values = new_values client path number payload in
-    let turns = same_turns client stored server (mode_at mode path) path number payload (event_of path values) h
-    (event_seen client server path number payload seen) in
+    let event = event_of path values in
+    let refused = same_refused client stored server event h (event_seen client server path number payload seen) in
+    let much = same_exceeding client stored server (mode_at mode path) path payload
+    (format_at client.catalogue path number) h in
     let target = same_target client.catalogue stored client.store h.instances path in
     let rights = same_rights client stored server path h in
     write_answers (with_stored client stored) server mode path number payload
@@ -412,7 +411,8 @@ same_write client stored server mode path number payload h seen =
     ∷ (not (can_be_written client.catalogue path), MethodNotAllowed)
     ∷ (not (is_some (format_at client.catalogue path number)), UnsupportedContentFormat)
     ∷ (not (is_some values), BadRequest)
-    ∷ turns j)))
+    ∷ (refused j, MethodNotAllowed)
+    ∷ (unless_taken event (much j), InternalServerError) ∷ [])))
     ∙ sym (write_answers client server mode path number payload)
 
 -- ---- Create
@@ -468,9 +468,9 @@ create_by client path number exists_there may new crowded =
 create_answers : (client : Client) (server : ℕ) (path : Path) (number : Option ℕ) (payload : List ℕ)
     → (create_outcome client server path number payload).answer
     ≡ says_created (object_in path) (newborn client (object_in path) payload)
-    (first_line (create_lines client server path number payload))
+    (refusal_of client server path (to_create number payload))
 create_answers client server path number payload =
-    create_says (first_line (create_lines client server path number payload)) client server (object_in path)
+    create_says (refusal_of client server path (to_create number payload)) client server (object_in path)
     (newborn client (object_in path) payload)
 
 same_create : (client : Client) (stored : Stored) (server : ℕ) (path : Path) (number : Option ℕ) (payload : List ℕ)
@@ -500,13 +500,13 @@ same_delete : (client : Client) (stored : Stored) (server : ℕ) (path : Path) �
     → (delete_outcome (with_stored client stored) server path).answer ≡ (delete_outcome client server path).answer
 same_delete client stored server path h =
     let rights = same_rights client stored server path h in
-    delete_says (first_line (delete_lines (with_stored client stored) server path)) (with_stored client stored) path
+    delete_says (refusal_of (with_stored client stored) server path to_delete) (with_stored client stored) path
     ∙ (λ j. says Deleted (first_line (
     (object_in path == 0, Unauthorized)
     ∷ (not (there client stored server h path j), NotFound)
     ∷ (not (rights j).delete, Unauthorized)
     ∷ (is_fixed (object_in path), MethodNotAllowed) ∷ [])))
-    ∙ sym (delete_says (first_line (delete_lines client server path)) client path)
+    ∙ sym (delete_says (refusal_of client server path to_delete) client path)
 
 abbrev says_done : Path → Option Code → Answer
 says_done path None = done (act_of path)
@@ -532,7 +532,7 @@ same_execute : (client : Client) (stored : Stored) (server : ℕ) (path : Path) 
 same_execute client stored server path number payload h seen =
     let rights = same_rights client stored server path h in
     let time = same_time client stored server path h seen in
-    execute_says (first_line (execute_lines (with_stored client stored) server path number payload))
+    execute_says (refusal_of (with_stored client stored) server path (to_execute number payload))
     (with_stored client stored) path
     ∙ (λ j. says_done path (first_line (
     (object_in path == 0, Unauthorized)
@@ -542,7 +542,7 @@ same_execute client stored server path number payload h seen =
     ∷ (not (is_plain number), UnsupportedContentFormat)
     ∷ (not (are_arguments payload), BadRequest)
     ∷ (time j, MethodNotAllowed) ∷ [])))
-    ∙ sym (execute_says (first_line (execute_lines client server path number payload)) client path)
+    ∙ sym (execute_says (refusal_of client server path (to_execute number payload)) client path)
 
 abbrev says_changed : Option Numbers → Option Code → Answer
 says_changed given (Some code) = bare code
@@ -562,14 +562,14 @@ same_annotate : (client : Client) (stored : Stored) (server : ℕ) (path : Path)
 same_annotate client stored server path queries h =
     let rights = same_rights client stored server path h in
     let given = attributes_given client server path queries in
-    annotate_says (first_line (attribute_lines (with_stored client stored) server path given))
+    annotate_says (refusal_of (with_stored client stored) server path (to_write_attributes queries))
     (with_stored client stored) given
     ∙ (λ j. says_changed given (first_line (
     (object_in path == 0, Unauthorized)
     ∷ (not (there client stored server h path j), NotFound)
     ∷ (not (annotates_at (rights j) path), Unauthorized)
     ∷ (not (is_some given), BadRequest) ∷ [])))
-    ∙ sym (annotate_says (first_line (attribute_lines client server path given)) client given)
+    ∙ sym (annotate_says (refusal_of client server path (to_write_attributes queries)) client given)
 
 -- ---- every request
 

@@ -5,7 +5,6 @@ use Rattle.std.specs.Bool.{if◌then◌else◌}
 use Rattle.std.specs.Option.{is_some, option_and_then}
 use Rattle.std.proofs.lemmas.Bool.{ne_eqb}
 use Rattle.object_defs.specs.Catalogue.{definition_of}
-use Rattle.object_defs.specs.Lines.{first_line}
 use Rattle.object_defs.specs.Operations.{can_read}
 use Rattle.object_defs.specs.declared.definition.ResourceDef.{ResourceDef}
 use Rattle.object_defs.specs.declared.path.FullPath.{FullPath}
@@ -13,7 +12,6 @@ use Rattle.object_defs.specs.declared.path.Path.{Path}
 use Rattle.object_defs.specs.declared.path.Path.TheVariants.{Instance, Resource}
 use Rattle.object_defs.specs.declared.path.ResourcePath.{ResourcePath}
 use Rattle.instance_store.specs.Stored.{Stored, lies_in, resource_path, value_at}
-use Rattle.device_firmware.specs.declared.event.FirmwareEvent.{FirmwareEvent}
 use Rattle.lwm2m_payloads.specs.Changes.{instance_written, with_given}
 use Rattle.lwm2m_payloads.specs.Given.{instance_given, resource_given}
 use Rattle.lwm2m_payloads.specs.Written.{GivenOnce, value_behind, value_with}
@@ -27,28 +25,24 @@ use Rattle.device_requests.specs.declared.answer.Code.{Code}
 use Rattle.device_requests.specs.declared.answer.Code.TheVariants.{Changed}
 use Rattle.device_requests.specs.Client.{Client, with_stored}
 use Rattle.device_requests.specs.Laws.{is_refusal}
+use Rattle.device_requests.specs.Outcomes.{write_outcome}
 use Rattle.device_requests.specs.Read.{format_at}
+use Rattle.device_requests.specs.Refusals.{refusal_of, refusals_of, to_write}
 use Rattle.device_requests.specs.Targets.{defined, place_of, resource_place}
-use Rattle.device_requests.specs.Write.{event_of, given_to_resource, left, mode_at, new_values, turn_lines}
+use Rattle.device_requests.specs.Write.{event_of, given_to_resource, left, mode_at, new_values}
 use Rattle.device_requests.specs.Write.{values_given}
-use Rattle.device_requests.specs.Write.{write_lines, write_outcome, write_unless}
+use Rattle.device_requests.specs.Write.{write_unless}
 use Rattle.request_laws.specs.Writes.{InstancesAreWritten, ResourcesAreWritten}
-use Rattle.request_laws.proofs.Asking.{AllRefuse, chosen, fails, passes, there}
+use Rattle.request_laws.proofs.Asking.{chosen, fails, passes, there}
 
-turns_refuse : (client : Client) (mode : Mode) (path : Path) (number : Option ℕ) (payload : List ℕ)
-    (event : Option FirmwareEvent)
-    → AllRefuse (turn_lines client (mode_at mode path) path (new_values client path number payload) event)
-turns_refuse client mode path number payload None = (refl, tt)
-turns_refuse client mode path number payload (Some event) = (refl, tt)
-
--- no line of a Write that is answered Changed holds
+-- no rule refuses a Write that is answered Changed
 pub unrefused : (client : Client) (server : ℕ) (mode : Mode) (path : Path) (number : Option ℕ) (payload : List ℕ)
     → (write_outcome client server mode path number payload).answer.code ≡ Changed
-    → first_line (write_lines client server mode path number payload) ≡ None
+    → refusal_of client server path (to_write mode number payload) ≡ None
 unrefused client server mode path number payload h =
     let event = event_of path (new_values client path number payload) in
-    passes (write_lines client server mode path number payload)
-    (refl, (refl, (refl, (refl, (refl, (refl, turns_refuse client mode path number payload event))))))
+    passes (refusals_of client server path (to_write mode number payload))
+    (refl, (refl, (refl, (refl, (refl, (refl, (refl, (refl, tt))))))))
     (λ (code : Option Code). write_unless code client
     (left (mode_at mode path) client path (new_values client path number payload) event))
     (λ c. refl) (ap is_refusal h)
@@ -73,7 +67,7 @@ pub comes : (client : Client) (server : ℕ) (mode : Mode) (path : Path) (number
     → Comes client server mode path number payload
 comes client server mode path number payload h =
     let no_line = unrefused client server mode path number payload h in
-    let all = fails (write_lines client server mode path number payload) no_line in
+    let all = fails (refusals_of client server path (to_write mode number payload)) no_line in
     let f = there (format_at client.catalogue path number) all.1.1.1.1.0 in
     record {
       format = f.0;

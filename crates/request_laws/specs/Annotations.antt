@@ -9,7 +9,8 @@ use Rattle.notifier.specs.Attributes.{assigned, key_of, rank}
 use Rattle.notifier.specs.Query.{changes_of}
 use Rattle.device_requests.specs.declared.answer.Code.TheVariants.{Changed}
 use Rattle.device_requests.specs.Client.{Client}
-use Rattle.device_requests.specs.WriteAttributes.{attributes_outcome, level_at}
+use Rattle.device_requests.specs.Outcomes.{attributes_outcome}
+use Rattle.device_requests.specs.WriteAttributes.{level_at}
 
 -- the number of an attribute after changes: that of the last change of its name, which may unset it
 abbrev pub changed_by : List Change → Name → Option ℤ → Option ℤ

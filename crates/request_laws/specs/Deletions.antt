@@ -9,7 +9,7 @@ use Rattle.notifier.specs.declared.attribute.AttributeKey.{AttributeKey}
 use Rattle.device_instances.specs.Deletions.{instance_in, goes_with}
 use Rattle.device_requests.specs.declared.answer.Code.TheVariants.{Deleted}
 use Rattle.device_requests.specs.Client.{Client}
-use Rattle.device_requests.specs.Delete.{delete_outcome}
+use Rattle.device_requests.specs.Outcomes.{delete_outcome}
 use Rattle.device_requests.specs.Targets.{place_of}
 
 -- an attribute goes that is set at or below an instance that goes: the deleted one, or one of Access Control that

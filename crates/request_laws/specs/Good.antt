@@ -6,30 +6,33 @@ use Rattle.object_defs.specs.declared.path.Path.{Path}
 use Rattle.device_requests.specs.declared.answer.Code.TheVariants.{InternalServerError}
 use Rattle.device_requests.specs.declared.operation.Operation.{Operation}
 use Rattle.device_requests.specs.Client.{Client}
-use Rattle.device_requests.specs.Order.{Asks, done_code, is_invalid, is_out_of_turn, is_too_much, lacks_format}
-use Rattle.device_requests.specs.Order.{lacks_operation, lacks_right, lacks_target}
-use Rattle.device_requests.specs.Request.{outcome_of}
+use Rattle.device_requests.specs.Order.{Asks}
+use Rattle.device_requests.specs.Refusals.{Purpose, done_code, is_invalid, is_out_of_turn, is_too_much, lacks_format}
+use Rattle.device_requests.specs.Refusals.{lacks_operation, lacks_right, lacks_target}
+use Rattle.device_requests.specs.Request.{outcome_of, purpose_of}
 
 -- none of the rules before the limits refuses the operation
-pub record IsGood (client : Client) (server : ℕ) (m : Message) (path : Path) (operation : Operation) : Type 0 where
+pub record IsGood (client : Client) (server : ℕ) (path : Path) (purpose : Purpose) : Type 0 where
   pub object : object_in path ≢ 0
-  pub target : lacks_target client path operation ≡ false
-  pub right : lacks_right client server path operation ≡ false
-  pub served : lacks_operation client.catalogue path operation ≡ false
-  pub format : lacks_format client.catalogue m path operation ≡ false
-  pub payload : is_invalid client server m path operation ≡ false
-  pub state : is_out_of_turn client m path operation ≡ false
+  pub target : lacks_target client path purpose ≡ false
+  pub right : lacks_right client server path purpose ≡ false
+  pub served : lacks_operation client.catalogue path purpose ≡ false
+  pub format : lacks_format client.catalogue path purpose ≡ false
+  pub payload : is_invalid client server path purpose ≡ false
+  pub state : is_out_of_turn client path purpose ≡ false
 
 -- a request is done exactly where no rule refuses it
 abbrev pub GoodIsDone : Type 0
 GoodIsDone =
     (client : Client) (server : ℕ) (m : Message) (path : Path) (operation : Operation) → Asks m path operation
-    → ((outcome_of client server m).answer.code ≡ done_code operation)
-    ↔ (IsGood client server m path operation × (is_too_much client server m path operation ≡ false))
+    → let purpose = purpose_of m operation in
+    ((outcome_of client server m).answer.code ≡ done_code purpose)
+    ↔ (IsGood client server path purpose × (is_too_much client server path purpose ≡ false))
 
 -- 5.00 is the answer exactly where no other rule refuses, and the limits do
 abbrev pub LimitsComeLast : Type 0
 LimitsComeLast =
     (client : Client) (server : ℕ) (m : Message) (path : Path) (operation : Operation) → Asks m path operation
-    → ((outcome_of client server m).answer.code ≡ InternalServerError)
-    ↔ (IsGood client server m path operation × (is_too_much client server m path operation ≡ true))
+    → let purpose = purpose_of m operation in
+    ((outcome_of client server m).answer.code ≡ InternalServerError)
+    ↔ (IsGood client server path purpose × (is_too_much client server path purpose ≡ true))

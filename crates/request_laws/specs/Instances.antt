@@ -23,9 +23,9 @@ use Rattle.device_requests.specs.declared.answer.Code.TheVariants.{Changed}
 use Rattle.device_requests.specs.Access.{may_read}
 use Rattle.device_requests.specs.Client.{Client}
 use Rattle.device_requests.specs.Laws.{IsAmong}
-use Rattle.device_requests.specs.Read.{content_in, read_answer}
+use Rattle.device_requests.specs.Outcomes.{read_answer, write_outcome}
+use Rattle.device_requests.specs.Read.{content_in}
 use Rattle.device_requests.specs.Targets.{defined, is_readable, resource_place}
-use Rattle.device_requests.specs.Write.{write_outcome}
 use Rattle.request_laws.specs.Multiples.{HasPart, IsPartThen, IsReadInParts}
 
 -- the resource of this number is given this

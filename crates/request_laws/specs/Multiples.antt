@@ -30,9 +30,9 @@ use Rattle.device_requests.specs.Answer.{bare}
 use Rattle.device_requests.specs.Client.{Client}
 use Rattle.device_requests.specs.Create.{is_tlv}
 use Rattle.device_requests.specs.Laws.{IsAmong}
-use Rattle.device_requests.specs.Read.{content_in, format_at, read_answer}
+use Rattle.device_requests.specs.Outcomes.{read_answer, write_outcome}
+use Rattle.device_requests.specs.Read.{content_in, format_at}
 use Rattle.device_requests.specs.Targets.{place_of, resource_place}
-use Rattle.device_requests.specs.Write.{write_outcome}
 
 -- a resource holds these parts with these values, and no other part
 abbrev pub HoldsParts : Stored → ResourcePath → PartList → Type 0

@@ -14,8 +14,8 @@ use Rattle.lwm2m_payloads.specs.declared.given.Mode.{Mode}
 use Rattle.device_requests.specs.declared.answer.Code.TheVariants.{Changed}
 use Rattle.device_requests.specs.Access.{may_read}
 use Rattle.device_requests.specs.Client.{Client}
-use Rattle.device_requests.specs.Read.{content_in, format_at, read_answer}
-use Rattle.device_requests.specs.Write.{write_outcome}
+use Rattle.device_requests.specs.Outcomes.{read_answer, write_outcome}
+use Rattle.device_requests.specs.Read.{content_in, format_at}
 
 -- the payload gives this value to the part, and a Read of it then answers the value in each format that is served, to
 -- each server that may read it

@@ -11,7 +11,7 @@ use Rattle.device_requests.specs.Access.{reads}
 use Rattle.device_requests.specs.Client.{Client, with_stored}
 use Rattle.device_requests.specs.Execute.{is_resource}
 use Rattle.device_requests.specs.Order.{Asks}
-use Rattle.device_requests.specs.Read.{read_answer}
+use Rattle.device_requests.specs.Outcomes.{read_answer}
 use Rattle.device_requests.specs.Request.{outcome_of}
 
 -- a store differs from that of a client only in values of instances that a server may not read: there are the same

@@ -13,9 +13,10 @@ use Rattle.device_requests.specs.declared.operation.Operation.{Operation}
 use Rattle.device_requests.specs.declared.operation.Operation.TheVariants.{Execute, WritePartial, WriteReplace}
 use Rattle.device_requests.specs.Client.{Client}
 use Rattle.device_requests.specs.Laws.{IsAmong}
-use Rattle.device_requests.specs.Order.{Asks, format_refusal, given_by, is_invalid, lacks_format, lacks_operation}
-use Rattle.device_requests.specs.Order.{lacks_right, lacks_target}
-use Rattle.device_requests.specs.Request.{outcome_of}
+use Rattle.device_requests.specs.Order.{Asks, given_by}
+use Rattle.device_requests.specs.Refusals.{Purpose, format_refusal, is_invalid, lacks_format, lacks_operation}
+use Rattle.device_requests.specs.Refusals.{lacks_right, lacks_target}
+use Rattle.device_requests.specs.Request.{outcome_of, purpose_of}
 use Rattle.device_requests.specs.Write.{event_of}
 
 -- a Write gives the Package or the Package URI, or an Execute asks for the update, and the table of the firmware has no
@@ -29,20 +30,19 @@ pub data IsUntimely (client : Client) (m : Message) (path : Path) : Operation �
       → IsUntimely client m path Execute
 
 -- no rule before that of the firmware refuses the operation
-pub record ReachesFirmware (client : Client) (server : ℕ) (m : Message) (path : Path) (operation : Operation)
-    : Type 0 where
+pub record ReachesFirmware (client : Client) (server : ℕ) (path : Path) (purpose : Purpose) : Type 0 where
   pub object : object_in path ≢ 0
-  pub target : lacks_target client path operation ≡ false
-  pub right : lacks_right client server path operation ≡ false
-  pub served : lacks_operation client.catalogue path operation ≡ false
-  pub format : lacks_format client.catalogue m path operation ≡ false
-  pub payload : is_invalid client server m path operation ≡ false
+  pub target : lacks_target client path purpose ≡ false
+  pub right : lacks_right client server path purpose ≡ false
+  pub served : lacks_operation client.catalogue path purpose ≡ false
+  pub format : lacks_format client.catalogue path purpose ≡ false
+  pub payload : is_invalid client server path purpose ≡ false
 
 -- then it is 4.05, whatever would be stored
 abbrev pub StatesDecide : Type 0
 StatesDecide =
     (client : Client) (server : ℕ) (m : Message) (path : Path) (operation : Operation) → Asks m path operation
-    → IsUntimely client m path operation → ReachesFirmware client server m path operation
+    → IsUntimely client m path operation → ReachesFirmware client server path (purpose_of m operation)
     → (outcome_of client server m).answer.code ≡ MethodNotAllowed
 
 -- a request that comes at the wrong time is never done, and never 5.00
@@ -51,4 +51,4 @@ StatesPrecedeLimits =
     (client : Client) (server : ℕ) (m : Message) (path : Path) (operation : Operation) → Asks m path operation
     → IsUntimely client m path operation
     → IsAmong (outcome_of client server m).answer.code
-    (Unauthorized ∷ NotFound ∷ MethodNotAllowed ∷ format_refusal operation ∷ BadRequest ∷ [])
+    (Unauthorized ∷ NotFound ∷ MethodNotAllowed ∷ format_refusal (purpose_of m operation) ∷ BadRequest ∷ [])

@@ -17,9 +17,9 @@ use Rattle.lwm2m_payloads.specs.declared.given.Given.TheVariants.{Parts}
 use Rattle.lwm2m_payloads.specs.declared.given.Mode.{Mode}
 use Rattle.device_requests.specs.declared.answer.Code.TheVariants.{Changed}
 use Rattle.device_requests.specs.Client.{Client}
+use Rattle.device_requests.specs.Outcomes.{write_outcome}
 use Rattle.device_requests.specs.Read.{format_at}
 use Rattle.device_requests.specs.Targets.{defined, resource_place}
-use Rattle.device_requests.specs.Write.{write_outcome}
 
 -- the payload gives values to resources of the instance; in it there is then what is given and kept, nothing where
 -- Replace takes it away, else what was there; all other values are as they were

@@ -1,8 +1,8 @@
 use Rattle.std.proofs.Common.{IfOk, sym, subst, ◌∙◌}
 use Rattle.lwm2m_payloads.specs.declared.given.Mode.TheVariants.{Replace, Update}
 use Rattle.device_requests.specs.Answer.{Leaves}
+use Rattle.device_requests.specs.Outcomes.{write_outcome}
 use Rattle.device_requests.specs.Request.{outcome_by}
-use Rattle.device_requests.specs.Write.{write_outcome}
 use Rattle.device_requests.proofs.client.Client.perform.Goals as goal
 
 pub returns-in-WriteReplace-clause-outcome : goal.returns-in-WriteReplace-clause-outcome

@@ -1,0 +1,146 @@
+-- The rules that refuse an operation, as one table for all operations (OMA LwM2M 1.1 Core and Transport): for each rule
+-- when it refuses which operation, by the kind of path, the right and the kind of resource; then the rules in their
+-- order. The outcome of every operation is defined by it (`Outcomes`). The numbers are those of the rules in
+-- docs/device/requests.md.
+use Rattle.std.specs.Prelude.{ℕ, ◌==◌, nat_lt, Bool, true, false, not, List, [], ◌∷◌, ◌++◌, length, Option, None, Some}
+use Rattle.std.specs.Prelude.{is_some}
+use Rattle.object_defs.specs.Numbers.{security_object}
+use Rattle.object_defs.specs.Lines.{first_line}
+use Rattle.object_defs.specs.Path.{object_in}
+use Rattle.object_defs.specs.declared.definition.ObjectDef.{ObjectDef}
+use Rattle.object_defs.specs.declared.path.Path.{Path}
+use Rattle.instance_store.specs.Stored.{Stored}
+use Rattle.device_firmware.specs.Firmware.{firmware_after}
+use Rattle.device_firmware.specs.declared.event.FirmwareEvent.{FirmwareEvent}
+use Rattle.lwm2m_payloads.specs.Scanning.{are_arguments}
+use Rattle.lwm2m_payloads.specs.declared.given.Mode.{Mode}
+use Rattle.device_requests.specs.declared.answer.Code.{Code}
+use Rattle.device_requests.specs.declared.answer.Code.TheVariants.{Created, Deleted, Changed, Content, BadRequest}
+use Rattle.device_requests.specs.declared.answer.Code.TheVariants.{Unauthorized, NotFound, MethodNotAllowed}
+use Rattle.device_requests.specs.declared.answer.Code.TheVariants.{NotAcceptable, UnsupportedContentFormat}
+use Rattle.device_requests.specs.declared.answer.Code.TheVariants.{InternalServerError}
+use Rattle.device_requests.specs.Access.{may_read, rights_on}
+use Rattle.device_requests.specs.Client.{Client}
+use Rattle.device_requests.specs.Create.{is_tlv, lacks_room, newborn}
+use Rattle.device_requests.specs.Discover.{discover_payload}
+use Rattle.device_requests.specs.Execute.{is_executable, is_plain, is_untimely}
+use Rattle.device_requests.specs.Read.{can_be_read, format_at, read_payload}
+use Rattle.device_requests.specs.Targets.{definition_at, exists, is_fixed}
+use Rattle.device_requests.specs.Write.{can_be_written, event_of, exceeds, is_target, mode_at, new_values}
+use Rattle.device_requests.specs.WriteAttributes.{attributes_given, may_annotate}
+
+-- what a request is for, with what it says beside its path: the format that Accept, or Content-Format, names, its
+-- queries and its payload
+pub data Purpose : Type 0 where
+  to_read : (accept : Option ℕ) → Purpose
+  to_discover : Purpose
+  to_write : (mode : Mode) (format : Option ℕ) (payload : List ℕ) → Purpose
+  to_write_attributes : (queries : List (List ℕ)) → Purpose
+  to_create : (format : Option ℕ) (payload : List ℕ) → Purpose
+  to_execute : (format : Option ℕ) (payload : List ℕ) → Purpose
+  to_delete : Purpose
+
+-- 7: the target is not there; a Write may give a resource its first value
+abbrev pub lacks_target : Client → Path → Purpose → Bool
+lacks_target client path (to_write mode format payload) = not (is_target client.catalogue client.store path)
+lacks_target client path purpose = not (exists client.catalogue client.store path)
+
+-- 8: the server has no right to the operation; Discover asks for none
+abbrev pub lacks_right : Client → ℕ → Path → Purpose → Bool
+lacks_right client server path (to_read accept) = not (may_read client server path)
+lacks_right client server path to_discover = false
+lacks_right client server path (to_write mode format payload) = not (rights_on client server path).write
+lacks_right client server path (to_write_attributes queries) = not (may_annotate client server path)
+lacks_right client server path (to_create format payload) = not (rights_on client server path).create
+lacks_right client server path (to_execute format payload) = not (rights_on client server path).execute
+lacks_right client server path to_delete = not (rights_on client server path).delete
+
+-- 9: the resource, or the object, does not have the operation, whoever asks; all have Discover and Write-Attributes
+abbrev pub lacks_operation : List ObjectDef → Path → Purpose → Bool
+lacks_operation catalogue path (to_read accept) = not (can_be_read catalogue path)
+lacks_operation catalogue path to_discover = false
+lacks_operation catalogue path (to_write mode format payload) = not (can_be_written catalogue path)
+lacks_operation catalogue path (to_write_attributes queries) = false
+lacks_operation catalogue path (to_create format payload) = is_fixed (object_in path)
+lacks_operation catalogue path (to_execute format payload) = not (is_executable (definition_at catalogue path))
+lacks_operation catalogue path to_delete = is_fixed (object_in path)
+
+-- 10: the format that Accept names, or Content-Format, is not served there
+abbrev pub lacks_format : List ObjectDef → Path → Purpose → Bool
+lacks_format catalogue path (to_read accept) = not (is_some (format_at catalogue path accept))
+lacks_format catalogue path (to_write mode format payload) = not (is_some (format_at catalogue path format))
+lacks_format catalogue path (to_create format payload) = not (is_tlv format)
+lacks_format catalogue path (to_execute format payload) = not (is_plain format)
+lacks_format catalogue path purpose = false
+
+-- Accept names what is read, Content-Format what is given
+abbrev pub format_refusal : Purpose → Code
+format_refusal (to_read accept) = NotAcceptable
+format_refusal purpose = UnsupportedContentFormat
+
+-- 11: the payload, the queries or the arguments are not valid there
+abbrev pub is_invalid : Client → ℕ → Path → Purpose → Bool
+is_invalid client server path (to_write mode format payload) = not (is_some (new_values client path format payload))
+is_invalid client server path (to_write_attributes queries) =
+    not (is_some (attributes_given client server path queries))
+is_invalid client server path (to_create format payload) = not (is_some (newborn client (object_in path) payload))
+is_invalid client server path (to_execute format payload) = not (are_arguments payload)
+is_invalid client server path purpose = false
+
+-- the firmware does not take the event now, where there is one
+abbrev pub is_refused_now : Stored → Option FirmwareEvent → Bool
+is_refused_now stored None = false
+is_refused_now stored (Some event) = not (is_some (firmware_after stored event))
+
+-- 12: the firmware does not take the Package, the Package URI or the Update now
+abbrev pub is_out_of_turn : Client → Path → Purpose → Bool
+is_out_of_turn client path (to_write mode format payload) =
+    is_refused_now client.store (event_of path (new_values client path format payload))
+is_out_of_turn client path (to_execute format payload) = is_untimely client.store path
+is_out_of_turn client path purpose = false
+
+-- what goes to the firmware is not stored
+abbrev pub unless_taken : Option FirmwareEvent → Bool → Bool
+unless_taken None much = much
+unless_taken (Some event) much = false
+
+-- 12: more would be shown, or stored, than may be
+abbrev pub is_too_much : Client → ℕ → Path → Purpose → Bool
+is_too_much client server path (to_read accept) = not (is_some (read_payload client server path accept))
+is_too_much client server path to_discover = nat_lt 1024 (length (discover_payload client server path))
+is_too_much client server path (to_write mode format payload) =
+    unless_taken (event_of path (new_values client path format payload))
+    (exceeds (mode_at mode path) client.catalogue client.store path (new_values client path format payload))
+is_too_much client server path (to_create format payload) =
+    lacks_room client (object_in path) (newborn client (object_in path) payload)
+is_too_much client server path purpose = false
+
+-- the table: the rules that refuse an operation at a path, in their order. Rule 6 is that of the Security object
+abbrev pub refusals_of : Client → ℕ → Path → Purpose → List (Bool × Code)
+refusals_of client server path purpose =
+    (object_in path == security_object, Unauthorized)
+    ∷ (lacks_target client path purpose, NotFound)
+    ∷ (lacks_right client server path purpose, Unauthorized)
+    ∷ (lacks_operation client.catalogue path purpose, MethodNotAllowed)
+    ∷ (lacks_format client.catalogue path purpose, format_refusal purpose)
+    ∷ (is_invalid client server path purpose, BadRequest)
+    ∷ (is_out_of_turn client path purpose, MethodNotAllowed)
+    ∷ (is_too_much client server path purpose, InternalServerError)
+    ∷ []
+
+-- the code of the first rule that refuses it, where one does
+abbrev pub refusal_of : Client → ℕ → Path → Purpose → Option Code
+refusal_of client server path purpose = first_line (refusals_of client server path purpose)
+
+-- the code of an operation that is done
+abbrev pub done_code : Purpose → Code
+done_code (to_read accept) = Content
+done_code to_discover = Content
+done_code (to_create format payload) = Created
+done_code to_delete = Deleted
+done_code purpose = Changed
+
+-- the rules with one more at the end, by which what is not refused is done
+abbrev pub rules_of : Client → ℕ → Path → Purpose → List (Bool × Code)
+rules_of client server path purpose =
+    refusals_of client server path purpose ++ (true, done_code purpose) ∷ []
