@@ -3,6 +3,7 @@ mod Causes
 mod Confirmed
 mod Each
 mod Notify
+mod Quiet
 mod Received
 mod Repeated
 mod Replied

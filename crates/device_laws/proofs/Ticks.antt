@@ -1,9 +1,12 @@
 -- What holds of seconds holds of ticks.
-use Rattle.std.proofs.Common.{zero, suc, List, [], ◌∷◌, map, refl, ap, arith}
+use Rattle.std.proofs.Common.{◌≡◌, ℕ, zero, suc, List, [], ◌∷◌, map, refl, ap, arith}
 use Rattle.std.specs.List.{Contains}
+use Rattle.device_notifications.specs.Second.{quiet as still}
 use Rattle.device_notifications.specs.declared.datagram.Datagram.{Datagram}
 use Rattle.device_machine.specs.Reactions.{send_of, sweep_in}
-use Rattle.device_laws.specs.Ticking.{SettledTicksAreQuiet, TicksNotifyForCause, TicksSendAgain, TicksSendCaused}
+use Rattle.device_machine.specs.State.{Machine}
+use Rattle.device_laws.specs.Ticking.{IsQuiet, SettledTicksAreQuiet, TicksNotifyForCause, TicksSendAgain}
+use Rattle.device_laws.specs.Ticking.{TicksSendCaused}
 use Rattle.device_laws.proofs.Causes.{later_of, seconds_for_cause}
 use Rattle.device_laws.proofs.Sent.{seconds_send_again, seconds_send_caused}
 use Rattle.device_laws.proofs.Settled.{settled_are_quiet}
@@ -35,14 +38,18 @@ send_again f n k o within there is =
     seconds_send_again f.kept.client f.kept.clock n k f.kept.next_id f.kept.observations o within there is in
     (again.0, among (sweep_in f.kept n).sent again.0 again.1, again.2)
 
-pub quiet : SettledTicksAreQuiet
-quiet f n h =
-    let still = settled_are_quiet f.kept.client f.kept.clock n f.kept.next_id f.kept.observations h in
+-- a tick is quiet whose seconds send nothing and change nothing
+pub by_seconds : (f : Machine) (n : ℕ) → sweep_in f.kept n ≡ still f.kept.next_id f.kept.observations → IsQuiet f n
+by_seconds f n same =
     record {
-      sent = ap (λ t. map send_of t.sent) still;
+      sent = ap (λ t. map send_of t.sent) same;
       client = refl;
-      observations = ap (λ t. t.left) still;
+      observations = ap (λ t. t.left) same;
       clock = refl;
-      next_id = ap (λ t. t.next_id) still;
+      next_id = ap (λ t. t.next_id) same;
       recorded = refl;
     }
+
+pub quiet : SettledTicksAreQuiet
+quiet f n h =
+    by_seconds f n (settled_are_quiet f.kept.client f.kept.clock n f.kept.next_id f.kept.observations h)

@@ -1,10 +1,12 @@
 -- Why a device notifies in a tick, and when it does not (OMA LwM2M 1.1 Core, attributes; RFC 7641 section 4).
-use Rattle.std.specs.Prelude.{◌≡◌, ℕ, ◌+◌, ◌<◌, List, [], map}
+use Rattle.std.specs.Prelude.{◌≡◌, ◌≢◌, ℕ, ◌+◌, ◌-◌, ◌^◌, ◌<◌, ◌↔◌, ◌⊎◌, List, [], length, map}
 use Rattle.std.specs.List.{AllByRecursion, Contains}
+use Rattle.notifier.specs.Due.{IsFirstDue, IsNeverDue}
 use Rattle.notifier.specs.declared.observation.Observation.{Observation}
 use Rattle.notifier.specs.Resending.{turn_at}
 use Rattle.notifier.specs.declared.turn.Turn.TheVariants.{Resend}
 use Rattle.device_notifications.specs.Laws.{Notifies, Repeats}
+use Rattle.device_notifications.specs.Pendings.{AreAtRest, pendings_of}
 use Rattle.device_notifications.specs.declared.datagram.Datagram.{Datagram}
 use Rattle.device_machine.specs.declared.event.Event.TheVariants.{Tick}
 use Rattle.device_machine.specs.Reactions.{flat_after, outputs_of, send_of}
@@ -55,3 +57,32 @@ pub record IsQuiet (f : Machine) (n : ℕ) : Type 0 where
 abbrev pub SettledTicksAreQuiet : Type 0
 SettledTicksAreQuiet =
     (f : Machine) (n : ℕ) → AllByRecursion (IsSettled f.kept.client) f.kept.observations → IsQuiet f n
+
+-- a tick in whose seconds nothing is due, by the present answers
+abbrev pub TicksAtRestAreQuiet : Type 0
+TicksAtRestAreQuiet =
+    (f : Machine) (n : ℕ)
+    → AreAtRest f.kept.observations (pendings_of f.kept.client f.kept.observations) f.kept.clock (f.kept.clock + n)
+    → IsQuiet f n
+
+-- ticks that end before this second, which is after the clock and below 2^64, are quiet, and in one that ends with it
+-- something is sent or an observation is removed
+pub record EndsQuiet (f : Machine) (first : ℕ) : Type 0 where
+  pub later : f.kept.clock < first
+  pub fits : first < 2 ^ 64
+  pub quiet_before : (n : ℕ) → f.kept.clock + n < first → IsQuiet f n
+  pub acts : (outputs_of f (Tick (first - f.kept.clock)) ≢ [])
+      ⊎ (length (flat_after f (Tick (first - f.kept.clock))).kept.observations < length f.kept.observations)
+
+-- that is the second which is found by the present answers
+abbrev pub QuietEndsWhenDue : Type 0
+QuietEndsWhenDue =
+    (f : Machine) (first : ℕ)
+    → IsFirstDue f.kept.clock f.kept.observations (pendings_of f.kept.client f.kept.observations) first
+    ↔ EndsQuiet f first
+
+-- and where none is found, all ticks are quiet that end below 2^64
+abbrev pub QuietNeverEnds : Type 0
+QuietNeverEnds =
+    (f : Machine) → IsNeverDue f.kept.clock f.kept.observations (pendings_of f.kept.client f.kept.observations)
+    ↔ ((n : ℕ) → f.kept.clock + n < 2 ^ 64 → IsQuiet f n)

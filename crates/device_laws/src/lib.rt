@@ -16,4 +16,6 @@ pub use notifying::{notifies_for_cause, sends_again, settled_are_quiet};
 pub use receiving::reactions_are_said;
 pub use sending::{changes_send_nothing, only_the_asker_is_answered, strangers_are_ignored};
 pub use serving::{refusals_are_bare, requests_are_served};
-pub use ticking::{settled_ticks_are_quiet, ticks_notify_for_cause};
+pub use ticking::{
+    quiet_ends_when_due, settled_ticks_are_quiet, ticks_at_rest_are_quiet, ticks_notify_for_cause,
+};

@@ -1,7 +1,7 @@
 //! Why a device notifies in a tick, and when it doesn't.
 
-ghost use Rattle.device_laws.specs.Ticking.{SettledTicksAreQuiet, TicksNotifyForCause, TicksSendAgain};
-ghost use Rattle.device_laws.specs.Ticking.{TicksSendCaused};
+ghost use Rattle.device_laws.specs.Ticking.{QuietEndsWhenDue, QuietNeverEnds, SettledTicksAreQuiet};
+ghost use Rattle.device_laws.specs.Ticking.{TicksAtRestAreQuiet, TicksNotifyForCause, TicksSendAgain, TicksSendCaused};
 
 /// Each datagram of a tick notifies, in one of its seconds, an observation that is there then, for a
 /// cause; or it ends one; or it is the open notification of one once more. What is caused in one of the
@@ -17,4 +17,16 @@ pub fn ticks_notify_for_cause()
 /// last reports, sends nothing, and only sets the clock on.
 pub fn settled_ticks_are_quiet()
     ensures { SettledTicksAreQuiet }
+{}
+
+/// A tick in which nothing is due, by the present answers, sends nothing, and only sets the clock on.
+pub fn ticks_at_rest_are_quiet()
+    ensures { TicksAtRestAreQuiet }
+{}
+
+/// Ticks are quiet up to the first second in which something is due, by the present answers: in it something is sent,
+/// or an observation is removed. Where nothing ever is, they are quiet up to the last second below 2^64.
+pub fn quiet_ends_when_due()
+    ensures first { QuietEndsWhenDue }
+    ensures none { QuietNeverEnds }
 {}
