@@ -1,6 +1,6 @@
 -- The steps of a session, turn by turn.
-use Rattle.std.proofs.Common.{◌≡◌, ℕ, ◌+◌, ◌≤◌, List, [], ◌∷◌, ◌++◌, length, Option, None, Some, Result, Ok, Err}
-use Rattle.std.proofs.Common.{IfErr, OnOk, refl, sym, ap, ◌∙◌, append_assoc, append-nil, arith, inl, inr, length-append}
+use Rattle.std.proofs.Common.{◌≡◌, ℕ, ◌+◌, ◌≤◌, List, [], ◌∷◌, ◌++◌, Option, None, Some, Result, Ok, Err}
+use Rattle.std.proofs.Common.{IfErr, OnOk, sym, ap, ◌∙◌, append_assoc, append-nil, arith, inl, inr, length-append}
 use Rattle.std.specs.List.{flat_map}
 use Rattle.device_machine.specs.declared.event.Event.TheVariants.{Recv, Tick}
 use Rattle.scenario_image.specs.declared.step.Step.{Step}

@@ -3,3 +3,4 @@ pub mod Live
 pub mod Serving
 pub mod Memory
 pub mod Served
+pub mod Row

@@ -1,16 +1,33 @@
 //! What follows from the definitions, for their readers. The calls do nothing; their contracts are the laws.
 ghost use Rattle.std.specs.Prelude.{◌≡◌, ℕ, List, Option, Some, length, slice_get, true};
 ghost use Rattle.std.specs.List.{flat_map, AllByRecursion};
+ghost use Rattle.device_template.specs.Template.{Template};
 ghost use Rattle.device_machine.specs.declared.output.Output.{Output};
 ghost use Rattle.device_machine.specs.State.{Machine};
 ghost use Rattle.scenario_image.specs.declared.step.Step.{Step};
 ghost use Rattle.scenario_image.specs.Play.{outputs_in, PutsOut};
-ghost use Rattle.scenario_image.specs.Scenario.{is_in_range};
-ghost use Rattle.live_link.specs.Live.{packets_in, sent_by, IsLiveStep};
+ghost use Rattle.scenario_image.specs.Scenario.{is_in_range, one_row};
+ghost use Rattle.live_link.specs.declared.session.LiveSession.{LiveSession};
+ghost use Rattle.live_link.specs.Live.{packets_in, sent_by, IsLiveStep, IsSentAt};
+ghost use Rattle.live_link.specs.Row.{AreRowOutputs};
+ghost use Rattle.live_link.specs.Served.{IsServed};
+ghost use Rattle.live_link.specs.Wire.{Traffic};
 
-/// A session is the row of a scenario: where its steps are played back, as `play` does, they output the datagrams that
-/// the session output, and in this order; and all its steps are in the range of a scenario's.
+/// A session of a device of a class, as `serve_class` returns it, is a row. The scenario that `Scenario::single` makes
+/// of the class and the session's steps has one row, which has one list of outputs from its start; and the datagrams
+/// among these are those that the session sent, in order: all of them at `Turns`, `ReceiveFault` and `Spent`, all
+/// before the one that failed at `SendFault`, and a prefix at `Memory`.
+///
+/// `sent_by` is what steps output where they are played from any state, as `take_steps` does; and all steps of a
+/// session are in the range of a scenario's.
 pub fn sessions_are_rows()
+    ensures sent { (class : Template) (turns : ℕ) (session : LiveSession) (before after : Option Traffic)
+        (read_before read_after : Option (List ℕ)) → IsServed class turns session before after read_before read_after
+        → (all : List (List Output)) → AreRowOutputs (one_row class session.steps.items) 0 all
+        → IsSentAt session.end session.sent.items (flat_map packets_in all) }
+    ensures outputs { (class : Template) (steps : List Step) → (all : List (List Output))
+        × AreRowOutputs (one_row class steps) 0 all
+        × ((other : List (List Output)) → AreRowOutputs (one_row class steps) 0 other → other ≡ all) }
     ensures played { (f : Machine) (steps : List Step) (all : List (Option (List Output)))
         → length all ≡ length steps
         → ((k : ℕ) (o : Option (List Output)) → slice_get all k ≡ Some o → PutsOut f steps k (outputs_in o))

@@ -1,5 +1,11 @@
-use Rattle.live_link.proofs.Rows.{all_in_range, played_back}
+use Rattle.live_link.proofs.Rows.{all_in_range, played_back, row_has_outputs, row_sent}
 use Rattle.live_link.proofs.laws.sessions_are_rows.Goals as goal
+
+pub returns-clause-sent : goal.returns-clause-sent
+returns-clause-sent c = row_sent
+
+pub returns-clause-outputs : goal.returns-clause-outputs
+returns-clause-outputs c = row_has_outputs
 
 pub returns-clause-played : goal.returns-clause-played
 returns-clause-played c = played_back
