@@ -1,6 +1,6 @@
 //! The datagrams that a device sends.
 
-ghost use Rattle.std.specs.Prelude.{◌≡◌, ◌≤◌, ◌<◌, ◌∷◌, ◌++◌, [], true, is_some, length, IfOk, OnErr, OnOk};
+ghost use Rattle.std.specs.Prelude.{◌≡◌, ◌≤◌, ◌<◌, ◌∷◌, ◌++◌, [], true, is_some, length, option_map, IfOk, OnErr, OnOk};
 ghost use Rattle.coap_codec.specs.Message.{IsOptionList, spelling};
 ghost use Rattle.device_machine.specs.declared.output.Output.TheVariants.{Send};
 ghost use Rattle.device_machine.specs.Reactions.{IsShort, answer_options, location_options, reset, response, sent_to};
@@ -109,6 +109,19 @@ pub(crate) fn datagram(alloc: Global, message: &Message) -> Result<Bytes, AllocE
     ensures { IfOk result (λ b. b ≡ spelling message.now) }
 {
     Ok(Bytes::from_vec(encode(alloc, message)?))
+}
+
+/// The same, where there is a message.
+pub(crate) fn datagram_of(
+    alloc: Global,
+    message: Option<Message>,
+) -> Result<Option<Bytes>, AllocError>
+    ensures { IfOk result (λ d. d ≡ option_map spelling message) }
+{
+    match message {
+        None => Ok(None),
+        Some(message) => Ok(Some(datagram(alloc, &message)?)),
+    }
 }
 
 /// A datagram that is sent to a server, alone, or nothing.

@@ -14,7 +14,7 @@ use super::repeats::again;
 use crate::machine::Machine;
 use crate::output::Outputs;
 use crate::recorded::Recorded;
-use crate::reply::{datagram, reset, response, sent, sent_to};
+use crate::reply::{datagram_of, reset, response, sent, sent_to};
 use coap_codec::{CoapFault, Kind, Message, decode, header};
 use device_requests::{Act, Answer};
 use std::alloc::AllocError;
@@ -74,10 +74,7 @@ impl Machine {
     {
         let kind = message.kind();
         let mid = message.mid();
-        let reply = match reply {
-            None => None,
-            Some(reply) => Some(datagram(self.alloc, &reply)?),
-        };
+        let reply = datagram_of(self.alloc, reply)?;
         let is_answered = reply.is_some();
         let mut outputs = sent_to(self.alloc, server, &reply)?;
         outputs.act(act)?;
