@@ -14,12 +14,19 @@ use scenario_mnemonics::mnemonic_for;
 use scenario_statements::{Statement, line_of, recv_line, value_line};
 use std::alloc::{AllocError, Global};
 
+/// The words of a statement, which is not needed any more.
+fn statement_words(alloc: Global, statement: Statement) -> Result<String, AllocError>
+    ensures { IfOk result (λ t. string_bytes t ≡ line_of statement) }
+{
+    line_of(alloc, &statement)
+}
+
 /// The words of a datagram that comes from a server: the mnemonic that denotes it, else its bytes.
 pub(crate) fn datagram_words(alloc: Global, server: u16, bytes: &[u8]) -> Result<String, AllocError>
     ensures { IfOk result (λ t. string_bytes t ≡ line_of (of_datagram server bytes.now (mnemonic_of bytes.now))) }
 {
     if let Some(mnemonic) = mnemonic_for(alloc, bytes)? {
-        return line_of(alloc, &Statement::Request { server, mnemonic });
+        return statement_words(alloc, Statement::Request { server, mnemonic });
     }
     recv_line(alloc, server, bytes)
 }
@@ -32,15 +39,15 @@ fn words_of(alloc: Global, step: &Step) -> Result<String, AllocError>
             datagram_words(alloc, *server, bytes.as_slice())
         }
         Step::Event(Event::Put { path, value }) => value_line(alloc, "put", *path, value),
-        Step::Event(Event::Firmware(code)) => line_of(alloc, &Statement::Firmware(*code)),
-        Step::Event(Event::Tick(seconds)) => line_of(alloc, &Statement::Tick(*seconds)),
-        Step::Post(group) => line_of(alloc, &Statement::Post(*group)),
+        Step::Event(Event::Firmware(code)) => statement_words(alloc, Statement::Firmware(*code)),
+        Step::Event(Event::Tick(seconds)) => statement_words(alloc, Statement::Tick(*seconds)),
+        Step::Post(group) => statement_words(alloc, Statement::Post(*group)),
         Step::Need(group, count) => {
             let statement = Statement::Need {
                 group: *group,
                 count: *count,
             };
-            line_of(alloc, &statement)
+            statement_words(alloc, statement)
         }
     }
 }
