@@ -1,5 +1,5 @@
-use Rattle.std.specs.Prelude.{◌≡◌, ℕ, ◌+◌, ◌*◌, ◌/◌, ◌%◌, not, ◌==◌, ◌&&◌, ◌||◌, List, [], ◌∷◌, ◌++◌, length, drop}
-use Rattle.std.specs.Prelude.{slice_index, nat_lt, if◌then◌else◌, Option, None, Some, MatchOption}
+use Rattle.std.specs.Prelude.{◌≡◌, ℕ, ◌+◌, ◌*◌, ◌/◌, ◌%◌, Bool, not, ◌==◌, ◌&&◌, ◌||◌, List, [], ◌∷◌, ◌++◌, length}
+use Rattle.std.specs.Prelude.{drop, slice_index, nat_lt, if◌then◌else◌, Option, None, Some, MatchOption}
 use Rattle.coap_codec.specs.declared.option.Opt.{Opt}
 use Rattle.coap_codec.specs.declared.fault.CoapFault.{CoapFault}
 use Rattle.coap_codec.specs.declared.fault.CoapFault.TheVariants.{Short, Version, TokenLength, EmptyWithData, OptionCut}
@@ -72,3 +72,8 @@ HasFault bytes fault =
 abbrev pub HasEarlyFault : List ℕ → CoapFault → Type 0
 HasEarlyFault bytes fault =
     MatchOption (header_fault bytes) (place_fault 0 (drop (4 + token_length bytes) bytes) ≡ Some fault) (λ f. f ≡ fault)
+
+-- a header of version 1 and code 0.00 alone, without a token: an Empty message (RFC 7252 section 4.1)
+abbrev pub is_empty_message : List ℕ → Bool
+is_empty_message bytes =
+    length bytes == 4 && (slice_index bytes 0 / 64 == 1 && (token_length bytes == 0 && slice_index bytes 1 == 0))

@@ -1,9 +1,9 @@
 ghost use Rattle.std.specs.Prelude.{◌≡◌, ◌≢◌, ◌≤◌, ◌<◌, ◌+◌, ◌*◌, ◌++◌, ◌∷◌, [], length, drop, IfOk, IfErr, IfSome};
-ghost use Rattle.std.specs.Prelude.{IfNone, IsErrAnd, MatchResult, Some, None, Ok, Err};
+ghost use Rattle.std.specs.Prelude.{IfNone, IsErrAnd, IsOk, MatchResult, Some, None, Ok, Err, true};
 ghost use Rattle.coap_codec.specs.Message.{Message, MayFollow, IsOptionList, Spells, kind_number, two_bytes, nibble_of};
 ghost use Rattle.coap_codec.specs.Message.{extension_of, option_bytes, options_bytes, payload_bytes};
 ghost use Rattle.coap_codec.specs.Fault.{token_length, header_fault, width, amount, option_fault, place_fault};
-ghost use Rattle.coap_codec.specs.Fault.{BreaksOff, HasFault, HasEarlyFault};
+ghost use Rattle.coap_codec.specs.Fault.{BreaksOff, HasFault, HasEarlyFault, is_empty_message};
 ghost use Rattle.coap_codec.specs.Reading.{reading_of};
 
 use crate::front::kind_of;
@@ -58,6 +58,7 @@ fn start_of(bytes: &[u8]) -> Result<Start<'_>, CoapFault>
     ensures empty { IfOk result (λ s. s.code ≡ 0 → (s.token.now ≡ []) × (s.rest.now ≡ [])) }
     ensures range { IfOk result (λ s. (s.code < 256) × (s.mid < 65536)) }
     ensures fault { IfErr result (λ f. header_fault bytes.now ≡ Some f) }
+    ensures whole { is_empty_message bytes.now ≡ true → IsOk result }
 {
     let [first, code, high, low, rest @ ..] = bytes else {
         return Err(CoapFault::Short);
@@ -123,6 +124,7 @@ fn options_at(alloc: Global, bytes: &[u8]) -> Result<(Vec<Opt>, &[u8]), CoapFaul
     ensures parts { IfOk result (λ x. bytes.now ≡ options_bytes 0 x.0.items ++ payload_bytes x.1.now) }
     ensures fault { IfErr result (λ f. f ≢ CoapFault.Memory → BreaksOff 0 bytes.now f) }
     ensures early { (f : CoapFault) → place_fault 0 bytes.now ≡ Some f → result ≡ Err f }
+    ensures none { length bytes.now ≡ 0 → IsOk result }
 {
     let mut found = Vec::new(alloc);
     let mut number: u16 = 0;
@@ -149,8 +151,10 @@ pub fn decode(alloc: Global, bytes: &[u8]) -> Result<Message, CoapFault>
     ensures only { (m : Message) → Spells bytes.now m → MatchResult result (λ x. x ≡ m) (λ f. f ≡ CoapFault.Memory) }
     ensures fault { IfErr result (λ f. f ≢ CoapFault.Memory → HasFault bytes.now f) }
     ensures refused { (f : CoapFault) → HasFault bytes.now f → IsErrAnd result (λ g. g ≢ CoapFault.Memory → g ≡ f) }
-    // The faults of a header, and those right after the token, are found before memory is taken.
+    // The faults of a header, and those right after the token, are found before memory is taken; an Empty message takes
+    // none.
     ensures early { (f : CoapFault) → HasEarlyFault bytes.now f → result ≡ Err f }
+    ensures empty { is_empty_message bytes.now ≡ true → IsOk result }
     ensures reading { MatchResult result
         (λ m. reading_of bytes.now ≡ Ok m)
         (λ f. f ≢ CoapFault.Memory → reading_of bytes.now ≡ Err f) }
@@ -163,6 +167,7 @@ fn read(alloc: Global, bytes: &[u8]) -> Result<Message, CoapFault>
     ensures found { IfOk result (λ m. Spells bytes.now m) }
     ensures fault { IfErr result (λ f. f ≢ CoapFault.Memory → HasFault bytes.now f) }
     ensures early { (f : CoapFault) → HasEarlyFault bytes.now f → result ≡ Err f }
+    ensures empty { is_empty_message bytes.now ≡ true → IsOk result }
 {
     let start = start_of(bytes)?;
     let (options, payload) = options_at(alloc, start.rest)?;
