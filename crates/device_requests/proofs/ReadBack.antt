@@ -31,7 +31,7 @@ use Rattle.lwm2m_payloads.specs.Given.{given_by, given_if, lone_record, number_i
 use Rattle.lwm2m_payloads.specs.Given.{parts_given}
 use Rattle.lwm2m_payloads.specs.Nodes.{value_payload, within_limit}
 use Rattle.device_requests.specs.declared.write.NewValues.{NewValues}
-use Rattle.device_requests.specs.declared.write.NewValues.TheVariants.{One, Several}
+use Rattle.device_requests.specs.declared.write.NewValues.TheVariants.{One}
 use Rattle.device_requests.specs.declared.answer.Code.TheVariants.{Changed, Unauthorized, NotFound, MethodNotAllowed}
 use Rattle.device_requests.specs.declared.answer.Code.TheVariants.{NotAcceptable, UnsupportedContentFormat, BadRequest}
 use Rattle.device_requests.specs.declared.answer.Code.TheVariants.{InternalServerError}
@@ -242,8 +242,7 @@ behind client o i r d number payload stored defined alone readable object target
 -- a Write of another object is nothing to the firmware
 no_event : (o i r : ℕ) (values : Option NewValues) → (o == 5) ≡ false → event_of (Resource o i r) values ≡ None
 no_event o i r None h = refl
-no_event o i r (Some (One given)) h = rw h refl
-no_event o i r (Some (Several given)) h = refl
+no_event o i r (Some values) h = rw h refl
 
 -- a Write, with what it is to the firmware
 abbrev turned : Client → ℕ → ℕ → ℕ → ℕ → Option ℕ → List ℕ → Option FirmwareEvent → Outcome

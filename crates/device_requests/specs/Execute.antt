@@ -23,7 +23,7 @@ use Rattle.device_requests.specs.declared.answer.Act.TheVariants.{Reboot, Factor
 use Rattle.device_requests.specs.declared.answer.Code.{Code}
 use Rattle.device_requests.specs.Answer.{Outcome, answered, bare, done}
 use Rattle.device_requests.specs.Client.{Client, with_stored}
-use Rattle.device_requests.specs.Targets.{resource_place}
+use Rattle.device_requests.specs.Targets.{is_resource, resource_place}
 
 abbrev pub is_executable : Option ResourceDef → Bool
 is_executable None = false
@@ -37,13 +37,6 @@ is_plain (Some number) = number == format_number PlainText
 -- a payload passes the test of arguments exactly where it is arguments
 abbrev pub ArgumentsAreTested : Type 0
 ArgumentsAreTested = (payload : List ℕ) → (are_arguments payload ≡ true) ↔ AreArguments payload
-
--- a resource of an object
-abbrev pub is_resource : ℕ → ℕ → Path → Bool
-is_resource object resource (Object o) = false
-is_resource object resource (Instance o i) = false
-is_resource object resource (Resource o i r) = o == object && r == resource
-is_resource object resource (Part o i r n) = false
 
 -- Update of Firmware Update is taken in some states only
 abbrev pub is_untimely : Stored → Path → Bool

@@ -53,6 +53,13 @@ exists catalogue stored (Part o i r n) =
     has_instance stored (place_of o i)
     && (is_multiple (definition_of catalogue o r) && is_some (value_at stored (part_of (resource_place o i r) n)))
 
+-- a resource of an object
+abbrev pub is_resource : ℕ → ℕ → Path → Bool
+is_resource object resource (Object o) = false
+is_resource object resource (Instance o i) = false
+is_resource object resource (Resource o i r) = o == object && r == resource
+is_resource object resource (Part o i r n) = false
+
 -- servers create and delete no instances of Server, Access Control, Device and Firmware Update
 abbrev pub is_fixed : ℕ → Bool
 is_fixed object =

@@ -28,7 +28,7 @@ use Rattle.device_requests.specs.declared.answer.Code.TheVariants.{Changed}
 use Rattle.device_requests.specs.Answer.{Outcome, answered, bare}
 use Rattle.device_requests.specs.Read.{format_at}
 use Rattle.device_requests.specs.Client.{Client, with_stored}
-use Rattle.device_requests.specs.Targets.{defined, is_multiple, place_of, resource_place}
+use Rattle.device_requests.specs.Targets.{defined, is_multiple, is_resource, place_of, resource_place}
 
 -- for a Write a resource exists where it is defined, and any part where its resource is multiple; the instance must
 -- exist
@@ -116,29 +116,22 @@ abbrev pub written : Mode → List ObjectDef → Stored → Path → Option NewV
 written mode catalogue stored path None = stored
 written mode catalogue stored path (Some values) = values_written mode catalogue stored path values
 
--- what writing a Package or a Package URI is to the firmware
-abbrev pub package_in : Given → Option FirmwareEvent
-package_in (Single (Opaque bytes)) = Some (event_of_package bytes)
-package_in given = None
+-- what a Package is to the firmware, and what a Package URI is
+abbrev pub package_in : NewValues → Option FirmwareEvent
+package_in (One (Single (Opaque bytes))) = Some (event_of_package bytes)
+package_in values = None
 
-abbrev pub uri_in : Given → Option FirmwareEvent
-uri_in (Single (Text text)) = Some (event_of_uri text)
-uri_in given = None
+abbrev pub uri_in : NewValues → Option FirmwareEvent
+uri_in (One (Single (Text text))) = Some (event_of_uri text)
+uri_in values = None
 
--- the Package and the Package URI of Firmware Update
-abbrev pub event_at : ℕ → ℕ → Given → Option FirmwareEvent
-event_at o r given =
-    if o == firmware_update_object && r == update_package then package_in given
-    else if o == firmware_update_object && r == package_uri then uri_in given
-    else None
-
-abbrev pub event_in : Path → NewValues → Option FirmwareEvent
-event_in (Resource o i r) (One given) = event_at o r given
-event_in path values = None
-
+-- to write the Package, or the Package URI, of Firmware Update is an event of the firmware
 abbrev pub event_of : Path → Option NewValues → Option FirmwareEvent
 event_of path None = None
-event_of path (Some values) = event_in path values
+event_of path (Some values) =
+    if is_resource firmware_update_object update_package path then package_in values
+    else if is_resource firmware_update_object package_uri path then uri_in values
+    else None
 
 -- a refusal changes nothing; else what is given is written
 abbrev pub write_unless : Option Code → Client → Stored → Outcome

@@ -10,16 +10,16 @@ ghost use Rattle.instance_store.specs.Stored.{without_values};
 ghost use Rattle.device_requests.specs.Answer.{Leaves};
 ghost use Rattle.lwm2m_payloads.specs.Scanning.{are_arguments};
 ghost use Rattle.device_requests.specs.Execute.{act_of, executed};
-ghost use Rattle.device_requests.specs.Execute.{is_executable, is_plain, is_resource, is_untimely, with_no_error};
+ghost use Rattle.device_requests.specs.Execute.{is_executable, is_plain, is_untimely, with_no_error};
 ghost use Rattle.device_requests.specs.Client.{with_stored};
 ghost use Rattle.device_requests.specs.Inside.{has_place};
 ghost use Rattle.device_requests.specs.Outcomes.{execute_outcome};
 ghost use Rattle.device_requests.specs.Refusals.{refusal_of, to_execute};
-ghost use Rattle.device_requests.specs.Targets.{definition_at};
+ghost use Rattle.device_requests.specs.Targets.{definition_at, is_resource};
 
 use crate::answer::{Act, Answer, Code};
 use crate::client::Client;
-use crate::targets::{definition_at, exists, resource_place};
+use crate::targets::{definition_at, exists, is_resource, resource_place};
 use device_firmware::{FirmwareEvent, take, takes};
 use instance_store::{Store, StoreFault};
 use lwm2m_payloads::{Format, are_arguments};
@@ -49,16 +49,6 @@ fn is_plain(number: Option<u16>) -> bool
     match number {
         None => true,
         Some(number) => number == Format::PlainText.number(),
-    }
-}
-
-/// Whether a path is that of this resource, in any instance.
-fn is_resource(object: u16, resource: u16, path: Path) -> bool
-    ensures { result ≡ is_resource object resource path }
-{
-    match path {
-        Path::Resource(o, _, r) => o == object && r == resource,
-        Path::Object(_) | Path::Instance(_, _) | Path::Part(_, _, _, _) => false,
     }
 }
 

@@ -2,7 +2,7 @@
 
 ghost use Rattle.std.specs.Prelude.{◌≡◌};
 ghost use Rattle.device_requests.specs.Targets.{defined, definition_at, exists, is_fixed, is_multiple, is_readable};
-ghost use Rattle.device_requests.specs.Targets.{resource_place};
+ghost use Rattle.device_requests.specs.Targets.{is_resource, resource_place};
 
 use instance_store::Store;
 use object_defs::object_number::{ACCESS_CONTROL, DEVICE, FIRMWARE_UPDATE, SERVER};
@@ -16,6 +16,16 @@ pub(crate) fn resource_place(object: u16, instance: u16, resource: u16) -> Resou
         object,
         instance,
         resource,
+    }
+}
+
+/// Whether a path is that of this resource, in any instance.
+pub(crate) fn is_resource(object: u16, resource: u16, path: Path) -> bool
+    ensures { result ≡ is_resource object resource path }
+{
+    match path {
+        Path::Resource(o, _, r) => o == object && r == resource,
+        Path::Object(_) | Path::Instance(_, _) | Path::Part(_, _, _, _) => false,
     }
 }
 

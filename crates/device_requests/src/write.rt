@@ -11,14 +11,16 @@ ghost use Rattle.device_requests.specs.Client.{with_stored};
 ghost use Rattle.device_requests.specs.Read.{format_at};
 ghost use Rattle.device_requests.specs.Inside.{give, has_place, value_rules};
 ghost use Rattle.device_requests.specs.Outcomes.{write_outcome};
-ghost use Rattle.device_requests.specs.Write.{can_be_written, event_at, event_in, given_to_part};
-ghost use Rattle.device_requests.specs.Write.{given_to_resource, is_target, is_writable, mode_at, new_values};
-ghost use Rattle.device_requests.specs.Write.{package_in, resource_exceeds, resource_written, uri_in};
-ghost use Rattle.device_requests.specs.Write.{values_exceed, values_given, values_written, write_unless};
+ghost use Rattle.device_requests.specs.Write.{can_be_written, event_of, given_to_part, given_to_resource, is_target};
+ghost use Rattle.device_requests.specs.Write.{is_writable, mode_at, new_values, package_in, resource_exceeds};
+ghost use Rattle.device_requests.specs.Write.{resource_written, uri_in, values_exceed, values_given, values_written};
+ghost use Rattle.device_requests.specs.Write.{write_unless};
 
 use crate::answer::{Answer, Code};
 use crate::client::Client;
-use crate::targets::{defined, definition_at, is_multiple, is_readable, resource_place};
+use crate::targets::{
+    defined, definition_at, is_multiple, is_readable, is_resource, resource_place,
+};
 use device_firmware::{FirmwareEvent, take};
 use instance_store::{Store, StoreFault};
 use lwm2m_payloads::{
@@ -85,61 +87,53 @@ fn can_be_written(catalog: &Catalog, path: Path) -> bool
 }
 
 /// What writing this as the Package is to the firmware.
-fn package_in(given: &Given) -> Option<FirmwareEvent>
-    ensures { result ≡ package_in given.now }
+fn package_in(values: &NewValues) -> Option<FirmwareEvent>
+    ensures { result ≡ package_in values.now }
 {
-    match given {
-        Given::Single(value) => match value {
-            Value::Opaque(bytes) => Some(FirmwareEvent::of_package(bytes.as_slice())),
-            _ => None,
+    match values {
+        NewValues::One(given) => match given {
+            Given::Single(value) => match value {
+                Value::Opaque(bytes) => Some(FirmwareEvent::of_package(bytes.as_slice())),
+                _ => None,
+            },
+            Given::Parts(_) => None,
         },
-        Given::Parts(_) => None,
+        NewValues::Several(_) => None,
     }
 }
 
 /// What writing this as the Package URI is to the firmware.
-fn uri_in(given: &Given) -> Result<Option<FirmwareEvent>, AllocError>
-    ensures event { IfOk result (λ e. e ≡ uri_in given.now) }
-    ensures grows { OnErr result (is_some (uri_in given.now) ≡ true) }
+fn uri_in(values: &NewValues) -> Result<Option<FirmwareEvent>, AllocError>
+    ensures event { IfOk result (λ e. e ≡ uri_in values.now) }
+    ensures grows { OnErr result (is_some (uri_in values.now) ≡ true) }
 {
-    match given {
-        Given::Single(value) => match value {
-            Value::Text(text) => {
-                let text = text.clone()?;
-                Ok(Some(FirmwareEvent::of_uri(text)))
-            }
-            _ => Ok(None),
+    match values {
+        NewValues::One(given) => match given {
+            Given::Single(value) => match value {
+                Value::Text(text) => {
+                    let text = text.clone()?;
+                    Ok(Some(FirmwareEvent::of_uri(text)))
+                }
+                _ => Ok(None),
+            },
+            Given::Parts(_) => Ok(None),
         },
-        Given::Parts(_) => Ok(None),
+        NewValues::Several(_) => Ok(None),
     }
 }
 
-/// What writing this to a resource is to the firmware.
-fn event_at(object: u16, resource: u16, given: &Given) -> Result<Option<FirmwareEvent>, AllocError>
-    ensures event { IfOk result (λ e. e ≡ event_at object resource given.now) }
-    ensures grows { OnErr result (is_some (event_at object resource given.now) ≡ true) }
+/// What writing this is to the firmware.
+fn event_of(path: Path, values: &NewValues) -> Result<Option<FirmwareEvent>, AllocError>
+    ensures event { IfOk result (λ e. e ≡ event_of path (Some values.now)) }
+    ensures grows { OnErr result (is_some (event_of path (Some values.now)) ≡ true) }
 {
-    if object == FIRMWARE_UPDATE && resource == PACKAGE {
-        return Ok(package_in(given));
+    if is_resource(FIRMWARE_UPDATE, PACKAGE, path) {
+        return Ok(package_in(values));
     }
-    if object == FIRMWARE_UPDATE && resource == PACKAGE_URI {
-        return uri_in(given);
+    if is_resource(FIRMWARE_UPDATE, PACKAGE_URI, path) {
+        return uri_in(values);
     }
     Ok(None)
-}
-
-/// What a Write is to the firmware.
-fn event_in(path: Path, values: &NewValues) -> Result<Option<FirmwareEvent>, AllocError>
-    ensures event { IfOk result (λ e. e ≡ event_in path values.now) }
-    ensures grows { OnErr result (is_some (event_in path values.now) ≡ true) }
-{
-    match path {
-        Path::Resource(object, _, resource) => match values {
-            NewValues::One(given) => event_at(object, resource, given),
-            NewValues::Several(_) => Ok(None),
-        },
-        Path::Object(_) | Path::Instance(_, _) | Path::Part(_, _, _, _) => Ok(None),
-    }
 }
 
 /// What a payload gives to the resource of this definition.
@@ -388,7 +382,7 @@ impl Client {
         let Some(values) = values_given(self.alloc, &self.catalog, path, payload, format)? else {
             return Ok(Answer::bare(self.alloc, Code::BadRequest));
         };
-        match event_in(path, &values)? {
+        match event_of(path, &values)? {
             Some(event) => self.turn(event),
             None => self.set(mode_at(mode, path), path, values),
         }

@@ -30,12 +30,12 @@ use Rattle.device_requests.specs.declared.operation.Operation.TheVariants.{Delet
 use Rattle.device_requests.specs.Answer.{Outcome}
 use Rattle.device_requests.specs.Client.{Client}
 use Rattle.device_requests.specs.Create.{Newborn, create_unless, newborn}
-use Rattle.device_requests.specs.Execute.{execute_unless, is_resource, with_no_error}
+use Rattle.device_requests.specs.Execute.{execute_unless, with_no_error}
 use Rattle.device_requests.specs.Options.{content_format_of, queries_of}
 use Rattle.device_requests.specs.Outcomes.{write_outcome}
 use Rattle.device_requests.specs.Refusals.{refusal_of, to_create, to_execute, to_write, to_write_attributes}
 use Rattle.device_requests.specs.Request.{outcome_at, request_with}
-use Rattle.device_requests.specs.Targets.{defined, place_of, resource_place}
+use Rattle.device_requests.specs.Targets.{defined, is_resource, place_of, resource_place}
 use Rattle.device_requests.specs.Read.{format_at}
 use Rattle.device_requests.specs.Write.{event_of, given_to_part, given_to_resource, left, mode_at, new_values}
 use Rattle.device_requests.specs.Write.{values_given, write_unless, written}

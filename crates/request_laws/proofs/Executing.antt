@@ -25,11 +25,11 @@ use Rattle.device_requests.specs.declared.answer.Code.{Code}
 use Rattle.device_requests.specs.declared.answer.Code.TheVariants.{Changed}
 use Rattle.device_requests.specs.Client.{Client, with_stored}
 use Rattle.device_requests.specs.Laws.{is_refusal}
-use Rattle.device_requests.specs.Execute.{executed, execute_unless, is_resource}
+use Rattle.device_requests.specs.Execute.{executed, execute_unless}
 use Rattle.device_requests.specs.Execute.{with_no_error}
 use Rattle.device_requests.specs.Outcomes.{execute_outcome}
 use Rattle.device_requests.specs.Refusals.{refusal_of, refusals_of, to_execute}
-use Rattle.device_requests.specs.Targets.{resource_place}
+use Rattle.device_requests.specs.Targets.{is_resource, resource_place}
 use Rattle.request_laws.specs.Executions.{BeginsUpdate, ErrorsAreReset, ExecutesKeep, HasNoError, UpdatesBegin}
 use Rattle.request_laws.proofs.Asking.{fails, passes}
 

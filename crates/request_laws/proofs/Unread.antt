@@ -52,7 +52,7 @@ use Rattle.device_requests.specs.Discover.{discover_payload}
 use Rattle.device_requests.specs.Discover.{inherits_at, paths_below}
 use Rattle.device_requests.specs.Execute.{act_of, execute_unless, is_executable}
 use Rattle.device_requests.specs.Execute.{is_plain}
-use Rattle.device_requests.specs.Execute.{is_resource, is_untimely}
+use Rattle.device_requests.specs.Execute.{is_untimely}
 use Rattle.lwm2m_payloads.specs.Scanning.{are_arguments}
 use Rattle.device_requests.specs.Operation.{link_format}
 use Rattle.device_requests.specs.Options.{queries_of}
@@ -63,10 +63,10 @@ use Rattle.device_requests.specs.Read.{can_be_read, content_in, format_at, paylo
 use Rattle.device_requests.specs.Refusals.{is_refused_now, refusal_of, to_create, to_delete, to_execute, to_write}
 use Rattle.device_requests.specs.Refusals.{to_write_attributes, unless_taken}
 use Rattle.device_requests.specs.Request.{outcome_by, outcome_for, request_of}
-use Rattle.device_requests.specs.Targets.{defined, definition_at, exists, is_fixed, is_multiple, place_of}
+use Rattle.device_requests.specs.Targets.{defined, definition_at, exists, is_fixed, is_multiple, is_resource, place_of}
 use Rattle.device_requests.specs.Targets.{resource_place}
 use Rattle.device_requests.specs.Write.{can_be_written, event_of, exceeds, given_to_part, given_to_resource, left}
-use Rattle.device_requests.specs.Write.{mode_at, new_values, package_in, resource_exceeds, uri_in, values_given}
+use Rattle.device_requests.specs.Write.{mode_at, new_values, resource_exceeds, values_given}
 use Rattle.device_requests.specs.Write.{write_unless}
 use Rattle.device_requests.specs.WriteAttributes.{annotate_unless, annotates_at, attributes_given}
 use Rattle.device_requests.proofs.Reading.{said}
@@ -252,11 +252,11 @@ write_says : (code : Option Code) (client : Client) (stored : Stored)
 write_says None client stored = refl
 write_says (Some code) client stored = refl
 
-no_package : (a b : Bool) (given : Given) → (a || b) ≡ false
-    → (if a then package_in given else (if b then uri_in given else None)) ≡ None
-no_package false false given h = refl
-no_package false true given h = cc
-no_package true b given h = cc
+neither : {X : Type 0} (a b : Bool) (x y : Option X) → (a || b) ≡ false
+    → (if a then x else (if b then y else None)) ≡ None
+neither false false x y h = refl
+neither false true x y h = cc
+neither true b x y h = cc
 
 -- what a Write gives at a resource, to the firmware
 event_at_resource : (client : Client) (o i r : ℕ) (payload : List ℕ) (f : Format) (given : Option Given)
@@ -265,7 +265,7 @@ event_at_resource : (client : Client) (o i r : ℕ) (payload : List ℕ) (f : Fo
     → event_of (Resource o i r) (values_given client.catalogue (Resource o i r) payload f) ≡ None
 event_at_resource client o i r payload f None is h = rw is refl
 event_at_resource client o i r payload f (Some given) is h =
-    rw is (no_package (o == 5 && r == 0) (o == 5 && r == 1) given h)
+    rw is (neither (o == 5 && r == 0) (o == 5 && r == 1) _ _ h)
 
 event_by : (client : Client) (o i r : ℕ) (payload : List ℕ) (format : Option Format)
     → is_package (Resource o i r) ≡ false

@@ -8,9 +8,8 @@ use Rattle.object_defs.specs.declared.path.Path.TheVariants.{Resource}
 use Rattle.instance_store.specs.Stored.{Stored, lies_in, value_at}
 use Rattle.device_requests.specs.declared.answer.Code.TheVariants.{Changed}
 use Rattle.device_requests.specs.Client.{Client}
-use Rattle.device_requests.specs.Execute.{is_resource}
 use Rattle.device_requests.specs.Outcomes.{execute_outcome}
-use Rattle.device_requests.specs.Targets.{resource_place}
+use Rattle.device_requests.specs.Targets.{is_resource, resource_place}
 
 -- an Execute changes nothing but where it begins an update, /5/x/2, or resets the error codes, /3/x/12
 abbrev pub ExecutesKeep : Type 0

@@ -9,10 +9,10 @@ use Rattle.device_requests.specs.declared.operation.Operation.{Operation}
 use Rattle.device_requests.specs.declared.operation.Operation.TheVariants.{WriteReplace, WritePartial, Execute}
 use Rattle.device_requests.specs.Access.{reads}
 use Rattle.device_requests.specs.Client.{Client, with_stored}
-use Rattle.device_requests.specs.Execute.{is_resource}
 use Rattle.device_requests.specs.Order.{Asks}
 use Rattle.device_requests.specs.Outcomes.{read_answer}
 use Rattle.device_requests.specs.Request.{outcome_of}
+use Rattle.device_requests.specs.Targets.{is_resource}
 
 -- a store differs from that of a client only in values of instances that a server may not read: there are the same
 -- instances, and values at the same full paths, since what exists shows without a right; and where the server may read,
