@@ -35,8 +35,8 @@ use Rattle.device_requests.specs.Options.{accept_of, content_format_of, has_quer
 use Rattle.device_requests.specs.Options.{queries_of, segments_of, path_of}
 use Rattle.device_requests.specs.Read.{can_be_read, content_in, format_at, read_payload}
 use Rattle.device_requests.specs.Outcomes.{discover_answer, write_outcome}
-use Rattle.device_requests.specs.Refusals.{refusal_of, refusals_of, rules_of, to_delete, to_discover, to_execute}
-use Rattle.device_requests.specs.Refusals.{to_write}
+use Rattle.device_requests.specs.Refusals.{is_oversized, refusal_of, refusals_of, rules_of, to_delete, to_discover}
+use Rattle.device_requests.specs.Refusals.{to_execute, to_write}
 use Rattle.device_requests.specs.Request.{outcome_at, outcome_for, outcome_of, purpose_of, request_by, request_on}
 use Rattle.device_requests.specs.Request.{request_with}
 use Rattle.device_requests.specs.Access.{may_read, rights_on}
@@ -59,18 +59,18 @@ ended (line ∷ lines) code =
       | false ↦ ended lines code
     ]
 
-read_says : (a b s c : Bool) (format : Option Format) (payload : Option (List ℕ))
+read_says : (a b s c long : Bool) (format : Option Format) (payload : List ℕ)
     → let lines : List (Bool × Code) =
     (a, Unauthorized) ∷ (b, NotFound) ∷ (s, Unauthorized) ∷ (c, MethodNotAllowed)
-    ∷ (not (is_some format), NotAcceptable) ∷ (not (is_some payload), InternalServerError) ∷ [] in
+    ∷ (not (is_some format), NotAcceptable) ∷ (long, InternalServerError) ∷ [] in
     Says (refused_or (first_line lines) (content_in format payload)) (lines ++ (true, Content) ∷ [])
-read_says true b s c format payload = refl
-read_says false true s c format payload = refl
-read_says false false true c format payload = refl
-read_says false false false true format payload = refl
-read_says false false false false None payload = refl
-read_says false false false false (Some format) None = refl
-read_says false false false false (Some format) (Some payload) = refl
+read_says true b s c long format payload = refl
+read_says false true s c long format payload = refl
+read_says false false true c long format payload = refl
+read_says false false false true long format payload = refl
+read_says false false false false long None payload = refl
+read_says false false false false true (Some format) payload = refl
+read_says false false false false false (Some format) payload = refl
 
 refused_code : (code : Option Code) (format : ℕ) (payload : List ℕ) → unwrap_or code Content
     ≡ (refused_or code (content format payload)).code
@@ -137,6 +137,7 @@ says_at : (client : Client) (server : ℕ) (m : Message) (path : Path) (operatio
 says_at client server m path Read =
     read_says (object_in path == 0) (not (exists client.catalogue client.store path))
     (not (may_read client server path)) (not (can_be_read client.catalogue path))
+    (is_oversized (read_payload client server path (accept_of m.options)))
     (format_at client.catalogue path (accept_of m.options)) (read_payload client server path (accept_of m.options))
 says_at client server m path Discover = discover_says client server path
 says_at client server m path WriteAttributes =

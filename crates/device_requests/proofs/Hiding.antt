@@ -2,7 +2,7 @@
 use Rattle.std.proofs.Common.{◌≡◌, ℕ, Bool, true, false, not, ◌||◌, ◌==◌, cond, List, [], ◌∷◌, map, length, ◌⊎◌, inl}
 use Rattle.std.proofs.Common.{inr, Option, is_some, refl, ap, ◌∙◌}
 use Rattle.std.specs.List.{filter, list_any}
-use Rattle.std.specs.Option.{option_and_then}
+use Rattle.std.specs.Option.{option_map, unwrap_or}
 use Rattle.lwm2m_values.specs.Tlv.{shortest_tlv}
 use Rattle.lwm2m_values.specs.Tree.{Tree, listed}
 use Rattle.object_defs.specs.Catalogue.{object_of}
@@ -10,7 +10,7 @@ use Rattle.object_defs.specs.Lines.{first_line}
 use Rattle.object_defs.specs.Path.{object_in}
 use Rattle.object_defs.specs.declared.path.Path.TheVariants.{Object}
 use Rattle.instance_store.specs.Stored.{instances_of}
-use Rattle.lwm2m_payloads.specs.Nodes.{instance_node, nodes_of, within_limit}
+use Rattle.lwm2m_payloads.specs.Nodes.{instance_node, nodes_of}
 use Rattle.lwm2m_values.specs.Tree.{instance}
 use Rattle.device_requests.specs.declared.answer.Answer.{Answer}
 use Rattle.device_requests.specs.declared.answer.Code.{Code}
@@ -21,6 +21,7 @@ use Rattle.device_requests.specs.Answer.{bare, refused_or}
 use Rattle.device_requests.specs.Hiding.{UnreadableIsHidden, UnreadableIsRefused}
 use Rattle.device_requests.specs.Client.{Client, with_stored}
 use Rattle.device_requests.specs.Read.{can_be_read, content_in, format_at, read_payload}
+use Rattle.device_requests.specs.Refusals.{is_oversized}
 use Rattle.device_requests.specs.Targets.{defined, exists}
 
 stopped : (a b s : Bool) (lines : List (Bool × Code)) (answer : Answer) → s ≡ false
@@ -36,7 +37,7 @@ refused client server path accept h =
     stopped (object_in path == 0) (not (exists client.catalogue client.store path)) (may_read client server path)
     ((not (can_be_read client.catalogue path), MethodNotAllowed)
     ∷ (not (is_some (format_at client.catalogue path accept)), NotAcceptable)
-    ∷ (not (is_some (read_payload client server path accept)), InternalServerError) ∷ [])
+    ∷ (is_oversized (read_payload client server path accept), InternalServerError) ∷ [])
     (content_in (format_at client.catalogue path accept) (read_payload client server path accept)) h
 
 -- maps that agree on what passes
@@ -51,18 +52,18 @@ same_map p f g h (n ∷ ns) =
     ] (h n)
 
 -- the answer to a Read of an object, by whether it may be read and by its payload
-abbrev answer_with : Client → ℕ → Option ℕ → Bool → Option (List ℕ) → Answer
+abbrev answer_with : Client → ℕ → Option ℕ → Bool → List ℕ → Answer
 answer_with client o accept may payload =
     let format = format_at client.catalogue (Object o) accept in
-    let shown = option_and_then (λ f. payload) format in
+    let shown = unwrap_or (option_map (λ f. payload) format) [] in
     refused_or (first_line (
     (o == 0, Unauthorized) ∷ (not (is_some (object_of client.catalogue o)), NotFound) ∷ (not may, Unauthorized)
     ∷ (false, MethodNotAllowed)
-    ∷ (not (is_some format), NotAcceptable) ∷ (not (is_some shown), InternalServerError) ∷ []))
+    ∷ (not (is_some format), NotAcceptable) ∷ (is_oversized shown, InternalServerError) ∷ []))
     (content_in format shown)
 
-abbrev payload_with : ℕ → List ℕ → (ℕ → Bool) → (ℕ → Tree) → Option (List ℕ)
-payload_with o instances p node = within_limit (shortest_tlv (listed (map node (filter p instances))))
+abbrev payload_with : ℕ → List ℕ → (ℕ → Bool) → (ℕ → Tree) → List ℕ
+payload_with o instances p node = shortest_tlv (listed (map node (filter p instances)))
 
 pub hidden : UnreadableIsHidden
 hidden client stored server o accept h =
@@ -77,7 +78,7 @@ hidden client stored server o accept h =
     ap (λ (t : (ℕ → Bool) × List ℕ). payload_with o t.1 t.0 new) (λ j. (tests j, h.instances j)) in
     let nodes : payload_with o (instances_of client.store o) p new
     ≡ payload_with o (instances_of client.store o) p old =
-    ap (λ ts. within_limit (shortest_tlv (listed ts)))
+    ap (λ ts. shortest_tlv (listed ts))
     (same_map p new old (λ i r. ap (λ pairs. instance i (nodes_of pairs)) (h.values i r))
     (instances_of client.store o)) in
-    ap (λ (t : Bool × Option (List ℕ)). answer_with client o accept t.0 t.1) (λ j. (may j, (lists ∙ nodes) j))
+    ap (λ (t : Bool × List ℕ). answer_with client o accept t.0 t.1) (λ j. (may j, (lists ∙ nodes) j))

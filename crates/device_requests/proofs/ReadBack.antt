@@ -1,8 +1,8 @@
 -- A single resource that was written is read again.
-use Rattle.std.proofs.Common.{◌≡◌, ℕ, Bool, true, false, not, ◌&&◌, ◌||◌, ◌==◌, List, [], ◌∷◌, length, Option, None}
+use Rattle.std.proofs.Common.{◌≡◌, ℕ, Bool, true, false, not, ◌&&◌, ◌||◌, ◌==◌, List, [], ◌∷◌, Option, None}
 use Rattle.std.proofs.Common.{Some, option_map, is_some, refl, sym, ap, subst, ◌∙◌}
 use Rattle.std.specs.Bool.{if◌then◌else◌}
-use Rattle.std.specs.Option.{option_and_then}
+use Rattle.std.specs.Option.{option_and_then, unwrap_or}
 use Rattle.std.specs.Cmp.{eq_by_cmp_equiv}
 use Rattle.std.specs.Ordering.{eq_by_cmp}
 use Rattle.std.specs.FinMap as map
@@ -29,24 +29,24 @@ use Rattle.lwm2m_payloads.specs.declared.given.Mode.TheVariants.{Replace}
 use Rattle.lwm2m_payloads.specs.Formats.{one, many, extent_as, format_for}
 use Rattle.lwm2m_payloads.specs.Given.{given_by, given_if, lone_record, number_in, resource_given, some_parts}
 use Rattle.lwm2m_payloads.specs.Given.{parts_given}
-use Rattle.lwm2m_payloads.specs.Nodes.{value_payload, within_limit}
+use Rattle.lwm2m_payloads.specs.Nodes.{value_payload}
 use Rattle.device_requests.specs.declared.write.NewValues.{NewValues}
 use Rattle.device_requests.specs.declared.write.NewValues.TheVariants.{One}
 use Rattle.device_requests.specs.declared.answer.Code.TheVariants.{Changed, Unauthorized, NotFound, MethodNotAllowed}
 use Rattle.device_requests.specs.declared.answer.Code.TheVariants.{NotAcceptable, UnsupportedContentFormat, BadRequest}
 use Rattle.device_requests.specs.declared.answer.Code.TheVariants.{InternalServerError}
-use Rattle.device_requests.specs.Access.{may_read, rights_on, shown_instances}
-use Rattle.device_requests.specs.Answer.{Outcome, refused_or}
+use Rattle.device_requests.specs.Access.{may_read, rights_on}
+use Rattle.device_requests.specs.Answer.{Outcome, bare, refused_or}
 use Rattle.object_defs.specs.Lines.{first_line}
 use Rattle.device_requests.specs.Outcomes.{read_answer}
 use Rattle.device_requests.specs.Read.{content_in, format_at, payload_in, read_payload}
-use Rattle.device_requests.specs.Refusals.{is_refused_now, unless_taken}
+use Rattle.device_requests.specs.Refusals.{is_refused_now, is_oversized, unless_taken}
 use Rattle.device_requests.specs.Client.{Client, with_stored}
 use Rattle.device_requests.specs.Targets.{is_readable, place_of, resource_place}
 use Rattle.device_requests.specs.Write.{can_be_written, event_of, exceeds, left, values_given}
 use Rattle.device_requests.specs.Write.{given_to_resource, is_target, resource_written, new_values, write_unless}
 use Rattle.device_requests.specs.Write.{written}
-use Rattle.device_requests.specs.Laws.{IsReadBack, WrittenIsRead}
+use Rattle.device_requests.specs.Laws.{IsReadBack, WrittenIsRead, content_within}
 
 -- one value is given
 abbrev IsOne : Given → Type 0
@@ -121,19 +121,26 @@ passes false false false false false false true client stored h = cc
 passes false false false false false false false client stored h =
     record { object = refl; target = refl; served = refl; good = refl; store = refl }
 
+-- by the rule of a payload's length
+by_length : (long : Bool) (format wanted : Format) (payload : List ℕ) → Some format ≡ Some wanted
+    → refused_or (if long then Some InternalServerError else None) (content_in (Some format) payload)
+    ≡ (if long then bare InternalServerError else content_in (Some wanted) payload)
+by_length true format wanted payload l = refl
+by_length false format wanted payload l = ap (λ (w : Option Format). content_in w payload) l
+
 -- no rule of a Read holds but that of its payload's length
-shown : (a b s c : Bool) (format : Option Format) (wanted : Format) (payload : Option (List ℕ)) → a ≡ false → b
-    ≡ false → s ≡ false → c ≡ false → format ≡ Some wanted
+shown : (a b s c : Bool) (format : Option Format) (wanted : Format) (payload : List ℕ) → a ≡ false → b ≡ false
+    → s ≡ false → c ≡ false → format ≡ Some wanted
     → refused_or (first_line ((a, Unauthorized) ∷ (b, NotFound) ∷ (s, Unauthorized) ∷ (c, MethodNotAllowed)
-    ∷ (not (is_some format), NotAcceptable) ∷ (not (is_some payload), InternalServerError) ∷ []))
-    (content_in format payload) ≡ content_in (Some wanted) payload
+    ∷ (not (is_some format), NotAcceptable) ∷ (is_oversized payload, InternalServerError) ∷ []))
+    (content_in format payload) ≡ content_within wanted payload
 shown true b s c format wanted payload h j m k l = cc
 shown false true s c format wanted payload h j m k l = cc
 shown false false true c format wanted payload h j m k l = cc
 shown false false false true format wanted payload h j m k l = cc
 shown false false false false None wanted payload h j m k l = cc
-shown false false false false (Some format) wanted None h j m k l = refl
-shown false false false false (Some format) wanted (Some payload) h j m k l = ap (λ w. content_in w (Some payload)) l
+shown false false false false (Some format) wanted payload h j m k l =
+    by_length (is_oversized payload) format wanted payload l
 
 -- a single resource that can be read and has a value
 record Holds (client : Client) (o i r : ℕ) (d : ResourceDef) (value : Value) : Type 0 where
@@ -159,11 +166,10 @@ resource_there : (stored : Stored) (p : ResourcePath) (d : ResourceDef) (value :
     → d.multiple ≡ false → value_at stored (single_of p) ≡ Some value → not (has_resource stored p (Some d)) ≡ false
 resource_there stored p d value h k v = rw (h, k, v) (or_true (not (can_read d.ops)))
 
-payload_shown : (client : Client) (instances : List ℕ) (o i r : ℕ) (d : ResourceDef) (value : Value)
-    (wanted : Format) → Holds client o i r d value
-    → payload_in client.catalogue client.store instances (Resource o i r) wanted
-    ≡ within_limit (value_payload wanted (single r) value)
-payload_shown client instances o i r d value wanted h = rw (h.defined, h.alone, h.value_is) refl
+payload_shown : (client : Client) (server o i r : ℕ) (d : ResourceDef) (value : Value) (wanted : Format)
+    → Holds client o i r d value
+    → payload_in client server (Resource o i r) wanted ≡ value_payload wanted (single r) value
+payload_shown client server o i r d value wanted h = rw (h.defined, h.alone, h.value_is) refl
 
 instance_there : (a b : Bool) → not (a && b) ≡ false → b ≡ true
 instance_there true true h = refl
@@ -182,7 +188,7 @@ read_shown : (client : Client) (server o i r : ℕ) (d : ResourceDef) (value : V
     (wanted : Format) → Holds client o i r d value
     → may_read client server (Resource o i r) ≡ true → format_for (one d.kind) accept ≡ Some wanted
     → read_answer client server (Resource o i r) accept
-    ≡ content_in (Some wanted) (within_limit (value_payload wanted (single r) value))
+    ≡ content_within wanted (value_payload wanted (single r) value)
 read_shown client server o i r d value accept wanted h m k =
     let p = resource_place o i r in
     let format : format_at client.catalogue (Resource o i r) accept ≡ Some wanted =
@@ -190,15 +196,13 @@ read_shown client server o i r d value accept wanted h m k =
     let there : not (has_resource client.store p (definition_of client.catalogue o r)) ≡ false =
     rw h.defined (resource_there client.store p d value h.place h.alone h.value_is) in
     let readable : not (is_readable (definition_of client.catalogue o r)) ≡ false = rw (h.defined, h.readable) refl in
-    let payload : read_payload client server (Resource o i r) accept
-    ≡ within_limit (value_payload wanted (single r) value) =
-    ap (λ f. option_and_then (payload_in client.catalogue client.store
-    (shown_instances client.store (length client.accounts) server o) (Resource o i r)) f) format
-    ∙ payload_shown client (shown_instances client.store (length client.accounts) server o) o i r d value wanted h in
+    let payload : read_payload client server (Resource o i r) accept ≡ value_payload wanted (single r) value =
+    ap (λ (f : Option Format). unwrap_or (option_map (payload_in client server (Resource o i r)) f) []) format
+    ∙ payload_shown client server o i r d value wanted h in
     let allowed : not (may_read client server (Resource o i r)) ≡ false = ap not m in
     shown (o == 0) _ _ _ (format_at client.catalogue (Resource o i r) accept) wanted
     (read_payload client server (Resource o i r) accept) h.object there allowed readable format
-    ∙ ap (content_in (Some wanted)) payload
+    ∙ ap (content_within wanted) payload
 
 -- what a Write that is answered by Changed leaves
 behind : (client : Client) (o i r : ℕ) (d : ResourceDef) (number : Option ℕ) (payload : List ℕ) (stored : Stored)

@@ -71,11 +71,10 @@ refused_attributes None client None h = refl
 refused_attributes None client (Some m) h = cc
 refused_attributes (Some code) client given h = refl
 
-refused_read : (code : Option Code) (client : Client) (format : Option Format) (payload : Option (List ℕ))
+refused_read : (code : Option Code) (client : Client) (format : Option Format) (payload : List ℕ)
     → Keeps client (answered client (refused_or code (content_in format payload)))
 refused_read None client None payload h = refl
-refused_read None client (Some format) None h = refl
-refused_read None client (Some format) (Some payload) h = cc
+refused_read None client (Some format) payload h = cc
 refused_read (Some code) client format payload h = refl
 
 refused_discover : (code : Option Code) (client : Client) (payload : List ℕ)

@@ -1,6 +1,6 @@
 -- What follows from the tables, in the words of the standard.
 use Rattle.std.specs.Prelude.{◌≡◌, ◌≢◌, ℕ, ◌==◌, nat_le, Bool, true, false, List, [], ◌∷◌, Option, None, Some}
-use Rattle.std.specs.Prelude.{◌*◌, ◌&&◌, ◌⊎◌, ◌↔◌}
+use Rattle.std.specs.Prelude.{◌*◌, ◌&&◌, ◌⊎◌, ◌↔◌, if◌then◌else◌}
 use Rattle.coap_codec.specs.Message.{Message}
 use Rattle.lwm2m_values.specs.Tree.{single}
 use Rattle.lwm2m_values.specs.declared.value.Value.{Value}
@@ -13,22 +13,22 @@ use Rattle.instance_store.specs.Stored.{Stored}
 use Rattle.lwm2m_payloads.specs.declared.format.Format.{Format}
 use Rattle.lwm2m_payloads.specs.declared.given.Given.TheVariants.{Single}
 use Rattle.lwm2m_payloads.specs.declared.given.Mode.TheVariants.{Replace}
-use Rattle.lwm2m_payloads.specs.Formats.{one, format_for}
+use Rattle.lwm2m_payloads.specs.Formats.{one, format_for, format_number}
 use Rattle.lwm2m_payloads.specs.Given.{resource_given}
-use Rattle.lwm2m_payloads.specs.Nodes.{value_payload, within_limit}
+use Rattle.lwm2m_payloads.specs.Nodes.{value_payload}
 use Rattle.device_requests.specs.declared.answer.Answer.{Answer}
 use Rattle.device_requests.specs.declared.answer.Code.{Code}
 use Rattle.device_requests.specs.declared.answer.Code.TheVariants.{Changed, BadOption, NotFound, MethodNotAllowed}
+use Rattle.device_requests.specs.declared.answer.Code.TheVariants.{InternalServerError}
 use Rattle.device_requests.specs.declared.operation.Operation.{Operation}
 use Rattle.device_requests.specs.Access.{may_read}
-use Rattle.device_requests.specs.Answer.{code_byte}
+use Rattle.device_requests.specs.Answer.{bare, code_byte, content}
 use Rattle.device_requests.specs.Discover.{linked}
 use Rattle.object_defs.specs.Lines.{first_line}
 use Rattle.device_requests.specs.Operation.{operation_of}
 use Rattle.device_requests.specs.Options.{accept_of, has_query, has_unrecognized_critical, path_of, segments_of}
 use Rattle.device_requests.specs.Outcomes.{read_answer, write_outcome}
-use Rattle.device_requests.specs.Read.{content_in}
-use Rattle.device_requests.specs.Refusals.{rules_of}
+use Rattle.device_requests.specs.Refusals.{is_oversized, rules_of}
 use Rattle.device_requests.specs.Request.{outcome_of, purpose_of}
 use Rattle.device_requests.specs.Client.{Client, with_stored}
 use Rattle.object_defs.specs.declared.definition.ObjectDef.{ObjectDef}
@@ -88,6 +88,11 @@ RefusalIsCodeAlone =
     (client : Client) (server : ℕ) (m : Message) → is_refusal (outcome_of client server m).answer.code ≡ true
     → IsCodeAlone (outcome_of client server m).answer
 
+-- a payload in a format; 5.00 where it has more than 1,024 bytes
+abbrev pub content_within : Format → List ℕ → Answer
+content_within format payload =
+    if is_oversized payload then bare InternalServerError else content (format_number format) payload
+
 -- the payload gives this value, and a Read of the resource then answers it in each format that is served, to each
 -- server that may read it
 pub record IsReadBack (client : Client) (o i r : ℕ) (d : ResourceDef) (number : Option ℕ) (payload : List ℕ)
@@ -100,7 +105,7 @@ pub record IsReadBack (client : Client) (o i r : ℕ) (d : ResourceDef) (number 
       → may_read (with_stored client stored) server (Resource o i r) ≡ true
       → format_for (one d.kind) accept ≡ Some wanted
       → read_answer (with_stored client stored) server (Resource o i r) accept
-      ≡ content_in (Some wanted) (within_limit (value_payload wanted (single r) value))
+      ≡ content_within wanted (value_payload wanted (single r) value)
 
 -- a Write of a single resource that can be read and is not one of Firmware Update, answered by Changed
 abbrev pub WrittenIsRead : Type 0

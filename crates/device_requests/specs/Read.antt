@@ -1,20 +1,20 @@
 -- The answer to a Read (OMA LwM2M 1.1 Core). A notification is the same answer.
-use Rattle.std.specs.Prelude.{ℕ, Bool, true, List, length, Option, Some, option_and_then}
-use Rattle.std.specs.Prelude.{if◌then◌else◌}
+use Rattle.std.specs.Prelude.{ℕ, Bool, true, List, [], length, Option, None, Some, option_map, if◌then◌else◌}
+use Rattle.std.specs.Option.{unwrap_or}
 use Rattle.lwm2m_values.specs.Tlv.{shortest_tlv}
 use Rattle.lwm2m_values.specs.Tree.{Tree, part, single}
 use Rattle.lwm2m_values.specs.declared.value.Value.{Value}
-use Rattle.object_defs.specs.Path.{object_in, single_of, part_of}
+use Rattle.object_defs.specs.Catalogue.{definition_of}
+use Rattle.object_defs.specs.Path.{single_of, part_of}
 use Rattle.object_defs.specs.declared.definition.ObjectDef.{ObjectDef}
-use Rattle.object_defs.specs.declared.definition.ResourceDef.{ResourceDef}
 use Rattle.object_defs.specs.declared.path.Path.{Path}
 use Rattle.object_defs.specs.declared.path.Path.TheVariants.{Object, Instance, Resource, Part}
-use Rattle.instance_store.specs.Stored.{Stored, value_at}
+use Rattle.instance_store.specs.Stored.{value_at}
 use Rattle.lwm2m_payloads.specs.declared.format.Format.{Format}
 use Rattle.lwm2m_payloads.specs.Formats.{format_number, extent_of, format_for}
-use Rattle.lwm2m_payloads.specs.Nodes.{shown_in, nodes_of, object_nodes, value_payload, within_limit}
+use Rattle.lwm2m_payloads.specs.Nodes.{shown_in, nodes_of, object_nodes, value_payload}
 use Rattle.device_requests.specs.declared.answer.Answer.{Answer}
-use Rattle.device_requests.specs.declared.answer.Code.TheVariants.{InternalServerError}
+use Rattle.device_requests.specs.declared.answer.Code.TheVariants.{NotAcceptable}
 use Rattle.device_requests.specs.Access.{shown_instances}
 use Rattle.device_requests.specs.Answer.{bare, content}
 use Rattle.device_requests.specs.Client.{Client}
@@ -31,41 +31,37 @@ can_be_read catalogue (Part o i r n) = is_readable (definition_at catalogue (Par
 abbrev pub format_at : List ObjectDef → Path → Option ℕ → Option Format
 format_at catalogue path number = format_for (extent_of path (definition_at catalogue path)) number
 
--- what a Read shows at or below the path, as TLV
-abbrev pub values_payload : Stored → List ResourceDef → Path → Option (List ℕ)
-values_payload stored resources path = within_limit (shortest_tlv (nodes_of (shown_in stored resources path)))
+-- what is held at or below the path and can be read, as TLV
+abbrev pub values_payload : Client → ℕ → Path → List ℕ
+values_payload client o path = shortest_tlv (nodes_of (shown_in client.store (defined client.catalogue o) path))
 
--- an Object Instance for each of these instances, also for one that shows nothing
-abbrev pub object_payload : Stored → List ResourceDef → ℕ → List ℕ → Option (List ℕ)
-object_payload stored resources o instances = within_limit (shortest_tlv (object_nodes stored resources o instances))
+-- an Object Instance for each instance on which the server has R, also for one that shows nothing
+abbrev pub object_payload : Client → ℕ → ℕ → List ℕ
+object_payload client server o =
+    shortest_tlv (object_nodes client.store (defined client.catalogue o) o
+    (shown_instances client.store (length client.accounts) server o))
 
-abbrev pub one_payload : Format → (List ℕ → Tree) → Option Value → Option (List ℕ)
-one_payload format record_of value = option_and_then (λ v. within_limit (value_payload format record_of v)) value
+-- one value in a format, where it is there
+abbrev pub one_payload : Format → (List ℕ → Tree) → Option Value → List ℕ
+one_payload format record_of None = []
+one_payload format record_of (Some value) = value_payload format record_of value
 
--- a multiple resource is shown whole, a single one by its value
-abbrev pub resource_payload : List ObjectDef → Stored → ℕ → ℕ → ℕ → Format → Option (List ℕ)
-resource_payload catalogue stored o i r format =
-    if is_multiple (definition_at catalogue (Resource o i r))
-    then values_payload stored (defined catalogue o) (Resource o i r)
-    else one_payload format (single r) (value_at stored (single_of (resource_place o i r)))
+-- what a server is shown in a format: a multiple resource whole, a single one by its value
+abbrev pub payload_in : Client → ℕ → Path → Format → List ℕ
+payload_in client server (Object o) format = object_payload client server o
+payload_in client server (Instance o i) format = values_payload client o (Instance o i)
+payload_in client server (Resource o i r) format =
+    if is_multiple (definition_of client.catalogue o r) then values_payload client o (Resource o i r)
+    else one_payload format (single r) (value_at client.store (single_of (resource_place o i r)))
+payload_in client server (Part o i r n) format =
+    one_payload format (part n) (value_at client.store (part_of (resource_place o i r) n))
 
--- the payload of a Read of an object shows these instances of it
-abbrev pub payload_in : List ObjectDef → Stored → List ℕ → Path → Format → Option (List ℕ)
-payload_in catalogue stored instances (Object o) format = object_payload stored (defined catalogue o) o instances
-payload_in catalogue stored instances (Instance o i) format = values_payload stored (defined catalogue o) (Instance o i)
-payload_in catalogue stored instances (Resource o i r) format = resource_payload catalogue stored o i r format
-payload_in catalogue stored instances (Part o i r n) format =
-    one_payload format (part n) (value_at stored (part_of (resource_place o i r) n))
-
--- the payload that a server is shown, where it has 1,024 bytes at most: of an object the instances on which it has R
-abbrev pub read_payload : Client → ℕ → Path → Option ℕ → Option (List ℕ)
+-- what a server is shown in the format that Accept names, where that is served
+abbrev pub read_payload : Client → ℕ → Path → Option ℕ → List ℕ
 read_payload client server path accept =
-    option_and_then
-    (payload_in client.catalogue client.store
-    (shown_instances client.store (length client.accounts) server (object_in path)) path)
-    (format_at client.catalogue path accept)
+    unwrap_or (option_map (payload_in client server path) (format_at client.catalogue path accept)) []
 
 -- a payload with its format
-abbrev pub content_in : Option Format → Option (List ℕ) → Answer
-content_in (Some format) (Some payload) = content (format_number format) payload
-content_in format payload = bare InternalServerError
+abbrev pub content_in : Option Format → List ℕ → Answer
+content_in None payload = bare NotAcceptable
+content_in (Some format) payload = content (format_number format) payload

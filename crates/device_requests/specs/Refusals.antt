@@ -104,10 +104,14 @@ abbrev pub unless_taken : Option FirmwareEvent → Bool → Bool
 unless_taken None much = much
 unless_taken (Some event) much = false
 
+-- a payload that is sent has 1,024 bytes at most (this profile)
+abbrev pub is_oversized : List ℕ → Bool
+is_oversized payload = nat_lt 1024 (length payload)
+
 -- 12: more would be shown, or stored, than may be
 abbrev pub is_too_much : Client → ℕ → Path → Purpose → Bool
-is_too_much client server path (to_read accept) = not (is_some (read_payload client server path accept))
-is_too_much client server path to_discover = nat_lt 1024 (length (discover_payload client server path))
+is_too_much client server path (to_read accept) = is_oversized (read_payload client server path accept)
+is_too_much client server path to_discover = is_oversized (discover_payload client server path)
 is_too_much client server path (to_write mode format payload) =
     unless_taken (event_of path (new_values client path format payload))
     (exceeds (mode_at mode path) client.catalogue client.store path (new_values client path format payload))

@@ -1,12 +1,12 @@
 //! A Read: its rules, and the payload that it answers.
 
-ghost use Rattle.std.specs.Prelude.{◌≡◌, ◌≢◌, true, IfOk, OnErr, Some, length};
+ghost use Rattle.std.specs.Prelude.{◌≡◌, ◌≢◌, true, IfOk, OnErr, Some};
 ghost use Rattle.lwm2m_values.specs.Tree.{part, single};
-ghost use Rattle.object_defs.specs.Path.{object_in};
+ghost use Rattle.lwm2m_payloads.specs.Nodes.{within_limit};
 ghost use Rattle.device_requests.specs.Access.{shown_instances};
 ghost use Rattle.device_requests.specs.Answer.{takes_memory};
 ghost use Rattle.device_requests.specs.Outcomes.{read_answer};
-ghost use Rattle.device_requests.specs.Read.{can_be_read, one_payload, payload_in, resource_payload};
+ghost use Rattle.device_requests.specs.Read.{can_be_read, object_payload, one_payload, payload_in, values_payload};
 
 use crate::access::shown_instances;
 use crate::answer::{Answer, Code};
@@ -17,7 +17,7 @@ use lwm2m_payloads::{Format, format_for, object_tlv, values_tlv, write_part, wri
 use object_defs::object_number::SECURITY;
 use object_defs::{Catalog, Path, ResourcePath};
 use octets::Bytes;
-use std::alloc::{AllocError, Global};
+use std::alloc::AllocError;
 
 /// Whether what the path names can be read.
 pub(crate) fn can_be_read(catalog: &Catalog, path: Path) -> bool
@@ -31,78 +31,74 @@ pub(crate) fn can_be_read(catalog: &Catalog, path: Path) -> bool
     }
 }
 
-/// The payload of a Read of a resource.
-fn resource_payload(
-    alloc: Global,
-    catalog: &Catalog,
-    store: &Store,
-    place: ResourcePath,
-    format: Format,
-) -> Result<Option<Bytes>, AllocError>
-    ensures { IfOk result (λ b. b
-        ≡ resource_payload catalog.now store.now place.object place.instance place.resource format) }
-{
-    let path = Path::Resource(place.object, place.instance, place.resource);
-    if is_multiple(definition_at(catalog, path)) {
-        return values_tlv(alloc, store, defined(catalog, place.object), path);
-    }
-    match store.get(place.single()) {
-        None => Ok(None),
-        Some(value) => write_single(alloc, format, place.resource, value),
-    }
-}
-
-/// The payload of a Read in a format, or none where it would have more than 1,024 bytes. That of an object
-/// shows these instances.
-pub(crate) fn payload_in(
-    alloc: Global,
-    catalog: &Catalog,
-    store: &Store,
-    instances: &[u16],
-    path: Path,
-    format: Format,
-) -> Result<Option<Bytes>, AllocError>
-    ensures { IfOk result (λ b. b ≡ payload_in catalog.now store.now instances.now path format) }
-{
-    match path {
-        Path::Object(object) => {
-            object_tlv(alloc, store, defined(catalog, object), object, instances)
-        }
-        Path::Instance(object, _) => values_tlv(alloc, store, defined(catalog, object), path),
-        Path::Resource(object, instance, resource) => {
-            let place = resource_place(object, instance, resource);
-            resource_payload(alloc, catalog, store, place, format)
-        }
-        Path::Part(object, instance, resource, part) => {
-            let place = resource_place(object, instance, resource);
-            match store.get(place.part(part)) {
-                None => Ok(None),
-                Some(value) => write_part(alloc, format, part, value),
-            }
-        }
-    }
-}
-
 impl Client {
-    /// The payload of a Read of a server, where it has 1,024 bytes at most.
-    fn shown(&self, server: u16, path: Path, format: Format) -> Result<Option<Bytes>, AllocError>
-        ensures { IfOk result (λ b. b ≡ payload_in self.now.catalogue self.now.store
-            (shown_instances self.now.store (length self.now.accounts) server (object_in path)) path format) }
+    /// The payload of a Read of an object, where it has 1,024 bytes at most.
+    fn object_payload(&self, server: u16, object: u16) -> Result<Option<Bytes>, AllocError>
+        ensures { IfOk result (λ b. b ≡ within_limit (object_payload self.now server object)) }
     {
-        let Path::Object(object) = path else {
-            return payload_in(self.alloc, &self.catalog, &self.store, &[], path, format);
-        };
         let accounts = self.account_count();
         let instances = shown_instances(self.alloc, &self.store, accounts, server, object)?;
-        let instances = instances.as_slice();
-        payload_in(
+        let resources = defined(&self.catalog, object);
+        object_tlv(
             self.alloc,
-            &self.catalog,
             &self.store,
-            instances,
-            path,
-            format,
+            resources,
+            object,
+            instances.as_slice(),
         )
+    }
+
+    /// What is held at or below a path of an object and can be read, where it has 1,024 bytes at most.
+    fn values_payload(&self, object: u16, path: Path) -> Result<Option<Bytes>, AllocError>
+        ensures { IfOk result (λ b. b ≡ within_limit (values_payload self.now object path)) }
+    {
+        values_tlv(
+            self.alloc,
+            &self.store,
+            defined(&self.catalog, object),
+            path,
+        )
+    }
+
+    /// The payload of a Read of a resource, where it has 1,024 bytes at most.
+    fn resource_payload(
+        &self,
+        server: u16,
+        place: ResourcePath,
+        format: Format,
+    ) -> Result<Option<Bytes>, AllocError>
+        ensures { IfOk result (λ b. b ≡ within_limit
+            (payload_in self.now server (Path.Resource place.object place.instance place.resource) format)) }
+    {
+        let path = Path::Resource(place.object, place.instance, place.resource);
+        if is_multiple(definition_at(&self.catalog, path)) {
+            return self.values_payload(place.object, path);
+        }
+        match self.store.get(place.single()) {
+            None => Ok(Some(Bytes::new(self.alloc))),
+            Some(value) => write_single(self.alloc, format, place.resource, value),
+        }
+    }
+
+    /// The payload of a Read of a server, where it has 1,024 bytes at most.
+    fn shown(&self, server: u16, path: Path, format: Format) -> Result<Option<Bytes>, AllocError>
+        ensures { IfOk result (λ b. b ≡ within_limit (payload_in self.now server path format)) }
+    {
+        match path {
+            Path::Object(object) => self.object_payload(server, object),
+            Path::Instance(object, _) => self.values_payload(object, path),
+            Path::Resource(object, instance, resource) => {
+                let place = resource_place(object, instance, resource);
+                self.resource_payload(server, place, format)
+            }
+            Path::Part(object, instance, resource, part) => {
+                let place = resource_place(object, instance, resource);
+                match self.store.get(place.part(part)) {
+                    None => Ok(Some(Bytes::new(self.alloc))),
+                    Some(value) => write_part(self.alloc, format, part, value),
+                }
+            }
+        }
     }
 
     /// The answer to a Read of a server at a path, with the format that its Accept names.

@@ -9,7 +9,7 @@ use Rattle.std.specs.FinMap.Entries.{below_all}
 use Rattle.std.specs.List as lists
 use Rattle.std.specs.List.{AllByRecursion, cons_option, filter, filter_map, list_any}
 use Rattle.std.specs.List.Sorted.{IsStrictlySortedBy}
-use Rattle.std.specs.Option.{is_some, option_and_then}
+use Rattle.std.specs.Option.{is_some, option_and_then, unwrap_or}
 use Rattle.std.specs.Ordering.{eq_by_cmp, is_lt, nat_cmp}
 use Rattle.std.specs.declared.cmp.Ordering.TheVariants.{Less, Equal, Greater}
 use Rattle.std.proofs.Math.Dec.{T}
@@ -33,7 +33,6 @@ use Rattle.instance_store.specs.Existence.{has_resource}
 use Rattle.instance_store.specs.Stored.{Stored, has_instance, lies_in, parts_of, resource_path, value_at}
 use Rattle.lwm2m_payloads.specs.Formats.{extent_as, format_for, many, one}
 use Rattle.lwm2m_payloads.specs.Nodes.{Pairs, before_part, before_value, is_shown, is_shown_as, nodes_of, shown_in}
-use Rattle.lwm2m_payloads.specs.Nodes.{within_limit}
 use Rattle.lwm2m_payloads.specs.PartList.{PartList}
 use Rattle.lwm2m_payloads.specs.Written.{PartsOnce, part_value}
 use Rattle.lwm2m_payloads.specs.declared.format.Format.{Format}
@@ -42,13 +41,14 @@ use Rattle.device_requests.specs.declared.answer.Answer.{Answer}
 use Rattle.device_requests.specs.declared.answer.Code.{Code}
 use Rattle.device_requests.specs.declared.answer.Code.TheVariants.{Unauthorized, NotFound, MethodNotAllowed}
 use Rattle.device_requests.specs.declared.answer.Code.TheVariants.{NotAcceptable, InternalServerError}
-use Rattle.device_requests.specs.Access.{may_read, shown_instances}
+use Rattle.device_requests.specs.Access.{may_read}
 use Rattle.device_requests.specs.Answer.{bare, refused_or}
 use Rattle.device_requests.specs.Client.{Client}
 use Rattle.device_requests.specs.Create.{is_tlv}
-use Rattle.device_requests.specs.Laws.{IsAmong}
+use Rattle.device_requests.specs.Laws.{IsAmong, content_within}
 use Rattle.device_requests.specs.Outcomes.{read_answer}
 use Rattle.device_requests.specs.Read.{content_in, format_at, payload_in, read_payload}
+use Rattle.device_requests.specs.Refusals.{is_oversized}
 use Rattle.device_requests.specs.Targets.{defined, exists, is_readable, place_of, resource_place, resources_as}
 use Rattle.request_laws.specs.Multiples.{HoldsParts, MultipleIsRead, answer_of_parts, part_records}
 use Rattle.request_laws.proofs.Executing.{apart}
@@ -401,19 +401,17 @@ exists_by client o i r d h =
 payload_is : (client : Client) (server o i r : ℕ) (d : ResourceDef) (accept : Option ℕ) → IsReadable client o i r d
     → is_tlv accept ≡ true
     → read_payload client server (Resource o i r) accept
-    ≡ within_limit (shortest_tlv (record_of r (parts_in client.store (resource_place o i r))))
+    ≡ shortest_tlv (record_of r (parts_in client.store (resource_place o i r)))
 payload_is client server o i r d accept h k =
     let path = Resource o i r in
     let p = resource_place o i r in
-    let shows = shown_instances client.store (length client.accounts) server o in
     let resources = defined client.catalogue o in
-    let payload : payload_in client.catalogue client.store shows path Tlv
-    ≡ within_limit (shortest_tlv (nodes_of (shown_in client.store resources path))) =
+    let payload : payload_in client server path Tlv ≡ shortest_tlv (nodes_of (shown_in client.store resources path)) =
     rw (h.defined_as, h.several) refl in
-    ap (λ (f : Option Format). option_and_then (payload_in client.catalogue client.store shows path) f)
+    ap (λ (f : Option Format). unwrap_or (option_map (payload_in client server path) f) [])
     (format_is client o i r d accept h.defined_as h.several k)
     ∙ payload
-    ∙ ap (λ (t : Trees). within_limit (shortest_tlv t)) (records resources p (finite.entries client.store.values)
+    ∙ ap (λ (t : Trees). shortest_tlv t) (records resources p (finite.entries client.store.values)
     (parts_shown client o i r d h.defined_as h.several h.readable))
 
 absent : (a e : Bool) (lines : List (Bool × Code)) (answer : Answer) → a ≡ false → e ≡ false
@@ -435,7 +433,7 @@ answered client server o i r d accept h may k [] is =
     ((not (may_read client server path), Unauthorized)
     ∷ (not (is_readable (definition_of client.catalogue o r)), MethodNotAllowed)
     ∷ (not (is_some (format_at client.catalogue path accept)), NotAcceptable)
-    ∷ (not (is_some (read_payload client server path accept)), InternalServerError) ∷ [])
+    ∷ (is_oversized (read_payload client server path accept), InternalServerError) ∷ [])
     (content_in (format_at client.catalogue path accept) (read_payload client server path accept)) h.object
     (exists_by client o i r d h ∙ ap (λ (parts : PartList). nat_lt 0 (length parts)) is)
 answered client server o i r d accept h may k (e ∷ parts) is =
@@ -448,8 +446,8 @@ answered client server o i r d accept h may k (e ∷ parts) is =
     (not (is_readable (definition_of client.catalogue o r))) (format_at client.catalogue path accept) Tlv
     (read_payload client server path accept) h.object there (ap not may) readable
     (format_is client o i r d accept h.defined_as h.several k)
-    ∙ ap (content_in (Some Tlv)) (payload_is client server o i r d accept h k
-    ∙ ap (λ (ps : PartList). within_limit (shortest_tlv (record_of r ps))) is)
+    ∙ ap (content_within Tlv) (payload_is client server o i r d accept h k
+    ∙ ap (λ (ps : PartList). shortest_tlv (record_of r ps)) is)
 
 pub multiple_read : MultipleIsRead
 multiple_read client o i r d other defined_as several readable place =

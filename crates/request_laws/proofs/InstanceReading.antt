@@ -1,9 +1,9 @@
 -- What an instance was given is read again.
-use Rattle.std.proofs.Common.{◌≡◌, ◌≢◌, inl, inr, ℕ, Bool, true, false, not, ◌&&◌, ◌==◌, List, length, Option}
+use Rattle.std.proofs.Common.{◌≡◌, ◌≢◌, inl, inr, ℕ, Bool, true, false, not, ◌&&◌, ◌==◌, List, [], Option}
 use Rattle.std.proofs.Common.{None, Some, refl, sym, ap, subst, ◌∙◌}
 use Rattle.std.specs.Bool.{if◌then◌else◌}
 use Rattle.std.specs.FinMap as finite
-use Rattle.std.specs.Option.{is_some, option_and_then}
+use Rattle.std.specs.Option.{is_some, option_map, unwrap_or}
 use Rattle.std.proofs.lemmas.Bool.{ne_eqb}
 use Rattle.lwm2m_values.specs.Tree.{single}
 use Rattle.lwm2m_values.specs.declared.value.Value.{Value}
@@ -15,7 +15,7 @@ use Rattle.object_defs.specs.declared.path.Path.TheVariants.{Instance, Resource}
 use Rattle.instance_store.specs.Existence.{has_resource}
 use Rattle.instance_store.specs.Stored.{Stored, has_instance, value_at}
 use Rattle.lwm2m_payloads.specs.Formats.{extent_as, format_for, many, one}
-use Rattle.lwm2m_payloads.specs.Nodes.{value_payload, within_limit}
+use Rattle.lwm2m_payloads.specs.Nodes.{value_payload}
 use Rattle.lwm2m_payloads.specs.PartList.{PartList}
 use Rattle.lwm2m_payloads.specs.Written.{PartsOnce, part_value}
 use Rattle.lwm2m_payloads.specs.declared.format.Format.{Format}
@@ -23,11 +23,11 @@ use Rattle.lwm2m_payloads.specs.declared.given.Given.TheVariants.{Parts}
 use Rattle.lwm2m_payloads.specs.declared.given.Mode.{Mode}
 use Rattle.lwm2m_payloads.specs.declared.given.Mode.TheVariants.{Replace, Update}
 use Rattle.lwm2m_payloads.proofs.EachOnce.{instance_once}
-use Rattle.device_requests.specs.Access.{may_read, shown_instances}
+use Rattle.device_requests.specs.Access.{may_read}
 use Rattle.device_requests.specs.Client.{Client, with_stored}
-use Rattle.device_requests.specs.Laws.{IsAmong}
+use Rattle.device_requests.specs.Laws.{IsAmong, content_within}
 use Rattle.device_requests.specs.Outcomes.{read_answer, write_outcome}
-use Rattle.device_requests.specs.Read.{content_in, format_at, payload_in, read_payload}
+use Rattle.device_requests.specs.Read.{format_at, payload_in, read_payload}
 use Rattle.device_requests.specs.Refusals.{refusals_of, to_write}
 use Rattle.device_requests.specs.Targets.{defined, exists, is_readable, place_of, resource_place}
 use Rattle.request_laws.specs.Instances.{HoldsGiven, InstancesAreReadBack, IsInstanceReadBack, left_by}
@@ -64,31 +64,29 @@ value_there client o i r d v h =
     rw (h.place, h.readable, h.alone, h.value_is) refl in
     ap (has_resource client.store (resource_place o i r)) h.defined_as ∙ held
 
-value_shown : (client : Client) (ns : List ℕ) (o i r : ℕ) (d : ResourceDef) (v : Value) (wanted : Format)
+value_shown : (client : Client) (server o i r : ℕ) (d : ResourceDef) (v : Value) (wanted : Format)
     → HoldsValue client o i r d v
-    → payload_in client.catalogue client.store ns (Resource o i r) wanted
-    ≡ within_limit (value_payload wanted (single r) v)
-value_shown client ns o i r d v wanted h = rw (h.defined_as, h.alone, h.value_is) refl
+    → payload_in client server (Resource o i r) wanted ≡ value_payload wanted (single r) v
+value_shown client server o i r d v wanted h = rw (h.defined_as, h.alone, h.value_is) refl
 
 value_read : (client : Client) (server o i r : ℕ) (d : ResourceDef) (v : Value) (accept : Option ℕ) (wanted : Format)
     → HoldsValue client o i r d v → may_read client server (Resource o i r) ≡ true
     → format_for (one d.kind) accept ≡ Some wanted
     → read_answer client server (Resource o i r) accept
-    ≡ content_in (Some wanted) (within_limit (value_payload wanted (single r) v))
+    ≡ content_within wanted (value_payload wanted (single r) v)
 value_read client server o i r d v accept wanted h may k =
     let path = Resource o i r in
-    let shows = shown_instances client.store (length client.accounts) server o in
     let format = format_is client o i r d accept h.defined_as h.alone ∙ k in
-    let payload : read_payload client server path accept ≡ within_limit (value_payload wanted (single r) v) =
-    ap (λ (f : Option Format). option_and_then (payload_in client.catalogue client.store shows path) f) format
-    ∙ value_shown client shows o i r d v wanted h in
+    let payload : read_payload client server path accept ≡ value_payload wanted (single r) v =
+    ap (λ (f : Option Format). unwrap_or (option_map (payload_in client server path) f) []) format
+    ∙ value_shown client server o i r d v wanted h in
     let readable : not (is_readable (definition_of client.catalogue o r)) ≡ false =
     ap (λ (x : Option ResourceDef). not (is_readable x)) h.defined_as ∙ ap not h.readable in
     shown (o == 0) (not (exists client.catalogue client.store path)) (not (may_read client server path))
     (not (is_readable (definition_of client.catalogue o r))) (format_at client.catalogue path accept) wanted
     (read_payload client server path accept) h.object (ap not (value_there client o i r d v h)) (ap not may) readable
     format
-    ∙ ap (content_in (Some wanted)) payload
+    ∙ ap (content_within wanted) payload
 
 -- ---- the parts of a multiple resource
 

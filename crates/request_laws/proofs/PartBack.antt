@@ -1,8 +1,9 @@
 -- A part that was written is read again.
-use Rattle.std.proofs.Common.{◌≡◌, ℕ, Bool, true, false, cond, not, ◌&&◌, ◌==◌, List, [], ◌∷◌, length, Option, None}
+use Rattle.std.proofs.Common.{◌≡◌, ℕ, Bool, true, false, cond, not, ◌&&◌, ◌==◌, List, [], ◌∷◌, Option, None}
 use Rattle.std.proofs.Common.{Some, refl, sym, ap, subst, ◌∙◌}
 use Rattle.std.specs.Cmp.{eq_by_cmp_equiv}
-use Rattle.std.specs.Option.{is_some, option_and_then}
+use Rattle.std.specs.Bool.{if◌then◌else◌}
+use Rattle.std.specs.Option.{is_some, option_and_then, option_map, unwrap_or}
 use Rattle.lwm2m_values.specs.Reading.{nodes_of_bytes, value_of_bytes, value_of_text}
 use Rattle.lwm2m_values.specs.Tree.{Trees, multi, part, none, more}
 use Rattle.lwm2m_values.specs.declared.kind.ValueKind.{ValueKind}
@@ -16,7 +17,7 @@ use Rattle.object_defs.specs.declared.path.Path.TheVariants.{Part}
 use Rattle.object_defs.proofs.PathOrder.{path_total}
 use Rattle.instance_store.specs.Stored.{Stored, has_instance, value_at, with_value}
 use Rattle.lwm2m_payloads.specs.Given.{given_if, lone_part, one_part, part_given, part_record}
-use Rattle.lwm2m_payloads.specs.Nodes.{value_payload, within_limit}
+use Rattle.lwm2m_payloads.specs.Nodes.{value_payload}
 use Rattle.lwm2m_payloads.specs.declared.format.Format.{Format}
 use Rattle.lwm2m_payloads.specs.declared.format.Format.TheVariants.{PlainText, OctetStream, Tlv}
 use Rattle.lwm2m_payloads.specs.declared.given.Given.{Given}
@@ -25,12 +26,13 @@ use Rattle.lwm2m_payloads.specs.declared.given.Mode.{Mode}
 use Rattle.device_requests.specs.declared.answer.Code.{Code}
 use Rattle.device_requests.specs.declared.answer.Code.TheVariants.{Unauthorized, NotFound, MethodNotAllowed}
 use Rattle.device_requests.specs.declared.answer.Code.TheVariants.{NotAcceptable, InternalServerError}
-use Rattle.device_requests.specs.Access.{may_read, shown_instances}
-use Rattle.device_requests.specs.Answer.{refused_or}
+use Rattle.device_requests.specs.Access.{may_read}
+use Rattle.device_requests.specs.Answer.{bare, refused_or}
 use Rattle.device_requests.specs.Client.{Client, with_stored}
+use Rattle.device_requests.specs.Laws.{content_within}
 use Rattle.device_requests.specs.Outcomes.{read_answer, write_outcome}
-use Rattle.device_requests.specs.Read.{content_in, format_at, payload_in, read_payload}
-use Rattle.device_requests.specs.Refusals.{refusals_of, to_write}
+use Rattle.device_requests.specs.Read.{content_in, format_at, one_payload, payload_in, read_payload}
+use Rattle.device_requests.specs.Refusals.{is_oversized, refusals_of, to_write}
 use Rattle.device_requests.specs.Targets.{exists, is_multiple, is_readable, place_of, resource_place}
 use Rattle.device_requests.specs.Write.{given_to_part, values_given}
 use Rattle.device_requests.specs.Write.{write_unless}
@@ -77,20 +79,26 @@ both_are true true h = (refl, refl)
 both_are true false h = cc
 both_are false b h = cc
 
--- no line of a Read applies but that of its payload's length
-pub shown : (a b s c : Bool) (format : Option Format) (wanted : Format) (payload : Option (List ℕ)) → a ≡ false → b
-    ≡ false → s ≡ false → c ≡ false → format ≡ Some wanted
+-- by the rule of a payload's length
+by_length : (long : Bool) (format wanted : Format) (payload : List ℕ) → Some format ≡ Some wanted
+    → refused_or (if long then Some InternalServerError else None) (content_in (Some format) payload)
+    ≡ (if long then bare InternalServerError else content_in (Some wanted) payload)
+by_length true format wanted payload l = refl
+by_length false format wanted payload l = ap (λ (w : Option Format). content_in w payload) l
+
+-- no rule of a Read holds but that of its payload's length
+pub shown : (a b s c : Bool) (format : Option Format) (wanted : Format) (payload : List ℕ) → a ≡ false → b ≡ false
+    → s ≡ false → c ≡ false → format ≡ Some wanted
     → refused_or (first_line ((a, Unauthorized) ∷ (b, NotFound) ∷ (s, Unauthorized) ∷ (c, MethodNotAllowed)
-    ∷ (not (is_some format), NotAcceptable) ∷ (not (is_some payload), InternalServerError) ∷ []))
-    (content_in format payload) ≡ content_in (Some wanted) payload
+    ∷ (not (is_some format), NotAcceptable) ∷ (is_oversized payload, InternalServerError) ∷ []))
+    (content_in format payload) ≡ content_within wanted payload
 shown true b s c format wanted payload h j m k l = cc
 shown false true s c format wanted payload h j m k l = cc
 shown false false true c format wanted payload h j m k l = cc
 shown false false false true format wanted payload h j m k l = cc
 shown false false false false None wanted payload h j m k l = cc
-shown false false false false (Some format) wanted None h j m k l = refl
-shown false false false false (Some format) wanted (Some payload) h j m k l =
-    ap (λ (w : Option Format). content_in w (Some payload)) l
+shown false false false false (Some format) wanted payload h j m k l =
+    by_length (is_oversized payload) format wanted payload l
 
 -- a part that can be read and has a value
 record HoldsPart (client : Client) (o i r n : ℕ) (d : ResourceDef) (value : Value) : Type 0 where
@@ -112,23 +120,22 @@ part_shown : (client : Client) (server o i r n : ℕ) (d : ResourceDef) (value :
     (wanted : Format) → HoldsPart client o i r n d value
     → may_read client server (Part o i r n) ≡ true → format_at client.catalogue (Part o i r n) accept ≡ Some wanted
     → read_answer client server (Part o i r n) accept
-    ≡ content_in (Some wanted) (within_limit (value_payload wanted (part n) value))
+    ≡ content_within wanted (value_payload wanted (part n) value)
 part_shown client server o i r n d value accept wanted h m format =
     let path = Part o i r n in
     let multiple : is_multiple (definition_of client.catalogue o r) ≡ true = ap is_multiple h.defined ∙ h.several in
     let readable : not (is_readable (definition_of client.catalogue o r)) ≡ false =
     ap (λ (x : Option ResourceDef). not (is_readable x)) h.defined ∙ ap not h.readable in
-    let shows = shown_instances client.store (length client.accounts) server o in
-    let payload : read_payload client server path accept ≡ within_limit (value_payload wanted (part n) value) =
-    ap (λ (f : Option Format). option_and_then (payload_in client.catalogue client.store shows path) f) format
-    ∙ ap (λ (v : Option Value). option_and_then (λ w. within_limit (value_payload wanted (part n) w)) v) h.value_is in
+    let payload : read_payload client server path accept ≡ value_payload wanted (part n) value =
+    ap (λ (f : Option Format). unwrap_or (option_map (payload_in client server path) f) []) format
+    ∙ ap (one_payload wanted (part n)) h.value_is in
     shown (o == 0) (not (exists client.catalogue client.store path)) (not (may_read client server path))
     (not (is_readable (definition_of client.catalogue o r))) (format_at client.catalogue path accept) wanted
     (read_payload client server path accept) h.object
     (exists_by (has_instance client.store (place_of o i)) (is_multiple (definition_of client.catalogue o r))
     (value_at client.store (part_of (resource_place o i r) n)) value h.place multiple h.value_is)
     (ap not m) readable format
-    ∙ ap (content_in (Some wanted)) payload
+    ∙ ap (content_within wanted) payload
 
 value_there : (s : Stored) (o i r n : ℕ) (v : Value)
     → value_at (with_value s (part_of (resource_place o i r) n) v) (part_of (resource_place o i r) n) ≡ Some v

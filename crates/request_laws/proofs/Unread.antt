@@ -1,13 +1,12 @@
 -- What a server may not read shows in no answer to it.
-use Rattle.std.proofs.Common.{◌≡◌, ◌⊎◌, inl, inr, ℕ, Bool, true, false, not, ◌&&◌, ◌||◌, ◌==◌, nat_lt, nat_le, List, []}
+use Rattle.std.proofs.Common.{◌≡◌, ◌⊎◌, inl, inr, ℕ, Bool, true, false, not, ◌&&◌, ◌||◌, ◌==◌, nat_le, List, []}
 use Rattle.std.proofs.Common.{◌∷◌, ◌++◌, find, map, length, Option, None, Some, Result, Ok, Err, refl, sym, ap, ◌∙◌}
 use Rattle.std.specs.Bool.{if◌then◌else◌}
 use Rattle.std.specs.List.{filter, flat_map, list_any}
-use Rattle.std.specs.Option.{is_some, option_and_then, option_map}
+use Rattle.std.specs.Option.{is_some, option_and_then, option_map, unwrap_or}
 use Rattle.coap_codec.specs.Message.{Message}
 use Rattle.lwm2m_values.specs.Tlv.{shortest_tlv}
 use Rattle.lwm2m_values.specs.Tree.{Tree, instance, listed, part, single}
-use Rattle.lwm2m_values.specs.declared.value.Value.{Value}
 use Rattle.object_defs.specs.Catalogue.{definition_of}
 use Rattle.object_defs.specs.Lines.{first_line}
 use Rattle.object_defs.specs.Path.{object_in, part_of, path_text, single_of}
@@ -22,7 +21,7 @@ use Rattle.device_firmware.specs.Firmware.{with_outcome, with_uri, uri_of}
 use Rattle.device_firmware.specs.declared.event.FirmwareEvent.{FirmwareEvent}
 use Rattle.device_firmware.specs.declared.event.FirmwareEvent.TheVariants as event
 use Rattle.device_instances.specs.Numbers.{below, instance_at, is_free, number_for}
-use Rattle.lwm2m_payloads.specs.Nodes.{Pairs, instance_node, is_shown, nodes_of, value_payload, within_limit}
+use Rattle.lwm2m_payloads.specs.Nodes.{Pairs, instance_node, is_shown, nodes_of}
 use Rattle.lwm2m_payloads.specs.Given.{creation_given, instance_given}
 use Rattle.lwm2m_payloads.specs.declared.format.Format.{Format}
 use Rattle.lwm2m_payloads.specs.declared.given.Assignment.{Assignment}
@@ -59,8 +58,9 @@ use Rattle.device_requests.specs.Options.{queries_of}
 use Rattle.device_requests.specs.Order.{Asks}
 use Rattle.device_requests.specs.Outcomes.{attributes_outcome, create_outcome, delete_outcome, discover_answer}
 use Rattle.device_requests.specs.Outcomes.{execute_outcome, read_answer, write_outcome}
-use Rattle.device_requests.specs.Read.{can_be_read, content_in, format_at, payload_in, read_payload}
+use Rattle.device_requests.specs.Read.{can_be_read, content_in, format_at, one_payload, payload_in, read_payload}
 use Rattle.device_requests.specs.Refusals.{is_refused_now, refusal_of, to_create, to_delete, to_execute, to_write}
+use Rattle.device_requests.specs.Refusals.{is_oversized}
 use Rattle.device_requests.specs.Refusals.{to_write_attributes, unless_taken}
 use Rattle.device_requests.specs.Request.{outcome_by, outcome_for, request_of}
 use Rattle.device_requests.specs.Targets.{defined, definition_at, exists, is_fixed, is_multiple, is_resource, place_of}
@@ -83,12 +83,12 @@ there client stored server h path =
 -- ---- Read
 
 -- the answer to a Read, by whether the target exists and may be read, and by the payload
-abbrev read_by : Client → Path → Option ℕ → Bool → Bool → Option (List ℕ) → Answer
+abbrev read_by : Client → Path → Option ℕ → Bool → Bool → List ℕ → Answer
 read_by client path accept exists_there may payload =
     let format = format_at client.catalogue path accept in
     refused_or (first_line ((object_in path == 0, Unauthorized) ∷ (not exists_there, NotFound)
     ∷ (not may, Unauthorized) ∷ (not (can_be_read client.catalogue path), MethodNotAllowed)
-    ∷ (not (is_some format), NotAcceptable) ∷ (not (is_some payload), InternalServerError) ∷ []))
+    ∷ (not (is_some format), NotAcceptable) ∷ (is_oversized payload, InternalServerError) ∷ []))
     (content_in format payload)
 
 unread : (a b : Bool) (lines others : List (Bool × Code)) (answer other : Answer)
@@ -99,13 +99,13 @@ unread false true lines others answer other = refl
 unread false false lines others answer other = refl
 
 -- what refuses a Read that its server may make
-abbrev lines_behind : Client → Path → Option ℕ → Option (List ℕ) → List (Bool × Code)
+abbrev lines_behind : Client → Path → Option ℕ → List ℕ → List (Bool × Code)
 lines_behind client path accept payload =
     (not (can_be_read client.catalogue path), MethodNotAllowed)
     ∷ (not (is_some (format_at client.catalogue path accept)), NotAcceptable)
-    ∷ (not (is_some payload), InternalServerError) ∷ []
+    ∷ (is_oversized payload, InternalServerError) ∷ []
 
-hidden_by : (client : Client) (path : Path) (accept : Option ℕ) (e may : Bool) (new old : Option (List ℕ))
+hidden_by : (client : Client) (path : Path) (accept : Option ℕ) (e may : Bool) (new old : List ℕ)
     → (may ≡ true → new ≡ old) → read_by client path accept e may new ≡ read_by client path accept e may old
 hidden_by client path accept e true new old h = ap (read_by client path accept e true) (h refl)
 hidden_by client path accept e false new old h =
@@ -128,9 +128,7 @@ abbrev shown_by : List ResourceDef → Pairs → List ℕ
 shown_by resources es = shortest_tlv (nodes_of (filter (λ e. is_shown resources e.0) es))
 
 same_object : (client : Client) (stored : Stored) (server o : ℕ) (format : Format) → DiffersUnread client stored server
-    → payload_in client.catalogue stored (shown_instances stored (length client.accounts) server o) (Object o) format
-    ≡ payload_in client.catalogue client.store (shown_instances client.store (length client.accounts) server o)
-    (Object o) format
+    → payload_in (with_stored client stored) server (Object o) format ≡ payload_in client server (Object o) format
 same_object client stored server o format h =
     let resources = defined client.catalogue o in
     let p = reads client.store (length client.accounts) server o in
@@ -139,41 +137,34 @@ same_object client stored server o format h =
     let lists : shown_instances stored (length client.accounts) server o
     ≡ shown_instances client.store (length client.accounts) server o =
     λ j. filter (λ i. same_reads client stored server o i h j) (same_list stored client.store o h.instances j) in
-    ap (λ (ns : List ℕ). within_limit (shortest_tlv (listed (map new ns)))) lists
-    ∙ ap (λ (ts : List Tree). within_limit (shortest_tlv (listed ts)))
+    ap (λ (ns : List ℕ). shortest_tlv (listed (map new ns))) lists
+    ∙ ap (λ (ts : List Tree). shortest_tlv (listed ts))
     (same_map p new old (λ i may. ap (λ (es : Pairs). instance i (nodes_of (filter (λ e. is_shown resources e.0) es)))
     (same_below client stored server (Instance o i) o i h (instance_below o i) may)) (instances_of client.store o))
 
-abbrev one_shown : Format → (List ℕ → Tree) → Option Value → Option (List ℕ)
-one_shown format record_of value = option_and_then (λ v. within_limit (value_payload format record_of v)) value
-
-same_resource : (client : Client) (stored : Stored) (server o i r : ℕ) (ns ms : List ℕ) (format : Format)
+same_resource : (client : Client) (stored : Stored) (server o i r : ℕ) (format : Format)
     → DiffersUnread client stored server → reads client.store (length client.accounts) server o i ≡ true
-    → payload_in client.catalogue stored ns (Resource o i r) format
-    ≡ payload_in client.catalogue client.store ms (Resource o i r) format
-same_resource client stored server o i r ns ms format h may =
+    → payload_in (with_stored client stored) server (Resource o i r) format
+    ≡ payload_in client server (Resource o i r) format
+same_resource client stored server o i r format h may =
     let resources = defined client.catalogue o in
     let path = Resource o i r in
     let all = same_below client stored server path o i h (resource_below o i r) may in
     let one = h.values (single_of (resource_place o i r)) may in
     λ j. if is_multiple (definition_of client.catalogue o r)
-    then within_limit (shown_by resources (all j)) else one_shown format (single r) (one j)
+    then shown_by resources (all j) else one_payload format (single r) (one j)
 
 same_payload : (client : Client) (stored : Stored) (server : ℕ) (path : Path) (format : Format)
     → DiffersUnread client stored server → may_read client server path ≡ true
-    → payload_in client.catalogue stored (shown_instances stored (length client.accounts) server (object_in path)) path
-    format
-    ≡ payload_in client.catalogue client.store
-    (shown_instances client.store (length client.accounts) server (object_in path)) path format
+    → payload_in (with_stored client stored) server path format ≡ payload_in client server path format
 same_payload client stored server (Object o) format h may = same_object client stored server o format h
 same_payload client stored server (Instance o i) format h may =
-    ap (λ (es : Pairs). within_limit (shown_by (defined client.catalogue o) es))
+    ap (λ (es : Pairs). shown_by (defined client.catalogue o) es)
     (same_below client stored server (Instance o i) o i h (instance_below o i) may)
 same_payload client stored server (Resource o i r) format h may =
-    same_resource client stored server o i r (shown_instances stored (length client.accounts) server o)
-    (shown_instances client.store (length client.accounts) server o) format h may
+    same_resource client stored server o i r format h may
 same_payload client stored server (Part o i r n) format h may =
-    ap (one_shown format (part n)) (h.values (part_of (resource_place o i r) n) may)
+    ap (one_payload format (part n)) (h.values (part_of (resource_place o i r) n) may)
 
 same_may : (client : Client) (stored : Stored) (server : ℕ) (path : Path) → DiffersUnread client stored server
     → may_read (with_stored client stored) server path ≡ may_read client server path
@@ -194,7 +185,7 @@ same_read client stored server path accept h =
     ap (λ (t : Bool × Bool). read_by client path accept t.0 t.1 new)
     (λ j. (there client stored server h path j, same_may client stored server path h j))
     ∙ hidden_by client path accept e (may_read client server path) new old (λ may.
-    ap (λ (f : Format → Option (List ℕ)). option_and_then f (format_at client.catalogue path accept))
+    ap (λ (f : Format → List ℕ). unwrap_or (option_map f (format_at client.catalogue path accept)) [])
     (λ j format. same_payload client stored server path format h may j))
 
 -- ---- Discover
@@ -231,7 +222,7 @@ links_by client server path sizes others =
 abbrev discover_by : Path → Bool → List ℕ → Answer
 discover_by path exists_there payload =
     refused_or (first_line ((object_in path == 0, Unauthorized) ∷ (not exists_there, NotFound)
-    ∷ (nat_lt 1024 (length payload), InternalServerError) ∷ [])) (content link_format payload)
+    ∷ (is_oversized payload, InternalServerError) ∷ [])) (content link_format payload)
 
 same_discover : (client : Client) (stored : Stored) (server : ℕ) (path : Path) → DiffersUnread client stored server
     → discover_answer (with_stored client stored) server path ≡ discover_answer client server path

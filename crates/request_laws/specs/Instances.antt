@@ -11,7 +11,7 @@ use Rattle.object_defs.specs.declared.path.Path.TheVariants.{Instance, Resource}
 use Rattle.instance_store.specs.Stored.{Stored, lies_in, value_at}
 use Rattle.lwm2m_payloads.specs.Formats.{format_for, one}
 use Rattle.lwm2m_payloads.specs.Given.{instance_given}
-use Rattle.lwm2m_payloads.specs.Nodes.{value_payload, within_limit}
+use Rattle.lwm2m_payloads.specs.Nodes.{value_payload}
 use Rattle.lwm2m_payloads.specs.PartList.{PartList}
 use Rattle.lwm2m_payloads.specs.declared.format.Format.{Format}
 use Rattle.lwm2m_payloads.specs.declared.given.Assignment.{Assignment}
@@ -22,9 +22,8 @@ use Rattle.lwm2m_payloads.specs.declared.given.Mode.TheVariants.{Replace, Update
 use Rattle.device_requests.specs.declared.answer.Code.TheVariants.{Changed}
 use Rattle.device_requests.specs.Access.{may_read}
 use Rattle.device_requests.specs.Client.{Client}
-use Rattle.device_requests.specs.Laws.{IsAmong}
+use Rattle.device_requests.specs.Laws.{IsAmong, content_within}
 use Rattle.device_requests.specs.Outcomes.{read_answer, write_outcome}
-use Rattle.device_requests.specs.Read.{content_in}
 use Rattle.device_requests.specs.Targets.{defined, is_readable, resource_place}
 use Rattle.request_laws.specs.Multiples.{HasPart, IsPartThen, IsReadInParts}
 
@@ -96,7 +95,7 @@ pub record IsInstanceReadBack (client : Client) (mode : Mode) (o i : ℕ) (paylo
       → (server : ℕ) (accept : Option ℕ) (wanted : Format) → may_read new server (Resource o i r) ≡ true
       → format_for (one d.kind) accept ≡ Some wanted
       → read_answer new server (Resource o i r) accept
-      ≡ content_in (Some wanted) (within_limit (value_payload wanted (single r) v))
+      ≡ content_within wanted (value_payload wanted (single r) v)
   pub parts : (r : ℕ) (d : ResourceDef) (parts : PartList) → definition_of client.catalogue o r ≡ Some d
       → d.multiple ≡ true → can_read d.ops ≡ true → IsGivenTo given r (Parts parts)
       → (shown : PartList) × IsReadInParts new o i r shown

@@ -16,7 +16,6 @@ use Rattle.object_defs.specs.declared.path.Path.TheVariants.{Resource, Part}
 use Rattle.object_defs.specs.declared.path.ResourcePath.{ResourcePath}
 use Rattle.instance_store.specs.Stored.{Stored, has_instance, value_at}
 use Rattle.lwm2m_payloads.specs.Given.{part_given, resource_given}
-use Rattle.lwm2m_payloads.specs.Nodes.{within_limit}
 use Rattle.lwm2m_payloads.specs.PartList.{PartList}
 use Rattle.lwm2m_payloads.specs.declared.format.Format.{Format}
 use Rattle.lwm2m_payloads.specs.declared.format.Format.TheVariants.{Tlv}
@@ -29,9 +28,9 @@ use Rattle.device_requests.specs.Access.{may_read}
 use Rattle.device_requests.specs.Answer.{bare}
 use Rattle.device_requests.specs.Client.{Client}
 use Rattle.device_requests.specs.Create.{is_tlv}
-use Rattle.device_requests.specs.Laws.{IsAmong}
+use Rattle.device_requests.specs.Laws.{IsAmong, content_within}
 use Rattle.device_requests.specs.Outcomes.{read_answer, write_outcome}
-use Rattle.device_requests.specs.Read.{content_in, format_at}
+use Rattle.device_requests.specs.Read.{format_at}
 use Rattle.device_requests.specs.Targets.{place_of, resource_place}
 
 -- a resource holds these parts with these values, and no other part
@@ -47,7 +46,7 @@ part_records (e ∷ parts) = more (part e.0 (bytes_of e.1)) (part_records parts)
 abbrev pub answer_of_parts : ℕ → PartList → Answer
 answer_of_parts r [] = bare NotFound
 answer_of_parts r (e ∷ parts) =
-    content_in (Some Tlv) (within_limit (shortest_tlv (more (multi r (part_records (e ∷ parts))) none)))
+    content_within Tlv (shortest_tlv (more (multi r (part_records (e ∷ parts))) none))
 
 -- a resource holds these parts, and a Read of it answers them by ascending number, to each server that may read it
 pub record IsReadInParts (client : Client) (o i r : ℕ) (parts : PartList) : Type 0 where

@@ -7,15 +7,16 @@ use Rattle.object_defs.specs.Operations.{can_read}
 use Rattle.object_defs.specs.declared.definition.ResourceDef.{ResourceDef}
 use Rattle.object_defs.specs.declared.path.Path.TheVariants.{Part}
 use Rattle.lwm2m_payloads.specs.Given.{part_given}
-use Rattle.lwm2m_payloads.specs.Nodes.{value_payload, within_limit}
+use Rattle.lwm2m_payloads.specs.Nodes.{value_payload}
 use Rattle.lwm2m_payloads.specs.declared.format.Format.{Format}
 use Rattle.lwm2m_payloads.specs.declared.given.Given.TheVariants.{Parts}
 use Rattle.lwm2m_payloads.specs.declared.given.Mode.{Mode}
 use Rattle.device_requests.specs.declared.answer.Code.TheVariants.{Changed}
 use Rattle.device_requests.specs.Access.{may_read}
 use Rattle.device_requests.specs.Client.{Client}
+use Rattle.device_requests.specs.Laws.{content_within}
 use Rattle.device_requests.specs.Outcomes.{read_answer, write_outcome}
-use Rattle.device_requests.specs.Read.{content_in, format_at}
+use Rattle.device_requests.specs.Read.{format_at}
 
 -- the payload gives this value to the part, and a Read of it then answers the value in each format that is served, to
 -- each server that may read it
@@ -29,7 +30,7 @@ pub record IsPartReadBack (client : Client) (o i r n : ℕ) (d : ResourceDef) (n
       → may_read new server (Part o i r n) ≡ true
       → format_at new.catalogue (Part o i r n) accept ≡ Some wanted
       → read_answer new server (Part o i r n) accept
-      ≡ content_in (Some wanted) (within_limit (value_payload wanted (part n) value))
+      ≡ content_within wanted (value_payload wanted (part n) value)
 
 -- a Write of a part of a resource that can be read, answered by Changed
 abbrev pub PartIsRead : Type 0
