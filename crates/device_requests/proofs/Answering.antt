@@ -22,21 +22,21 @@ use Rattle.device_requests.specs.declared.operation.Operation.TheVariants.{Write
 use Rattle.device_requests.specs.declared.operation.Operation.TheVariants.{Delete}
 use Rattle.device_requests.specs.declared.request.Request.{Request}
 use Rattle.notifier.specs.Attributes.{Numbers}
-use Rattle.device_requests.specs.WriteAttributes.{annotate_unless, attributes_given, may_annotate}
+use Rattle.device_requests.specs.WriteAttributes.{annotate_unless, attributes_given}
 use Rattle.device_requests.specs.Answer.{content, refused_or}
 use Rattle.object_defs.specs.Lines.{first_line}
-use Rattle.device_requests.specs.Create.{Newborn, create_unless, is_tlv, lacks_room, newborn}
-use Rattle.device_requests.specs.Targets.{is_fixed, exists}
+use Rattle.device_requests.specs.Create.{Newborn, create_unless, lacks_room, newborn}
+use Rattle.device_requests.specs.Targets.{exists}
 use Rattle.device_requests.specs.Delete.{delete_unless}
 use Rattle.device_requests.specs.Execute.{execute_unless}
 use Rattle.device_requests.specs.Discover.{discover_payload}
 use Rattle.device_requests.specs.Operation.{operation_of}
 use Rattle.device_requests.specs.Options.{accept_of, content_format_of, has_query, has_unrecognized_critical}
 use Rattle.device_requests.specs.Options.{queries_of, segments_of, path_of}
-use Rattle.device_requests.specs.Read.{can_be_read, content_in, format_at, read_payload}
+use Rattle.device_requests.specs.Read.{content_in, format_at, read_payload}
 use Rattle.device_requests.specs.Outcomes.{discover_answer, write_outcome}
-use Rattle.device_requests.specs.Refusals.{is_oversized, refusal_of, refusals_of, rules_of, to_delete, to_discover}
-use Rattle.device_requests.specs.Refusals.{to_execute, to_write}
+use Rattle.device_requests.specs.Refusals.{can_be_read, is_fixed, is_oversized, is_tlv, may_annotate, refusal_of}
+use Rattle.device_requests.specs.Refusals.{refusals_of, rules_of, to_delete, to_discover, to_execute, to_write}
 use Rattle.device_requests.specs.Request.{outcome_at, outcome_for, outcome_of, purpose_of, request_by, request_on}
 use Rattle.device_requests.specs.Request.{request_with}
 use Rattle.device_requests.specs.Access.{may_read, rights_on}

@@ -17,8 +17,8 @@ use Rattle.device_requests.specs.Client.{Client}
 use Rattle.device_requests.specs.Inside.{value_rules}
 use Rattle.device_requests.specs.Outcomes.{write_outcome}
 use Rattle.device_requests.specs.Read.{format_at}
-use Rattle.device_requests.specs.Refusals.{is_refused_now, unless_taken}
-use Rattle.device_requests.specs.Write.{can_be_written, event_of, exceeds, is_target, left, mode_at, new_values}
+use Rattle.device_requests.specs.Refusals.{can_be_written, is_refused_now, is_target, unless_taken}
+use Rattle.device_requests.specs.Write.{event_of, exceeds, left, mode_at, new_values}
 use Rattle.device_requests.specs.Write.{write_unless}
 
 -- what an error says, said otherwise

@@ -20,8 +20,8 @@ use Rattle.device_requests.specs.Access.{may_read, reads}
 use Rattle.device_requests.specs.Answer.{bare, refused_or}
 use Rattle.device_requests.specs.Hiding.{UnreadableIsHidden, UnreadableIsRefused}
 use Rattle.device_requests.specs.Client.{Client, with_stored}
-use Rattle.device_requests.specs.Read.{can_be_read, content_in, format_at, read_payload}
-use Rattle.device_requests.specs.Refusals.{is_oversized}
+use Rattle.device_requests.specs.Read.{content_in, format_at, read_payload}
+use Rattle.device_requests.specs.Refusals.{can_be_read, is_oversized}
 use Rattle.device_requests.specs.Targets.{defined, exists}
 
 stopped : (a b s : Bool) (lines : List (Bool × Code)) (answer : Answer) → s ≡ false

@@ -16,11 +16,10 @@ use Rattle.device_instances.specs.Numbers.{instance_at, number_for}
 use Rattle.device_instances.proofs.Found.{found_free}
 use Rattle.lwm2m_payloads.proofs.Apart.{none_held}
 use Rattle.device_requests.specs.declared.answer.Code.{Code}
-use Rattle.device_requests.specs.Refusals.{refusal_of, refusals_of, to_delete, to_execute}
+use Rattle.device_requests.specs.Refusals.{is_target, refusal_of, refusals_of, to_delete, to_execute}
 use Rattle.device_requests.specs.Targets.{exists, place_of, resource_place, is_multiple}
 use Rattle.device_requests.specs.Client.{Client}
 use Rattle.device_requests.specs.Inside.{has_place}
-use Rattle.device_requests.specs.Write.{is_target}
 
 exists_has : (catalogue : List ObjectDef) (stored : Stored) (path : Path) → exists catalogue stored path ≡ true
     → has_place stored path ≡ true

@@ -40,11 +40,11 @@ use Rattle.device_requests.specs.Answer.{Outcome, bare, refused_or}
 use Rattle.object_defs.specs.Lines.{first_line}
 use Rattle.device_requests.specs.Outcomes.{read_answer}
 use Rattle.device_requests.specs.Read.{content_in, format_at, payload_in, read_payload}
-use Rattle.device_requests.specs.Refusals.{is_refused_now, is_oversized, unless_taken}
+use Rattle.device_requests.specs.Refusals.{can_be_written, is_oversized, is_refused_now, is_target, unless_taken}
 use Rattle.device_requests.specs.Client.{Client, with_stored}
 use Rattle.device_requests.specs.Targets.{is_readable, place_of, resource_place}
-use Rattle.device_requests.specs.Write.{can_be_written, event_of, exceeds, left, values_given}
-use Rattle.device_requests.specs.Write.{given_to_resource, is_target, resource_written, new_values, write_unless}
+use Rattle.device_requests.specs.Write.{event_of, exceeds, left, values_given}
+use Rattle.device_requests.specs.Write.{given_to_resource, resource_written, new_values, write_unless}
 use Rattle.device_requests.specs.Write.{written}
 use Rattle.device_requests.specs.Laws.{IsReadBack, WrittenIsRead, content_within}
 

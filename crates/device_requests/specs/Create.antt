@@ -1,10 +1,8 @@
 -- What a Create answers and changes (OMA LwM2M 1.1 Core, Create).
-use Rattle.std.specs.Prelude.{ℕ, ◌==◌, Bool, true, false, List, length, Option, None, Some, option_map}
+use Rattle.std.specs.Prelude.{ℕ, Bool, false, List, length, Option, None, Some, option_map}
 use Rattle.instance_store.specs.Stored.{Stored}
 use Rattle.device_instances.specs.Creations.{has_no_room, with_created}
 use Rattle.device_instances.specs.Numbers.{number_for}
-use Rattle.lwm2m_payloads.specs.Formats.{format_number}
-use Rattle.lwm2m_payloads.specs.declared.format.Format.TheVariants.{Tlv}
 use Rattle.lwm2m_payloads.specs.Given.{creation_given}
 use Rattle.lwm2m_payloads.specs.declared.given.Assignment.{Assignment}
 use Rattle.lwm2m_payloads.specs.declared.given.Creation.{Creation}
@@ -13,11 +11,6 @@ use Rattle.device_requests.specs.declared.answer.Code.TheVariants.{BadRequest}
 use Rattle.device_requests.specs.Answer.{Outcome, answered, bare, created}
 use Rattle.device_requests.specs.Client.{Client, with_stored}
 use Rattle.device_requests.specs.Targets.{defined, place_of}
-
--- the values of an instance are TLV; no Content-Format says the same
-abbrev pub is_tlv : Option ℕ → Bool
-is_tlv None = true
-is_tlv (Some number) = number == format_number Tlv
 
 -- the number of a new instance, and what its resources are given
 pub record Newborn : Type 0 where

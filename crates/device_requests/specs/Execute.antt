@@ -1,21 +1,17 @@
 -- What an Execute answers and changes, and what the device does after it (OMA LwM2M 1.1 Core, Execute).
-use Rattle.std.specs.Prelude.{◌≡◌, ◌↔◌, ℕ, ◌==◌, Bool, true, false, not, ◌&&◌, List, pos, Option, None, Some}
-use Rattle.std.specs.Prelude.{is_some, if◌then◌else◌}
+use Rattle.std.specs.Prelude.{◌≡◌, ◌↔◌, ℕ, true, List, pos, Option, None, Some}
+use Rattle.std.specs.Prelude.{if◌then◌else◌}
 use Rattle.std.specs.Option.{unwrap_or}
 use Rattle.lwm2m_values.specs.declared.value.Value.TheVariants.{Whole}
 use Rattle.object_defs.specs.Numbers.{server_object, device_object}
 use Rattle.object_defs.specs.Numbers.{firmware_update_object, disable, registration_update_trigger}
 use Rattle.object_defs.specs.Numbers.{reboot, factory_reset, error_code, reset_error_code, update}
-use Rattle.object_defs.specs.Operations.{can_execute}
 use Rattle.object_defs.specs.Path.{part_of}
-use Rattle.object_defs.specs.declared.definition.ResourceDef.{ResourceDef}
 use Rattle.object_defs.specs.declared.path.Path.{Path}
 use Rattle.object_defs.specs.declared.path.Path.TheVariants.{Object, Instance, Resource, Part}
 use Rattle.instance_store.specs.Stored.{Stored, resource_path, with_value, without_values}
 use Rattle.device_firmware.specs.Firmware.{firmware_after}
 use Rattle.device_firmware.specs.declared.event.FirmwareEvent.TheVariants.{Update}
-use Rattle.lwm2m_payloads.specs.Formats.{format_number}
-use Rattle.lwm2m_payloads.specs.declared.format.Format.TheVariants.{PlainText}
 use Rattle.lwm2m_payloads.specs.Arguments.{AreArguments}
 use Rattle.lwm2m_payloads.specs.Scanning.{are_arguments}
 use Rattle.device_requests.specs.declared.answer.Act.{Act}
@@ -25,22 +21,9 @@ use Rattle.device_requests.specs.Answer.{Outcome, answered, bare, done}
 use Rattle.device_requests.specs.Client.{Client, with_stored}
 use Rattle.device_requests.specs.Targets.{is_resource, resource_place}
 
-abbrev pub is_executable : Option ResourceDef → Bool
-is_executable None = false
-is_executable (Some d) = can_execute d.ops
-
--- arguments are plain text; no Content-Format says the same
-abbrev pub is_plain : Option ℕ → Bool
-is_plain None = true
-is_plain (Some number) = number == format_number PlainText
-
 -- a payload passes the test of arguments exactly where it is arguments
 abbrev pub ArgumentsAreTested : Type 0
 ArgumentsAreTested = (payload : List ℕ) → (are_arguments payload ≡ true) ↔ AreArguments payload
-
--- Update of Firmware Update is taken in some states only
-abbrev pub is_untimely : Stored → Path → Bool
-is_untimely stored path = is_resource firmware_update_object update path && not (is_some (firmware_after stored Update))
 
 -- what the device does then
 abbrev pub act_of : Path → Option Act

@@ -1,5 +1,5 @@
 -- The answer to a Read (OMA LwM2M 1.1 Core). A notification is the same answer.
-use Rattle.std.specs.Prelude.{ℕ, Bool, true, List, [], length, Option, None, Some, option_map, if◌then◌else◌}
+use Rattle.std.specs.Prelude.{ℕ, List, [], length, Option, None, Some, option_map, if◌then◌else◌}
 use Rattle.std.specs.Option.{unwrap_or}
 use Rattle.lwm2m_values.specs.Tlv.{shortest_tlv}
 use Rattle.lwm2m_values.specs.Tree.{Tree, part, single}
@@ -18,14 +18,7 @@ use Rattle.device_requests.specs.declared.answer.Code.TheVariants.{NotAcceptable
 use Rattle.device_requests.specs.Access.{shown_instances}
 use Rattle.device_requests.specs.Answer.{bare, content}
 use Rattle.device_requests.specs.Client.{Client}
-use Rattle.device_requests.specs.Targets.{defined, definition_at, is_multiple, is_readable, resource_place}
-
--- an object and an instance can be read, a resource and its parts where the resource has that operation
-abbrev pub can_be_read : List ObjectDef → Path → Bool
-can_be_read catalogue (Object _) = true
-can_be_read catalogue (Instance _ _) = true
-can_be_read catalogue (Resource o i r) = is_readable (definition_at catalogue (Resource o i r))
-can_be_read catalogue (Part o i r n) = is_readable (definition_at catalogue (Part o i r n))
+use Rattle.device_requests.specs.Targets.{defined, definition_at, is_multiple, resource_place}
 
 -- the format of this number at the path, or the default one without a number, where it is served there
 abbrev pub format_at : List ObjectDef → Path → Option ℕ → Option Format

@@ -1,7 +1,5 @@
 -- The targets of operations: what the catalogue says of a path, and which paths exist.
-use Rattle.std.specs.Prelude.{ℕ, ◌==◌, Bool, false, ◌&&◌, ◌||◌, List, [], Option, None, Some, is_some}
-use Rattle.object_defs.specs.Numbers.{server_object, access_control_object, device_object}
-use Rattle.object_defs.specs.Numbers.{firmware_update_object}
+use Rattle.std.specs.Prelude.{ℕ, ◌==◌, Bool, false, ◌&&◌, List, [], Option, None, Some, is_some}
 use Rattle.object_defs.specs.Catalogue.{object_of, definition_of}
 use Rattle.object_defs.specs.Operations.{can_read}
 use Rattle.object_defs.specs.Path.{part_of}
@@ -59,9 +57,3 @@ is_resource object resource (Object o) = false
 is_resource object resource (Instance o i) = false
 is_resource object resource (Resource o i r) = o == object && r == resource
 is_resource object resource (Part o i r n) = false
-
--- servers create and delete no instances of Server, Access Control, Device and Firmware Update
-abbrev pub is_fixed : ℕ → Bool
-is_fixed object =
-    object == server_object || (object == access_control_object
-    || (object == device_object || object == firmware_update_object))

@@ -1,15 +1,14 @@
 -- What a Write answers and changes (OMA LwM2M 1.1 Core, Write: Replace and Partial Update).
-use Rattle.std.specs.Prelude.{ℕ, ◌==◌, Bool, false, not, ◌&&◌, List, Option, None, Some, option_map}
-use Rattle.std.specs.Prelude.{option_and_then, is_some, if◌then◌else◌}
+use Rattle.std.specs.Prelude.{ℕ, Bool, false, ◌&&◌, List, Option, None, Some, option_map}
+use Rattle.std.specs.Prelude.{option_and_then, if◌then◌else◌}
 use Rattle.object_defs.specs.Numbers.{firmware_update_object, update_package, package_uri}
-use Rattle.object_defs.specs.Catalogue.{object_of, definition_of}
-use Rattle.object_defs.specs.Operations.{can_write}
+use Rattle.object_defs.specs.Catalogue.{definition_of}
 use Rattle.object_defs.specs.declared.definition.ObjectDef.{ObjectDef}
 use Rattle.object_defs.specs.declared.definition.ResourceDef.{ResourceDef}
 use Rattle.object_defs.specs.declared.path.Path.{Path}
 use Rattle.object_defs.specs.declared.path.Path.TheVariants.{Object, Instance, Resource, Part}
 use Rattle.object_defs.specs.declared.path.ResourcePath.{ResourcePath}
-use Rattle.instance_store.specs.Stored.{Stored, has_instance}
+use Rattle.instance_store.specs.Stored.{Stored}
 use Rattle.lwm2m_payloads.specs.declared.format.Format.{Format}
 use Rattle.std.specs.Option.{unwrap_or}
 use Rattle.lwm2m_values.specs.declared.value.Value.TheVariants.{Text, Opaque}
@@ -28,28 +27,7 @@ use Rattle.device_requests.specs.declared.answer.Code.TheVariants.{Changed}
 use Rattle.device_requests.specs.Answer.{Outcome, answered, bare}
 use Rattle.device_requests.specs.Read.{format_at}
 use Rattle.device_requests.specs.Client.{Client, with_stored}
-use Rattle.device_requests.specs.Targets.{defined, is_multiple, is_resource, place_of, resource_place}
-
--- for a Write a resource exists where it is defined, and any part where its resource is multiple; the instance must
--- exist
-abbrev pub is_target : List ObjectDef → Stored → Path → Bool
-is_target catalogue stored (Object o) = false
-is_target catalogue stored (Instance o i) = is_some (object_of catalogue o) && has_instance stored (place_of o i)
-is_target catalogue stored (Resource o i r) =
-    is_some (definition_of catalogue o r) && has_instance stored (place_of o i)
-is_target catalogue stored (Part o i r n) =
-    is_multiple (definition_of catalogue o r) && has_instance stored (place_of o i)
-
-abbrev pub is_writable : Option ResourceDef → Bool
-is_writable None = false
-is_writable (Some d) = can_write d.ops
-
--- an instance can be written but one of Firmware Update, a resource and its parts where the resource has that operation
-abbrev pub can_be_written : List ObjectDef → Path → Bool
-can_be_written catalogue (Object o) = false
-can_be_written catalogue (Instance o i) = not (o == firmware_update_object)
-can_be_written catalogue (Resource o i r) = is_writable (definition_of catalogue o r)
-can_be_written catalogue (Part o i r n) = is_writable (definition_of catalogue o r)
+use Rattle.device_requests.specs.Targets.{defined, is_resource, place_of, resource_place}
 
 abbrev pub given_to_resource : Option ResourceDef → Format → List ℕ → Option Given
 given_to_resource None format payload = None

@@ -1,16 +1,14 @@
 -- What a Write-Attributes answers and changes (OMA LwM2M 1.1 Core, Write-Attributes).
-use Rattle.std.specs.Prelude.{ℕ, ◌==◌, Bool, true, false, not, ◌&&◌, List, [], Option, None, Some, option_and_then}
+use Rattle.std.specs.Prelude.{ℕ, Bool, true, false, not, ◌&&◌, List, [], Option, None, Some, option_and_then}
 use Rattle.std.specs.Prelude.{Result, Ok, Err, if◌then◌else◌}
 use Rattle.lwm2m_values.specs.declared.kind.ValueKind.{ValueKind}
 use Rattle.lwm2m_values.specs.declared.kind.ValueKind.TheVariants.{Text, Whole, Flag, Opaque, Moment, Link}
-use Rattle.access_control.specs.declared.letters.Rights.{Rights}
 use Rattle.notifier.specs.declared.attribute.Change.{Change}
 use Rattle.notifier.specs.declared.attribute.Level.{Level}
 use Rattle.notifier.specs.declared.attribute.Level.TheVariants as level
 use Rattle.notifier.specs.declared.fault.QueryFault.{QueryFault}
 use Rattle.notifier.specs.Attributes.{Numbers, is_consistent, written}
 use Rattle.notifier.specs.Query.{changes_of}
-use Rattle.object_defs.specs.Numbers.{access_control_object}
 use Rattle.object_defs.specs.Catalogue.{definition_of}
 use Rattle.object_defs.specs.declared.definition.ObjectDef.{ObjectDef}
 use Rattle.object_defs.specs.declared.definition.ResourceDef.{ResourceDef}
@@ -18,7 +16,6 @@ use Rattle.object_defs.specs.declared.path.Path.{Path}
 use Rattle.object_defs.specs.declared.path.Path.TheVariants.{Object, Instance, Resource, Part}
 use Rattle.device_requests.specs.declared.answer.Code.{Code}
 use Rattle.device_requests.specs.declared.answer.Code.TheVariants.{Changed, BadRequest}
-use Rattle.device_requests.specs.Access.{rights_on}
 use Rattle.device_requests.specs.Answer.{Outcome, answered, bare}
 use Rattle.device_requests.specs.Client.{Client, with_attributes}
 
@@ -42,20 +39,6 @@ level_at catalogue (Object o) = level.Object
 level_at catalogue (Instance o i) = level.Instance
 level_at catalogue (Resource o i r) = if is_numeric (definition_of catalogue o r) then level.Number else level.Resource
 level_at catalogue (Part o i r n) = level.Resource
-
--- the right that attributes ask for: to read; on instances of Access Control to write
-abbrev pub annotates : Rights → ℕ → Bool
-annotates rights object = if object == access_control_object then rights.write else rights.read
-
--- on an object they ask for none
-abbrev pub annotates_at : Rights → Path → Bool
-annotates_at rights (Object o) = true
-annotates_at rights (Instance o i) = annotates rights o
-annotates_at rights (Resource o i r) = annotates rights o
-annotates_at rights (Part o i r n) = annotates rights o
-
-abbrev pub may_annotate : Client → ℕ → Path → Bool
-may_annotate client server path = annotates_at (rights_on client server path) path
 
 -- the changes, where the queries spell some
 abbrev pub spelled : Result (List Change) QueryFault → Option (List Change)

@@ -3,10 +3,11 @@
 ghost use Rattle.std.specs.Prelude.{◌≡◌, ◌≢◌, ◌∷◌, [], true, false, length, not, IfOk, OnErr, OnOk, Some};
 ghost use Rattle.std.specs.Option.{is_some};
 ghost use Rattle.device_requests.specs.Answer.{Leaves, takes_memory};
-ghost use Rattle.device_requests.specs.Create.{create_unless, is_tlv, lacks_room, newborn};
+ghost use Rattle.device_requests.specs.Create.{create_unless, lacks_room, newborn};
 ghost use Rattle.device_requests.specs.Outcomes.{create_outcome};
 ghost use Rattle.device_requests.specs.Client.{with_stored};
-ghost use Rattle.device_requests.specs.Targets.{defined, is_fixed, place_of};
+ghost use Rattle.device_requests.specs.Refusals.{is_fixed, is_tlv};
+ghost use Rattle.device_requests.specs.Targets.{defined, place_of};
 ghost use Rattle.device_instances.specs.Creations.{with_created};
 ghost use Rattle.instance_store.specs.Stored.{has_instance};
 ghost use Rattle.object_defs.specs.Numbers.{access_control_object};

@@ -9,8 +9,8 @@ ghost use Rattle.device_requests.specs.Answer.{Leaves};
 ghost use Rattle.device_requests.specs.Delete.{deleted, taken_away, without_controls};
 ghost use Rattle.device_requests.specs.Inside.{has_place};
 ghost use Rattle.device_requests.specs.Outcomes.{delete_outcome};
-ghost use Rattle.device_requests.specs.Refusals.{refusal_of, to_delete};
-ghost use Rattle.device_requests.specs.Targets.{is_fixed, place_of};
+ghost use Rattle.device_requests.specs.Refusals.{is_fixed, refusal_of, to_delete};
+ghost use Rattle.device_requests.specs.Targets.{place_of};
 
 use crate::answer::{Answer, Code};
 use crate::client::Client;

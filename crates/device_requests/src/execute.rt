@@ -10,11 +10,11 @@ ghost use Rattle.instance_store.specs.Stored.{without_values};
 ghost use Rattle.device_requests.specs.Answer.{Leaves};
 ghost use Rattle.lwm2m_payloads.specs.Scanning.{are_arguments};
 ghost use Rattle.device_requests.specs.Execute.{act_of, executed};
-ghost use Rattle.device_requests.specs.Execute.{is_executable, is_plain, is_untimely, with_no_error};
+ghost use Rattle.device_requests.specs.Execute.{with_no_error};
 ghost use Rattle.device_requests.specs.Client.{with_stored};
 ghost use Rattle.device_requests.specs.Inside.{has_place};
 ghost use Rattle.device_requests.specs.Outcomes.{execute_outcome};
-ghost use Rattle.device_requests.specs.Refusals.{refusal_of, to_execute};
+ghost use Rattle.device_requests.specs.Refusals.{is_executable, is_plain, is_untimely, refusal_of, to_execute};
 ghost use Rattle.device_requests.specs.Targets.{definition_at, is_resource};
 
 use crate::answer::{Act, Answer, Code};

@@ -6,7 +6,8 @@ ghost use Rattle.lwm2m_payloads.specs.Nodes.{within_limit};
 ghost use Rattle.device_requests.specs.Access.{shown_instances};
 ghost use Rattle.device_requests.specs.Answer.{takes_memory};
 ghost use Rattle.device_requests.specs.Outcomes.{read_answer};
-ghost use Rattle.device_requests.specs.Read.{can_be_read, object_payload, one_payload, payload_in, values_payload};
+ghost use Rattle.device_requests.specs.Read.{object_payload, one_payload, payload_in, values_payload};
+ghost use Rattle.device_requests.specs.Refusals.{can_be_read};
 
 use crate::access::shown_instances;
 use crate::answer::{Answer, Code};

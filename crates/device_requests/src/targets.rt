@@ -1,7 +1,8 @@
 //! The targets of operations: what the catalogue says of a path, and which paths exist.
 
 ghost use Rattle.std.specs.Prelude.{◌≡◌};
-ghost use Rattle.device_requests.specs.Targets.{defined, definition_at, exists, is_fixed, is_multiple, is_readable};
+ghost use Rattle.device_requests.specs.Refusals.{is_fixed};
+ghost use Rattle.device_requests.specs.Targets.{defined, definition_at, exists, is_multiple, is_readable};
 ghost use Rattle.device_requests.specs.Targets.{is_resource, resource_place};
 
 use instance_store::Store;

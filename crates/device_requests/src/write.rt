@@ -11,8 +11,9 @@ ghost use Rattle.device_requests.specs.Client.{with_stored};
 ghost use Rattle.device_requests.specs.Read.{format_at};
 ghost use Rattle.device_requests.specs.Inside.{give, has_place, value_rules};
 ghost use Rattle.device_requests.specs.Outcomes.{write_outcome};
-ghost use Rattle.device_requests.specs.Write.{can_be_written, event_of, given_to_part, given_to_resource, is_target};
-ghost use Rattle.device_requests.specs.Write.{is_writable, mode_at, new_values, package_in, resource_exceeds};
+ghost use Rattle.device_requests.specs.Refusals.{can_be_written, is_target, is_writable};
+ghost use Rattle.device_requests.specs.Write.{event_of, given_to_part, given_to_resource};
+ghost use Rattle.device_requests.specs.Write.{mode_at, new_values, package_in, resource_exceeds};
 ghost use Rattle.device_requests.specs.Write.{resource_written, uri_in, values_exceed, values_given, values_written};
 ghost use Rattle.device_requests.specs.Write.{write_unless};
 

@@ -7,7 +7,8 @@ ghost use Rattle.object_defs.specs.Lines.{first_line};
 ghost use Rattle.device_requests.specs.Answer.{Leaves, takes_memory};
 ghost use Rattle.device_requests.specs.Options.{queries_of};
 ghost use Rattle.device_requests.specs.Outcomes.{attributes_outcome};
-ghost use Rattle.device_requests.specs.WriteAttributes.{agreed, annotate_unless, annotates, annotates_at};
+ghost use Rattle.device_requests.specs.Refusals.{annotates, annotates_at};
+ghost use Rattle.device_requests.specs.WriteAttributes.{agreed, annotate_unless};
 ghost use Rattle.device_requests.specs.WriteAttributes.{changes_given, is_numeric, is_numeric_kind, level_at, spelled};
 
 use crate::answer::{Answer, Code};

@@ -30,8 +30,8 @@ use Rattle.device_requests.specs.Answer.{Outcome}
 use Rattle.device_requests.specs.Client.{Client}
 use Rattle.device_requests.specs.Create.{Newborn, create_unless, newborn, numbered}
 use Rattle.device_requests.specs.Laws.{is_refusal}
-use Rattle.device_requests.specs.Refusals.{refusals_of, to_create}
-use Rattle.device_requests.specs.Targets.{defined, is_fixed, place_of}
+use Rattle.device_requests.specs.Refusals.{is_fixed, refusals_of, to_create}
+use Rattle.device_requests.specs.Targets.{defined, place_of}
 use Rattle.request_laws.specs.Creations.{CreatesAdd, IsControlOf, IsCreated, IsSame}
 use Rattle.request_laws.proofs.Asking.{chosen, fails, passes, there}
 

@@ -41,8 +41,8 @@ use Rattle.lwm2m_payloads.specs.declared.given.Mode.{Mode}
 use Rattle.lwm2m_payloads.specs.declared.given.Mode.TheVariants.{Replace, Update}
 use Rattle.device_requests.specs.Access.{reads, rights_at}
 use Rattle.device_requests.specs.Client.{Client}
+use Rattle.device_requests.specs.Refusals.{is_target}
 use Rattle.device_requests.specs.Targets.{exists, is_multiple, place_of, resource_place}
-use Rattle.device_requests.specs.Write.{is_target}
 use Rattle.request_laws.specs.Unread.{DiffersUnread}
 
 -- ---- the full paths of values

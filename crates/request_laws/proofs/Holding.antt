@@ -44,11 +44,10 @@ use Rattle.device_requests.specs.declared.answer.Code.TheVariants.{NotAcceptable
 use Rattle.device_requests.specs.Access.{may_read}
 use Rattle.device_requests.specs.Answer.{bare, refused_or}
 use Rattle.device_requests.specs.Client.{Client}
-use Rattle.device_requests.specs.Create.{is_tlv}
 use Rattle.device_requests.specs.Laws.{IsAmong, content_within}
 use Rattle.device_requests.specs.Outcomes.{read_answer}
 use Rattle.device_requests.specs.Read.{content_in, format_at, payload_in, read_payload}
-use Rattle.device_requests.specs.Refusals.{is_oversized}
+use Rattle.device_requests.specs.Refusals.{is_oversized, is_tlv}
 use Rattle.device_requests.specs.Targets.{defined, exists, is_readable, place_of, resource_place, resources_as}
 use Rattle.request_laws.specs.Multiples.{HoldsParts, MultipleIsRead, answer_of_parts, part_records}
 use Rattle.request_laws.proofs.Executing.{apart}

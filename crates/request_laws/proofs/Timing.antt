@@ -14,11 +14,11 @@ use Rattle.device_requests.specs.declared.answer.Code.TheVariants.{BadRequest, I
 use Rattle.device_requests.specs.declared.answer.Code.TheVariants.{NotFound, Unauthorized}
 use Rattle.device_requests.specs.declared.operation.Operation.{Operation}
 use Rattle.device_requests.specs.Client.{Client}
-use Rattle.device_requests.specs.Execute.{is_untimely}
 use Rattle.device_requests.specs.Laws.{IsAmong}
 use Rattle.device_requests.specs.Order.{OneTable}
 use Rattle.device_requests.specs.Refusals.{done_code, format_refusal, is_invalid, is_out_of_turn, is_refused_now}
-use Rattle.device_requests.specs.Refusals.{is_too_much, lacks_format, lacks_operation, lacks_right, lacks_target}
+use Rattle.device_requests.specs.Refusals.{is_too_much, is_untimely, lacks_format, lacks_operation, lacks_right}
+use Rattle.device_requests.specs.Refusals.{lacks_target}
 use Rattle.device_requests.specs.Request.{outcome_of, purpose_of}
 use Rattle.request_laws.specs.Untimely.{IsUntimely, StatesDecide, StatesPrecedeLimits}
 use Rattle.request_laws.specs.Untimely.IsUntimely.{asks_for_update, replaces, updates_partially}

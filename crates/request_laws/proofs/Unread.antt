@@ -43,32 +43,31 @@ use Rattle.device_requests.specs.declared.request.Request.{Request}
 use Rattle.device_requests.specs.Access.{may_read, reads, rights_at, shown_instances}
 use Rattle.device_requests.specs.Answer.{bare, content, created, done, refused_or}
 use Rattle.device_requests.specs.Client.{Client, with_stored}
-use Rattle.device_requests.specs.Create.{Newborn, create_unless, is_tlv, lacks_room}
+use Rattle.device_requests.specs.Create.{Newborn, create_unless, lacks_room}
 use Rattle.device_requests.specs.Create.{newborn, numbered}
 use Rattle.device_requests.specs.Delete.{delete_unless}
 use Rattle.device_requests.specs.Discover.{attributes_text, dimension, dimension_text}
 use Rattle.device_requests.specs.Discover.{discover_payload}
 use Rattle.device_requests.specs.Discover.{inherits_at, paths_below}
-use Rattle.device_requests.specs.Execute.{act_of, execute_unless, is_executable}
-use Rattle.device_requests.specs.Execute.{is_plain}
-use Rattle.device_requests.specs.Execute.{is_untimely}
+use Rattle.device_requests.specs.Execute.{act_of, execute_unless}
 use Rattle.lwm2m_payloads.specs.Scanning.{are_arguments}
 use Rattle.device_requests.specs.Operation.{link_format}
 use Rattle.device_requests.specs.Options.{queries_of}
 use Rattle.device_requests.specs.Order.{Asks}
 use Rattle.device_requests.specs.Outcomes.{attributes_outcome, create_outcome, delete_outcome, discover_answer}
 use Rattle.device_requests.specs.Outcomes.{execute_outcome, read_answer, write_outcome}
-use Rattle.device_requests.specs.Read.{can_be_read, content_in, format_at, one_payload, payload_in, read_payload}
-use Rattle.device_requests.specs.Refusals.{is_refused_now, refusal_of, to_create, to_delete, to_execute, to_write}
-use Rattle.device_requests.specs.Refusals.{is_oversized}
-use Rattle.device_requests.specs.Refusals.{to_write_attributes, unless_taken}
+use Rattle.device_requests.specs.Read.{content_in, format_at, one_payload, payload_in, read_payload}
+use Rattle.device_requests.specs.Refusals.{annotates_at, can_be_read, can_be_written, is_executable, is_fixed}
+use Rattle.device_requests.specs.Refusals.{is_oversized, is_plain, is_refused_now, is_tlv, is_untimely, refusal_of}
+use Rattle.device_requests.specs.Refusals.{to_create, to_delete, to_execute, to_write, to_write_attributes}
+use Rattle.device_requests.specs.Refusals.{unless_taken}
 use Rattle.device_requests.specs.Request.{outcome_by, outcome_for, request_of}
-use Rattle.device_requests.specs.Targets.{defined, definition_at, exists, is_fixed, is_multiple, is_resource, place_of}
+use Rattle.device_requests.specs.Targets.{defined, definition_at, exists, is_multiple, is_resource, place_of}
 use Rattle.device_requests.specs.Targets.{resource_place}
-use Rattle.device_requests.specs.Write.{can_be_written, event_of, exceeds, given_to_part, given_to_resource, left}
+use Rattle.device_requests.specs.Write.{event_of, exceeds, given_to_part, given_to_resource, left}
 use Rattle.device_requests.specs.Write.{mode_at, new_values, resource_exceeds, values_given}
 use Rattle.device_requests.specs.Write.{write_unless}
-use Rattle.device_requests.specs.WriteAttributes.{annotate_unless, annotates_at, attributes_given}
+use Rattle.device_requests.specs.WriteAttributes.{annotate_unless, attributes_given}
 use Rattle.device_requests.proofs.Reading.{said}
 use Rattle.request_laws.specs.Unread.{AnswersHideUnread, DiffersUnread, asks_firmware, is_package}
 use Rattle.request_laws.proofs.Differing.{instance_below, resource_below, same_below, same_excess, same_excesses}

@@ -27,10 +27,10 @@ use Rattle.device_requests.specs.declared.answer.Code.TheVariants.{Changed, NotF
 use Rattle.device_requests.specs.Access.{may_read}
 use Rattle.device_requests.specs.Answer.{bare}
 use Rattle.device_requests.specs.Client.{Client}
-use Rattle.device_requests.specs.Create.{is_tlv}
 use Rattle.device_requests.specs.Laws.{IsAmong, content_within}
 use Rattle.device_requests.specs.Outcomes.{read_answer, write_outcome}
 use Rattle.device_requests.specs.Read.{format_at}
+use Rattle.device_requests.specs.Refusals.{is_tlv}
 use Rattle.device_requests.specs.Targets.{place_of, resource_place}
 
 -- a resource holds these parts with these values, and no other part

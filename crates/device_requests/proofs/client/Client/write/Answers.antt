@@ -1,7 +1,7 @@
 use Rattle.std.proofs.Common.{◌≡◌, ◌==◌, true, false, rules}
 use Rattle.object_defs.specs.Path.{object_in}
 use Rattle.device_requests.specs.Access.{rights_on}
-use Rattle.device_requests.specs.Write.{can_be_written, is_target}
+use Rattle.device_requests.specs.Refusals.{can_be_written, is_target}
 use Rattle.device_requests.proofs.Growing.{of_error, write_grows}
 use Rattle.device_requests.proofs.client.Client.write.Goals as goal
 
