@@ -1,5 +1,6 @@
 mod Answering
 pub mod Closing
+mod Copying
 mod Counting
 mod Keyed
 mod Lives

@@ -1,8 +1,11 @@
 -- Which events may take memory, and what is left of a device where there is none.
-use Rattle.std.specs.Prelude.{◌≡◌, ℕ, nat_lt, Bool, true, false, not, ◌&&◌, ◌||◌, List, length, Option, None, Some}
-use Rattle.std.specs.Prelude.{is_some}
+use Rattle.std.specs.Prelude.{◌≡◌, ℕ, ◌+◌, ◌/◌, ◌%◌, ◌==◌, nat_le, nat_lt, Bool, true, false, not, ◌&&◌, ◌||◌}
+use Rattle.std.specs.Prelude.{List, length, drop, slice_index, Option, None, Some, is_none, is_some}
+use Rattle.std.specs.Option.{option_or}
+use Rattle.coap_codec.specs.declared.fault.CoapFault.{CoapFault}
 use Rattle.coap_codec.specs.declared.kind.Kind.{Kind}
 use Rattle.coap_codec.specs.declared.kind.Kind.TheVariants.{Con, Non, Ack, Rst}
+use Rattle.coap_codec.specs.Fault.{header_fault, is_empty_message, place_fault, token_length}
 use Rattle.coap_codec.specs.Message.{Message}
 use Rattle.device_firmware.specs.Firmware.{firmware_after, is_ready}
 use Rattle.device_firmware.specs.declared.event.FirmwareEvent.TheVariants.{Ended}
@@ -10,7 +13,7 @@ use Rattle.device_requests.specs.Client.{has_account}
 use Rattle.device_machine.specs.declared.event.Event.{Event}
 use Rattle.device_machine.specs.declared.event.Event.TheVariants.{Recv, Put, Firmware, Tick}
 use Rattle.device_machine.specs.declared.recorded.Recorded.{Recorded}
-use Rattle.device_machine.specs.Reactions.{is_request, repeat_of}
+use Rattle.device_machine.specs.Reactions.{claims_confirmable, is_request, repeat_of}
 use Rattle.device_machine.specs.State.{Machine, Kept, living}
 
 -- what a repeated request gets takes memory where it is a datagram
@@ -32,11 +35,34 @@ message_grows f server m Non = is_request m.code && request_grows Non (repeat_of
 message_grows f server m Ack = false
 message_grows f server m Rst = false
 
--- an event may take memory: a datagram of a server that has an account, a value, an end of a download or an update
+-- there is a header of version 1, and its type is non-confirmable (RFC 7252 section 3)
+abbrev pub claims_non_confirmable : List ℕ → Bool
+claims_non_confirmable bytes =
+    nat_le 4 (length bytes) && (slice_index bytes 0 / 64 == 1 && slice_index bytes 0 / 16 % 4 == 1)
+
+-- the format error of the header, or else of what stands first after the token: an option, or the payload marker
+-- (section 3)
+abbrev pub early_fault : List ℕ → Option CoapFault
+early_fault bytes = option_or (header_fault bytes) (place_fault 0 (drop (4 + token_length bytes) bytes))
+
+-- more than an Empty message, without an early format error: its token, options and payload are copied
+abbrev pub is_copied : List ℕ → Bool
+is_copied bytes = is_none (early_fault bytes) && not (is_empty_message bytes)
+
+-- a datagram may take memory that claims to be confirmable, since it is answered or reset (section 4.2), or
+-- non-confirmable, where it is copied (section 4.3); so no acknowledgement, no Reset and no other version does
+abbrev pub datagram_grows : List ℕ → Bool
+datagram_grows bytes = claims_confirmable bytes || (claims_non_confirmable bytes && is_copied bytes)
+
+-- the header says that the bytes are ignored, whatever follows: it is no CON's, no NON's and not Empty
+abbrev pub is_ignored : List ℕ → Bool
+is_ignored bytes = not (claims_confirmable bytes || (claims_non_confirmable bytes || is_empty_message bytes))
+
+-- an event may take memory: such a datagram of a server that has an account, a value, an end of a download or an update
 -- where there is none or Package URI, State and Update Result are not all held, and seconds in which observations have
 -- turns
 abbrev pub event_grows : Kept → Event → Bool
-event_grows kept (Recv server bytes) = has_account kept.client server
+event_grows kept (Recv server bytes) = has_account kept.client server && datagram_grows bytes
 event_grows kept (Put path value) = true
 event_grows kept (Firmware code) =
     not (is_ready kept.client.store && is_some (firmware_after kept.client.store (Ended code)))

@@ -95,8 +95,8 @@ impl Device {
         ensures unchanged { result ≡ Err StepFault.Spent → self.new ≡ self.old }
         ensures memory { result ≡ Err StepFault.Memory → IsTrue self.new.spent }
 
-        // Some events take no memory, so they never end a device: each datagram of a server without an account, and
-        // each second without an observation.
+        // Some events take no memory, so they never end a device: each datagram of a server without an account, each
+        // acknowledgement and Reset, and each second without an observation.
         ensures grows { result ≡ Err StepFault.Memory → IsTrue (event_grows self.old.flat.kept event.now) }
         ensures left { result ≡ Err StepFault.Memory → KeepsRecords self.old.flat self.new.flat }
     {

@@ -1,12 +1,12 @@
 //! What a device does with a datagram.
 
 ghost use Rattle.std.specs.Prelude.{◌≡◌, ◌<◌, None, true, is_some, IfOk, OnErr};
+ghost use Rattle.coap_codec.specs.Fault.{is_empty_message};
 ghost use Rattle.device_machine.specs.declared.event.Event.TheVariants.{Recv};
 ghost use Rattle.device_machine.specs.Reactions.{Gives, claims_confirmable, is_request, on_fresh, on_message, on_noise};
 ghost use Rattle.device_machine.specs.Reactions.{on_outcome, on_request, reaction_to, repeat_of, reply_to};
-ghost use Rattle.device_machine.specs.Memory.{KeepsRecords, message_grows, request_grows};
+ghost use Rattle.device_machine.specs.Memory.{KeepsRecords, event_grows, is_ignored, message_grows, request_grows};
 ghost use Rattle.device_machine.specs.State.{lifetime};
-ghost use Rattle.device_requests.specs.Client.{has_account};
 ghost use Rattle.device_requests.specs.Options.{has_unrecognized_critical};
 ghost use Rattle.device_requests.specs.Request.{outcome_of};
 
@@ -24,6 +24,28 @@ fn is_request(code: u8) -> bool
     ensures { result ≡ is_request code }
 {
     code / 32 == 0 && code != 0
+}
+
+/// Whether bytes are an Empty message: a header alone, of code 0.00 and without a token (RFC 7252 section 4.1).
+fn is_empty(bytes: &[u8]) -> bool
+    ensures { result ≡ is_empty_message bytes.now }
+{
+    match bytes {
+        [first, code, _, _] => *first / 64 == 1 && *first % 16 == 0 && *code == 0,
+        _ => false,
+    }
+}
+
+/// Whether the header says that bytes are ignored, whatever follows: there is none of version 1, or it is that of an
+/// acknowledgement or a Reset, and the message is not Empty (RFC 7252 sections 3 and 4.2).
+fn is_ignored(bytes: &[u8]) -> bool
+    ensures { result ≡ is_ignored bytes.now }
+{
+    match header(bytes) {
+        None => true,
+        Some((Kind::Con | Kind::Non, _)) => false,
+        Some((Kind::Ack | Kind::Rst, _)) => !is_empty(bytes),
+    }
 }
 
 impl Machine {
@@ -178,11 +200,14 @@ impl Machine {
     pub(super) fn receive(&mut self, server: u16, bytes: &[u8]) -> Result<Outputs, AllocError>
         ensures gives { IfOk result (λ o. Gives o self.new (reaction_to self.old (Recv server bytes.now))) }
 
-        // A datagram of a server without an account takes no memory.
-        ensures grows { OnErr result (has_account self.old.kept.client server ≡ true) }
+        // Only a CON, or a NON that is copied, of a server with an account takes memory.
+        ensures grows { OnErr result (event_grows self.old.kept (Recv server bytes.now) ≡ true) }
         ensures left { OnErr result (KeepsRecords self.old self.new) }
     {
         if !self.client.has_account(server) {
+            return Ok(Outputs::none(self.alloc));
+        }
+        if is_ignored(bytes) {
             return Ok(Outputs::none(self.alloc));
         }
         match decode(self.alloc, bytes) {
