@@ -8,16 +8,17 @@ use crate::rule::{Draw, Enter, LAST, Look, NEXT, NUMBERS, SERVING, SeatOf, Table
 use atomic_table::Table;
 use crossbeam_utils::Backoff;
 use std::alloc::{AllocError, Global};
+use std::hint;
 use std::snapshot::Snapshot;
 use std::sync::Wait;
 use std::sync::atomic::AtomicU64;
 use std::time::Duration;
 
-/// How many tickets are out when a pass that comes waits without one.
-const CROWD: u64 = 4;
+/// How often a pass that waits outside looks at the words before it sleeps.
+const LOOKS: u32 = 2000;
 
-/// For how many milliseconds it sleeps before it looks again.
-const NAP: u64 = 1;
+/// For how many microseconds it then sleeps before it looks again.
+const NAP: u64 = 200;
 
 /// A value, and the order in which passes take it.
 #[derive(Drop)]
@@ -80,27 +81,27 @@ impl<T: Logged + Drop> TicketLock<T> {
         Ok((TicketLock { table }, pass))
     }
 
-    // Waits while many tickets are out. Whoever has a ticket keeps all later ones waiting, even while its thread has no
+    // Waits while a ticket is out. Whoever has a ticket keeps all later ones waiting, even while its thread has no
     // processor; whoever has none keeps nobody waiting. Nothing is known of what it sees.
     fn stay_outside<R: Wait>(&self, rt: &R) {
         let shared = &self.table.shared;
-        let backoff = Backoff::new();
         let asleep = AtomicU64::new(0);
+        let mut looks = 0;
         for _ in rt.forever() {
-            let served = shared.peek(SERVING) / 2;
-            if shared.peek(NEXT).saturating_sub(served) < CROWD {
+            if shared.peek(SERVING) == shared.peek(NEXT).saturating_mul(2) {
                 return;
             }
-            if backoff.is_completed() {
-                asleep.park_timeout(rt, 0, Duration::from_millis(NAP));
+            if looks < LOOKS {
+                looks += 1;
+                hint::spin_loop();
             } else {
-                backoff.snooze();
+                asleep.park_timeout(rt, 0, Duration::from_micros(NAP));
             }
         }
         unreachable!()
     }
 
-    // Draws a ticket, or finds that none is left.
+    // Draws a ticket that is due at once, or finds that none is left. Nothing is known of the former.
     fn draw<R: Wait>(&self, rt: &R, seat: &mut SeatOf<T>) -> Option<u64>
         requires { (seat.old.table_id ≡ lock_id self.now) × (is_resting seat.old.me.0.stage ≡ true) }
         ensures seat { (seat.new.table_id ≡ seat.old.table_id) × (seat.new.id ≡ seat.old.id) }
@@ -112,16 +113,17 @@ impl<T: Logged + Drop> TicketLock<T> {
         ensures none { seat.old.me.0.turn ≡ Some LAST → IsNone result }
     {
         let shared = &self.table.shared;
-        let backoff = Backoff::new();
         for _ in rt.forever() {
+            self.stay_outside(rt);
             let ticket = shared.load::<Look>(seat, NEXT);
             if ticket == LAST {
                 return None;
             }
-            if shared.compare_exchange::<Draw>(seat, NEXT, ticket, ticket + 1) == ticket {
+            if shared.peek(SERVING) / 2 == ticket
+                && shared.compare_exchange::<Draw>(seat, NEXT, ticket, ticket + 1) == ticket
+            {
                 return Some(ticket);
             }
-            backoff.spin();
         }
         unreachable!()
     }
@@ -179,7 +181,6 @@ impl<T: Logged + Drop> TicketLock<T> {
             count,
             mut seat,
         } = pass;
-        self.stay_outside(rt);
         let Some(ticket) = self.draw(rt, &mut seat) else {
             return Err((Pass { low, count, seat }, Spent));
         };
