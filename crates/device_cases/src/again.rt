@@ -1,122 +1,125 @@
 //! What the devices of a scenario output, found once more in the other ways that there are.
 
-use crate::outputs::lines_of;
-use crate::playing::Made;
+use crate::outputs::put_outputs;
+use crate::playing::{Made, Place};
 use crate::report::Report;
-use crate::words::{decimal, joined};
-use device_machine::{Output, StepFault};
+use case_sheet::Sheet;
+use device_machine::{Output, Outputs, StepFault};
+use device_template::Template;
 use scenario_image::{Scenario, ScenarioFault, Step, play, save};
 use std::alloc::{AllocError, Global};
 use trace_file::Entry;
 
 /// Compares what was output step by step with the serial run, with `play`, and the scenario with the one that `single`
-/// makes.
+/// makes. The case's title stands in the line of this number.
 pub fn judge(
-    alloc: Global,
     title: u32,
     scenario: &Scenario,
     made: &[Made],
     entries: &[Entry],
     report: &mut Report,
-) -> Result<(), AllocError> {
+) {
     for entry in entries {
-        let outputs = entry.outputs.as_slice();
-        if !is_made(alloc, made, entry.device, entry.step, outputs)? {
-            differs(
-                alloc,
-                title,
-                entry.device,
-                entry.step,
-                "the serial run",
-                report,
-            )?;
+        let place = Place {
+            device: entry.device,
+            step: entry.step,
+        };
+        if !is_made(made, place, entry.outputs.as_slice(), report) {
+            differs(title, place, "the serial run", report);
         }
     }
     for number in 0..scenario.rows() {
-        let Ok(device) = u16::try_from(number) else {
-            continue;
-        };
-        judge_play(alloc, title, scenario, device, made, report)?;
+        if let Ok(device) = u16::try_from(number) {
+            judge_row(title, scenario, device, made, report);
+        }
     }
-    judge_single(alloc, title, scenario, report)
+    judge_single(title, scenario, report);
 }
 
 /// Reports that a device output something else at a step.
-fn differs(
-    alloc: Global,
-    title: u32,
-    device: u16,
-    step: u32,
-    way: &str,
-    report: &mut Report,
-) -> Result<(), AllocError> {
-    let step = decimal(alloc, u64::from(step))?;
-    let device = decimal(alloc, u64::from(device))?;
-    let mut stated = joined(
-        alloc,
-        &["at step ", step.as_str(), " of device ", device.as_str()],
-    )?;
-    stated.push_str(" what is output step by step")?;
-    let came = joined(alloc, &["something else in ", way])?;
-    report.differs(title, stated.as_str(), came.as_str())
+fn differs(title: u32, place: Place, way: &str, report: &mut Report) {
+    let mut stated = Sheet::new(report.alloc());
+    stated.put("at step ");
+    stated.put_number(u64::from(place.step));
+    stated.put(" of device ");
+    stated.put_number(u64::from(place.device));
+    stated.put(" what is output step by step");
+    let mut came = Sheet::new(report.alloc());
+    came.put_all(&["something else in ", way]);
+    report.note(&stated);
+    report.note(&came);
+    report.differs(title, stated.as_str(), came.as_str());
 }
 
 /// Compares what was output step by step with what the device outputs where it takes all steps of its row at once.
+fn judge_row(title: u32, scenario: &Scenario, device: u16, made: &[Made], report: &mut Report) {
+    if let Some((class, steps)) = scenario.row(device) {
+        if let Some(class) = scenario.class(class) {
+            judge_play(title, class, steps, device, made, report);
+        }
+    }
+}
+
 fn judge_play(
-    alloc: Global,
     title: u32,
-    scenario: &Scenario,
+    class: &Template,
+    steps: &[Step],
     device: u16,
     made: &[Made],
     report: &mut Report,
-) -> Result<(), AllocError> {
-    let Some((class, steps)) = scenario.row(device) else {
-        return Ok(());
-    };
-    let Some(class) = scenario.class(class) else {
-        return Ok(());
-    };
-    let (_, all) = match play(alloc, class, steps) {
-        Ok(played) => played,
-        Err(StepFault::Memory) => return Err(AllocError),
-        Err(StepFault::Spent) => return differs(alloc, title, device, 0, "`play`", report),
-    };
+) {
+    match play(report.alloc(), class, steps) {
+        Ok((_, all)) => judge_played(title, all.as_slice(), device, made, report),
+        Err(StepFault::Memory) => report.cut(),
+        Err(StepFault::Spent) => differs(title, Place { device, step: 0 }, "`play`", report),
+    }
+}
+
+fn judge_played(
+    title: u32,
+    all: &[Option<Outputs>],
+    device: u16,
+    made: &[Made],
+    report: &mut Report,
+) {
     let mut step = 0u32;
-    for outputs in all.iter() {
+    for outputs in all {
         let outputs = match outputs {
             Some(outputs) => outputs.as_slice(),
             None => &[],
         };
-        if !is_made(alloc, made, device, step, outputs)? {
-            differs(alloc, title, device, step, "`play`", report)?;
+        let place = Place { device, step };
+        if !is_made(made, place, outputs, report) {
+            differs(title, place, "`play`", report);
         }
         step = step.saturating_add(1);
     }
-    Ok(())
 }
 
 /// Compares a scenario of one class and one device with the one that `single` makes, by their images.
-fn judge_single(
-    alloc: Global,
-    title: u32,
-    scenario: &Scenario,
-    report: &mut Report,
-) -> Result<(), AllocError> {
+fn judge_single(title: u32, scenario: &Scenario, report: &mut Report) {
     if scenario.classes() != 1 || scenario.rows() != 1 {
-        return Ok(());
+        return;
     }
     let (Some(class), Some((_, steps))) = (scenario.class(0), scenario.row(0)) else {
-        return Ok(());
+        return;
     };
-    match Scenario::single(alloc, class.copy()?, copies(alloc, steps)?) {
+    match single(report.alloc(), class, steps) {
         Ok(single) => {
-            if save(alloc, &single)?.as_slice() != save(alloc, scenario)?.as_slice() {
-                report.differs(title, "this scenario", "another from `single`")?;
+            if !are_same(&single, scenario, report) {
+                report.differs(title, "this scenario", "another from `single`");
             }
-            Ok(())
         }
-        Err(ScenarioFault::Memory) => Err(AllocError),
+        Err(ScenarioFault::Memory) => report.cut(),
         Err(_) => report.differs(title, "this scenario", "a refusal from `single`"),
+    }
+}
+
+/// The scenario that `single` makes of copies.
+fn single(alloc: Global, class: &Template, steps: &[Step]) -> Result<Scenario, ScenarioFault> {
+    match (class.copy(), copies(alloc, steps)) {
+        (Ok(class), Ok(steps)) => Scenario::single(alloc, class, steps),
+        _ => Err(ScenarioFault::Memory),
     }
 }
 
@@ -128,26 +131,25 @@ fn copies(alloc: Global, steps: &[Step]) -> Result<Vec<Step>, AllocError> {
     Ok(copies)
 }
 
-/// Whether this is what the device output at the step.
-fn is_made(
-    alloc: Global,
-    made: &[Made],
-    device: u16,
-    step: u32,
-    outputs: &[Output],
-) -> Result<bool, AllocError> {
-    for made in made {
-        if made.device == device && made.step == step {
-            let came = lines_of(alloc, outputs)?;
-            return Ok(
-                made.lines.len() == came.len()
-                    && made
-                        .lines
-                        .iter()
-                        .zip(came.iter())
-                        .all(|(one, other)| one.as_str() == other.as_str()),
-            );
+/// Whether two scenarios have one image.
+fn are_same(one: &Scenario, other: &Scenario, report: &mut Report) -> bool {
+    match (save(report.alloc(), one), save(report.alloc(), other)) {
+        (Ok(one), Ok(other)) => one.as_slice() == other.as_slice(),
+        _ => {
+            report.cut();
+            true
         }
     }
-    Ok(false)
+}
+
+/// Whether this is what the device output at the step.
+fn is_made(made: &[Made], place: Place, outputs: &[Output], report: &mut Report) -> bool {
+    let mut came = Sheet::new(report.alloc());
+    put_outputs(&mut came, outputs);
+    report.note(&came);
+    made.iter().any(|made| {
+        made.place.device == place.device
+            && made.place.step == place.step
+            && made.outputs.as_str() == came.as_str()
+    })
 }

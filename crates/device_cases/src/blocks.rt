@@ -1,7 +1,7 @@
 use crate::cases::is_remark;
-use crate::more_bytes::add_words;
+use crate::pieces::Pieces;
 use crate::report::Report;
-use std::alloc::{AllocError, Global};
+use std::alloc::Global;
 
 /// A line of a body, and the bytes that it and the lines that continue it say.
 #[derive(Drop)]
@@ -11,7 +11,7 @@ pub struct Block<'a> {
     /// The line.
     pub head: &'a str,
     /// The bytes.
-    pub bytes: Vec<u8>,
+    pub bytes: Pieces,
 }
 
 /// What a line may begin with so that bytes in pieces follow.
@@ -26,47 +26,58 @@ const BEFORE_PIECES: [&str; 6] = [
 
 /// The blocks of a body. A line is continued by lines that begin with `+ ` (further bytes in pieces), `| ` or `=| `
 /// (each a line of a text).
-pub fn blocks_of<'a>(
-    alloc: Global,
-    body: &[(u32, &'a str)],
-    report: &mut Report,
-) -> Result<Vec<Block<'a>>, AllocError> {
-    let mut blocks = Vec::new(alloc);
+pub fn blocks_of<'a>(body: &[(u32, &'a str)], report: &mut Report) -> Vec<Block<'a>> {
+    let mut blocks = Vec::new(report.alloc());
     for (line, text) in body {
-        if !is_remark(text) && !add_line(alloc, &mut blocks, *line, text)? {
-            report.malformed(*line, "neither bytes in pieces, nor what they may continue")?;
+        if !is_remark(text) {
+            add_line(&mut blocks, *line, text, report);
         }
     }
-    Ok(blocks)
+    for block in blocks.iter() {
+        if block.bytes.is_cut() {
+            report.cut();
+        }
+    }
+    blocks
 }
 
-/// Adds a line to the last block, or a block. It gives whether there are such lines.
-fn add_line<'a>(
-    alloc: Global,
+/// Adds a line to the last block, or a block.
+fn add_line<'a>(blocks: &mut Vec<Block<'a>>, line: u32, text: &'a str, report: &mut Report) {
+    let is_read = if let Some(words) = text.strip_prefix("+ ") {
+        match blocks.last_mut() {
+            Some(block) => block.bytes.put_line(words),
+            None => false,
+        }
+    } else if let Some(words) = text_line(text) {
+        match blocks.last_mut() {
+            Some(block) => {
+                block.bytes.put(words.as_bytes());
+                block.bytes.put(b"\n");
+                true
+            }
+            None => false,
+        }
+    } else {
+        add_block(blocks, line, text, report)
+    };
+    if !is_read {
+        report.malformed(line, "neither bytes in pieces, nor what they may continue");
+    }
+}
+
+/// Adds a block that begins with this line. It gives whether the line's pieces could be read.
+fn add_block<'a>(
     blocks: &mut Vec<Block<'a>>,
     line: u32,
-    text: &'a str,
-) -> Result<bool, AllocError> {
-    if let Some(words) = text.strip_prefix("+ ") {
-        return match blocks.last_mut() {
-            Some(block) => add_words(alloc, &mut block.bytes, words),
-            None => Ok(false),
-        };
+    head: &'a str,
+    report: &mut Report,
+) -> bool {
+    let mut bytes = Pieces::new(report.alloc());
+    let is_read = bytes.put_line(pieces_of(head));
+    if blocks.push(Block { line, head, bytes }).is_err() {
+        report.cut();
     }
-    if let Some(text) = text_line(text) {
-        return match blocks.last_mut() {
-            Some(block) => add_text(&mut block.bytes, text),
-            None => Ok(false),
-        };
-    }
-    let mut bytes = Vec::new(alloc);
-    let is_read = add_words(alloc, &mut bytes, pieces_of(text))?;
-    blocks.push(Block {
-        line,
-        head: text,
-        bytes,
-    })?;
-    Ok(is_read)
+    is_read
 }
 
 /// The line of a text that stands in this one.
@@ -75,12 +86,6 @@ fn text_line(line: &str) -> Option<&str> {
         return Some("");
     }
     line.strip_prefix("| ").or(line.strip_prefix("=| "))
-}
-
-fn add_text(out: &mut Vec<u8>, line: &str) -> Result<bool, AllocError> {
-    out.extend_from_slice(line.as_bytes())?;
-    out.push(b'\n')?;
-    Ok(true)
 }
 
 /// The pieces that a line has, if any.

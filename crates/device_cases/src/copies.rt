@@ -1,48 +1,69 @@
-//! Copies, which are written in the place of what was read: a case shows that they can be made, and are the same.
+//! Copies, which are written in the place of what was read: a case shows that they can be made, and are the same. A
+//! failed allocation is noted on the sheet that is handed on.
 
+use case_sheet::Sheet;
+use device_template::Template;
 use scenario_image::{Scenario, ScenarioFault, Step};
-use std::alloc::{AllocError, Global};
 use trace_file::{Entries, Entry};
 
 /// A scenario that is built of copies of what another one has.
-pub fn copy_of_scenario(alloc: Global, scenario: &Scenario) -> Result<Scenario, AllocError> {
-    let mut copy = Scenario::empty(alloc);
+pub fn copy_of_scenario(scenario: &Scenario, out: &mut Sheet) -> Scenario {
+    let mut copy = Scenario::empty(out.alloc());
     for place in 0..u16::MAX {
         let Some(class) = scenario.class(place) else {
             break;
         };
-        added(copy.add_class(class.copy()?))?;
+        add_class(&mut copy, class, out);
     }
     for place in 0..u16::MAX {
         let Some((class, steps)) = scenario.row(place) else {
             break;
         };
-        added(copy.add_row(class))?;
-        add_steps(&mut copy, steps)?;
+        note(copy.add_row(class), out);
+        for step in steps {
+            add_step(&mut copy, step, out);
+        }
     }
-    Ok(copy)
+    copy
 }
 
-fn add_steps(copy: &mut Scenario, steps: &[Step]) -> Result<(), AllocError> {
-    for step in steps {
-        added(copy.add_step(step.clone()?))?;
+fn add_class(copy: &mut Scenario, class: &Template, out: &mut Sheet) {
+    match class.copy() {
+        Ok(class) => note(copy.add_class(class), out),
+        Err(_) => out.cut(),
     }
-    Ok(())
+}
+
+fn add_step(copy: &mut Scenario, step: &Step, out: &mut Sheet) {
+    match step.clone() {
+        Ok(step) => note(copy.add_step(step), out),
+        Err(_) => out.cut(),
+    }
 }
 
 /// What was refused is absent from the copy, whose bytes are others then.
-fn added(copied: Result<(), ScenarioFault>) -> Result<(), AllocError> {
-    match copied {
-        Err(ScenarioFault::Memory) => Err(AllocError),
-        _ => Ok(()),
+fn note(copied: Result<(), ScenarioFault>, out: &mut Sheet) {
+    if let Err(ScenarioFault::Memory) = copied {
+        out.cut();
     }
 }
 
 /// Copies of entries.
-pub fn copy_of_entries(alloc: Global, entries: &[Entry]) -> Result<Entries, AllocError> {
-    let mut copies = Entries::new(alloc);
+pub fn copy_of_entries(entries: &[Entry], out: &mut Sheet) -> Entries {
+    let mut copies = Entries::new(out.alloc());
     for entry in entries {
-        copies.push(entry.copy()?)?;
+        add_entry(&mut copies, entry, out);
     }
-    Ok(copies)
+    copies
+}
+
+fn add_entry(copies: &mut Entries, entry: &Entry, out: &mut Sheet) {
+    match entry.copy() {
+        Ok(entry) => {
+            if copies.push(entry).is_err() {
+                out.cut();
+            }
+        }
+        Err(_) => out.cut(),
+    }
 }

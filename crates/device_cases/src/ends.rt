@@ -1,16 +1,14 @@
 //! What is stated at the end of a scenario, and of a recorded trace.
 
+use crate::found::put_canonical;
 use crate::items::Item;
-use crate::named::layout_fault;
-use crate::pieces::{bytes_of, hex_of};
+use crate::named::{put_fault, put_placed};
+use crate::pieces::{Pieces, put_as_hex};
 use crate::report::Report;
 use crate::stated::Stated;
-use crate::words::{decimal, joined, numbered, put_words};
-use byte_layout::LayoutFault;
+use case_sheet::Sheet;
 use fleet_core::{Verdict, check, unfinished};
-use scenario_asm::disassemble;
 use scenario_image::{Scenario, save};
-use std::alloc::{AllocError, Global};
 use trace_file::{Entry, WriteFault, read_entries, write_entries};
 
 /// Whether an answer is one about the whole scenario.
@@ -25,183 +23,172 @@ fn is_count(text: &str) -> bool {
 
 /// Compares what is stated of the whole scenario with what is so.
 pub fn judge(
-    alloc: Global,
     item: &Item,
     stated: &Stated,
     scenario: &Scenario,
     entries: &[Entry],
     report: &mut Report,
-) -> Result<(), AllocError> {
+) {
     if stated.text == "text" {
-        return judge_text(alloc, item, stated, scenario, report);
+        return judge_text(item, stated, scenario, report);
     }
-    let came = if stated.text.starts_with("image ") {
-        image_of(alloc, scenario)?
-    } else if stated.text.starts_with("trace ") {
-        trace_of(alloc, entries)?
+    let mut meant = Sheet::new(report.alloc());
+    if put_meaning(&mut meant, stated.text) {
+        let mut came = Sheet::new(report.alloc());
+        put_end(&mut came, stated.text, scenario, entries);
+        stated.judge(&meant, &came, report);
     } else {
-        count_of(alloc, scenario, entries)?
-    };
-    match meaning(alloc, stated.text)? {
-        Some(meant) => stated.judge(meant.as_str(), came.as_str(), report),
-        None => report.malformed(stated.line, "no such answer"),
+        report.note(&meant);
+        report.malformed(stated.line, "no such answer");
     }
 }
 
-/// What is stated, in the one way to write it; none where it can't be read.
-fn meaning(alloc: Global, text: &str) -> Result<Option<String>, AllocError> {
+/// Adds what is stated, in the one way to write it. It gives whether it can be read.
+fn put_meaning(out: &mut Sheet, text: &str) -> bool {
     let Some((name, rest)) = text.split_once(' ') else {
-        return Ok(None);
+        return false;
     };
+    out.put_all(&[name, " "]);
     if name == "image" || name == "trace" {
-        let Some(bytes) = bytes_of(alloc, rest)? else {
-            return Ok(None);
-        };
-        let hex = hex_of(alloc, bytes.as_slice())?;
-        return Ok(Some(joined(alloc, &[name, " ", hex.as_str()])?));
+        return put_as_hex(out, rest);
     }
-    for word in rest.split(' ') {
-        if word != "waiting" && word.parse::<u32>().is_err() {
-            return Ok(None);
+    out.put(rest);
+    rest.split(' ')
+        .all(|word| word == "waiting" || word.parse::<u32>().is_ok())
+}
+
+/// Adds what is so of what an answer speaks of.
+fn put_end(out: &mut Sheet, text: &str, scenario: &Scenario, entries: &[Entry]) {
+    if text.starts_with("image ") {
+        put_image(out, scenario);
+    } else if text.starts_with("trace ") {
+        put_trace(out, entries);
+    } else {
+        put_count(out, scenario, entries);
+    }
+}
+
+fn put_image(out: &mut Sheet, scenario: &Scenario) {
+    match save(out.alloc(), scenario) {
+        Ok(image) => {
+            out.put("image ");
+            out.put_hex(image.as_slice());
         }
+        Err(_) => out.cut(),
     }
-    Ok(Some(String::from_str(alloc, text)?))
 }
 
-fn image_of(alloc: Global, scenario: &Scenario) -> Result<String, AllocError> {
-    let image = save(alloc, scenario)?;
-    let hex = hex_of(alloc, image.as_slice())?;
-    joined(alloc, &["image ", hex.as_str()])
-}
-
-fn trace_of(alloc: Global, entries: &[Entry]) -> Result<String, AllocError> {
-    match write_entries(alloc, entries) {
+fn put_trace(out: &mut Sheet, entries: &[Entry]) {
+    match write_entries(out.alloc(), entries) {
         Ok(bytes) => {
-            let hex = hex_of(alloc, bytes.as_slice())?;
-            joined(alloc, &["trace ", hex.as_str()])
+            out.put("trace ");
+            out.put_hex(bytes.as_slice());
         }
-        Err(WriteFault::Memory) => Err(AllocError),
-        Err(WriteFault::TooLarge) => String::from_str(alloc, "fault too large"),
+        Err(WriteFault::Memory) => out.cut(),
+        Err(WriteFault::TooLarge) => out.put("fault too large"),
     }
 }
 
-/// How many entries there are, and which devices are not at the end of their rows, as `lwbench run` prints it.
-fn count_of(alloc: Global, scenario: &Scenario, entries: &[Entry]) -> Result<String, AllocError> {
-    let count = decimal(alloc, entries.len() as u64)?;
-    let waiting = unfinished(alloc, scenario, entries)?;
-    if waiting.is_empty() {
-        return joined(alloc, &["done ", count.as_str()]);
+/// Adds how many entries there are, and which devices are not at the end of their rows, as `lwbench run` prints it.
+fn put_count(out: &mut Sheet, scenario: &Scenario, entries: &[Entry]) {
+    match unfinished(out.alloc(), scenario, entries) {
+        Err(_) => out.cut(),
+        Ok(waiting) => {
+            if waiting.is_empty() {
+                put_placed(out, "done ", entries.len());
+            } else {
+                put_placed(out, "stalled ", entries.len());
+                out.put(" waiting");
+            }
+            for device in waiting {
+                put_placed(out, " ", usize::from(device));
+            }
+        }
     }
-    let mut text = joined(alloc, &["stalled ", count.as_str(), " waiting"])?;
-    for device in waiting {
-        let device = decimal(alloc, u64::from(device))?;
-        put_words(&mut text, &[" ", device.as_str()])?;
-    }
-    Ok(text)
 }
 
 /// Compares the canonical text of the scenario with the lines that are stated.
-fn judge_text(
-    alloc: Global,
-    item: &Item,
-    stated: &Stated,
-    scenario: &Scenario,
-    report: &mut Report,
-) -> Result<(), AllocError> {
-    let text = disassemble(alloc, scenario)?;
-    let mut meant = String::new(alloc);
-    for (_, line) in item.canonical.as_slice() {
-        meant.push_str(line)?;
-        meant.push('\n')?;
+fn judge_text(item: &Item, stated: &Stated, scenario: &Scenario, report: &mut Report) {
+    let mut came = Sheet::new(report.alloc());
+    put_canonical(&mut came, scenario);
+    let lines = item.canonical.as_slice();
+    let mut meant = Sheet::new(report.alloc());
+    for (_, line) in lines {
+        meant.put_all(&[*line, "\n"]);
     }
-    if stated.is_wrong || meant.as_str() == text.as_str() {
-        return stated.judge(meant.as_str(), text.as_str(), report);
+    if stated.is_wrong || meant.as_str() == came.as_str() {
+        stated.judge(&meant, &came, report);
+    } else {
+        report.note(&meant);
+        report.note(&came);
+        judge_lines(stated.line, lines, came.as_str(), report);
     }
-    let mut lines = item.canonical.iter();
-    for came in text.as_str().split('\n') {
+}
+
+/// Reports the first line in which a text is not the one of these lines. The answer stands in the line of this number.
+fn judge_lines(number: u32, lines: &[(u32, &str)], text: &str, report: &mut Report) {
+    let mut lines = lines.iter();
+    for came in text.split('\n') {
         match lines.next() {
             Some((line, meant)) if *meant != came => return report.differs(*line, meant, came),
             Some(_) => {}
-            None => return report.differs(stated.line, "the end of the text", came),
+            None => return report.differs(number, "the end of the text", came),
         }
     }
-    match lines.next() {
-        Some((line, meant)) => report.differs(*line, meant, "the end of the text"),
-        None => Ok(()),
+    if let Some((line, meant)) = lines.next() {
+        report.differs(*line, meant, "the end of the text");
     }
 }
 
 /// Compares what is stated of a recorded trace with what is so.
-pub fn judge_trace(
-    alloc: Global,
-    item: &Item,
-    hex: &str,
-    scenario: &Scenario,
-    report: &mut Report,
-) -> Result<(), AllocError> {
-    let Some(bytes) = bytes_of(alloc, hex)? else {
-        return report.malformed(item.line, "no bytes in hex");
-    };
-    if item.stated.is_empty() {
-        return report.malformed(item.line, "nothing is stated of this trace");
-    }
-    match read_entries(alloc, bytes.as_slice()) {
-        Ok(entries) => { judge_entries(alloc, item, scenario, entries.as_slice(), report) }
-        Err(fault) => judge_fault(alloc, item, fault, report),
-    }
-}
-
-fn judge_entries(
-    alloc: Global,
-    item: &Item,
-    scenario: &Scenario,
-    entries: &[Entry],
-    report: &mut Report,
-) -> Result<(), AllocError> {
-    let verdict = verdict_of(alloc, check(alloc, scenario, entries)?)?;
-    let count = count_of(alloc, scenario, entries)?;
-    for stated in item.stated.iter() {
-        let came = if is_count(stated.text) {
-            &count
-        } else {
-            &verdict
-        };
-        judge_verdict(stated, came.as_str(), report)?;
-    }
-    Ok(())
-}
-
-fn verdict_of(alloc: Global, verdict: Verdict) -> Result<String, AllocError> {
-    match verdict {
-        Verdict::Run => String::from_str(alloc, "run"),
-        Verdict::NotRun(place) => numbered(alloc, "not a run at ", place as u64),
-    }
-}
-
-fn judge_fault(
-    alloc: Global,
-    item: &Item,
-    fault: LayoutFault,
-    report: &mut Report,
-) -> Result<(), AllocError> {
-    let name = layout_fault(alloc, fault)?;
-    let came = joined(alloc, &["fault ", name.as_str()])?;
-    for stated in item.stated.iter() {
-        judge_verdict(stated, came.as_str(), report)?;
-    }
-    Ok(())
-}
-
-/// Compares an answer about a trace with what is so.
-fn judge_verdict(stated: &Stated, came: &str, report: &mut Report) -> Result<(), AllocError> {
-    let text = stated.text;
-    let is_known = text == "run"
-        || text.starts_with("not a run at ")
-        || text.starts_with("fault ")
-        || is_count(text);
-    if is_known {
-        stated.judge(text, came, report)
+pub fn judge_trace(item: &Item, hex: &str, scenario: &Scenario, report: &mut Report) {
+    let mut bytes = Pieces::new(report.alloc());
+    if !bytes.put_word(hex) {
+        report.malformed(item.line, "no bytes in hex");
+    } else if item.stated.is_empty() {
+        report.malformed(item.line, "nothing is stated of this trace");
     } else {
-        report.malformed(stated.line, "no such answer")
+        judge_bytes(item.stated.as_slice(), bytes.as_slice(), scenario, report);
+    }
+    if bytes.is_cut() {
+        report.cut();
+    }
+}
+
+fn judge_bytes(stated: &[Stated], bytes: &[u8], scenario: &Scenario, report: &mut Report) {
+    let mut verdict = Sheet::new(report.alloc());
+    let mut count = Sheet::new(report.alloc());
+    match read_entries(report.alloc(), bytes) {
+        Ok(entries) => {
+            put_verdict(&mut verdict, scenario, entries.as_slice());
+            put_count(&mut count, scenario, entries.as_slice());
+        }
+        Err(fault) => {
+            put_fault(&mut verdict, fault);
+            put_fault(&mut count, fault);
+        }
+    }
+    for stated in stated {
+        judge_verdict(stated, &verdict, &count, report);
+    }
+}
+
+fn put_verdict(out: &mut Sheet, scenario: &Scenario, entries: &[Entry]) {
+    match check(out.alloc(), scenario, entries) {
+        Ok(Verdict::Run) => out.put("run"),
+        Ok(Verdict::NotRun(place)) => put_placed(out, "not a run at ", place),
+        Err(_) => out.cut(),
+    }
+}
+
+/// Compares an answer about a trace with the verdict on it, or with how its entries end.
+fn judge_verdict(stated: &Stated, verdict: &Sheet, count: &Sheet, report: &mut Report) {
+    let text = stated.text;
+    if is_count(text) {
+        stated.judge_as_is(count, report);
+    } else if text == "run" || text.starts_with("not a run at ") || text.starts_with("fault ") {
+        stated.judge_as_is(verdict, report);
+    } else {
+        report.malformed(stated.line, "no such answer");
     }
 }

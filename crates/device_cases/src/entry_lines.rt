@@ -1,87 +1,131 @@
 //! The entries of a trace in words, a line each: `worker 0 device 2 step 1: send 1 60840025, act reboot`, or `nothing`
 //! after the colon.
 
-use crate::named::act_name;
-use crate::outputs::lines_of;
-use crate::pieces::bytes_of;
-use crate::words::{decimal, put_words};
-use device_machine::{Act, Output, Outputs};
-use octets::Bytes;
-use std::alloc::{AllocError, Global};
+use crate::named::act_of;
+use crate::outputs::{put_output, sending_of};
+use crate::pieces::Pieces;
+use case_sheet::Sheet;
+use device_machine::{Output, Outputs};
+use std::alloc::Global;
 use trace_file::{Entries, Entry};
 
-const ACTS: [Act; 5] = [
-    Act::Reboot,
-    Act::FactoryReset,
-    Act::RegUpdate,
-    Act::Disable,
-    Act::Missed,
-];
-
-/// The entries, a line for each.
-pub fn text_of(alloc: Global, entries: &[Entry]) -> Result<String, AllocError> {
-    let mut text = String::new(alloc);
+/// Adds the entries, a line for each.
+pub fn put_entries(out: &mut Sheet, entries: &[Entry]) {
     for entry in entries {
-        add_entry(alloc, &mut text, entry)?;
+        put_entry(out, entry);
+        out.put("\n");
     }
-    Ok(text)
 }
 
-fn add_entry(alloc: Global, text: &mut String, entry: &Entry) -> Result<(), AllocError> {
-    let worker = decimal(alloc, u64::from(entry.worker))?;
-    let device = decimal(alloc, u64::from(entry.device))?;
-    let step = decimal(alloc, u64::from(entry.step))?;
-    put_words(
-        text,
-        &["worker ", worker.as_str(), " device ", device.as_str()],
-    )?;
-    put_words(text, &[" step ", step.as_str(), ":"])?;
-    let outputs = lines_of(alloc, entry.outputs.as_slice())?;
-    if outputs.is_empty() {
-        text.push_str(" nothing")?;
+fn put_entry(out: &mut Sheet, entry: &Entry) {
+    out.put("worker ");
+    out.put_number(u64::from(entry.worker));
+    out.put(" device ");
+    out.put_number(u64::from(entry.device));
+    out.put(" step ");
+    out.put_number(u64::from(entry.step));
+    out.put(":");
+    let mut before = " ";
+    for output in entry.outputs.as_slice() {
+        out.put(before);
+        put_output(out, output);
+        before = ", ";
     }
-    let mut is_first = true;
-    for output in outputs {
-        if !is_first {
-            text.push(',')?;
-        }
-        text.push(' ')?;
-        text.push_str(output.as_str())?;
-        is_first = false;
+    if entry.outputs.as_slice().is_empty() {
+        out.put(" nothing");
     }
-    text.push('\n')
 }
 
-/// The entries that these lines say, or none where a line says no entry.
-pub fn entries_of(alloc: Global, text: &str) -> Result<Option<Entries>, AllocError> {
-    let mut entries = Vec::new(alloc);
-    for line in text.lines() {
-        let Some(entry) = entry_of(alloc, line)? else {
-            return Ok(None);
+/// Entries that are read from their lines. What can't be read, and where memory runs out, is noted.
+#[derive(Drop)]
+pub struct EntryLines {
+    alloc: Global,
+    /// The entries so far.
+    pub entries: Entries,
+    /// Whether each line is one of an entry.
+    pub are_read: bool,
+    /// Whether memory ran out.
+    pub is_cut: bool,
+}
+
+impl EntryLines {
+    /// The entries of a text.
+    pub fn read(alloc: Global, text: &str) -> EntryLines {
+        let mut lines = EntryLines {
+            alloc,
+            entries: Entries::new(alloc),
+            are_read: true,
+            is_cut: false,
         };
-        entries.push(entry)?;
+        for line in text.lines() {
+            lines.add(line);
+        }
+        lines
     }
-    Ok(Some(Entries::from_vec(entries)))
+
+    /// Adds the entry of a line.
+    fn add(&mut self, line: &str) {
+        let Some((numbers, words)) = line.split_once(": ") else {
+            self.are_read = false;
+            return;
+        };
+        let Some((worker, device, step)) = numbers_of(numbers) else {
+            self.are_read = false;
+            return;
+        };
+        let outputs = self.outputs_of(words);
+        let entry = Entry {
+            worker,
+            device,
+            step,
+            outputs,
+        };
+        if self.entries.push(entry).is_err() {
+            self.is_cut = true;
+        }
+    }
+
+    fn outputs_of(&mut self, words: &str) -> Outputs {
+        let mut outputs = Vec::new(self.alloc);
+        if words != "nothing" {
+            for words in words.split(", ") {
+                self.add_output(&mut outputs, words);
+            }
+        }
+        Outputs::from_vec(outputs)
+    }
+
+    fn add_output(&mut self, outputs: &mut Vec<Output>, words: &str) {
+        match self.output_of(words) {
+            None => self.are_read = false,
+            Some(output) => {
+                if outputs.push(output).is_err() {
+                    self.is_cut = true;
+                }
+            }
+        }
+    }
+
+    fn output_of(&mut self, words: &str) -> Option<Output> {
+        if let Some(name) = words.strip_prefix("act ") {
+            return act_of(name).map(Output::Act);
+        }
+        let (server, word) = sending_of(words)?;
+        let mut bytes = Pieces::new(self.alloc);
+        let is_read = bytes.put_word(word);
+        self.is_cut = self.is_cut || bytes.is_cut();
+        if is_read {
+            Some(Output::Send {
+                server,
+                bytes: bytes.into_bytes(),
+            })
+        } else {
+            None
+        }
+    }
 }
 
-fn entry_of(alloc: Global, line: &str) -> Result<Option<Entry>, AllocError> {
-    let Some((numbers, outputs)) = line.split_once(": ") else {
-        return Ok(None);
-    };
-    let Some((worker, device, step)) = numbers_of(numbers) else {
-        return Ok(None);
-    };
-    let Some(outputs) = outputs_of(alloc, outputs)? else {
-        return Ok(None);
-    };
-    Ok(Some(Entry {
-        worker,
-        device,
-        step,
-        outputs,
-    }))
-}
-
+/// The worker, the device and the step of an entry.
 fn numbers_of(words: &str) -> Option<(u16, u16, u32)> {
     let words = words.strip_prefix("worker ")?;
     let (worker, words) = words.split_once(" device ")?;
@@ -91,46 +135,4 @@ fn numbers_of(words: &str) -> Option<(u16, u16, u32)> {
         device.parse().ok()?,
         step.parse().ok()?,
     ))
-}
-
-fn outputs_of(alloc: Global, words: &str) -> Result<Option<Outputs>, AllocError> {
-    let mut outputs = Vec::new(alloc);
-    if words == "nothing" {
-        return Ok(Some(Outputs::from_vec(outputs)));
-    }
-    for words in words.split(", ") {
-        let Some(output) = output_of(alloc, words)? else {
-            return Ok(None);
-        };
-        outputs.push(output)?;
-    }
-    Ok(Some(Outputs::from_vec(outputs)))
-}
-
-fn output_of(alloc: Global, words: &str) -> Result<Option<Output>, AllocError> {
-    if let Some(name) = words.strip_prefix("act ") {
-        return Ok(act_of(name).map(Output::Act));
-    }
-    let Some((server, hex)) = sending_of(words) else {
-        return Ok(None);
-    };
-    let Some(bytes) = bytes_of(alloc, hex)? else {
-        return Ok(None);
-    };
-    Ok(Some(Output::Send { server, bytes }))
-}
-
-fn act_of(name: &str) -> Option<Act> {
-    for act in ACTS {
-        if act_name(act) == name {
-            return Some(act);
-        }
-    }
-    None
-}
-
-/// The server and the hex of `send 1 60840025`.
-fn sending_of(words: &str) -> Option<(u16, &str)> {
-    let (server, hex) = words.strip_prefix("send ")?.split_once(' ')?;
-    Some((server.parse().ok()?, hex))
 }

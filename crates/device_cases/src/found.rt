@@ -1,17 +1,16 @@
 //! What is found in the bytes of a case: what they say, or their fault.
 
 use crate::copies::{copy_of_entries, copy_of_scenario};
-use crate::entry_lines::{entries_of, text_of};
-use crate::named::layout_fault;
-use crate::words::{decimal, joined, put_words};
-use byte_layout::LayoutFault;
+use crate::entry_lines::{EntryLines, put_entries};
+use crate::named::put_fault;
+use case_sheet::Sheet;
 use octets::Bytes;
 use scenario_asm::{AsmFault, assemble, disassemble};
 use scenario_image::{Scenario, load, save};
 use scenario_words::{Cause, cause_words};
-use std::alloc::{AllocError, Global};
+use std::alloc::Global;
 use std::str;
-use trace_file::{Entries, WriteFault, read_entries, write_entries};
+use trace_file::{Entry, WriteFault, read_entries, write_entries};
 
 /// What the bytes of a case are.
 #[derive(Clone, Copy)]
@@ -29,143 +28,189 @@ pub enum FileKind {
 /// What is found in the bytes of a case.
 #[derive(Drop)]
 pub struct Found {
-    /// `ok` and what there is, or `fault` and its name.
-    pub verdict: String,
+    /// `ok` and what there is, or `fault` and its name. It also notes where memory ran out for the others.
+    pub verdict: Sheet,
     /// The canonical text of a scenario, or the entries of a trace in words.
-    pub text: String,
+    text: Sheet,
     /// The image of a scenario, or the trace file of entries.
-    pub file: Bytes,
+    file: Bytes,
 }
 
 impl Found {
+    /// Nothing yet.
+    pub fn new(alloc: Global) -> Found {
+        Found {
+            verdict: Sheet::new(alloc),
+            text: Sheet::new(alloc),
+            file: Bytes::new(alloc),
+        }
+    }
+
+    /// What is found in the bytes.
+    pub fn in_bytes(alloc: Global, kind: FileKind, bytes: &[u8]) -> Found {
+        let mut found = Found::new(alloc);
+        match kind {
+            FileKind::Image => found.look_at_image(bytes),
+            FileKind::Trace => found.look_at_trace(bytes),
+            FileKind::Text => match str::from_utf8(bytes) {
+                Ok(text) => found.look_at_text(text),
+                Err(_) => found.verdict.put("fault read"),
+            },
+            FileKind::Entries => match str::from_utf8(bytes) {
+                Ok(text) => found.look_at_words(text),
+                Err(_) => found.verdict.put("no entries"),
+            },
+        }
+        found
+    }
+
     /// The text, or the verdict where there is none.
-    pub fn shown_text(&self) -> &str {
+    pub fn shown_text(&self) -> &Sheet {
         if self.text.is_empty() {
-            self.verdict.as_str()
+            &self.verdict
         } else {
-            self.text.as_str()
+            &self.text
         }
     }
 
-    /// The file in hexadecimal, or the verdict where there is none.
-    pub fn shown_file(&self, alloc: Global) -> Result<String, AllocError> {
+    /// Adds the file in hexadecimal, or the verdict where there is none.
+    pub fn put_shown_file(&self, out: &mut Sheet) {
         if self.file.is_empty() {
-            return self.verdict.clone();
+            out.put(self.verdict.as_str());
+        } else {
+            out.put_hex(self.file.as_slice());
         }
-        hex::encode_upper(alloc, self.file.as_slice())
     }
-}
 
-/// What is found in the bytes.
-pub fn found_in(alloc: Global, kind: FileKind, bytes: &[u8]) -> Result<Found, AllocError> {
-    match kind {
-        FileKind::Image => of_image(alloc, bytes),
-        FileKind::Trace => of_trace(alloc, bytes),
-        FileKind::Text => match str::from_utf8(bytes) {
-            Ok(text) => of_text(alloc, text),
-            Err(_) => refused_as(alloc, "fault read"),
-        },
-        FileKind::Entries => match str::from_utf8(bytes) {
-            Ok(text) => of_words(alloc, text),
-            Err(_) => refused_as(alloc, "no entries"),
-        },
-    }
-}
-
-/// What is found where there is nothing but this verdict.
-pub fn refused(alloc: Global, verdict: String) -> Found {
-    Found {
-        verdict,
-        text: String::new(alloc),
-        file: Bytes::new(alloc),
-    }
-}
-
-fn refused_as(alloc: Global, verdict: &str) -> Result<Found, AllocError> {
-    Ok(refused(alloc, String::from_str(alloc, verdict)?))
-}
-
-/// What is found in a file with this fault.
-fn broken(alloc: Global, fault: LayoutFault) -> Result<Found, AllocError> {
-    let name = layout_fault(alloc, fault)?;
-    let verdict = joined(alloc, &["fault ", name.as_str()])?;
-    Ok(refused(alloc, verdict))
-}
-
-fn of_image(alloc: Global, bytes: &[u8]) -> Result<Found, AllocError> {
-    match load(alloc, bytes) {
-        Ok(scenario) => {
-            let found = of_scenario(alloc, &scenario)?;
-            if version(bytes) == 1 {
-                as_newer(alloc, found, scenario.classes(), bytes)
-            } else {
-                as_given(alloc, found, bytes)
+    fn look_at_image(&mut self, bytes: &[u8]) {
+        match load(self.verdict.alloc(), bytes) {
+            Err(fault) => put_fault(&mut self.verdict, fault),
+            Ok(scenario) => {
+                self.show_scenario(&scenario);
+                if version(bytes) == 1 {
+                    self.want_newer(scenario.classes(), bytes);
+                } else {
+                    self.want_same(bytes);
+                }
             }
         }
-        Err(fault) => broken(alloc, fault),
     }
-}
 
-fn of_text(alloc: Global, text: &str) -> Result<Found, AllocError> {
-    match assemble(alloc, text) {
-        Ok(scenario) => of_scenario(alloc, &scenario),
-        Err(
-            AsmFault {
-                cause: Cause::Memory,
-                ..
-            },
-        ) => Err(AllocError),
-        Err(AsmFault { line, cause }) => {
-            let line = decimal(alloc, line as u64)?;
-            let verdict = joined(
-                alloc,
-                &["fault line ", line.as_str(), " ", cause_words(cause)],
-            )?;
-            Ok(refused(alloc, verdict))
+    fn look_at_text(&mut self, text: &str) {
+        match assemble(self.verdict.alloc(), text) {
+            Ok(scenario) => self.show_scenario(&scenario),
+            Err(fault) => {
+                if fault.cause == Cause::Memory {
+                    self.verdict.cut();
+                }
+                put_line_fault(&mut self.verdict, fault.line as u64, fault);
+            }
+        }
+    }
+
+    fn look_at_trace(&mut self, bytes: &[u8]) {
+        match read_entries(self.verdict.alloc(), bytes) {
+            Err(fault) => put_fault(&mut self.verdict, fault),
+            Ok(entries) => {
+                self.show_entries(entries.as_slice());
+                self.want_same(bytes);
+            }
+        }
+    }
+
+    fn look_at_words(&mut self, text: &str) {
+        let lines = EntryLines::read(self.verdict.alloc(), text);
+        if lines.is_cut {
+            self.verdict.cut();
+        }
+        if lines.are_read {
+            self.show_entries(lines.entries.as_slice());
+        } else {
+            self.verdict.put("no entries");
+        }
+    }
+
+    fn show_scenario(&mut self, scenario: &Scenario) {
+        put_count(&mut self.verdict, "ok ", scenario.classes());
+        put_count(&mut self.verdict, " classes ", scenario.rows());
+        put_count(&mut self.verdict, " devices ", scenario.steps());
+        self.verdict.put(" steps");
+        put_canonical(&mut self.text, scenario);
+        let copy = copy_of_scenario(scenario, &mut self.verdict);
+        match save(self.verdict.alloc(), &copy) {
+            Ok(file) => self.file = Bytes::from_vec(file),
+            Err(_) => self.verdict.cut(),
+        }
+        self.note_text();
+    }
+
+    fn show_entries(&mut self, entries: &[Entry]) {
+        let copies = copy_of_entries(entries, &mut self.verdict);
+        match write_entries(self.verdict.alloc(), copies.as_slice()) {
+            Ok(file) => {
+                put_count(&mut self.verdict, "ok ", entries.len());
+                self.verdict.put(" entries");
+                put_entries(&mut self.text, entries);
+                self.file = file;
+            }
+            Err(WriteFault::TooLarge) => self.verdict.put("fault too large"),
+            Err(WriteFault::Memory) => self.verdict.cut(),
+        }
+        self.note_text();
+    }
+
+    /// Notes it if memory ran out for the text.
+    fn note_text(&mut self) {
+        if self.text.is_cut() {
+            self.verdict.cut();
+        }
+    }
+
+    /// An image of version 1 that was read has to be written again as one of version 2, longer by a byte for each
+    /// class.
+    fn want_newer(&mut self, classes: usize, bytes: &[u8]) {
+        let rest = self.file.len().saturating_sub(classes);
+        if version(self.file.as_slice()) != 2 || rest != bytes.len() {
+            self.refuse("written again as no newer image");
+        }
+    }
+
+    /// A file that was read has to be written again as the bytes that were given.
+    fn want_same(&mut self, bytes: &[u8]) {
+        if self.file.as_slice() != bytes {
+            self.refuse("written again as other bytes");
+        }
+    }
+
+    /// Nothing is found but this.
+    fn refuse(&mut self, verdict: &str) {
+        let alloc = self.verdict.alloc();
+        let was_cut = self.verdict.is_cut();
+        *self = Found::new(alloc);
+        self.verdict.put(verdict);
+        if was_cut {
+            self.verdict.cut();
         }
     }
 }
 
-fn of_scenario(alloc: Global, scenario: &Scenario) -> Result<Found, AllocError> {
-    let classes = decimal(alloc, scenario.classes() as u64)?;
-    let devices = decimal(alloc, scenario.rows() as u64)?;
-    let steps = decimal(alloc, scenario.steps() as u64)?;
-    let mut verdict = joined(alloc, &["ok ", classes.as_str(), " classes "])?;
-    put_words(&mut verdict, &[devices.as_str(), " devices "])?;
-    put_words(&mut verdict, &[steps.as_str(), " steps"])?;
-    let copy = copy_of_scenario(alloc, scenario)?;
-    Ok(Found {
-        verdict,
-        text: disassemble(alloc, scenario)?,
-        file: Bytes::from_vec(save(alloc, &copy)?),
-    })
+fn put_count(out: &mut Sheet, words: &str, count: usize) {
+    out.put(words);
+    out.put_number(count as u64);
 }
 
-fn of_trace(alloc: Global, bytes: &[u8]) -> Result<Found, AllocError> {
-    match read_entries(alloc, bytes) {
-        Ok(entries) => as_given(alloc, of_entries(alloc, &entries)?, bytes),
-        Err(fault) => broken(alloc, fault),
-    }
+/// Adds why a text is refused, as `lwbench asm` prints it, with its line by this number.
+pub fn put_line_fault(out: &mut Sheet, line: u64, fault: AsmFault) {
+    out.put("fault line ");
+    out.put_number(line);
+    out.put_all(&[" ", cause_words(fault.cause)]);
 }
 
-fn of_words(alloc: Global, text: &str) -> Result<Found, AllocError> {
-    match entries_of(alloc, text)? {
-        Some(entries) => of_entries(alloc, &entries),
-        None => refused_as(alloc, "no entries"),
-    }
-}
-
-fn of_entries(alloc: Global, entries: &Entries) -> Result<Found, AllocError> {
-    let count = decimal(alloc, entries.len() as u64)?;
-    let copies = copy_of_entries(alloc, entries.as_slice())?;
-    match write_entries(alloc, copies.as_slice()) {
-        Ok(file) => Ok(Found {
-            verdict: joined(alloc, &["ok ", count.as_str(), " entries"])?,
-            text: text_of(alloc, entries.as_slice())?,
-            file,
-        }),
-        Err(WriteFault::TooLarge) => refused_as(alloc, "fault too large"),
-        Err(WriteFault::Memory) => Err(AllocError),
+/// Adds the canonical text of a scenario.
+pub fn put_canonical(out: &mut Sheet, scenario: &Scenario) {
+    match disassemble(out.alloc(), scenario) {
+        Ok(text) => out.put(text.as_str()),
+        Err(_) => out.cut(),
     }
 }
 
@@ -175,27 +220,4 @@ fn version(image: &[u8]) -> u8 {
         [_, _, _, _, version, ..] => *version,
         _ => 0,
     }
-}
-
-/// What is found in an image of version 1 that was read: written again, it has to be one of version 2, and longer by a
-/// byte for each class.
-fn as_newer(
-    alloc: Global,
-    found: Found,
-    classes: usize,
-    bytes: &[u8],
-) -> Result<Found, AllocError> {
-    let rest = found.file.len().saturating_sub(classes);
-    if version(found.file.as_slice()) == 2 && rest == bytes.len() {
-        return Ok(found);
-    }
-    refused_as(alloc, "written again as no newer image")
-}
-
-/// What is found in a file that was read: written again, it has to be the bytes that were given.
-fn as_given(alloc: Global, found: Found, bytes: &[u8]) -> Result<Found, AllocError> {
-    if found.file.as_slice() == bytes {
-        return Ok(found);
-    }
-    refused_as(alloc, "written again as other bytes")
 }

@@ -1,10 +1,11 @@
 //! The lines of a case of a scenario: its text, and what is stated and asked between the lines of the text.
 
 use crate::cases::is_remark;
-use crate::pieces::{expanded, times_of};
+use crate::pieces::{put_expanded, times_of};
 use crate::report::Report;
 use crate::stated::Stated;
-use std::alloc::{AllocError, Global};
+use case_sheet::Sheet;
+use std::alloc::Global;
 
 /// What a line is, apart from the answers that are stated below it.
 #[derive(Clone, Copy)]
@@ -43,7 +44,7 @@ pub struct Item<'a> {
 #[derive(Drop)]
 pub struct Script<'a> {
     /// The text for the assembler, in which each other line is empty.
-    pub text: String,
+    pub text: Sheet,
     /// For each line of that text its number in the case, counted from 1 after the title.
     pub numbers: Vec<u32>,
     /// The lines that have words, with what is stated below them.
@@ -94,71 +95,66 @@ fn is_marked(line: &str) -> bool {
 
 impl<'a> Script<'a> {
     /// The case of a body, whose title stands in the line before it.
-    pub fn read(
-        alloc: Global,
-        body: &[(u32, &'a str)],
-        report: &mut Report,
-    ) -> Result<Script<'a>, AllocError> {
+    pub fn read(body: &[(u32, &'a str)], report: &mut Report) -> Script<'a> {
+        let alloc = report.alloc();
         let mut script = Script {
-            text: String::new(alloc),
+            text: Sheet::new(alloc),
             numbers: Vec::new(alloc),
             items: Vec::new(alloc),
         };
-        script.items.push(Item::new(alloc, 0, Part::Start))?;
+        script.add_item(0, Part::Start);
         let mut number = 0u32;
         for (line, words) in body {
             number = number.saturating_add(1);
-            if !script.add_answer(*line, words, report)? {
-                script.add_part(alloc, *line, words, number, report)?;
+            if script.add_answer(*line, words, report) {
+                script.add_text("", number);
             } else {
-                script.add_text("", number)?;
+                script.add_part(*line, words, number, report);
             }
         }
-        Ok(script)
+        report.note(&script.text);
+        script
     }
 
     /// Adds a line to the text.
-    fn add_text(&mut self, line: &str, number: u32) -> Result<(), AllocError> {
-        self.text.push_str(line)?;
-        self.text.push('\n')?;
-        self.numbers.push(number)?;
-        Ok(())
+    fn add_text(&mut self, line: &str, number: u32) {
+        self.text.put_all(&[line, "\n"]);
+        if self.numbers.push(number).is_err() {
+            self.text.cut();
+        }
+    }
+
+    fn add_item(&mut self, line: u32, part: Part<'a>) {
+        let item = Item::new(self.text.alloc(), line, part);
+        if self.items.push(item).is_err() {
+            self.text.cut();
+        }
     }
 
     /// Adds an answer, or a line of a canonical text, and says whether the line was one.
-    fn add_answer(
-        &mut self,
-        line: u32,
-        words: &'a str,
-        report: &mut Report,
-    ) -> Result<bool, AllocError> {
+    fn add_answer(&mut self, line: u32, words: &'a str, report: &mut Report) -> bool {
         let Some(item) = self.items.last_mut() else {
-            return Ok(false);
+            return false;
         };
         if let Some(stated) = Stated::read(line, words) {
-            item.stated.push(stated)?;
-            return Ok(true);
+            if item.stated.push(stated).is_err() {
+                report.cut();
+            }
+            return true;
         }
         let Some(text) = words.strip_prefix("=| ") else {
-            return Ok(false);
+            return false;
         };
-        if item.ends_in_text() {
-            item.canonical.push((line, text))?;
-        } else {
-            report.malformed(line, "no `=> text` stands above this")?;
+        if !item.ends_in_text() {
+            report.malformed(line, "no `=> text` stands above this");
+        } else if item.canonical.push((line, text)).is_err() {
+            report.cut();
         }
-        Ok(true)
+        true
     }
 
     /// Adds a line that states no answer.
-    fn add_part(
-        &mut self,
-        alloc: Global,
-        line: u32,
-        words: &'a str,
-        number: u32,
-        report: &mut Report,
-    ) -> Result<(), AllocError> {
+    fn add_part(&mut self, line: u32, words: &'a str, number: u32, report: &mut Report) {
         if is_remark(words) {
             return self.add_text("", number);
         }
@@ -166,36 +162,36 @@ impl<'a> Script<'a> {
             return report.malformed(line, "`*` wants a number up to 100,000 and a line");
         };
         match part {
-            Part::Text { line: text, times } => {
-                if times.is_none() && is_marked(text) {
+            Part::Text {
+                line: text,
+                times: None,
+            } => {
+                if is_marked(text) {
                     return report.malformed(line, "no such line");
                 }
-                self.add_lines(alloc, text, times, number)?;
+                self.add_text(text, number);
             }
+            Part::Text {
+                line: text,
+                times: Some(times),
+            } => self.add_lines(text, times, number),
             Part::Start | Part::Question(_) | Part::Aside(_) | Part::Trace(_) => {
-                self.add_text("", number)?;
+                self.add_text("", number);
             }
         }
-        self.items.push(Item::new(alloc, line, part))?;
-        Ok(())
+        self.add_item(line, part);
     }
 
     /// Adds a line of the text as many times as it stands there.
-    fn add_lines(
-        &mut self,
-        alloc: Global,
-        line: &str,
-        times: Option<u32>,
-        number: u32,
-    ) -> Result<(), AllocError> {
-        let Some(times) = times else {
-            return self.add_text(line, number);
-        };
-        let line = expanded(alloc, line)?;
+    fn add_lines(&mut self, line: &str, times: u32, number: u32) {
+        let mut text = Sheet::new(self.text.alloc());
+        put_expanded(&mut text, line);
         for _ in 0..times {
-            self.add_text(line.as_str(), number)?;
+            self.add_text(text.as_str(), number);
         }
-        Ok(())
+        if text.is_cut() {
+            self.text.cut();
+        }
     }
 
     /// The number in the case of a line of the text, counted from 1.

@@ -1,9 +1,17 @@
 //! What the program `lwbench` calls things.
 
-use crate::words::numbered;
 use byte_layout::LayoutFault;
+use case_sheet::Sheet;
 use device_machine::Act;
-use std::alloc::{AllocError, Global};
+
+/// All that a device does.
+const ACTS: [Act; 5] = [
+    Act::Reboot,
+    Act::FactoryReset,
+    Act::RegUpdate,
+    Act::Disable,
+    Act::Missed,
+];
 
 /// What a device does, as `lwbench one` prints it.
 pub fn act_name(act: Act) -> &'static str {
@@ -16,15 +24,32 @@ pub fn act_name(act: Act) -> &'static str {
     }
 }
 
-/// Why the bytes of a file are refused, as `lwbench dis` and `lwbench check` print it.
-pub fn layout_fault(alloc: Global, fault: LayoutFault) -> Result<String, AllocError> {
-    match fault {
-        LayoutFault::Magic => String::from_str(alloc, "magic"),
-        LayoutFault::Version => String::from_str(alloc, "version"),
-        LayoutFault::Cut => String::from_str(alloc, "cut"),
-        LayoutFault::Trailing => String::from_str(alloc, "trailing"),
-        LayoutFault::BadField(place) => numbered(alloc, "bad field at ", place as u64),
-        LayoutFault::Limit(place) => numbered(alloc, "limit at ", place as u64),
-        LayoutFault::Memory => Err(AllocError),
+/// What a device does that has this name.
+pub fn act_of(name: &str) -> Option<Act> {
+    for act in ACTS {
+        if act_name(act) == name {
+            return Some(act);
+        }
     }
+    None
+}
+
+/// Adds why the bytes of a file are refused, as `lwbench dis` and `lwbench check` print it.
+pub fn put_fault(out: &mut Sheet, fault: LayoutFault) {
+    out.put("fault ");
+    match fault {
+        LayoutFault::Magic => out.put("magic"),
+        LayoutFault::Version => out.put("version"),
+        LayoutFault::Cut => out.put("cut"),
+        LayoutFault::Trailing => out.put("trailing"),
+        LayoutFault::BadField(place) => put_placed(out, "bad field at ", place),
+        LayoutFault::Limit(place) => put_placed(out, "limit at ", place),
+        LayoutFault::Memory => out.cut(),
+    }
+}
+
+/// Adds words and the place after them.
+pub fn put_placed(out: &mut Sheet, words: &str, place: usize) {
+    out.put(words);
+    out.put_number(place as u64);
 }

@@ -1,46 +1,35 @@
 //! What a device outputs, line by line, and what is stated of it.
 
-use crate::named::act_name;
-use crate::pieces::{bytes_of, hex_of, times_of};
+use crate::named::{act_name, act_of};
+use crate::pieces::{put_as_hex, times_of};
 use crate::report::Report;
 use crate::stated::Stated;
-use crate::words::{decimal, joined};
-use device_machine::{Act, Output};
-use std::alloc::{AllocError, Global};
+use case_sheet::Sheet;
+use device_machine::Output;
 
-/// The outputs as `lwbench one` prints them, a line for each.
-pub fn lines_of(alloc: Global, outputs: &[Output]) -> Result<Vec<String>, AllocError> {
-    let mut lines = Vec::new(alloc);
+/// Adds the outputs as `lwbench one` prints them, a line for each.
+pub fn put_outputs(out: &mut Sheet, outputs: &[Output]) {
     for output in outputs {
-        lines.push(line_of(alloc, output)?)?;
+        put_output(out, output);
+        out.put("\n");
     }
-    Ok(lines)
 }
 
-fn line_of(alloc: Global, output: &Output) -> Result<String, AllocError> {
+/// Adds an output.
+pub fn put_output(out: &mut Sheet, output: &Output) {
     match output {
         Output::Send { server, bytes } => {
-            let hex = hex_of(alloc, bytes.as_slice())?;
-            send_line(alloc, *server, hex.as_str())
+            put_send(out, *server);
+            out.put_hex(bytes.as_slice());
         }
-        Output::Act(act) => { joined(alloc, &["act ", act_name(*act)]) }
+        Output::Act(act) => out.put_all(&["act ", act_name(*act)]),
     }
 }
 
-fn send_line(alloc: Global, server: u16, hex: &str) -> Result<String, AllocError> {
-    let server = decimal(alloc, u64::from(server))?;
-    joined(alloc, &["send ", server.as_str(), " ", hex])
-}
-
-/// What is stated of the outputs of a step, or of a part of them.
-#[derive(Drop)]
-enum Meaning {
-    /// The next output is this line.
-    Line(String),
-    /// n outputs, of which nothing is said.
-    More(u32),
-    /// There is no output.
-    Nothing,
+fn put_send(out: &mut Sheet, server: u16) {
+    out.put("send ");
+    out.put_number(u64::from(server));
+    out.put(" ");
 }
 
 /// Whether an answer is one about outputs.
@@ -51,148 +40,110 @@ pub fn is_output(text: &str) -> bool {
         || text.starts_with("act ")
 }
 
-/// What an answer means; none where it can't be read.
-fn read_meaning(alloc: Global, text: &str) -> Result<Option<Meaning>, AllocError> {
-    if text == "nothing" {
-        return Ok(Some(Meaning::Nothing));
-    }
-    if let Some(count) = text.strip_suffix(" more") {
-        return Ok(times_of(count).map(Meaning::More));
-    }
-    if let Some(name) = text.strip_prefix("act ") {
-        return Ok(if is_act(name) {
-            Some(Meaning::Line(String::from_str(alloc, text)?))
-        } else {
-            None
-        });
-    }
-    sent(alloc, text)
-}
-
-/// Whether a device can do what has this name.
-fn is_act(name: &str) -> bool {
-    let acts = [
-        Act::Reboot,
-        Act::FactoryReset,
-        Act::RegUpdate,
-        Act::Disable,
-        Act::Missed,
-    ];
-    acts.iter().any(|act| act_name(*act) == name)
-}
-
-/// What `send S HEX` means.
-fn sent(alloc: Global, text: &str) -> Result<Option<Meaning>, AllocError> {
-    let Some((server, word)) = text
-        .strip_prefix("send ")
-        .and_then(|words| words.split_once(' '))
-    else {
-        return Ok(None);
-    };
-    let Ok(server) = server.parse::<u16>() else {
-        return Ok(None);
-    };
-    let Some(bytes) = bytes_of(alloc, word)? else {
-        return Ok(None);
-    };
-    let hex = hex_of(alloc, bytes.as_slice())?;
-    let line = send_line(alloc, server, hex.as_str())?;
-    Ok(Some(Meaning::Line(line)))
-}
-
-/// The first place where the outputs are not what is stated.
-#[derive(Drop)]
-struct Difference {
-    line: u32,
-    stated: String,
-    came: String,
+/// The server of `send 1 60840025`, and the bytes after it.
+pub fn sending_of(words: &str) -> Option<(u16, &str)> {
+    let (server, bytes) = words.strip_prefix("send ")?.split_once(' ')?;
+    Some((server.parse().ok()?, bytes))
 }
 
 /// Compares what a device output, at the line of this number, with what is stated of it.
-pub fn judge(
-    alloc: Global,
+pub fn judge(line: u32, stated: &[Stated], came: &Sheet, report: &mut Report) {
+    report.note(came);
+    let mut meant = Sheet::new(report.alloc());
+    match put_meanings(&mut meant, stated) {
+        Some(unread) => report.malformed(unread, "no such answer"),
+        None => {
+            let difference = first_difference(line, stated, meant.as_str(), came.as_str());
+            report_difference(line, stated, difference, report);
+        }
+    }
+    report.note(&meant);
+}
+
+/// Adds what is stated in the one way to write it, a line for each answer. It gives the line of the first answer that
+/// can't be read.
+fn put_meanings(out: &mut Sheet, stated: &[Stated]) -> Option<u32> {
+    for stated in stated {
+        if !put_meaning(out, stated.text) {
+            return Some(stated.line);
+        }
+        out.put("\n");
+    }
+    None
+}
+
+/// Adds an answer; whether it can be read.
+fn put_meaning(out: &mut Sheet, text: &str) -> bool {
+    if let Some((server, bytes)) = sending_of(text) {
+        put_send(out, server);
+        return put_as_hex(out, bytes);
+    }
+    out.put(text);
+    if let Some(count) = text.strip_suffix(" more") {
+        times_of(count).is_some()
+    } else if let Some(name) = text.strip_prefix("act ") {
+        act_of(name).is_some()
+    } else {
+        text == "nothing"
+    }
+}
+
+/// The first place where outputs are not what is stated of them.
+#[derive(Clone, Copy)]
+enum Difference<'a> {
+    /// At the line of this number the first is stated; the second came.
+    Other(u32, &'a str, &'a str),
+    /// At the line of this number more outputs are stated than came, which are this many in all.
+    Fewer(u32, usize),
+}
+
+/// The first place where the outputs at the line of this number, a line for each, are not those that are meant.
+fn first_difference<'a>(
     line: u32,
     stated: &[Stated],
-    came: &[String],
-    report: &mut Report,
-) -> Result<(), AllocError> {
-    let mut meanings = Vec::new(alloc);
-    let mut wrong = 0usize;
-    for stated in stated {
-        let Some(meaning) = read_meaning(alloc, stated.text)? else {
-            return report.malformed(stated.line, "no such answer");
-        };
-        meanings.push((stated.line, meaning))?;
-        if stated.is_wrong {
-            wrong = wrong.saturating_add(1);
-        }
-    }
-    let difference = first_difference(alloc, line, meanings.as_slice(), came)?;
-    if wrong == 0 {
-        match difference {
-            None => Ok(()),
-            Some(found) => {
-                report.differs(found.line, found.stated.as_str(), found.came.as_str())
+    meant: &'a str,
+    came: &'a str,
+) -> Option<Difference<'a>> {
+    let mut outputs = came.lines();
+    for (stated, meaning) in stated.iter().zip(meant.lines()) {
+        if let Some(count) = meaning.strip_suffix(" more") {
+            for _ in 0..times_of(count).unwrap_or(0) {
+                if outputs.next().is_none() {
+                    return Some(Difference::Fewer(stated.line, came.lines().count()));
+                }
+            }
+        } else if meaning != "nothing" {
+            let output = outputs.next().unwrap_or("nothing");
+            if output != meaning {
+                return Some(Difference::Other(stated.line, meaning, output));
             }
         }
-    } else if wrong < stated.len() {
-        report.malformed(line, "`=>` and `=/>` below one step")
-    } else if difference.is_none() {
-        report.differs(line, "another answer than this", "this")
-    } else {
-        Ok(())
     }
+    let output = outputs.next()?;
+    Some(Difference::Other(line, "nothing more", output))
 }
 
-/// The first place where the outputs at the line of this number are not those that are meant.
-fn first_difference(
-    alloc: Global,
+/// Reports the difference, or where each answer is one that must not come, that there is none.
+fn report_difference(
     line: u32,
-    meanings: &[(u32, Meaning)],
-    came: &[String],
-) -> Result<Option<Difference>, AllocError> {
-    let mut at = 0usize;
-    for (line, meaning) in meanings {
-        match meaning {
-            Meaning::Nothing => {}
-            Meaning::More(count) => {
-                at = at.saturating_add(*count as usize);
-                if at > came.len() {
-                    let count = decimal(alloc, came.len() as u64)?;
-                    return Ok(Some(Difference {
-                        line: *line,
-                        stated: String::from_str(alloc, "more")?,
-                        came: joined(alloc, &[count.as_str(), " in all"])?,
-                    }));
-                }
-            }
-            Meaning::Line(wanted) => {
-                let got = line_at(came, at);
-                if got != wanted.as_str() {
-                    return Ok(Some(Difference {
-                        line: *line,
-                        stated: wanted.clone()?,
-                        came: String::from_str(alloc, got)?,
-                    }));
-                }
-                at = at.saturating_add(1);
-            }
+    stated: &[Stated],
+    difference: Option<Difference>,
+    report: &mut Report,
+) {
+    let wrong = stated.iter().filter(|stated| stated.is_wrong).count();
+    if wrong > 0 && wrong < stated.len() {
+        report.malformed(line, "`=>` and `=/>` below one step");
+    } else if wrong > 0 {
+        if difference.is_none() {
+            report.differs(line, "another answer than this", "this");
         }
-    }
-    if at >= came.len() {
-        return Ok(None);
-    }
-    Ok(Some(Difference {
-        line,
-        stated: String::from_str(alloc, "nothing more")?,
-        came: String::from_str(alloc, line_at(came, at))?,
-    }))
-}
-
-/// The line at this place.
-fn line_at(lines: &[String], at: usize) -> &str {
-    match lines.get(at) {
-        Some(line) => line.as_str(),
-        None => "nothing",
+    } else if let Some(Difference::Other(line, stated, came)) = difference {
+        report.differs(line, stated, came);
+    } else if let Some(Difference::Fewer(line, count)) = difference {
+        let mut came = Sheet::new(report.alloc());
+        came.put_number(count as u64);
+        came.put(" in all");
+        report.note(&came);
+        report.differs(line, "more", came.as_str());
     }
 }

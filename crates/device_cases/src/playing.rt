@@ -1,21 +1,30 @@
 //! The devices of a scenario, which take their steps one after another as the text has them.
 
-use crate::outputs::lines_of;
+use crate::outputs::put_outputs;
+use crate::report::Report;
+use case_sheet::Sheet;
 use device_machine::{Device, Event, StepFault};
 use scenario_image::{Scenario, Step, take_step};
 use scenario_mnemonics::encode;
 use scenario_statements::{Statement, read_statement};
-use std::alloc::{AllocError, Global};
+use std::alloc::Global;
 
-/// What a device output at a step.
-#[derive(Drop)]
-pub struct Made {
+/// A step of a device.
+#[derive(Clone, Copy)]
+pub struct Place {
     /// The device.
     pub device: u16,
     /// The number of the step in the device's row, counted from 0.
     pub step: u32,
+}
+
+/// What a device output at a step.
+#[derive(Drop)]
+pub struct Made {
+    /// The step.
+    pub place: Place,
     /// The outputs, line by line.
-    pub lines: Vec<String>,
+    pub outputs: Sheet,
 }
 
 /// The device whose steps the text states at present, and what was output so far.
@@ -59,131 +68,141 @@ impl<'a> Play<'a> {
     }
 
     /// Does what a line of the text says, and gives what the device outputs where that is a step.
-    pub fn take_line(
-        &mut self,
-        alloc: Global,
-        line: &str,
-    ) -> Result<Option<&[String]>, AllocError> {
+    pub fn take_line(&mut self, line: &str, report: &mut Report) -> Option<&Sheet> {
         self.aside = None;
-        let Ok(Some(statement)) = read_statement(alloc, line.as_bytes()) else {
-            return Ok(None);
-        };
-        match statement {
-            Statement::Scenario
-            | Statement::Class
-            | Statement::Notify(_)
-            | Statement::Account(_)
-            | Statement::Object(_)
-            | Statement::Def(_)
-            | Statement::Instance(_)
-            | Statement::Value { .. } => Ok(None),
-            Statement::Device(class) => {
-                self.begin(class)?;
-                Ok(None)
+        match meaning_of(report.alloc(), line) {
+            Meaning::Other => None,
+            Meaning::Device(class) => {
+                self.begin(class, report);
+                None
             }
-            Statement::Recv { .. }
-            | Statement::Request { .. }
-            | Statement::Tick(_)
-            | Statement::Put { .. }
-            | Statement::Firmware(_)
-            | Statement::Post(_)
-            | Statement::Need { .. } => {
-                let lines = self.take_step(alloc)?;
-                self.keep(lines)?;
-                Ok(self.made.last().map(|made| made.lines.as_slice()))
+            Meaning::Step => {
+                self.take_step(report);
+                self.made.last().map(|made| &made.outputs)
             }
         }
     }
 
     /// A device of this class begins.
-    fn begin(&mut self, class: u16) -> Result<(), AllocError> {
+    fn begin(&mut self, class: u16, report: &mut Report) {
         self.begun = self.begun.saturating_add(1);
         self.step = 0;
         self.device = match self.scenario.class(class) {
-            Some(class) => Some(Device::start(class)?),
+            Some(class) => report.got(Device::start(class)),
             None => None,
         };
-        Ok(())
     }
 
-    /// Lets the device take the next step of its row.
-    fn take_step(&mut self, alloc: Global) -> Result<Vec<String>, AllocError> {
-        let row = self.scenario.row(self.begun.saturating_sub(1));
+    /// Lets the device take the next step of its row, and keeps what it outputs.
+    fn take_step(&mut self, report: &mut Report) {
+        let device = self.begun.saturating_sub(1);
+        let place = Place {
+            device,
+            step: self.step,
+        };
+        let mut outputs = Sheet::new(report.alloc());
+        let row = self.scenario.row(device);
         let step = row.and_then(|(_, steps)| steps.get(self.step as usize));
         match (self.device.as_mut(), step) {
-            (Some(device), Some(step)) => stepped(alloc, device, step),
-            _ => said(alloc, "no such step"),
+            (Some(device), Some(step)) => put_step(&mut outputs, device, step),
+            _ => outputs.put("no such step\n"),
         }
-    }
-
-    /// Keeps what the device output.
-    fn keep(&mut self, lines: Vec<String>) -> Result<(), AllocError> {
-        self.made.push(Made {
-            device: self.begun.saturating_sub(1),
-            step: self.step,
-            lines,
-        })?;
+        if self.made.push(Made { place, outputs }).is_err() {
+            report.cut();
+        }
         self.step = self.step.saturating_add(1);
-        Ok(())
     }
 
     /// Lets a copy of the device take an event, after those that it took since the last step, and gives what it
     /// outputs. None where there is no device.
-    pub fn take_aside(
-        &mut self,
-        alloc: Global,
-        event: &Event,
-    ) -> Result<Option<Vec<String>>, AllocError> {
+    pub fn take_aside(&mut self, event: &Event, report: &mut Report) -> Option<Sheet> {
         if self.aside.is_none() {
             self.aside = match &self.device {
-                Some(device) => Some(device.copy()?),
+                Some(device) => report.got(device.copy()),
                 None => None,
             };
         }
-        match self.aside.as_mut() {
-            Some(device) => Ok(Some(happened(alloc, device, event)?)),
-            None => Ok(None),
-        }
+        let device = self.aside.as_mut()?;
+        let mut outputs = Sheet::new(report.alloc());
+        put_event(&mut outputs, device, event);
+        Some(outputs)
     }
 }
 
-fn said(alloc: Global, text: &str) -> Result<Vec<String>, AllocError> {
-    let mut lines = Vec::new(alloc);
-    lines.push(String::from_str(alloc, text)?)?;
-    Ok(lines)
-}
-
-fn stepped(alloc: Global, device: &mut Device, step: &Step) -> Result<Vec<String>, AllocError> {
+/// Lets a device take a step, and adds what it outputs.
+fn put_step(out: &mut Sheet, device: &mut Device, step: &Step) {
     match take_step(device, step) {
-        Ok(Some(outputs)) => lines_of(alloc, outputs.as_slice()),
-        Ok(None) => Ok(Vec::new(alloc)),
-        Err(StepFault::Memory) => Err(AllocError),
-        Err(StepFault::Spent) => said(alloc, "spent"),
+        Ok(Some(outputs)) => put_outputs(out, outputs.as_slice()),
+        Ok(None) => {}
+        Err(fault) => put_fault(out, fault),
     }
 }
 
-fn happened(alloc: Global, device: &mut Device, event: &Event) -> Result<Vec<String>, AllocError> {
+/// Lets a device take an event, and adds what it outputs.
+fn put_event(out: &mut Sheet, device: &mut Device, event: &Event) {
     match device.step(event) {
-        Ok(outputs) => lines_of(alloc, outputs.as_slice()),
-        Err(StepFault::Memory) => Err(AllocError),
-        Err(StepFault::Spent) => said(alloc, "spent"),
+        Ok(outputs) => put_outputs(out, outputs.as_slice()),
+        Err(fault) => put_fault(out, fault),
+    }
+}
+
+fn put_fault(out: &mut Sheet, fault: StepFault) {
+    match fault {
+        StepFault::Memory => out.cut(),
+        StepFault::Spent => out.put("spent\n"),
+    }
+}
+
+/// What a line of a text is for the devices.
+#[derive(Clone, Copy)]
+enum Meaning {
+    /// A device of this class begins.
+    Device(u16),
+    /// The device takes a step.
+    Step,
+    /// Something else.
+    Other,
+}
+
+fn meaning_of(alloc: Global, line: &str) -> Meaning {
+    let Ok(Some(statement)) = read_statement(alloc, line.as_bytes()) else {
+        return Meaning::Other;
+    };
+    match statement {
+        Statement::Device(class) => Meaning::Device(class),
+        Statement::Recv { .. }
+        | Statement::Request { .. }
+        | Statement::Tick(_)
+        | Statement::Put { .. }
+        | Statement::Firmware(_)
+        | Statement::Post(_)
+        | Statement::Need { .. } => Meaning::Step,
+        Statement::Scenario
+        | Statement::Class
+        | Statement::Notify(_)
+        | Statement::Account(_)
+        | Statement::Object(_)
+        | Statement::Def(_)
+        | Statement::Instance(_)
+        | Statement::Value { .. } => Meaning::Other,
     }
 }
 
 /// The event that a line says; none if it says none.
-pub fn event_of(alloc: Global, line: &str) -> Result<Option<Event>, AllocError> {
+pub fn event_of(line: &str, report: &mut Report) -> Option<Event> {
+    let alloc = report.alloc();
     let Ok(Some(statement)) = read_statement(alloc, line.as_bytes()) else {
-        return Ok(None);
+        return None;
     };
     match statement {
-        Statement::Recv { server, bytes } => Ok(Some(Event::Recv { server, bytes })),
+        Statement::Recv { server, bytes } => Some(Event::Recv { server, bytes }),
         Statement::Request { server, mnemonic } => {
-            let bytes = encode(alloc, &mnemonic)?;
-            Ok(Some(Event::Recv { server, bytes }))
+            let bytes = report.got(encode(alloc, &mnemonic))?;
+            Some(Event::Recv { server, bytes })
         }
-        Statement::Tick(seconds) => Ok(Some(Event::Tick(seconds))),
-        Statement::Put { path, value } => Ok(Some(Event::Put { path, value })),
-        Statement::Firmware(code) => Ok(Some(Event::Firmware(code))),
+        Statement::Tick(seconds) => Some(Event::Tick(seconds)),
+        Statement::Put { path, value } => Some(Event::Put { path, value }),
+        Statement::Firmware(code) => Some(Event::Firmware(code)),
         Statement::Scenario
         | Statement::Class
         | Statement::Notify(_)
@@ -194,6 +213,6 @@ pub fn event_of(alloc: Global, line: &str) -> Result<Option<Event>, AllocError> 
         | Statement::Value { .. }
         | Statement::Device(_)
         | Statement::Post(_)
-        | Statement::Need { .. } => Ok(None),
+        | Statement::Need { .. } => None,
     }
 }

@@ -2,12 +2,11 @@
 
 use crate::report::Report;
 use crate::stated::Stated;
-use crate::words::decimal;
+use case_sheet::Sheet;
 use device_machine::Device;
 use lwm2m_values::Value;
 use object_defs::Path;
 use scenario_words::{end, path, spell, value};
-use std::alloc::{AllocError, Global};
 
 /// What is asked.
 #[derive(Clone, Copy)]
@@ -37,59 +36,62 @@ fn read_question(line: u32, text: &str) -> Option<(Question, Stated<'_>)> {
 }
 
 /// Asks a device, and compares its answer with the one that is stated.
-pub fn ask(
-    alloc: Global,
-    line: u32,
-    text: &str,
-    device: Option<&Device>,
-    report: &mut Report,
-) -> Result<(), AllocError> {
+pub fn ask(line: u32, text: &str, device: Option<&Device>, report: &mut Report) {
     let Some((question, stated)) = read_question(line, text) else {
         return report.malformed(line, "no such question");
     };
     let Some(device) = device else {
         return report.malformed(line, "there is no device to ask");
     };
-    match meaning(alloc, question, stated.text)? {
-        None => report.malformed(line, "no such answer to this question"),
-        Some(meant) => {
-            let came = answer(alloc, question, device)?;
-            stated.judge(meant.as_str(), came.as_str(), report)
+    let mut meant = Sheet::new(report.alloc());
+    let mut came = Sheet::new(report.alloc());
+    if put_meaning(&mut meant, question, stated.text) {
+        put_answer(&mut came, question, device);
+        stated.judge(&meant, &came, report);
+    } else {
+        report.note(&meant);
+        report.malformed(line, "no such answer to this question");
+    }
+}
+
+fn put_answer(out: &mut Sheet, question: Question, device: &Device) {
+    match question {
+        Question::Value(path) => match device.value(&path) {
+            Some(value) => put_value(out, value),
+            None => out.put("none"),
+        },
+        Question::Clock => out.put_number(device.clock()),
+        Question::Observations => out.put_number(device.observations().len() as u64),
+    }
+}
+
+fn put_value(out: &mut Sheet, value: &Value) {
+    match spell(out.alloc(), value) {
+        Ok(words) => out.put(words.as_str()),
+        Err(_) => out.cut(),
+    }
+}
+
+/// Adds the answer that is stated, in the one way to write it. It gives whether it can be read.
+fn put_meaning(out: &mut Sheet, question: Question, text: &str) -> bool {
+    match question {
+        Question::Value(_) if text == "none" => {
+            out.put(text);
+            true
         }
-    }
-}
-
-fn answer(alloc: Global, question: Question, device: &Device) -> Result<String, AllocError> {
-    match question {
-        Question::Value(path) => value_word(alloc, device.value(&path)),
-        Question::Clock => { decimal(alloc, device.clock()) }
-        Question::Observations => { decimal(alloc, device.observations().len() as u64) }
-    }
-}
-
-fn value_word(alloc: Global, value: Option<&Value>) -> Result<String, AllocError> {
-    match value {
-        Some(value) => spell(alloc, value),
-        None => String::from_str(alloc, "none"),
-    }
-}
-
-/// The answer that is stated, in the one way to write it.
-fn meaning(alloc: Global, question: Question, text: &str) -> Result<Option<String>, AllocError> {
-    match question {
-        Question::Value(_) if text == "none" => Ok(Some(String::from_str(alloc, text)?)),
-        Question::Value(_) => {
-            let Ok((value, rest)) = value(alloc, text.as_bytes()) else {
-                return Ok(None);
-            };
-            if end(rest).is_err() {
-                return Ok(None);
+        Question::Value(_) => match value(out.alloc(), text.as_bytes()) {
+            Ok((value, rest)) => {
+                put_value(out, &value);
+                end(rest).is_ok()
             }
-            Ok(Some(spell(alloc, &value)?))
-        }
+            Err(_) => false,
+        },
         Question::Clock | Question::Observations => match text.parse::<u64>() {
-            Ok(number) => Ok(Some(decimal(alloc, number)?)),
-            Err(_) => Ok(None),
+            Ok(number) => {
+                out.put_number(number);
+                true
+            }
+            Err(_) => false,
         },
     }
 }

@@ -1,5 +1,5 @@
 use crate::report::Report;
-use std::alloc::{AllocError, Global};
+use case_sheet::Sheet;
 
 /// An answer that a line states: `=> ANSWER` has to come, `=/> ANSWER` must not.
 #[derive(Clone, Copy)]
@@ -31,16 +31,24 @@ impl<'a> Stated<'a> {
     }
 
     /// Compares what came with what is meant by this answer, each in the one way to write it.
-    pub fn judge(&self, meant: &str, came: &str, report: &mut Report) -> Result<(), AllocError> {
-        if self.is_wrong {
-            if meant == came {
-                report.differs(self.line, "anything else", came)?;
-            }
-            return Ok(());
+    pub fn judge(&self, meant: &Sheet, came: &Sheet, report: &mut Report) {
+        report.note(meant);
+        report.note(came);
+        self.compare(meant.as_str(), came.as_str(), report);
+    }
+
+    /// Compares what came with this answer as it stands.
+    pub fn judge_as_is(&self, came: &Sheet, report: &mut Report) {
+        report.note(came);
+        self.compare(self.text, came.as_str(), report);
+    }
+
+    fn compare(&self, meant: &str, came: &str, report: &mut Report) {
+        let is_same = meant == came;
+        if self.is_wrong && is_same {
+            report.differs(self.line, "anything else", came);
+        } else if !self.is_wrong && !is_same {
+            report.differs(self.line, meant, came);
         }
-        if meant != came {
-            report.differs(self.line, meant, came)?;
-        }
-        Ok(())
     }
 }

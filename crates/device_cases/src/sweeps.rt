@@ -1,76 +1,86 @@
 //! What is found in many files that differ little from one.
 
-use crate::found::{FileKind, found_in};
-use crate::words::{decimal, joined, numbered};
-use std::alloc::{AllocError, Global};
+use crate::found::{FileKind, Found};
+use case_sheet::Sheet;
 
-/// The verdict on the proper fronts of a file: that on each of them, or the first that is another than on the one
+/// Adds the verdict on the proper fronts of a file: that on each of them, or the first that is another than on the one
 /// before it.
-pub fn verdict_of_fronts(
-    alloc: Global,
-    kind: FileKind,
-    bytes: &[u8],
-) -> Result<String, AllocError> {
-    let mut verdict = found_in(alloc, kind, &[])?.verdict;
-    for end in 0..bytes.len() {
-        let found = found_in(alloc, kind, &bytes[..end])?.verdict;
-        if found.as_str() != verdict.as_str() {
-            return differing(alloc, found.as_str(), " for the first ", end);
-        }
-        verdict = found;
+pub fn put_verdict_of_fronts(out: &mut Sheet, kind: FileKind, bytes: &[u8]) {
+    let empty = Found::in_bytes(out.alloc(), kind, &[]);
+    let verdict = empty.verdict.as_str();
+    if are_fronts_as(out, kind, bytes, verdict) {
+        out.put(verdict);
     }
-    Ok(verdict)
 }
 
-/// The verdict on the file with one byte changed, at each place in turn, to its two neighbours, with its lowest or its
-/// highest bit turned, to 0 and to 255: each is refused, or it is read and is written again as the same bytes.
-pub fn verdict_of_changes(
-    alloc: Global,
-    kind: FileKind,
-    bytes: &[u8],
-) -> Result<String, AllocError> {
-    let mut changed = Vec::from_slice(alloc, bytes)?;
+/// Whether the verdict on each proper front is this one. If not, the first other one is added.
+fn are_fronts_as(out: &mut Sheet, kind: FileKind, bytes: &[u8], verdict: &str) -> bool {
+    for end in 0..bytes.len() {
+        if !is_front_as(out, kind, &bytes[..end], verdict) {
+            return false;
+        }
+    }
+    true
+}
+
+fn is_front_as(out: &mut Sheet, kind: FileKind, front: &[u8], verdict: &str) -> bool {
+    let found = Found::in_bytes(out.alloc(), kind, front);
+    if found.verdict.is_cut() {
+        out.cut();
+    }
+    let is_same = found.verdict.as_str() == verdict;
+    if !is_same {
+        out.put_all(&[found.verdict.as_str(), " for the first "]);
+        out.put_number(front.len() as u64);
+    }
+    is_same
+}
+
+/// Adds the verdict on the file with one byte changed, at each place in turn, to its two neighbours, with its lowest or
+/// its highest bit turned, to 0 and to 255: each is refused, or it is read and is written again as the same bytes.
+pub fn put_verdict_of_changes(out: &mut Sheet, kind: FileKind, bytes: &[u8]) {
+    match Vec::from_slice(out.alloc(), bytes) {
+        Err(_) => out.cut(),
+        Ok(mut changed) => {
+            if are_changes_due(out, kind, bytes, changed.as_mut_slice()) {
+                out.put("fault or ok");
+            }
+        }
+    }
+}
+
+/// Whether each change of a byte of the file, which is made in the copy, has a verdict that is due. If not, the first
+/// other one is added.
+fn are_changes_due(out: &mut Sheet, kind: FileKind, bytes: &[u8], copy: &mut [u8]) -> bool {
     for (place, old) in bytes.iter().enumerate() {
         let old = *old;
         let (above, below) = (old.wrapping_add(1), old.wrapping_sub(1));
         for byte in [above, below, old ^ 1, old ^ 0x80, 0, 255, old] {
-            put(&mut changed, place, byte);
-            let verdict = found_in(alloc, kind, changed.as_slice())?.verdict;
-            if !is_due(verdict.as_str()) {
-                return changed_byte(alloc, verdict.as_str(), byte, place);
+            if let Some(field) = copy.get_mut(place) {
+                *field = byte;
+            }
+            if !is_due(out, kind, copy) {
+                out.put(" with ");
+                out.put_number(u64::from(byte));
+                out.put(" at ");
+                out.put_number(place as u64);
+                return false;
             }
         }
     }
-    String::from_str(alloc, "fault or ok")
+    true
 }
 
-fn differing(
-    alloc: Global,
-    verdict: &str,
-    words: &str,
-    place: usize,
-) -> Result<String, AllocError> {
-    let place = decimal(alloc, place as u64)?;
-    joined(alloc, &[verdict, words, place.as_str()])
-}
-
-fn changed_byte(
-    alloc: Global,
-    verdict: &str,
-    byte: u8,
-    place: usize,
-) -> Result<String, AllocError> {
-    let words = numbered(alloc, " with ", u64::from(byte))?;
-    let verdict = joined(alloc, &[verdict, words.as_str()])?;
-    differing(alloc, verdict.as_str(), " at ", place)
-}
-
-fn put(bytes: &mut Vec<u8>, place: usize, byte: u8) {
-    if let Some(field) = bytes.get_mut(place) {
-        *field = byte;
+/// Whether these bytes are refused, or there is something in them. If not, the verdict is added.
+fn is_due(out: &mut Sheet, kind: FileKind, bytes: &[u8]) -> bool {
+    let found = Found::in_bytes(out.alloc(), kind, bytes);
+    if found.verdict.is_cut() {
+        out.cut();
     }
-}
-
-fn is_due(verdict: &str) -> bool {
-    verdict.starts_with("ok ") || verdict.starts_with("fault ")
+    let verdict = found.verdict.as_str();
+    let is_due = verdict.starts_with("ok ") || verdict.starts_with("fault ");
+    if !is_due {
+        out.put(verdict);
+    }
+    is_due
 }

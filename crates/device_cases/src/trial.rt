@@ -1,17 +1,18 @@
 use crate::blocks::Block;
-use crate::found::{FileKind, Found, found_in, refused};
-use crate::more_bytes::{add_words, changed};
-use crate::report::Report;
+use crate::found::{FileKind, Found};
+use crate::pieces::Pieces;
+use crate::report::{Report, sheet_of};
 use crate::stated::Stated;
-use crate::sweeps::{verdict_of_changes, verdict_of_fronts};
-use std::alloc::{AllocError, Global};
+use crate::sweeps::{put_verdict_of_changes, put_verdict_of_fronts};
+use case_sheet::Sheet;
+use std::alloc::Global;
 use std::str;
 
 /// What is tried.
-#[derive(Drop)]
+#[derive(Clone, Copy)]
 enum Tried {
-    /// These bytes.
-    Bytes(Vec<u8>),
+    /// Bytes.
+    Bytes,
     /// Each proper front of what the body gives first.
     Fronts,
     /// What the body gives first with one byte changed, at each place.
@@ -21,11 +22,12 @@ enum Tried {
 /// What a body tries, one thing after another.
 #[derive(Drop)]
 pub struct Trial<'a> {
-    alloc: Global,
     kind: FileKind,
     /// What the body gives first.
     first: &'a [u8],
     tried: Tried,
+    /// The bytes that are tried.
+    bytes: Pieces,
     /// The line that gives it.
     line: u32,
     /// Whether an answer is stated for it.
@@ -34,131 +36,128 @@ pub struct Trial<'a> {
 
 impl<'a> Trial<'a> {
     /// Of a body that begins with this block.
-    pub fn new(
-        alloc: Global,
-        kind: FileKind,
-        block: &'a Block<'_>,
-    ) -> Result<Trial<'a>, AllocError> {
-        Ok(Trial {
-            alloc,
+    pub fn new(kind: FileKind, block: &'a Block<'_>, report: &mut Report) -> Trial<'a> {
+        let first = block.bytes.as_slice();
+        Trial {
             kind,
-            first: block.bytes.as_slice(),
-            tried: Tried::Bytes(Vec::from_slice(alloc, block.bytes.as_slice())?),
+            first,
+            tried: Tried::Bytes,
+            bytes: copy_of(report.alloc(), first),
             line: block.line,
             is_answered: false,
-        })
+        }
     }
 
     /// Goes on to what this block says. For each thing that is tried an answer has to be stated.
-    pub fn give(&mut self, block: &Block, report: &mut Report) -> Result<(), AllocError> {
-        self.end(report)?;
-        match self.tried_by(block)? {
-            Some(tried) => self.tried = tried,
-            None => report.malformed(block.line, "nothing that may stand here")?,
+    pub fn give(&mut self, block: &Block, report: &mut Report) {
+        self.end(report);
+        let mut bytes = copy_of(report.alloc(), self.first);
+        match self.tried_by(block, &mut bytes) {
+            None => report.malformed(block.line, "nothing that may stand here"),
+            Some(tried) => {
+                self.tried = tried;
+                self.bytes = bytes;
+            }
         }
         self.line = block.line;
         self.is_answered = false;
-        Ok(())
     }
 
-    fn tried_by(&self, block: &Block) -> Result<Option<Tried>, AllocError> {
-        if let Some(words) = block.head.strip_prefix("and ") {
-            return self.with_more(words, block.bytes.as_slice());
-        }
-        if !block.bytes.is_empty() {
-            return Ok(None);
-        }
-        match block.head {
-            "each front" => Ok(Some(Tried::Fronts)),
-            "each change" => Ok(Some(Tried::Changes)),
-            words => self.with_change(words),
-        }
+    /// What a block says to try. Where that is some bytes, it makes them of those that the body gives first.
+    fn tried_by(&self, block: &Block, bytes: &mut Pieces) -> Option<Tried> {
+        let is_read = if let Some(words) = block.head.strip_prefix("and ") {
+            self.put_more(bytes, words, block.bytes.as_slice())
+        } else if !block.bytes.as_slice().is_empty() {
+            false
+        } else if block.head == "each front" {
+            return Some(Tried::Fronts);
+        } else if block.head == "each change" {
+            return Some(Tried::Changes);
+        } else if let Some(words) = block.head.strip_prefix("with ") {
+            bytes.change(words)
+        } else {
+            false
+        };
+        if is_read { Some(Tried::Bytes) } else { None }
     }
 
-    /// What the body gives first with some of its bytes changed.
-    fn with_change(&self, words: &str) -> Result<Option<Tried>, AllocError> {
-        match words.strip_prefix("with ") {
-            Some(words) => {
-                let bytes = changed(self.alloc, self.first, words)?;
-                Ok(bytes.map(Tried::Bytes))
+    /// Adds a line of a text without its end, or bytes, and then further bytes. Whether the words can be read.
+    fn put_more(&self, bytes: &mut Pieces, words: &str, further: &[u8]) -> bool {
+        let is_read = match self.kind {
+            FileKind::Text | FileKind::Entries => {
+                bytes.put(words.as_bytes());
+                true
             }
-            None => Ok(None),
-        }
-    }
-
-    /// What the body gives first and more after it: a line of a text without its end, or bytes.
-    fn with_more(&self, words: &str, bytes: &[u8]) -> Result<Option<Tried>, AllocError> {
-        let mut all = Vec::from_slice(self.alloc, self.first)?;
-        match self.kind {
-            FileKind::Text | FileKind::Entries => all.extend_from_slice(words.as_bytes())?,
-            FileKind::Image | FileKind::Trace => {
-                if !add_words(self.alloc, &mut all, words)? {
-                    return Ok(None);
-                }
-            }
-        }
-        all.extend_from_slice(bytes)?;
-        Ok(Some(Tried::Bytes(all)))
+            FileKind::Image | FileKind::Trace => bytes.put_line(words),
+        };
+        bytes.put(further);
+        is_read
     }
 
     /// Compares a stated answer, and the bytes after it, with what is found in what is tried.
-    pub fn judge(
-        &mut self,
-        stated: Stated,
-        bytes: &[u8],
-        report: &mut Report,
-    ) -> Result<(), AllocError> {
+    pub fn judge(&mut self, stated: Stated, bytes: &[u8], report: &mut Report) {
         self.is_answered = true;
-        let found = self.find()?;
-        match stated.text {
-            "text" | "entries" => {
-                let meant = text_of(self.alloc, bytes)?;
-                stated.judge(meant.as_str(), found.shown_text(), report)
-            }
-            words if words.starts_with("image ") || words.starts_with("trace ") => {
-                let meant = hex::encode_upper(self.alloc, bytes)?;
-                let came = found.shown_file(self.alloc)?;
-                stated.judge(meant.as_str(), came.as_str(), report)
-            }
-            _ if !bytes.is_empty() => {
-                report.malformed(stated.line, "an answer that no line may continue")
-            }
-            words if words.starts_with("ok ") || words.starts_with("fault ") => {
-                stated.judge(words, found.verdict.as_str(), report)
-            }
-            _ => report.malformed(stated.line, "no such answer"),
+        let found = self.find(report);
+        let words = stated.text;
+        if words == "text" || words == "entries" {
+            let text = str::from_utf8(bytes).unwrap_or("no text");
+            let meant = sheet_of(report.alloc(), text);
+            stated.judge(&meant, found.shown_text(), report);
+        } else if words.starts_with("image ") || words.starts_with("trace ") {
+            judge_file(stated, bytes, &found, report);
+        } else if !bytes.is_empty() {
+            report.malformed(stated.line, "an answer that no line may continue");
+        } else if words.starts_with("ok ") || words.starts_with("fault ") {
+            stated.judge_as_is(&found.verdict, report);
+        } else {
+            report.malformed(stated.line, "no such answer");
         }
     }
 
-    fn find(&self) -> Result<Found, AllocError> {
-        let alloc = self.alloc;
-        match &self.tried {
-            Tried::Bytes(bytes) => found_in(alloc, self.kind, bytes.as_slice()),
+    fn find(&self, report: &mut Report) -> Found {
+        let alloc = report.alloc();
+        let found = match self.tried {
+            Tried::Bytes => Found::in_bytes(alloc, self.kind, self.bytes.as_slice()),
             Tried::Fronts => {
-                let verdict = verdict_of_fronts(alloc, self.kind, self.first)?;
-                Ok(refused(alloc, verdict))
+                let mut found = Found::new(alloc);
+                put_verdict_of_fronts(&mut found.verdict, self.kind, self.first);
+                found
             }
             Tried::Changes => {
-                let verdict = verdict_of_changes(alloc, self.kind, self.first)?;
-                Ok(refused(alloc, verdict))
+                let mut found = Found::new(alloc);
+                put_verdict_of_changes(&mut found.verdict, self.kind, self.first);
+                found
             }
+        };
+        report.note(&found.verdict);
+        if self.bytes.is_cut() {
+            report.cut();
         }
+        found
     }
 
     /// After the last answer for what is tried.
-    pub fn end(&self, report: &mut Report) -> Result<(), AllocError> {
-        if self.is_answered {
-            return Ok(());
+    pub fn end(&self, report: &mut Report) {
+        if !self.is_answered {
+            let found = self.find(report);
+            report.differs(self.line, "no answer", found.verdict.as_str());
         }
-        let found = self.find()?;
-        report.differs(self.line, "no answer", found.verdict.as_str())
     }
 }
 
-/// The text that these bytes are.
-fn text_of(alloc: Global, bytes: &[u8]) -> Result<String, AllocError> {
-    match str::from_utf8(bytes) {
-        Ok(text) => String::from_str(alloc, text),
-        Err(_) => String::from_str(alloc, "no text"),
+/// Compares the bytes of a stated file with what is found.
+fn judge_file(stated: Stated, bytes: &[u8], found: &Found, report: &mut Report) {
+    let mut meant = Sheet::new(report.alloc());
+    let mut came = Sheet::new(report.alloc());
+    if !bytes.is_empty() {
+        meant.put_hex(bytes);
     }
+    found.put_shown_file(&mut came);
+    stated.judge(&meant, &came, report);
+}
+
+fn copy_of(alloc: Global, bytes: &[u8]) -> Pieces {
+    let mut copy = Pieces::new(alloc);
+    copy.put(bytes);
+    copy
 }

@@ -1,12 +1,10 @@
 //! What comes of a session.
 use crate::question::Question;
-use device_machine::{Device, Event, Output, StepFault, Template};
+use case_sheet::Sheet;
+use device_machine::{Device, Event, Output, Outputs, StepFault, Template};
 use live_link::{LiveEnd, LiveSession, Packet, ScriptedClock, ScriptedWire, serve_class};
-use octets::Bytes;
 use scenario_asm::assemble;
 use scenario_image::{Scenario, ScenarioFault, Step, take_steps};
-use scenario_words::hex_word;
-use std::alloc::{AllocError, Global};
 
 /// The class of the DEMO device.
 const DEMO: &str = "scenario 1
@@ -28,55 +26,77 @@ value /3/0/16 text \"U\"
 value /5/0/9 integer 2
 ";
 
-/// The device's steps, the datagrams that it sent, and how the session ended; and, where its steps are not the row of a
-/// scenario, or that row sends something else, that this is so.
-pub fn answer_to(alloc: Global, question: Question) -> Result<String, AllocError> {
-    let Ok(demo) = assemble(alloc, DEMO) else {
-        return String::from_str(alloc, "no device");
-    };
-    match demo.class(0) {
-        None => String::from_str(alloc, "no class"),
-        Some(class) => answer_of(alloc, question, class),
+/// Adds the device's steps, the datagrams that it sent, and how the session ended; and, where its steps are not the row
+/// of a scenario, or that row sends something else, that this is so.
+pub fn put_answer(out: &mut Sheet, question: Question) {
+    match assemble(out.alloc(), DEMO) {
+        Err(_) => out.put("no device"),
+        Ok(demo) => match demo.class(0) {
+            None => out.put("no class"),
+            Some(class) => put_session(out, question, class),
+        },
     }
 }
 
-fn answer_of(alloc: Global, question: Question, class: &Template) -> Result<String, AllocError> {
+fn put_session(out: &mut Sheet, question: Question, class: &Template) {
+    if question.is_cut {
+        out.cut();
+    }
+    let alloc = out.alloc();
     let mut wire = ScriptedWire::new(alloc, question.receipts, question.failing);
     let mut clock = ScriptedClock::new(question.readings);
-    let session = serve_class(alloc, &mut wire, &mut clock, class, question.turns)?;
-    let mut text = String::new(alloc);
-    put_steps(alloc, &mut text, session.steps.as_slice())?;
-    put_packets(alloc, &mut text, session.sent.as_slice())?;
-    text.push_str("end ")?;
-    text.push_str(name_of(session.end))?;
-    if !are_same(wire.taken(), session.sent.as_slice()) {
-        text.push_str(", but the wire took something else")?;
+    match serve_class(alloc, &mut wire, &mut clock, class, question.turns) {
+        Err(_) => out.cut(),
+        Ok(session) => put_served(out, session, wire.taken(), class),
     }
-    put_replay(alloc, &mut text, class, session)?;
-    Ok(text)
 }
 
-fn put_steps(alloc: Global, text: &mut String, steps: &[Step]) -> Result<(), AllocError> {
+fn put_served(out: &mut Sheet, session: LiveSession, taken: &[Packet], class: &Template) {
+    put_steps(out, session.steps.as_slice());
+    put_packets(out, session.sent.as_slice());
+    out.next(", ");
+    out.put_all(&["end ", name_of(session.end)]);
+    let mut sent = Sheet::new(out.alloc());
+    put_packets(&mut sent, session.sent.as_slice());
+    let mut took = Sheet::new(out.alloc());
+    put_packets(&mut took, taken);
+    if took.as_str() != sent.as_str() {
+        out.put(", but the wire took something else");
+    }
+    if sent.is_cut() || took.is_cut() {
+        out.cut();
+    }
+    put_replay(out, session.steps, session.end, sent.as_str(), class);
+}
+
+fn put_steps(out: &mut Sheet, steps: &[Step]) {
     for step in steps {
+        out.next(", ");
         match step {
-            Step::Event(Event::Tick(seconds)) => write!(text, "tick {seconds}, ")?,
-            Step::Event(Event::Recv { server, bytes }) => {
-                let digits = hex_word(alloc, bytes.as_slice())?;
-                write!(text, "recv {server} {digits}, ")?;
+            Step::Event(Event::Tick(seconds)) => {
+                out.put("tick ");
+                out.put_number(u64::from(*seconds));
             }
-            _ => text.push_str("another step, ")?,
+            Step::Event(Event::Recv { server, bytes }) => {
+                put_datagram(out, "recv ", *server, bytes.as_slice());
+            }
+            _ => out.put("another step"),
         }
     }
-    Ok(())
 }
 
-fn put_packets(alloc: Global, text: &mut String, packets: &[Packet]) -> Result<(), AllocError> {
+fn put_packets(out: &mut Sheet, packets: &[Packet]) {
     for packet in packets {
-        let digits = hex_word(alloc, packet.bytes.as_slice())?;
-        let server = packet.server;
-        write!(text, "sent {server} {digits}, ")?;
+        out.next(", ");
+        put_datagram(out, "sent ", packet.server, packet.bytes.as_slice());
     }
-    Ok(())
+}
+
+fn put_datagram(out: &mut Sheet, words: &str, server: u16, bytes: &[u8]) {
+    out.put(words);
+    out.put_number(u64::from(server));
+    out.put(" ");
+    out.put_hex(bytes);
 }
 
 fn name_of(end: LiveEnd) -> &'static str {
@@ -89,73 +109,67 @@ fn name_of(end: LiveEnd) -> &'static str {
     }
 }
 
-fn are_same(some: &[Packet], others: &[Packet]) -> bool {
-    some.len() == others.len()
-        && some.iter().zip(others.iter()).all(|(a, b)| {
-            a.server == b.server && a.bytes.as_slice() == b.bytes.as_slice()
-        })
+/// Says it where the steps are not the row of a scenario, or that row sends something else than all that was sent.
+fn put_replay(out: &mut Sheet, steps: Vec<Step>, end: LiveEnd, sent: &str, class: &Template) {
+    match single(out, class, steps) {
+        Ok(scenario) => {
+            if end != LiveEnd::SendFault && !is_replayed(out, &scenario, class, sent) {
+                out.put(", but its row sends something else");
+            }
+        }
+        Err(ScenarioFault::Memory) => out.cut(),
+        Err(ScenarioFault::Range) => out.put(", no row: range"),
+        Err(ScenarioFault::Missing) => out.put(", no row: missing"),
+        Err(ScenarioFault::Limit) => out.put(", no row: limit"),
+    }
 }
 
-/// Says it where the steps are not the row of a scenario, or that row sends something else than all that was sent.
-fn put_replay(
-    alloc: Global,
-    text: &mut String,
-    class: &Template,
-    session: LiveSession,
-) -> Result<(), AllocError> {
-    match Scenario::single(alloc, class.copy()?, session.steps) {
-        Ok(scenario) => {
-            if session.end != LiveEnd::SendFault
-                && !is_replayed(alloc, &scenario, class, session.sent.as_slice())?
-            {
-                text.push_str(", but its row sends something else")?;
-            }
-            Ok(())
-        }
-        Err(ScenarioFault::Memory) => Err(AllocError),
-        Err(ScenarioFault::Range) => text.push_str(", no row: range"),
-        Err(ScenarioFault::Missing) => text.push_str(", no row: missing"),
-        Err(ScenarioFault::Limit) => text.push_str(", no row: limit"),
+/// The scenario of a class and a row of these steps.
+fn single(out: &Sheet, class: &Template, steps: Vec<Step>) -> Result<Scenario, ScenarioFault> {
+    match class.copy() {
+        Ok(class) => Scenario::single(out.alloc(), class, steps),
+        Err(_) => Err(ScenarioFault::Memory),
     }
 }
 
 /// Whether a device of the class sends these datagrams at the steps of the scenario's row.
-fn is_replayed(
-    alloc: Global,
-    scenario: &Scenario,
-    class: &Template,
-    sent: &[Packet],
-) -> Result<bool, AllocError> {
+fn is_replayed(out: &mut Sheet, scenario: &Scenario, class: &Template, sent: &str) -> bool {
     let Some((_, steps)) = scenario.row(0) else {
-        return Ok(false);
+        return false;
     };
-    let mut device = Device::start(class)?;
-    let all = match take_steps(alloc, &mut device, steps) {
-        Ok(all) => all,
-        Err(StepFault::Memory) => return Err(AllocError),
-        Err(StepFault::Spent) => return Ok(false),
-    };
-    let mut packets = Vec::new(alloc);
-    for outputs in all.as_slice() {
-        if let Some(outputs) = outputs {
-            add_packets(&mut packets, outputs.as_slice())?;
-        }
+    let mut replayed = Sheet::new(out.alloc());
+    match Device::start(class) {
+        Ok(mut device) => put_replayed(&mut replayed, &mut device, steps),
+        Err(_) => replayed.cut(),
     }
-    Ok(are_same(packets.as_slice(), sent))
+    if replayed.is_cut() {
+        out.cut();
+    }
+    replayed.as_str() == sent
 }
 
-fn add_packets(packets: &mut Vec<Packet>, outputs: &[Output]) -> Result<(), AllocError> {
+/// Adds what a device sends at these steps.
+fn put_replayed(out: &mut Sheet, device: &mut Device, steps: &[Step]) {
+    match take_steps(out.alloc(), device, steps) {
+        Ok(all) => put_all_sent(out, all.as_slice()),
+        Err(StepFault::Memory) => out.cut(),
+        Err(StepFault::Spent) => out.put("spent"),
+    }
+}
+
+fn put_all_sent(out: &mut Sheet, all: &[Option<Outputs>]) {
+    for outputs in all {
+        if let Some(outputs) = outputs {
+            put_sent(out, outputs.as_slice());
+        }
+    }
+}
+
+fn put_sent(out: &mut Sheet, outputs: &[Output]) {
     for output in outputs {
         if let Output::Send { server, bytes } = output {
-            packets.push(packet_of(*server, bytes)?)?;
+            out.next(", ");
+            put_datagram(out, "sent ", *server, bytes.as_slice());
         }
     }
-    Ok(())
-}
-
-fn packet_of(server: u16, bytes: &Bytes) -> Result<Packet, AllocError> {
-    Ok(Packet {
-        server,
-        bytes: bytes.clone()?,
-    })
 }

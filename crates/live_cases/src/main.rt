@@ -1,10 +1,16 @@
 //! `live_cases`: reads sessions from standard input, each with what has to come of it, lets a device go on over a wire
 //! and a clock in memory, and prints each whose end is another. docs/inside/live-cases.md says how a line is written.
+//!
+//! What prints writes on a `Sheet`, and what reads a line notes what it can't read: neither has a `Result`. A failed
+//! allocation is noted, and `Sheet::finish` returns it. Each `?` at which a device or a session is alive would cost the
+//! proof of its function seconds.
 #![tactic(auto)]
 
 mod answer;
 mod question;
 
+use answer::put_answer;
+use case_sheet::Sheet;
 use question::Question;
 use std::alloc::{AllocError, Global};
 use std::io;
@@ -13,55 +19,99 @@ use std::process::ExitCode;
 fn main(rt: HostRuntime) -> io::Result<ExitCode> {
     let alloc = rt.alloc();
     let table = io::read_to_string(alloc, rt.reader())?;
-    let mut report = String::new(alloc);
-    let status = report_on(alloc, table.as_str(), &mut report)?;
-    rt.print(report.as_str())?;
+    let mut report = Report::new(alloc);
+    report.look_over(table.as_str());
+    let status = report.status();
+    let said = report.finish()?;
+    rt.print(said.as_str())?;
     Ok(ExitCode::from(status))
 }
 
-/// Writes what is to be said of the lines of a table. Status 0: all is as it has to be; 1: a line differs; 2: a line
-/// can't be read, or there is no case.
-fn report_on(alloc: Global, table: &str, report: &mut String) -> Result<u8, AllocError> {
-    let (mut number, mut cases, mut differing, mut unread) = (0u32, 0u32, 0u32, 0u32);
-    for line in table.lines() {
-        number = number.saturating_add(1);
-        if line.trim().is_empty() || line.starts_with('#') {
-            continue;
-        }
-        cases = cases.saturating_add(1);
-        match is_right(alloc, line, number, report)? {
-            Some(true) => {}
-            Some(false) => differing = differing.saturating_add(1),
-            None => unread = unread.saturating_add(1),
-        }
-    }
-    writeln!(report, "{cases} cases, {differing} differ")?;
-    Ok(if unread > 0 || cases == 0 {
-        2
-    } else {
-        u8::from(differing > 0)
-    })
+/// What is to be said of the lines of a table.
+#[derive(Drop)]
+struct Report {
+    out: Sheet,
+    cases: u32,
+    differing: u32,
+    unread: u32,
 }
 
-/// Whether the answer to a line is what stands after its arrow; none where it can't be read. Else the report says so.
-fn is_right(
-    alloc: Global,
-    line: &str,
-    number: u32,
-    report: &mut String,
-) -> Result<Option<bool>, AllocError> {
-    let Some((words, stated)) = line.split_once(" => ") else {
-        writeln!(report, "line {number} has no arrow")?;
-        return Ok(None);
-    };
-    let Some(question) = Question::read(alloc, words)? else {
-        writeln!(report, "line {number} can't be read: {words}")?;
-        return Ok(None);
-    };
-    let came = answer::answer_to(alloc, question)?;
-    if came.as_str() == stated.trim() {
-        return Ok(Some(true));
+impl Report {
+    fn new(alloc: Global) -> Report {
+        Report {
+            out: Sheet::new(alloc),
+            cases: 0,
+            differing: 0,
+            unread: 0,
+        }
     }
-    writeln!(report, "line {number}: {words} => {came}")?;
-    Ok(Some(false))
+
+    /// Status 0: all is as it has to be; 1: a line differs; 2: a line can't be read, or there is no case.
+    fn status(&self) -> u8 {
+        if self.unread > 0 || self.cases == 0 {
+            2
+        } else {
+            u8::from(self.differing > 0)
+        }
+    }
+
+    fn look_over(&mut self, table: &str) {
+        let mut number = 0u64;
+        for line in table.lines() {
+            number = number.saturating_add(1);
+            if !line.trim().is_empty() && !line.starts_with('#') {
+                self.cases = self.cases.saturating_add(1);
+                self.look_at(line, number);
+            }
+        }
+    }
+
+    /// Compares what comes of a line with what stands after its arrow.
+    fn look_at(&mut self, line: &str, number: u64) {
+        match line.split_once(" => ") {
+            None => self.unread(number, &[" has no arrow\n"]),
+            Some((words, stated)) => match Question::read(self.out.alloc(), words) {
+                None => self.unread(number, &[" can't be read: ", words, "\n"]),
+                Some(question) => self.ask(number, words, question, stated.trim()),
+            },
+        }
+    }
+
+    fn ask(&mut self, number: u64, words: &str, question: Question, stated: &str) {
+        let mut came = Sheet::new(self.out.alloc());
+        put_answer(&mut came, question);
+        if came.is_cut() {
+            self.out.cut();
+        }
+        if came.as_str() != stated {
+            self.differing = self.differing.saturating_add(1);
+            self.put_line(number, &[": ", words, " => ", came.as_str(), "\n"]);
+        }
+    }
+
+    fn unread(&mut self, number: u64, words: &[&str]) {
+        self.unread = self.unread.saturating_add(1);
+        self.put_line(number, words);
+    }
+
+    fn put_line(&mut self, number: u64, words: &[&str]) {
+        self.out.put("line ");
+        self.out.put_number(number);
+        self.out.put_all(words);
+    }
+
+    /// All that is to be said, after the last line; an error if memory ran out at any place.
+    fn finish(self) -> Result<String, AllocError> {
+        let Report {
+            mut out,
+            cases,
+            differing,
+            unread: _,
+        } = self;
+        out.put_number(u64::from(cases));
+        out.put(" cases, ");
+        out.put_number(u64::from(differing));
+        out.put(" differ\n");
+        out.finish()
+    }
 }

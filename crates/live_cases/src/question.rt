@@ -1,7 +1,8 @@
 //! What a line asks: a session.
+use hex::FromHexError;
 use live_link::{Packet, Receipt};
 use octets::Bytes;
-use std::alloc::{AllocError, Global};
+use std::alloc::Global;
 
 /// A session: of how many turns, and what its clock and its wire do.
 #[derive(Drop)]
@@ -13,6 +14,8 @@ pub struct Question {
     pub receipts: Vec<Receipt>,
     /// The call of `send` that fails, counted from 0, if one does.
     pub failing: Option<u64>,
+    /// Whether memory ran out.
+    pub is_cut: bool,
 }
 
 /// What the words after a keyword are.
@@ -38,71 +41,83 @@ impl Part {
 
 impl Question {
     /// What the words say; none where they can't be read.
-    pub fn read(alloc: Global, words: &str) -> Result<Option<Question>, AllocError> {
+    pub fn read(alloc: Global, words: &str) -> Option<Question> {
         let mut question = Question {
             turns: 0,
             readings: Vec::new(alloc),
             receipts: Vec::new(alloc),
             failing: None,
+            is_cut: false,
         };
         let mut part = Part::Turns;
+        let mut is_read = true;
         for word in words.split_whitespace() {
             match Part::named(word) {
                 Some(named) => part = named,
-                None => {
-                    if !question.take(alloc, part, word)? {
-                        return Ok(None);
-                    }
-                }
+                None => is_read = question.take(alloc, part, word) && is_read,
             }
         }
-        Ok(Some(question))
+        if is_read { Some(question) } else { None }
     }
 
     /// Takes a word. Whether it could be read.
-    fn take(&mut self, alloc: Global, part: Part, word: &str) -> Result<bool, AllocError> {
+    fn take(&mut self, alloc: Global, part: Part, word: &str) -> bool {
         match part {
+            Part::Hears => return self.hear(alloc, word),
             Part::Turns => match word.parse::<u32>() {
                 Ok(turns) => self.turns = turns,
-                Err(_) => return Ok(false),
+                Err(_) => return false,
             },
             Part::Clock => match word.parse::<u64>() {
-                Ok(reading) => self.readings.push(reading)?,
-                Err(_) => return Ok(false),
-            },
-            Part::Hears => match receipt_of(alloc, word)? {
-                Some(receipt) => self.receipts.push(receipt)?,
-                None => return Ok(false),
+                Ok(reading) => self.read_clock(reading),
+                Err(_) => return false,
             },
             Part::Fails => match word.parse::<u64>() {
                 Ok(place) => self.failing = Some(place),
-                Err(_) => return Ok(false),
+                Err(_) => return false,
             },
         }
-        Ok(true)
+        true
     }
-}
 
-/// `nothing`, `failure`, or `SERVER:HEX` with `-` for no bytes; none where it is something else.
-fn receipt_of(alloc: Global, word: &str) -> Result<Option<Receipt>, AllocError> {
-    match word.split_once(':') {
-        None => Ok(match word {
-            "nothing" => Some(Receipt::Nothing),
-            "failure" => Some(Receipt::Failure),
-            _ => None,
-        }),
-        Some((server, digits)) => arrived(alloc, server, digits),
+    fn read_clock(&mut self, reading: u64) {
+        if self.readings.push(reading).is_err() {
+            self.is_cut = true;
+        }
     }
-}
 
-fn arrived(alloc: Global, server: &str, digits: &str) -> Result<Option<Receipt>, AllocError> {
-    let digits = if digits == "-" { "" } else { digits };
-    match (server.parse::<u16>(), hex::decode(alloc, digits)) {
-        (Ok(server), Ok(bytes)) => Ok(Some(Receipt::Arrived(Packet {
-            server,
-            bytes: Bytes::from_vec(bytes),
-        }))),
-        (_, Err(hex::FromHexError::OutOfMemory)) => Err(AllocError),
-        _ => Ok(None),
+    /// Takes what the wire gives: `nothing`, `failure`, or `SERVER:HEX` with `-` for no bytes. Whether it could be
+    /// read.
+    fn hear(&mut self, alloc: Global, word: &str) -> bool {
+        match word.split_once(':') {
+            Some((server, digits)) => self.hear_packet(alloc, server, digits),
+            None if word == "nothing" => self.keep(Receipt::Nothing),
+            None if word == "failure" => self.keep(Receipt::Failure),
+            None => false,
+        }
+    }
+
+    fn hear_packet(&mut self, alloc: Global, server: &str, digits: &str) -> bool {
+        let Ok(server) = server.parse::<u16>() else {
+            return false;
+        };
+        match hex::decode(alloc, if digits == "-" { "" } else { digits }) {
+            Ok(bytes) => self.keep(Receipt::Arrived(Packet {
+                server,
+                bytes: Bytes::from_vec(bytes),
+            })),
+            Err(FromHexError::OutOfMemory) => {
+                self.is_cut = true;
+                true
+            }
+            Err(_) => false,
+        }
+    }
+
+    fn keep(&mut self, receipt: Receipt) -> bool {
+        if self.receipts.push(receipt).is_err() {
+            self.is_cut = true;
+        }
+        true
     }
 }
