@@ -8,7 +8,6 @@ use crate::{
     building, classes, devices, fleets, gathering, images, jobs, lives, locks, puts, sessions,
     traces, workers,
 };
-use std::alloc::AllocError;
 use std::sync::Wait;
 use std::thread::Threads;
 
@@ -19,7 +18,7 @@ pub fn ask<R: Threads + Wait + Sync>(
     given: &Given,
     marks: &mut Marks,
     line: &mut Line,
-) -> Result<(), AllocError>
+)
     requires { IsSync R.row }
 {
     match call {
@@ -30,24 +29,25 @@ pub fn ask<R: Threads + Wait + Sync>(
         "put" => puts::put(rt, given, marks, line),
         "into_entries" => gathering::gather(rt, given, marks, line),
         "fleet" => workers::fleet(rt, given, marks, line),
-        "lock" => locks::new(given, marks, line),
-        "lock_first" => locks::with_first(given, marks, line),
         "class" => classes::state(given, marks, line),
         "add_class" => building::add_class(given, marks, line),
         "add_row" => building::add_row(given, marks, line),
         "add_step" => building::add_step(given, marks, line),
-        "single" => building::single(given, marks, line),
-        _ => ask_about(call, given, marks, line),
+        "forward" => sessions::forward(given, marks, line),
+        "back" => sessions::back(given, marks, line),
+        "resume" => sessions::resume(given, marks, line),
+        "add_break" => sessions::add_break(given, marks, line),
+        _ => {
+            make(call, given, marks, line);
+            if line.is_refused() {
+                make(call, given, marks, line);
+            }
+        }
     }
 }
 
-/// The calls about a whole scenario or a whole run.
-fn ask_about(
-    call: &str,
-    given: &Given,
-    marks: &mut Marks,
-    line: &mut Line,
-) -> Result<(), AllocError> {
+/// The calls that make something new: what was refused memory leaves nothing, and is made again from what is given.
+fn make(call: &str, given: &Given, marks: &mut Marks, line: &mut Line) {
     match call {
         "load" => images::load_image(given, marks, line),
         "save" => images::save_scenario(given, marks, line),
@@ -55,13 +55,12 @@ fn ask_about(
         "disassemble" => images::print_text(given, marks, line),
         "check" => traces::check_run(given, marks, line),
         "unfinished" => traces::find_unfinished(given, marks, line),
-        "write_entries" => traces::write_trace(given, marks, line),
+        "write_entries" => traces::write_run(given, marks, line),
         "read_entries" => traces::read_trace(given, marks, line),
+        "single" => building::single(given, marks, line),
         "open" => sessions::open(given, marks, line),
-        "forward" => sessions::forward(given, marks, line),
-        "back" => sessions::back(given, marks, line),
-        "resume" => sessions::resume(given, marks, line),
-        "add_break" => sessions::add_break(given, marks, line),
+        "lock" => locks::new(given, marks, line),
+        "lock_first" => locks::with_first(given, marks, line),
         _ => line.add("no such call"),
     }
 }

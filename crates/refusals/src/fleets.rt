@@ -6,18 +6,35 @@ use crate::marks::Marks;
 use fleet_core::{CommitFault, Fleet};
 use std::alloc::AllocError;
 
-pub fn commit(given: &Given, marks: &mut Marks, line: &mut Line) -> Result<(), AllocError> {
-    let mut fleet = fleet_before(given)?;
-    let device = last_device(given);
-    if !commit_once(&mut fleet, device, marks, line)? {
-        return add_shown(&fleet, device, line);
+pub fn commit(given: &Given, marks: &mut Marks, line: &mut Line) {
+    commit_first(given, marks, line);
+    if line.is_refused() {
+        line.add("then");
+        commit_again(given, marks, line);
     }
-    commit_once(&mut fleet, device, marks, line)?;
-    add_shown(&fleet, device, line)?;
-    line.add("then")?;
-    let mut fleet = fleet_before(given)?;
-    commit_once(&mut fleet, device, marks, line)?;
-    add_shown(&fleet, device, line)
+}
+
+/// The commit to a fleet. One that is spent after it is asked once more.
+fn commit_first(given: &Given, marks: &mut Marks, line: &mut Line) {
+    let Ok(mut fleet) = fleet_before(given) else {
+        return line.cut();
+    };
+    let device = last_device(given);
+    commit_once(&mut fleet, device, marks, line);
+    if line.is_refused() {
+        commit_once(&mut fleet, device, marks, line);
+    }
+    add_shown(&fleet, device, line);
+}
+
+/// The same commit to another fleet.
+fn commit_again(given: &Given, marks: &mut Marks, line: &mut Line) {
+    let Ok(mut fleet) = fleet_before(given) else {
+        return line.cut();
+    };
+    let device = last_device(given);
+    commit_once(&mut fleet, device, marks, line);
+    add_shown(&fleet, device, line);
 }
 
 /// The device that a word names.
@@ -38,40 +55,37 @@ fn last_device(given: &Given) -> u16 {
 fn fleet_before<'a>(given: &Given<'a>) -> Result<Fleet<'a>, AllocError> {
     let mut fleet = Fleet::new(given.alloc, given.scenario)?;
     let count = given.words.split_whitespace().count();
+    let mut is_before = true;
     for word in given.words.split_whitespace().take(count.saturating_sub(1)) {
-        match fleet.commit(1, device_of(word)) {
-            Ok(()) => {}
-            Err(_) => return Err(AllocError),
-        }
+        is_before = is_before && fleet.commit(1, device_of(word)).is_ok();
     }
-    Ok(fleet)
+    if is_before {
+        Ok(fleet)
+    } else {
+        Err(AllocError)
+    }
 }
 
-fn commit_once(
-    fleet: &mut Fleet,
-    device: u16,
-    marks: &mut Marks,
-    line: &mut Line,
-) -> Result<bool, AllocError> {
+fn commit_once(fleet: &mut Fleet, device: u16, marks: &mut Marks, line: &mut Line) {
     marks.begin();
     let committed = fleet.commit(1, device);
     marks.end();
     match committed {
-        Ok(()) => line.answer("committed,"),
+        Ok(()) => line.add("committed,"),
         Err(CommitFault::Memory) => line.refuse(),
-        Err(CommitFault::Spent) => line.answer("then spent,"),
-        Err(CommitFault::NotEnabled) => line.answer("not enabled,"),
+        Err(CommitFault::Spent) => line.add("then spent,"),
+        Err(CommitFault::NotEnabled) => line.add("not enabled,"),
     }
 }
 
 /// Adds how many entries there are, whether the device is enabled, and how many posts there are to group 1.
-fn add_shown(fleet: &Fleet, device: u16, line: &mut Line) -> Result<(), AllocError> {
-    line.add_count("entries", fleet.entries().len() as u64)?;
+fn add_shown(fleet: &Fleet, device: u16, line: &mut Line) {
+    line.add_count("entries", fleet.entries().len() as u64);
     if fleet.enabled(device) {
-        line.add("enabled")?;
+        line.add("enabled");
     }
     if fleet.next_step(device).is_none() {
-        line.add("at its end")?;
+        line.add("at its end");
     }
-    line.add_count("posts", u64::from(fleet.posts(1)))
+    line.add_count("posts", u64::from(fleet.posts(1)));
 }

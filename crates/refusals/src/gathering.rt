@@ -39,29 +39,38 @@ pub fn gathered(trace: Trace) -> Result<Entries, AllocError> {
 }
 
 /// Adds how many entries there are, and whether they are a run.
-pub fn add_run(given: &Given, entries: &Entries, line: &mut Line) -> Result<(), AllocError> {
-    line.add_count("entries", entries.len() as u64)?;
+fn add_run(given: &Given, entries: &Entries, line: &mut Line) {
+    line.add_count("entries", entries.len() as u64);
     add_verdict(given, entries, line)
 }
 
-pub fn gather<R: Wait>(
-    rt: &R,
-    given: &Given,
-    marks: &mut Marks,
-    line: &mut Line,
-) -> Result<(), AllocError> {
-    let (lock, pass) = locked(given.alloc, given.scenario)?;
-    let Some(trace) = ended(rt, lock, pass, given.scenario) else {
-        return line.add("a pass is out");
+/// Adds the same of the entries of a trace.
+pub fn add_gathered(given: &Given, trace: Trace, line: &mut Line) {
+    match gathered(trace) {
+        Ok(entries) => add_run(given, &entries, line),
+        Err(_) => line.cut(),
+    }
+}
+
+pub fn gather<R: Wait>(rt: &R, given: &Given, marks: &mut Marks, line: &mut Line) {
+    let Ok((lock, pass)) = locked(given.alloc, given.scenario) else {
+        return line.cut();
     };
+    match ended(rt, lock, pass, given.scenario) {
+        Some(trace) => gather_once(given, trace, marks, line),
+        None => line.add("a pass is out"),
+    }
+}
+
+fn gather_once(given: &Given, trace: Trace, marks: &mut Marks, line: &mut Line) {
     marks.begin();
     let entries = trace.into_entries();
     marks.end();
     match entries {
         Ok(entries) => add_run(given, &entries, line),
         Err((trace, _)) => {
-            line.add("memory, then")?;
-            add_run(given, &gathered(trace)?, line)
+            line.add("memory, then");
+            add_gathered(given, trace, line)
         }
     }
 }

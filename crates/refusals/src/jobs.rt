@@ -72,7 +72,7 @@ pub fn advanced(
     }
 }
 
-/// A job that was refused memory is asked to go on, and then given up: what came.
+/// A job that was refused memory is asked to go on, and then given up: what came then.
 fn given_up(pass: &Pass<Trace>, scenario: &Scenario, job: Job, marks: &mut Marks) -> &'static str
     requires knows { Knows (pass_view pass.now) job }
     requires subject { (pass_view pass.now).subject ≡ Some scenario.now }
@@ -80,15 +80,15 @@ fn given_up(pass: &Pass<Trace>, scenario: &Scenario, job: Job, marks: &mut Marks
     match advanced(pass, scenario, job, marks) {
         Ok(job) => {
             job.abandon();
-            "memory, then advanced,"
+            "then advanced,"
         }
         Err((job, AdvanceFault::Spent)) => {
             job.abandon();
-            "memory, then spent, given up,"
+            "then spent, given up,"
         }
         Err((job, AdvanceFault::Memory)) => {
             job.abandon();
-            "memory, then memory,"
+            "then memory,"
         }
     }
 }
@@ -124,55 +124,43 @@ fn advance_and_put<R: Wait>(
 }
 
 /// Adds whether the device is at the end of its row, and how many entries there are.
-fn add_trace(
-    lock: TicketLock<Trace>,
-    pass: Pass<Trace>,
-    device: u16,
-    line: &mut Line,
-) -> Result<(), AllocError>
-    requires { IsPass (lock_id lock) pass }
-{
+fn add_trace(trace: Trace, device: u16, line: &mut Line) {
+    line.add(if trace.unfinished(device) {
+        "unfinished,"
+    } else {
+        "finished,"
+    });
+    match gathered(trace) {
+        Ok(entries) => line.add_count("entries", entries.len() as u64),
+        Err(_) => line.cut(),
+    }
+}
+
+/// Claims a device of a new trace, lets it make its steps and puts them.
+fn advance_once<R: Wait>(rt: &R, given: &Given, marks: &mut Marks, line: &mut Line) {
+    let Ok((lock, pass)) = locked(given.alloc, given.scenario) else {
+        return line.cut();
+    };
+    let (pass, job) = claimed(rt, &lock, pass);
+    let Some(job) = job else {
+        return line.add("no job");
+    };
+    let device = job.device();
+    let (pass, is_refused, came) = advance_and_put(rt, &lock, pass, given.scenario, job, marks);
+    if is_refused {
+        line.refuse();
+    }
+    line.add(came);
     match lock.close(pass) {
-        Ok(trace) => {
-            line.add(if trace.unfinished(device) {
-                "unfinished,"
-            } else {
-                "finished,"
-            })?;
-            line.add_count("entries", gathered(trace)?.len() as u64)
-        }
+        Ok(trace) => add_trace(trace, device, line),
         Err(_) => line.add("a pass is out"),
     }
 }
 
-/// Claims a device of a new trace, lets it make its steps and puts them. Whether memory was refused.
-fn advance_once<R: Wait>(
-    rt: &R,
-    given: &Given,
-    marks: &mut Marks,
-    line: &mut Line,
-) -> Result<bool, AllocError> {
-    let (lock, pass) = locked(given.alloc, given.scenario)?;
-    let (pass, job) = claimed(rt, &lock, pass);
-    let Some(job) = job else {
-        return line.answer("no job");
-    };
-    let device = job.device();
-    let (pass, is_refused, came) = advance_and_put(rt, &lock, pass, given.scenario, job, marks);
-    line.add(came)?;
-    add_trace(lock, pass, device, line)?;
-    Ok(is_refused)
-}
-
-pub fn advance<R: Wait>(
-    rt: &R,
-    given: &Given,
-    marks: &mut Marks,
-    line: &mut Line,
-) -> Result<(), AllocError> {
-    if advance_once(rt, given, marks, line)? {
-        line.add("then")?;
-        advance_once(rt, given, marks, line)?;
+pub fn advance<R: Wait>(rt: &R, given: &Given, marks: &mut Marks, line: &mut Line) {
+    advance_once(rt, given, marks, line);
+    if line.is_refused() {
+        line.add("then");
+        advance_once(rt, given, marks, line);
     }
-    Ok(())
 }

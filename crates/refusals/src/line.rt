@@ -1,104 +1,127 @@
-//! Lines of words.
+//! The words that come of a case.
+//!
+//! No method returns a `Result`, as none of `Sheet` does: calls are made with a device, a fleet or a debugger at hand,
+//! and an exit for each word would make the proof of each such function several times as expensive. Memory that is
+//! refused while a case is prepared, or while its words are written, is noted with `cut`, and `end` says it.
 use byte_layout::LayoutFault;
+use case_sheet::Sheet;
 use device_machine::{Act, Output};
+use scenario_image::{Scenario, save};
 use std::alloc::{AllocError, Global};
 
-/// Words, with a space between those of a line: what came of a case, or all that is to be said.
+/// Words, with a space between them, and whether the call of the case was refused memory.
 #[derive(Drop)]
 pub struct Line {
-    alloc: Global,
-    text: String,
+    sheet: Sheet,
+    is_refused: bool,
 }
 
 impl Line {
     /// No word.
     pub fn new(alloc: Global) -> Line {
         Line {
-            alloc,
-            text: String::new(alloc),
+            sheet: Sheet::new(alloc),
+            is_refused: false,
         }
+    }
+
+    /// The allocator of the words.
+    pub fn alloc(&self) -> Global {
+        self.sheet.alloc()
     }
 
     /// The words.
     pub fn as_str(&self) -> &str {
-        self.text.as_str()
+        self.sheet.as_str()
     }
 
     /// Adds words.
-    pub fn add(&mut self, words: &str) -> Result<(), AllocError> {
-        if !self.text.is_empty() && !self.text.ends_with('\n') {
-            self.text.push(' ')?;
-        }
-        self.text.push_str(words)
-    }
-
-    /// Adds a number.
-    pub fn add_number(&mut self, number: u64) -> Result<(), AllocError> {
-        let number = number.to_string(self.alloc)?;
-        self.add(number.as_str())
+    pub fn add(&mut self, words: &str) {
+        self.sheet.next(" ");
+        self.sheet.put(words);
     }
 
     /// Adds words and a number.
-    pub fn add_count(&mut self, words: &str, number: u64) -> Result<(), AllocError> {
-        self.add(words)?;
-        self.add_number(number)
-    }
-
-    /// Ends the line: what is added from now on stands in another one.
-    pub fn end(&mut self) -> Result<(), AllocError> {
-        self.text.push('\n')
+    pub fn add_count(&mut self, words: &str, number: u64) {
+        self.add(words);
+        self.sheet.put(" ");
+        self.sheet.put_number(number);
     }
 
     /// Adds bytes in hex.
-    pub fn add_bytes(&mut self, bytes: &[u8]) -> Result<(), AllocError> {
-        if bytes.is_empty() {
-            return self.add("-");
-        }
-        let hex = hex::encode_upper(self.alloc, bytes)?;
-        self.add(hex.as_str())
+    pub fn add_bytes(&mut self, bytes: &[u8]) {
+        self.sheet.next(" ");
+        self.sheet.put_hex(bytes);
     }
 
-    /// The call answered so. It was not refused.
-    pub fn answer(&mut self, words: &str) -> Result<bool, AllocError> {
-        self.add(words)?;
-        Ok(false)
+    /// Adds the image of a scenario.
+    pub fn add_image(&mut self, scenario: &Scenario) {
+        match save(self.alloc(), scenario) {
+            Ok(image) => self.add_bytes(image.as_slice()),
+            Err(AllocError) => self.cut(),
+        }
     }
 
     /// The call was refused memory.
-    pub fn refuse(&mut self) -> Result<bool, AllocError> {
-        self.add("memory,")?;
-        Ok(true)
+    pub fn refuse(&mut self) {
+        self.add("memory,");
+        self.is_refused = true;
     }
 
-    /// The call answered that bytes have this fault.
-    pub fn answer_fault(&mut self, fault: LayoutFault) -> Result<bool, AllocError> {
+    /// Whether the call was refused memory: then it is made once more.
+    pub fn is_refused(&self) -> bool {
+        self.is_refused
+    }
+
+    /// The call returned that bytes have this fault.
+    pub fn add_fault(&mut self, fault: LayoutFault) {
         match fault {
-            LayoutFault::Memory => return self.refuse(),
-            LayoutFault::Magic => self.add("magic")?,
-            LayoutFault::Version => self.add("version")?,
-            LayoutFault::Cut => self.add("cut")?,
-            LayoutFault::Trailing => self.add("trailing")?,
-            LayoutFault::BadField(place) => self.add_count("bad field at", place as u64)?,
-            LayoutFault::Limit(place) => self.add_count("limit at", place as u64)?,
+            LayoutFault::Memory => self.refuse(),
+            LayoutFault::Magic => self.add("magic"),
+            LayoutFault::Version => self.add("version"),
+            LayoutFault::Cut => self.add("cut"),
+            LayoutFault::Trailing => self.add("trailing"),
+            LayoutFault::BadField(place) => self.add_count("bad field at", place as u64),
+            LayoutFault::Limit(place) => self.add_count("limit at", place as u64),
         }
-        Ok(false)
     }
 
     /// Adds what a device output.
-    pub fn add_outputs(&mut self, outputs: &[Output]) -> Result<(), AllocError> {
+    pub fn add_outputs(&mut self, outputs: &[Output]) {
         if outputs.is_empty() {
-            return self.add("nothing");
+            self.add("nothing");
         }
         for output in outputs {
             match output {
-                Output::Send { server, bytes } => {
-                    self.add_count("send", u64::from(*server))?;
-                    self.add_bytes(bytes.as_slice())?;
-                }
-                Output::Act(Act::Missed) => self.add("act missed")?,
-                Output::Act(_) => self.add("act")?,
+                Output::Send { server, bytes } => self.add_sent(*server, bytes.as_slice()),
+                Output::Act(Act::Missed) => self.add("act missed"),
+                Output::Act(_) => self.add("act"),
             }
         }
-        Ok(())
+    }
+
+    /// Adds a datagram to a server.
+    pub fn add_sent(&mut self, server: u16, bytes: &[u8]) {
+        self.add_count("send", u64::from(server));
+        self.add_bytes(bytes);
+    }
+
+    /// Memory was refused outside of the call.
+    pub fn cut(&mut self) {
+        self.sheet.cut();
+    }
+
+    /// The same, unless what takes memory was done.
+    pub fn need(&mut self, is_done: bool) {
+        if !is_done {
+            self.cut();
+        }
+    }
+
+    /// Says whether memory was refused outside of the call.
+    pub fn end(&mut self) {
+        if self.sheet.is_cut() {
+            self.add("memory was refused outside of the call");
+        }
     }
 }

@@ -8,36 +8,53 @@ use live_link::{
     LiveEnd, LiveSession, Packet, Receipt, ScriptedClock, ScriptedWire, serve as put_on,
 };
 use scenario_image::Step;
-use std::alloc::{AllocError, Global};
+use std::alloc::AllocError;
 
-pub fn serve(given: &Given, marks: &mut Marks, line: &mut Line) -> Result<(), AllocError> {
+pub fn serve(given: &Given, marks: &mut Marks, line: &mut Line) {
     let (Some(class), Some((_, steps))) = (given.scenario.class(0), given.scenario.row(0)) else {
         return line.add("no row");
     };
-    let session = serve_once(given.alloc, class, steps, marks)?;
-    let LiveEnd::Memory = session.end else {
-        return add_session(&session, line);
+    let Ok(session) = serve_once(class, steps, marks, line) else {
+        return line.cut();
     };
-    line.refuse()?;
-    let whole = serve_once(given.alloc, class, steps, marks)?;
-    let begun = begins(session.sent.as_slice(), whole.sent.as_slice());
-    line.add(if begun {
-        "a beginning, then"
-    } else {
-        "no beginning, then"
-    })?;
-    add_session(&whole, line)
+    match session.end {
+        LiveEnd::Memory => {
+            line.refuse();
+            serve_again(&session, class, steps, marks, line);
+        }
+        _ => add_session(&session, line),
+    }
 }
 
-fn serve_once(
-    alloc: Global,
+/// The device on another wire: whether what was sent by the first one is a beginning, and the session.
+fn serve_again(
+    begun: &LiveSession,
     class: &Template,
     steps: &[Step],
     marks: &mut Marks,
+    line: &mut Line,
+) {
+    let Ok(whole) = serve_once(class, steps, marks, line) else {
+        return line.cut();
+    };
+    line.add(if begins(begun.sent.as_slice(), whole.sent.as_slice()) {
+        "a beginning, then"
+    } else {
+        "no beginning, then"
+    });
+    add_session(&whole, line);
+}
+
+fn serve_once(
+    class: &Template,
+    steps: &[Step],
+    marks: &mut Marks,
+    line: &mut Line,
 ) -> Result<LiveSession, AllocError> {
     let device = Device::start(class)?;
-    let mut wire = ScriptedWire::new(alloc, receipts_of(alloc, steps)?, None);
-    let readings = readings_of(alloc, steps)?;
+    let alloc = line.alloc();
+    let mut wire = ScriptedWire::new(alloc, receipts_of(steps, line), None);
+    let readings = readings_of(steps, line);
     let turns = u32::try_from(readings.len()).unwrap_or(u32::MAX);
     let mut clock = ScriptedClock::new(readings);
     marks.begin();
@@ -47,36 +64,43 @@ fn serve_once(
 }
 
 /// What arrives in each turn: nothing in the first, in which the clock starts, and in those of ticks.
-fn receipts_of(alloc: Global, steps: &[Step]) -> Result<Vec<Receipt>, AllocError> {
-    let mut receipts = Vec::new(alloc);
-    receipts.push(Receipt::Nothing)?;
+fn receipts_of(steps: &[Step], line: &mut Line) -> Vec<Receipt> {
+    let mut receipts = Vec::new(line.alloc());
+    line.need(receipts.push(Receipt::Nothing).is_ok());
     for step in steps {
-        match step {
-            Step::Event(Event::Recv { server, bytes }) => {
-                let bytes = bytes.clone()?;
-                receipts.push(Receipt::Arrived(Packet {
-                    server: *server,
-                    bytes,
-                }))?;
-            }
-            _ => receipts.push(Receipt::Nothing)?,
+        match receipt_of(step) {
+            Ok(receipt) => line.need(receipts.push(receipt).is_ok()),
+            Err(_) => line.cut(),
         }
     }
-    Ok(receipts)
+    receipts
+}
+
+fn receipt_of(step: &Step) -> Result<Receipt, AllocError> {
+    match step {
+        Step::Event(Event::Recv { server, bytes }) => {
+            let bytes = bytes.clone()?;
+            Ok(Receipt::Arrived(Packet {
+                server: *server,
+                bytes,
+            }))
+        }
+        _ => Ok(Receipt::Nothing),
+    }
 }
 
 /// What the clock shows in each turn.
-fn readings_of(alloc: Global, steps: &[Step]) -> Result<Vec<u64>, AllocError> {
-    let mut readings = Vec::new(alloc);
+fn readings_of(steps: &[Step], line: &mut Line) -> Vec<u64> {
+    let mut readings = Vec::new(line.alloc());
     let mut second: u64 = 0;
-    readings.push(second)?;
+    line.need(readings.push(second).is_ok());
     for step in steps {
         if let Step::Event(Event::Tick(seconds)) = step {
             second = second.saturating_add(u64::from(*seconds));
         }
-        readings.push(second)?;
+        line.need(readings.push(second).is_ok());
     }
-    Ok(readings)
+    readings
 }
 
 /// Whether the first datagrams are a beginning of the second ones.
@@ -97,17 +121,15 @@ fn begins(first: &[Packet], second: &[Packet]) -> bool {
 }
 
 /// Adds how a session ended, how many steps it has, and what was sent.
-fn add_session(session: &LiveSession, line: &mut Line) -> Result<(), AllocError> {
+fn add_session(session: &LiveSession, line: &mut Line) {
     line.add(match session.end {
         LiveEnd::Turns => "turns,",
         LiveEnd::Memory => "memory,",
         LiveEnd::Spent => "spent,",
         LiveEnd::ReceiveFault | LiveEnd::SendFault => "fault,",
-    })?;
-    line.add_count("steps", session.steps.len() as u64)?;
+    });
+    line.add_count("steps", session.steps.len() as u64);
     for packet in session.sent.as_slice() {
-        line.add_count("send", u64::from(packet.server))?;
-        line.add_bytes(packet.bytes.as_slice())?;
+        line.add_sent(packet.server, packet.bytes.as_slice());
     }
-    Ok(())
 }

@@ -24,10 +24,10 @@ mod workers;
 
 ghost use Rattle.std.specs.Thread.{IsSync};
 
+use case_sheet::Sheet;
 use given::{Given, number_of, scenario_of};
 use line::Line;
 use marks::{Marks, Mode};
-use std::alloc::{AllocError, Global};
 use std::process::ExitCode;
 use std::sync::Wait;
 use std::thread::Threads;
@@ -39,8 +39,9 @@ fn main(rt: HostRuntime) -> io::Result<ExitCode> {
     let words = env::args(&rt)?.collect::<Vec<String>>(alloc)?;
     let mode = mode_of(words.as_slice());
     let text = io::read_to_string(alloc, rt.reader())?;
-    let mut report = Line::new(alloc);
-    let status = report_on(&rt, alloc, mode, text.as_str(), &mut report)?;
+    let mut report = Sheet::new(alloc);
+    let status = report_on(&rt, mode, text.as_str(), &mut report);
+    let report = report.finish()?;
     rt.print(report.as_str())?;
     Ok(ExitCode::from(status))
 }
@@ -59,70 +60,87 @@ fn mode_of(words: &[String]) -> Mode {
 
 /// Writes what is to be said of the cases of a text. Status 0: none differs; 1: one differs; 2: a line can't be read,
 /// or there is no case.
-fn report_on<R: Threads + Wait + Sync>(
-    rt: &R,
-    alloc: Global,
-    mode: Mode,
-    text: &str,
-    report: &mut Line,
-) -> Result<u8, AllocError>
+fn report_on<R: Threads + Wait + Sync>(rt: &R, mode: Mode, text: &str, report: &mut Sheet) -> u8
     requires { IsSync R.row }
 {
-    let mut table = Table::new(alloc);
-    if let Some(number) = table.read(text)? {
-        report.add_count("line", u64::from(number))?;
-        report.add("can't be read\n")?;
-        return Ok(2);
+    let mut table = Table::new(report.alloc());
+    let unread = table.read(text);
+    if table.is_cut {
+        report.cut();
     }
+    match unread {
+        Some(number) => {
+            put_count(report, "line ", u64::from(number), " can't be read\n");
+            2
+        }
+        None => report_cases(rt, mode, &table, report),
+    }
+}
+
+fn report_cases<R: Threads + Wait + Sync>(
+    rt: &R,
+    mode: Mode,
+    table: &Table,
+    report: &mut Sheet,
+) -> u8
+    requires { IsSync R.row }
+{
     let mut differing: u32 = 0;
     for case in table.cases.as_slice() {
-        let mut marks = Marks::new(alloc, mode);
-        if !is_right(rt, alloc, &table, case, &mut marks, report)? {
+        if !is_right(rt, mode, table, case, report) {
             differing = differing.saturating_add(1);
         }
     }
     let cases = table.cases.as_slice().len();
-    report.add_number(cases as u64)?;
-    report.add_count("cases,", u64::from(differing))?;
-    report.add("differ\n")?;
-    Ok(if cases == 0 {
+    put_count(report, "", cases as u64, " cases, ");
+    put_count(report, "", u64::from(differing), " differ\n");
+    if cases == 0 {
         2
     } else if differing == 0 {
         0
     } else {
         1
-    })
+    }
 }
 
-/// Whether what came is what a case states; else the report gets what came. Where boxes are counted, it gets their
-/// number.
+/// Adds a number between words.
+fn put_count(report: &mut Sheet, before: &str, number: u64, after: &str) {
+    report.put(before);
+    report.put_number(number);
+    report.put(after);
+}
+
+/// Whether what comes of a case is what it states. Where boxes are counted, the report gets their number.
 fn is_right<R: Threads + Wait + Sync>(
     rt: &R,
-    alloc: Global,
+    mode: Mode,
     table: &Table,
     case: &Case,
-    marks: &mut Marks,
-    report: &mut Line,
-) -> Result<bool, AllocError>
+    report: &mut Sheet,
+) -> bool
     requires { IsSync R.row }
 {
-    let mut came = Line::new(alloc);
-    if answer(rt, alloc, table, case, marks, &mut came).is_err() {
-        came.add("memory was refused outside of the call")?;
+    let mut marks = Marks::new(report.alloc(), mode);
+    let mut came = Line::new(report.alloc());
+    answer(rt, table, case, &mut marks, &mut came);
+    came.end();
+    match marks.counted() {
+        Some(count) => {
+            put_count(report, "counted ", u64::from(count), "\n");
+            true
+        }
+        None => compare(case, came.as_str(), report),
     }
-    if let Some(count) = marks.counted() {
-        report.add_count("counted", u64::from(count))?;
-        report.end()?;
-        return Ok(true);
+}
+
+/// Whether this is what a case states; else the report gets it.
+fn compare(case: &Case, came: &str, report: &mut Sheet) -> bool {
+    let is_right = is_stated(case.stated.as_slice(), came) == case.is_same;
+    if !is_right {
+        put_count(report, "line ", u64::from(case.line), " came ");
+        report.put_all(&[came, "\n"]);
     }
-    if is_stated(case.stated.as_slice(), came.as_str()) == case.is_same {
-        return Ok(true);
-    }
-    report.add_count("line", u64::from(case.line))?;
-    report.add("came")?;
-    report.add(came.as_str())?;
-    report.end()?;
-    Ok(false)
+    is_right
 }
 
 fn is_stated(stated: &[&str], came: &str) -> bool {
@@ -137,20 +155,21 @@ fn is_stated(stated: &[&str], came: &str) -> bool {
 /// Makes the call of a case.
 fn answer<R: Threads + Wait + Sync>(
     rt: &R,
-    alloc: Global,
     table: &Table,
     case: &Case,
     marks: &mut Marks,
     came: &mut Line,
-) -> Result<(), AllocError>
+)
     requires { IsSync R.row }
 {
     let (call, rest) = split(case.words);
     let (name, words) = split(rest);
     let text = text_of(table, name);
-    let scenario = scenario_of(alloc, text)?;
+    let Ok(scenario) = scenario_of(came.alloc(), text) else {
+        return came.cut();
+    };
     let given = Given {
-        alloc,
+        alloc: came.alloc(),
         text,
         scenario: &scenario,
         words,

@@ -7,7 +7,7 @@ ghost use Rattle.shared_trace.specs.Trace.{IsShared, trace_log};
 ghost use Rattle.shared_trace.specs.Job.{MayPut};
 ghost use Rattle.fleet_workers.specs.Knowing.{Knows};
 
-use crate::gathering::{add_run, ended, gathered};
+use crate::gathering::{add_gathered, ended};
 use crate::given::Given;
 use crate::jobs::{advanced, claimed, locked};
 use crate::line::Line;
@@ -15,7 +15,6 @@ use crate::marks::{Marks, Mode};
 use fleet_workers::put_job;
 use scenario_image::Scenario;
 use shared_trace::{Job, Trace};
-use std::alloc::AllocError;
 use std::sync::Wait;
 use ticket_lock::{Pass, TicketLock};
 
@@ -187,30 +186,27 @@ fn put_last<R: Wait>(
 }
 
 /// Adds what came of the put.
-fn add_came(came: Option<Came>, line: &mut Line) -> Result<(), AllocError> {
+fn add_came(came: Option<Came>, line: &mut Line) {
     let Some(came) = came else {
         return line.add("no job,");
     };
     if let Some(left) = came.left {
-        line.add_count("memory, entries", left as u64)?;
-        line.add("then")?;
+        line.add_count("memory, entries", left as u64);
+        line.add("then");
     }
     line.add(came.words)
 }
 
-pub fn put<R: Wait>(
-    rt: &R,
-    given: &Given,
-    marks: &mut Marks,
-    line: &mut Line,
-) -> Result<(), AllocError> {
+pub fn put<R: Wait>(rt: &R, given: &Given, marks: &mut Marks, line: &mut Line) {
     let mut none = Marks::new(given.alloc, Mode::Boxes(0));
-    let (lock, pass) = locked(given.alloc, given.scenario)?;
+    let Ok((lock, pass)) = locked(given.alloc, given.scenario) else {
+        return line.cut();
+    };
     let pass = make_some(rt, &lock, pass, given.scenario, &mut none, given.number(0));
     let (pass, came) = put_last(rt, &lock, pass, given.scenario, &mut none, marks);
-    add_came(came, line)?;
+    add_came(came, line);
     match ended(rt, lock, pass, given.scenario) {
-        Some(trace) => add_run(given, &gathered(trace)?, line),
+        Some(trace) => add_gathered(given, trace, line),
         None => line.add("a pass is out"),
     }
 }

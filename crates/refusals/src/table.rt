@@ -1,6 +1,6 @@
 //! The lines of a table of cases.
 use crate::given::number_of;
-use std::alloc::{AllocError, Global};
+use std::alloc::Global;
 
 /// A text that cases name.
 #[derive(Drop)]
@@ -27,6 +27,8 @@ pub struct Table<'a> {
     alloc: Global,
     pub texts: Vec<Text<'a>>,
     pub cases: Vec<Case<'a>>,
+    /// Whether memory ran out, so that something is missing.
+    pub is_cut: bool,
 }
 
 impl<'a> Table<'a> {
@@ -36,23 +38,24 @@ impl<'a> Table<'a> {
             alloc,
             texts: Vec::new(alloc),
             cases: Vec::new(alloc),
+            is_cut: false,
         }
     }
 
     /// Takes all lines. The number of the first one that can't be read, if there is one.
-    pub fn read(&mut self, text: &'a str) -> Result<Option<u32>, AllocError> {
+    pub fn read(&mut self, text: &'a str) -> Option<u32> {
         let mut number: u32 = 0;
         for line in text.lines() {
             number = number.saturating_add(1);
-            if !line.trim().is_empty() && !line.starts_with('#') && !self.take(number, line)? {
-                return Ok(Some(number));
+            if !line.trim().is_empty() && !line.starts_with('#') && !self.take(number, line) {
+                return Some(number);
             }
         }
-        Ok(None)
+        None
     }
 
     /// Takes a line. Whether it could be read, and had its place there.
-    fn take(&mut self, number: u32, line: &'a str) -> Result<bool, AllocError> {
+    fn take(&mut self, number: u32, line: &'a str) -> bool {
         let (first, rest) = match line.split_once(' ') {
             Some(parts) => parts,
             None => (line, ""),
@@ -64,55 +67,63 @@ impl<'a> Table<'a> {
             "case" => self.add_case(number, rest, true),
             "!case" => self.add_case(number, rest, false),
             // what comes where memory is refused; tools/refusals states it in the place of what else comes
-            "->" => Ok(!self.cases.is_empty()),
+            "->" => !self.cases.is_empty(),
             "=>" => self.add_stated(rest),
-            _ => Ok(false),
+            _ => false,
         }
     }
 
-    fn add_text(&mut self, name: &'a str) -> Result<bool, AllocError> {
+    fn add_text(&mut self, name: &'a str) -> bool {
         let text = String::new(self.alloc);
-        self.texts.push(Text { name, text })?;
-        Ok(!name.is_empty())
+        if self.texts.push(Text { name, text }).is_err() {
+            self.is_cut = true;
+        }
+        !name.is_empty()
     }
 
-    fn add_line(&mut self, line: &str) -> Result<bool, AllocError> {
+    fn add_line(&mut self, line: &str) -> bool {
         let Some(text) = self.texts.last_mut() else {
-            return Ok(false);
+            return false;
         };
-        text.text.push_str(line)?;
-        text.text.push('\n')?;
-        Ok(true)
+        if text.text.push_str(line).is_err() || text.text.push('\n').is_err() {
+            self.is_cut = true;
+        }
+        true
     }
 
     /// A number, and a line that is added as often.
-    fn add_lines(&mut self, rest: &str) -> Result<bool, AllocError> {
+    fn add_lines(&mut self, rest: &str) -> bool {
         let Some((count, line)) = rest.split_once(' ') else {
-            return Ok(false);
+            return false;
         };
         for _ in 0..number_of(count) {
-            if !self.add_line(line)? {
-                return Ok(false);
+            if !self.add_line(line) {
+                return false;
             }
         }
-        Ok(true)
+        true
     }
 
-    fn add_case(&mut self, line: u32, words: &'a str, is_same: bool) -> Result<bool, AllocError> {
-        self.cases.push(Case {
+    fn add_case(&mut self, line: u32, words: &'a str, is_same: bool) -> bool {
+        let case = Case {
             line,
             words,
             is_same,
             stated: Vec::new(self.alloc),
-        })?;
-        Ok(true)
+        };
+        if self.cases.push(case).is_err() {
+            self.is_cut = true;
+        }
+        true
     }
 
-    fn add_stated(&mut self, line: &'a str) -> Result<bool, AllocError> {
+    fn add_stated(&mut self, line: &'a str) -> bool {
         let Some(case) = self.cases.last_mut() else {
-            return Ok(false);
+            return false;
         };
-        case.stated.push(line)?;
-        Ok(true)
+        if case.stated.push(line).is_err() {
+            self.is_cut = true;
+        }
+        true
     }
 }

@@ -1,132 +1,94 @@
-//! `check TEXT [N]`, `unfinished TEXT [N]`, `write TEXT`: the entries of the serial run, without entry N where there is
-//! one, counted from 1; `read - HEX`: a trace file.
+//! `check TEXT [N]`, `unfinished TEXT [N]`, `write_entries TEXT`: the entries of the serial run, without entry N where
+//! there is one, counted from 1; `read_entries - HEX`: a trace file.
 use crate::given::Given;
 use crate::line::Line;
 use crate::marks::Marks;
 use fleet_core::{Verdict, check, run_serial, unfinished};
-use std::alloc::{AllocError, Global};
-use trace_file::{Entries, WriteFault, read_entries, write_entries};
+use std::alloc::AllocError;
+use trace_file::{Entries, Entry, WriteFault, read_entries, write_entries};
 
 /// The entries of the serial run, without the one of this number.
-pub fn entries_of(given: &Given, left_out: usize) -> Result<Entries, AllocError> {
+pub fn entries_of(given: &Given, left_out: usize, line: &mut Line) -> Entries {
     let mut entries = Entries::new(given.alloc);
+    match run_serial(given.alloc, given.scenario) {
+        Ok(run) => add_entries(&mut entries, run.as_slice(), left_out, line),
+        Err(_) => line.cut(),
+    }
+    entries
+}
+
+fn add_entries(entries: &mut Entries, run: &[Entry], left_out: usize, line: &mut Line) {
     let mut number: usize = 0;
-    for entry in run_serial(given.alloc, given.scenario)?.as_slice() {
+    for entry in run {
         number = number.saturating_add(1);
         if number != left_out {
-            entries.push(entry.copy()?)?;
+            line.need(add_copy(entries, entry).is_ok());
         }
     }
-    Ok(entries)
 }
 
-pub fn check_run(given: &Given, marks: &mut Marks, line: &mut Line) -> Result<(), AllocError> {
-    let entries = entries_of(given, given.number(0))?;
-    if check_once(given, &entries, marks, line)? {
-        check_once(given, &entries, marks, line)?;
-    }
-    Ok(())
+fn add_copy(entries: &mut Entries, entry: &Entry) -> Result<(), AllocError> {
+    let copy = entry.copy()?;
+    entries.push(copy)
 }
 
-fn check_once(
-    given: &Given,
-    entries: &Entries,
-    marks: &mut Marks,
-    line: &mut Line,
-) -> Result<bool, AllocError> {
+pub fn check_run(given: &Given, marks: &mut Marks, line: &mut Line) {
+    let entries = entries_of(given, given.number(0), line);
     marks.begin();
     let verdict = check(given.alloc, given.scenario, entries.as_slice());
     marks.end();
     match verdict {
-        Ok(Verdict::Run) => line.answer("run"),
-        Ok(Verdict::NotRun(place)) => {
-            line.add_count("not a run at", place as u64)?;
-            Ok(false)
-        }
+        Ok(Verdict::Run) => line.add("run"),
+        Ok(Verdict::NotRun(place)) => line.add_count("not a run at", place as u64),
         Err(AllocError) => line.refuse(),
     }
 }
 
-pub fn find_unfinished(
-    given: &Given,
-    marks: &mut Marks,
-    line: &mut Line,
-) -> Result<(), AllocError> {
-    let entries = entries_of(given, given.number(0))?;
-    if unfinished_once(given, &entries, marks, line)? {
-        unfinished_once(given, &entries, marks, line)?;
-    }
-    Ok(())
-}
-
-fn unfinished_once(
-    given: &Given,
-    entries: &Entries,
-    marks: &mut Marks,
-    line: &mut Line,
-) -> Result<bool, AllocError> {
+pub fn find_unfinished(given: &Given, marks: &mut Marks, line: &mut Line) {
+    let entries = entries_of(given, given.number(0), line);
     marks.begin();
     let devices = unfinished(given.alloc, given.scenario, entries.as_slice());
     marks.end();
     match devices {
         Ok(devices) => {
             for device in devices.as_slice() {
-                line.add_count("device", u64::from(*device))?;
+                line.add_count("device", u64::from(*device));
             }
-            line.answer("no other")
+            line.add("no other");
         }
         Err(AllocError) => line.refuse(),
     }
 }
 
-pub fn write_trace(given: &Given, marks: &mut Marks, line: &mut Line) -> Result<(), AllocError> {
-    let entries = run_serial(given.alloc, given.scenario)?;
-    if write_once(given.alloc, &entries, marks, line)? {
-        write_once(given.alloc, &entries, marks, line)?;
+pub fn write_run(given: &Given, marks: &mut Marks, line: &mut Line) {
+    match run_serial(given.alloc, given.scenario) {
+        Ok(entries) => write(&entries, marks, line),
+        Err(_) => line.cut(),
     }
-    Ok(())
 }
 
-fn write_once(
-    alloc: Global,
-    entries: &Entries,
-    marks: &mut Marks,
-    line: &mut Line,
-) -> Result<bool, AllocError> {
+fn write(entries: &Entries, marks: &mut Marks, line: &mut Line) {
+    let alloc = line.alloc();
     marks.begin();
     let written = write_entries(alloc, entries.as_slice());
     marks.end();
     match written {
-        Ok(bytes) => {
-            line.add_bytes(bytes.as_slice())?;
-            Ok(false)
-        }
+        Ok(bytes) => line.add_bytes(bytes.as_slice()),
         Err(WriteFault::Memory) => line.refuse(),
-        Err(WriteFault::TooLarge) => line.answer("too large"),
+        Err(WriteFault::TooLarge) => line.add("too large"),
     }
 }
 
-pub fn read_trace(given: &Given, marks: &mut Marks, line: &mut Line) -> Result<(), AllocError> {
+/// Reads a trace file, and writes it again.
+pub fn read_trace(given: &Given, marks: &mut Marks, line: &mut Line) {
     let Ok(bytes) = hex::decode(given.alloc, given.words) else {
         return line.add("no hex");
     };
-    if read_once(given.alloc, bytes.as_slice(), marks, line)? {
-        read_once(given.alloc, bytes.as_slice(), marks, line)?;
-    }
-    Ok(())
-}
-
-fn read_once(
-    alloc: Global,
-    bytes: &[u8],
-    marks: &mut Marks,
-    line: &mut Line,
-) -> Result<bool, AllocError> {
     marks.begin();
-    let entries = read_entries(alloc, bytes);
+    let entries = read_entries(given.alloc, bytes.as_slice());
     marks.end();
     match entries {
-        Ok(entries) => write_once(alloc, &entries, marks, line),
-        Err(fault) => line.answer_fault(fault),
+        Ok(entries) => write(&entries, marks, line),
+        Err(fault) => line.add_fault(fault),
     }
 }

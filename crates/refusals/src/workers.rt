@@ -7,32 +7,21 @@ use crate::line::Line;
 use crate::marks::Marks;
 use fleet_core::{Verdict, check};
 use fleet_workers::{FleetEnd, FleetRun, OpenGate, RunFault, run_fleet};
-use std::alloc::AllocError;
 use std::sync::Wait;
 use std::thread::Threads;
 use trace_file::Entries;
 
-pub fn fleet<R: Threads + Wait + Sync>(
-    rt: &R,
-    given: &Given,
-    marks: &mut Marks,
-    line: &mut Line,
-) -> Result<(), AllocError>
+pub fn fleet<R: Threads + Wait + Sync>(rt: &R, given: &Given, marks: &mut Marks, line: &mut Line)
     requires { IsSync R.row }
 {
-    if fleet_once(rt, given, marks, line)? {
-        line.add("then")?;
-        fleet_once(rt, given, marks, line)?;
+    fleet_once(rt, given, marks, line);
+    if line.is_refused() {
+        line.add("then");
+        fleet_once(rt, given, marks, line);
     }
-    Ok(())
 }
 
-fn fleet_once<R: Threads + Wait + Sync>(
-    rt: &R,
-    given: &Given,
-    marks: &mut Marks,
-    line: &mut Line,
-) -> Result<bool, AllocError>
+fn fleet_once<R: Threads + Wait + Sync>(rt: &R, given: &Given, marks: &mut Marks, line: &mut Line)
     requires { IsSync R.row }
 {
     marks.begin();
@@ -41,27 +30,26 @@ fn fleet_once<R: Threads + Wait + Sync>(
     match run {
         Ok(run) => answer(given, &run, line),
         Err(RunFault::Memory(entries)) => {
-            line.refuse()?;
-            add_verdict(given, &entries, line)?;
-            Ok(true)
+            line.refuse();
+            add_verdict(given, &entries, line)
         }
-        Err(_) => line.answer("another fault"),
+        Err(_) => line.add("another fault"),
     }
 }
 
-fn answer(given: &Given, run: &FleetRun, line: &mut Line) -> Result<bool, AllocError> {
+fn answer(given: &Given, run: &FleetRun, line: &mut Line) {
     match &run.end {
-        FleetEnd::Done => line.add_count("done", run.entries.len() as u64)?,
-        FleetEnd::Stalled(_) => line.add_count("stalled", run.entries.len() as u64)?,
+        FleetEnd::Done => line.add_count("done", run.entries.len() as u64),
+        FleetEnd::Stalled(_) => line.add_count("stalled", run.entries.len() as u64),
     }
-    add_verdict(given, &run.entries, line)?;
-    Ok(false)
+    add_verdict(given, &run.entries, line)
 }
 
 /// Adds whether the entries are a run.
-pub fn add_verdict(given: &Given, entries: &Entries, line: &mut Line) -> Result<(), AllocError> {
-    match check(given.alloc, given.scenario, entries.as_slice())? {
-        Verdict::Run => line.add("a run"),
-        Verdict::NotRun(_) => line.add("not a run"),
+pub fn add_verdict(given: &Given, entries: &Entries, line: &mut Line) {
+    match check(given.alloc, given.scenario, entries.as_slice()) {
+        Ok(Verdict::Run) => line.add("a run"),
+        Ok(Verdict::NotRun(_)) => line.add("not a run"),
+        Err(_) => line.cut(),
     }
 }
