@@ -12,7 +12,7 @@ use crate::given::Given;
 use crate::jobs::{advanced, claimed, locked};
 use crate::line::Line;
 use crate::marks::{Marks, Mode};
-use fleet_workers::put_job;
+use fleet_workers::{put_job, stop_trace};
 use scenario_image::Scenario;
 use shared_trace::{Job, Trace};
 use std::sync::Wait;
@@ -106,7 +106,8 @@ fn put_in<R: Wait>(
     }
 }
 
-/// Claims a device, lets it make its steps and puts them.
+/// Claims a device, lets it make its steps and puts them. A job that is given up stops the trace: its device does not
+/// come back, and a worker would wait for it.
 fn make_one<R: Wait>(
     rt: &R,
     lock: &TicketLock<Trace>,
@@ -130,7 +131,7 @@ fn make_one<R: Wait>(
         }
         Err((job, _)) => {
             job.abandon();
-            pass
+            stop_trace(rt, lock, pass)
         }
     }
 }
@@ -180,7 +181,7 @@ fn put_last<R: Wait>(
         }
         Err((job, _)) => {
             job.abandon();
-            (pass, None)
+            (stop_trace(rt, lock, pass), None)
         }
     }
 }
