@@ -93,12 +93,9 @@ pub fn put_shown(catalog: &Catalog, out: &mut Sheet, store: &Store, path: Path) 
 fn shows(catalog: &Catalog, question: &mut Question<'_>, out: &mut Sheet) {
     let words = question.rest();
     let mut store = stated_store(question, HELD);
-    match words.split_once(" : ") {
-        Some((more, words)) => {
-            state(question, &mut store, more);
-            question.turn_to(words);
-        }
-        None => question.turn_to(words),
+    if let Some((more, words)) = words.split_once(" : ") {
+        state(question, &mut store, more);
+        question.turn_to(words);
     }
     show(catalog, question, out, &store);
 }

@@ -16,12 +16,14 @@ pub fn stated_store<'a>(question: &mut Question<'a>, text: &'a str) -> Store {
     store
 }
 
-/// States each part of a text.
+/// States each part of a text. The words that are left of the question stay.
 pub fn state<'a>(question: &mut Question<'a>, store: &mut Store, text: &'a str) {
+    let rest = question.rest();
     for part in text.split(';') {
         question.turn_to(part.trim());
         state_part(question, store);
     }
+    question.turn_to(rest);
 }
 
 /// Refuses a statement that the store refuses.
