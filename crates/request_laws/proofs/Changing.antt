@@ -152,7 +152,8 @@ made None client server o None = refl
 made None client server o (Some b) = refl
 made (Some code) client server o new = refl
 
-did : (code : Option Code) (client : Client) (path : Path) → KeepsMost client (execute_unless code client path).client
+pub did : (code : Option Code) (client : Client) (path : Path)
+    → KeepsMost client (execute_unless code client path).client
 did None client path =
     record {
       attributes = refl;

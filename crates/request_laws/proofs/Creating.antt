@@ -1,5 +1,5 @@
 -- What a Create adds.
-use Rattle.std.proofs.Common.{◌≡◌, ◌≢◌, ℕ, Bool, true, false, List, Option, None, Some, length, nat_le}
+use Rattle.std.proofs.Common.{◌≡◌, ◌≢◌, ℕ, Bool, true, false, cond, not, List, Option, None, Some, length, nat_le, pos}
 use Rattle.std.proofs.Common.{refl, sym, ap, subst, ◌∙◌}
 use Rattle.std.specs.Bool.{if◌then◌else◌}
 use Rattle.std.specs.FinMap as map
@@ -9,8 +9,11 @@ use Rattle.object_defs.specs.Path.{part_of, single_of}
 use Rattle.object_defs.specs.declared.definition.ResourceDef.{ResourceDef}
 use Rattle.object_defs.specs.declared.path.FullPath.{FullPath}
 use Rattle.object_defs.specs.declared.path.InstancePath.{InstancePath}
-use Rattle.object_defs.specs.declared.path.Path.TheVariants.{Object, Instance}
-use Rattle.instance_store.specs.Stored.{Stored, has_instance, lies_in, value_at, with_instance}
+use Rattle.object_defs.specs.declared.path.Path.TheVariants.{Object, Instance, Resource}
+use Rattle.instance_store.specs.Stored.{Stored, has_instance, lies_in, value_at, with_instance, with_value}
+use Rattle.instance_store.specs.Stored.{without_values}
+use Rattle.lwm2m_values.specs.declared.value.Value.{Value}
+use Rattle.lwm2m_values.specs.declared.value.Value.TheVariants.{Whole}
 use Rattle.lwm2m_payloads.specs.Given.{creation_given}
 use Rattle.lwm2m_payloads.specs.Written.{EachOnce, value_behind}
 use Rattle.lwm2m_payloads.specs.declared.given.Assignment.{Assignment}
@@ -24,16 +27,17 @@ use Rattle.device_instances.specs.Numbers.{instance_at, number_for, smallest_fre
 use Rattle.device_instances.proofs.Controls.{control_within, not_same, one_place}
 use Rattle.device_instances.proofs.Instances.{added, not_added}
 use Rattle.device_instances.proofs.Rights.{instance_is, no_entry, object_is, owner_is}
-use Rattle.device_instances.proofs.Within.{written_within}
+use Rattle.device_instances.proofs.Within.{kept, written_within}
 use Rattle.device_requests.specs.declared.answer.Code.{Code}
 use Rattle.device_requests.specs.Answer.{Outcome}
 use Rattle.device_requests.specs.Client.{Client}
 use Rattle.device_requests.specs.Create.{Newborn, create_unless, newborn, numbered}
 use Rattle.device_requests.specs.Laws.{is_refusal}
 use Rattle.device_requests.specs.Refusals.{is_fixed, refusals_of, to_create}
-use Rattle.device_requests.specs.Targets.{defined, place_of}
+use Rattle.device_requests.specs.Targets.{defined, place_of, resource_place}
 use Rattle.request_laws.specs.Creations.{CreatesAdd, IsControlOf, IsCreated, IsSame}
 use Rattle.request_laws.proofs.Asking.{chosen, fails, passes, there}
+use Rattle.request_laws.proofs.Executing.{elsewhere}
 
 -- ---- the instance of Access Control
 
@@ -62,6 +66,26 @@ controlled : (s : Stored) (b : Bool) (r : Option ℕ) (server : ℕ) (place : In
 controlled s false r server place j h = cc
 controlled s true None server place j h = cc
 controlled s true (Some k) server place j h = ap (λ (x : Option ℕ). with_control_at s server place x) h
+
+nothing_or : (b : Bool) (v : Option Value) → cond (not b) v None ≡ (if b then None else v)
+nothing_or true v = refl
+nothing_or false v = refl
+
+-- what is in an instance of Access Control beside what a Create sets
+control_rest : (s : Stored) (j server : ℕ) (place : InstancePath) (q : FullPath)
+    → q ≢ single_of (resource_place 2 j 0) → q ≢ single_of (resource_place 2 j 1)
+    → q ≢ single_of (resource_place 2 j 3)
+    → value_at (with_control s j server place) q ≡ (if lies_in (Resource 2 j 2) q then None else value_at s q)
+control_rest s j server place q not0 not1 not3 =
+    let there = with_instance s (instance_at 2 j) in
+    let bare = without_values there (Resource 2 j 2) in
+    let one = with_value bare (single_of (resource_place 2 j 0)) (Whole (pos place.object)) in
+    let two = with_value one (single_of (resource_place 2 j 1)) (Whole (pos place.instance)) in
+    elsewhere two (single_of (resource_place 2 j 3)) q (Whole (pos server)) not3
+    ∙ elsewhere one (single_of (resource_place 2 j 1)) q (Whole (pos place.instance)) not1
+    ∙ elsewhere bare (single_of (resource_place 2 j 0)) q (Whole (pos place.object)) not0
+    ∙ kept there (Resource 2 j 2) q
+    ∙ nothing_or (lies_in (Resource 2 j 2) q) (value_at s q)
 
 -- ---- the new instance
 
@@ -105,7 +129,7 @@ module _ (s : Stored) (accounts server : ℕ) (resources : List ResourceDef) (pl
       ((beside s (nat_le 2 accounts) (smallest_free s 2) server place place (λ e. absurd (other e))).values q
       (one_place (instance_in q) place lies))
 
-  has_control : (j : ℕ) → control ≡ Some j → IsControlOf new j place server
+  has_control : (j : ℕ) → control ≡ Some j → IsControlOf s new j place server
   has_control j h =
       let is = controlled s (nat_le 2 accounts) (smallest_free s 2) server place j h in
       let apart : instance_at 2 j ≢ place = λ e. other (sym (ap (λ (p : InstancePath). p.object) e)) in
@@ -121,6 +145,7 @@ module _ (s : Stored) (accounts server : ℕ) (resources : List ResourceDef) (pl
         owner = at (single_of (record { object = 2; instance = j; resource = 3 })) refl ∙ owner_is s j server place;
         no_entry = λ n. at (part_of (record { object = 2; instance = j; resource = 2 }) n) refl
             ∙ no_entry s j server place n;
+        others = λ q e not0 not1 not3. at q e ∙ control_rest s j server place q not0 not1 not3;
       }
 
 -- ---- the request

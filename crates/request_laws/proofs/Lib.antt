@@ -5,6 +5,7 @@ mod Creating
 mod Deciding
 mod Deleting
 mod Differing
+mod Doing
 mod Executing
 mod Holding
 mod InstanceBack
@@ -13,6 +14,7 @@ mod MultipleBack
 mod PartBack
 mod PartReading
 mod PartWriting
+pub mod Taking
 mod Timing
 mod Unread
 mod Writing

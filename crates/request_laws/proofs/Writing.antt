@@ -133,7 +133,7 @@ pub resource_good : (client : Client) (o i r : ℕ) (payload : List ℕ) (f : Fo
 resource_good client o i r payload f None h good = let l : true ≡ false = rw h at good in cc
 resource_good client o i r payload f (Some g) h good = (g, refl)
 
-is_defined : (d : Option ResourceDef) (f : Format) (payload : List ℕ) (g : Given)
+pub is_defined : (d : Option ResourceDef) (f : Format) (payload : List ℕ) (g : Given)
     → given_to_resource d f payload ≡ Some g
     → (x : ResourceDef) × (d ≡ Some x) × (resource_given x f payload ≡ Some g)
 is_defined None f payload g h = cc
@@ -151,7 +151,7 @@ alike : {X : Type 0} (b : Bool) (x : X) → (if b then x else x) ≡ x
 alike true x = refl
 alike false x = refl
 
-kept_at : (b : Bool) (mode : Mode) (given : Given) (s : Stored) (p : ResourcePath) (q : FullPath) → GivenOnce given
+pub kept_at : (b : Bool) (mode : Mode) (given : Given) (s : Stored) (p : ResourcePath) (q : FullPath) → GivenOnce given
     → value_at (if b then with_given mode s p given else s) q
     ≡ (if lies_in (resource_path p) q
     then (if b then value_with mode given q.part (value_at s q) else value_at s q) else value_at s q)

@@ -4,7 +4,7 @@ use Rattle.lwm2m_values.specs.declared.value.Value.TheVariants.{Whole}
 use Rattle.object_defs.specs.Path.{part_of, single_of}
 use Rattle.object_defs.specs.declared.path.FullPath.{FullPath}
 use Rattle.object_defs.specs.declared.path.InstancePath.{InstancePath}
-use Rattle.object_defs.specs.declared.path.Path.TheVariants.{Object, Instance}
+use Rattle.object_defs.specs.declared.path.Path.TheVariants.{Object, Instance, Resource}
 use Rattle.instance_store.specs.Stored.{Stored, has_instance, lies_in, value_at}
 use Rattle.lwm2m_payloads.specs.Written.{value_behind}
 use Rattle.lwm2m_payloads.specs.declared.given.Mode.TheVariants.{Replace}
@@ -21,13 +21,18 @@ use Rattle.device_requests.specs.Targets.{defined, place_of, resource_place}
 abbrev pub new_control : Client → Option ℕ
 new_control client = if nat_le 2 (length client.accounts) then smallest_free client.store 2 else None
 
--- an instance of Access Control refers to an instance that a server owns, and has no entry in its list
-pub record IsControlOf (stored : Stored) (j : ℕ) (place : InstancePath) (server : ℕ) : Type 0 where
-  pub there : has_instance stored (place_of 2 j) ≡ true
-  pub object : value_at stored (single_of (resource_place 2 j 0)) ≡ Some (Whole (pos place.object))
-  pub instance : value_at stored (single_of (resource_place 2 j 1)) ≡ Some (Whole (pos place.instance))
-  pub owner : value_at stored (single_of (resource_place 2 j 3)) ≡ Some (Whole (pos server))
-  pub no_entry : (n : ℕ) → value_at stored (part_of (resource_place 2 j 2) n) ≡ None
+-- an instance of Access Control refers to an instance that a server owns; its list has no entry, and nothing else in it
+-- is other than before
+pub record IsControlOf (old new : Stored) (j : ℕ) (place : InstancePath) (server : ℕ) : Type 0 where
+  pub there : has_instance new (place_of 2 j) ≡ true
+  pub object : value_at new (single_of (resource_place 2 j 0)) ≡ Some (Whole (pos place.object))
+  pub instance : value_at new (single_of (resource_place 2 j 1)) ≡ Some (Whole (pos place.instance))
+  pub owner : value_at new (single_of (resource_place 2 j 3)) ≡ Some (Whole (pos server))
+  pub no_entry : (n : ℕ) → value_at new (part_of (resource_place 2 j 2) n) ≡ None
+  pub others : (q : FullPath) → instance_in q ≡ place_of 2 j → q ≢ single_of (resource_place 2 j 0)
+      → q ≢ single_of (resource_place 2 j 1)
+      → q ≢ single_of (resource_place 2 j 3)
+      → value_at new q ≡ (if lies_in (Resource 2 j 2) q then None else value_at old q)
 
 -- an instance is there or not as before, with the same values
 pub record IsSame (old new : Stored) (p : InstancePath) : Type 0 where
@@ -45,7 +50,7 @@ pub record IsCreated (client : Client) (server o : ℕ) (payload : List ℕ) (ou
       → value_at outcome.client.store q
       ≡ value_behind Replace (defined client.catalogue o) born.given q (value_at client.store q)
   pub control : (j : ℕ) → new_control client ≡ Some j
-      → IsControlOf outcome.client.store j (place_of o born.number) server
+      → IsControlOf client.store outcome.client.store j (place_of o born.number) server
   pub others : (p : InstancePath) → p ≢ place_of o born.number
       → (p.object ≡ 2 → new_control client ≢ Some p.instance) → IsSame client.store outcome.client.store p
 

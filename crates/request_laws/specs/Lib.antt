@@ -2,11 +2,13 @@ pub mod Annotations
 pub mod Changes
 pub mod Creations
 pub mod Deletions
+pub mod Done
 pub mod Executions
 pub mod Good
 pub mod Instances
 pub mod Multiples
 pub mod Readings
+pub mod Taken
 pub mod Unread
 pub mod Untimely
 pub mod Writes

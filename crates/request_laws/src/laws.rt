@@ -4,6 +4,7 @@ ghost use Rattle.request_laws.specs.Annotations.{AttributesAreSet};
 ghost use Rattle.request_laws.specs.Changes.{OperationsKeepOthers};
 ghost use Rattle.request_laws.specs.Creations.{CreatesAdd};
 ghost use Rattle.request_laws.specs.Deletions.{DeletesTake};
+ghost use Rattle.request_laws.specs.Done.{DoneIsChanged};
 ghost use Rattle.request_laws.specs.Executions.{ErrorsAreReset, ExecutesKeep, UpdatesBegin};
 ghost use Rattle.request_laws.specs.Good.{GoodIsDone, LimitsComeLast};
 ghost use Rattle.request_laws.specs.Instances.{InstancesAreReadBack, InstancesHoldGiven};
@@ -37,6 +38,12 @@ pub fn firmware_states_come_before_limits()
 /// Discover and Write-Attributes change nothing that is stored.
 pub fn operations_keep_others()
     ensures { OperationsKeepOthers }
+{}
+
+/// A request that is done changes what its operation changes at its path, by one table, and nothing else: values,
+/// instances, attributes. What is a Package or a Package URI the firmware takes.
+pub fn requests_change_what_they_ask()
+    ensures { DoneIsChanged }
 {}
 
 /// An Execute changes nothing but the State and the Update Result, where it begins an update, and the Error Code, where
