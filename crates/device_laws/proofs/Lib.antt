@@ -1,8 +1,12 @@
 mod Arrived
 mod Causes
+mod Changed
 mod Confirmed
+mod Counted
 mod Each
 mod Notify
+mod NumberedReplies
+mod NumberedTicks
 mod Quiet
 mod Received
 mod Repeated

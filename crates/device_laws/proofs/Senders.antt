@@ -98,7 +98,7 @@ only_the_asker f server bytes =
 
 -- ---- puts and the firmware
 
-abbrev put_when : Machine → Option FullPath → Value → Bool → Reaction
+abbrev pub put_when : Machine → Option FullPath → Value → Bool → Reaction
 put_when f place value missed =
     if missed then record { outputs = Act Missed ∷ []; flat = f } else record {
       outputs = [];
@@ -113,15 +113,18 @@ instances_stay : (stored : Stored) (place : Option FullPath) (value : Value)
 instances_stay stored None value = refl
 instances_stay stored (Some place) value = refl
 
-put_by : (f : Machine) (path : Path) (value : Value) (missed : Bool)
-    → misses f.kept.client.catalogue f.kept.client.store (full_path path) value ≡ missed
-    → OnlyStores f (Put path value) ⊎ IsMissed f (Put path value)
-put_by f path value true e =
+pub put_missed : (f : Machine) (path : Path) (value : Value)
+    → misses f.kept.client.catalogue f.kept.client.store (full_path path) value ≡ true → IsMissed f (Put path value)
+put_missed f path value e =
     let reaction = put_when f (full_path path) value in
-    inr (record { acted = ap (λ b. (reaction b).outputs) e; unchanged = ap (λ b. (reaction b).flat) e })
-put_by f path value false e =
+    record { acted = ap (λ b. (reaction b).outputs) e; unchanged = ap (λ b. (reaction b).flat) e }
+
+pub put_stores : (f : Machine) (path : Path) (value : Value)
+    → misses f.kept.client.catalogue f.kept.client.store (full_path path) value ≡ false
+    → OnlyStores f (Put path value)
+put_stores f path value e =
     let reaction = put_when f (full_path path) value in
-    inl (record {
+    record {
       sent = ap (λ b. (reaction b).outputs) e;
       instances = ap (λ b. (reaction b).flat.kept.client.store.instances) e
           ∙ instances_stay f.kept.client.store (full_path path) value;
@@ -133,7 +136,13 @@ put_by f path value false e =
       clock = ap (λ b. (reaction b).flat.kept.clock) e;
       next_id = ap (λ b. (reaction b).flat.kept.next_id) e;
       recorded = ap (λ b. (reaction b).flat.recorded) e;
-    })
+    }
+
+put_by : (f : Machine) (path : Path) (value : Value) (missed : Bool)
+    → misses f.kept.client.catalogue f.kept.client.store (full_path path) value ≡ missed
+    → OnlyStores f (Put path value) ⊎ IsMissed f (Put path value)
+put_by f path value true e = inr (put_missed f path value e)
+put_by f path value false e = inl (put_stores f path value e)
 
 pub puts : PutsSendNothing
 puts f path value =
@@ -145,13 +154,15 @@ firmware_stays stored after code e =
     let t = taken stored after (Ended code) e in
     ap (λ (s : Stored). s.instances) (sym t.1) ∙ same_instances stored (uri_of (Ended code))
 
-firmware_by : (f : Machine) (code : ℕ) (after : Option Stored)
-    → firmware_after f.kept.client.store (Ended code) ≡ after
-    → OnlyStores f (Firmware code) ⊎ IsMissed f (Firmware code)
-firmware_by f code None e =
-    inr (record { acted = ap (λ o. (on_firmware f o).outputs) e; unchanged = ap (λ o. (on_firmware f o).flat) e })
-firmware_by f code (Some stored) e =
-    inl (record {
+pub end_missed : (f : Machine) (code : ℕ) → firmware_after f.kept.client.store (Ended code) ≡ None
+    → IsMissed f (Firmware code)
+end_missed f code e =
+    record { acted = ap (λ o. (on_firmware f o).outputs) e; unchanged = ap (λ o. (on_firmware f o).flat) e }
+
+pub end_stores : (f : Machine) (code : ℕ) (stored : Stored)
+    → firmware_after f.kept.client.store (Ended code) ≡ Some stored → OnlyStores f (Firmware code)
+end_stores f code stored e =
+    record {
       sent = ap (λ o. (on_firmware f o).outputs) e;
       instances = ap (λ o. (on_firmware f o).flat.kept.client.store.instances) e
           ∙ firmware_stays f.kept.client.store stored code e;
@@ -163,7 +174,13 @@ firmware_by f code (Some stored) e =
       clock = ap (λ o. (on_firmware f o).flat.kept.clock) e;
       next_id = ap (λ o. (on_firmware f o).flat.kept.next_id) e;
       recorded = ap (λ o. (on_firmware f o).flat.recorded) e;
-    })
+    }
+
+firmware_by : (f : Machine) (code : ℕ) (after : Option Stored)
+    → firmware_after f.kept.client.store (Ended code) ≡ after
+    → OnlyStores f (Firmware code) ⊎ IsMissed f (Firmware code)
+firmware_by f code None e = inr (end_missed f code e)
+firmware_by f code (Some stored) e = inl (end_stores f code stored e)
 
 pub firmware : FirmwareSendsNothing
 firmware f code = firmware_by f code (firmware_after f.kept.client.store (Ended code)) refl

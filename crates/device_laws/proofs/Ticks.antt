@@ -1,12 +1,14 @@
 -- What holds of seconds holds of ticks.
-use Rattle.std.proofs.Common.{◌≡◌, ℕ, zero, suc, List, [], ◌∷◌, map, refl, ap, arith}
-use Rattle.std.specs.List.{Contains}
+use Rattle.std.proofs.Common.{◌≡◌, ℕ, zero, suc, List, [], ◌∷◌, map, refl, sym, ap, subst, arith}
+use Rattle.std.specs.List.{AllByRecursion, Contains}
 use Rattle.device_notifications.specs.Second.{quiet as still}
 use Rattle.device_notifications.specs.declared.datagram.Datagram.{Datagram}
-use Rattle.device_machine.specs.Reactions.{send_of, sweep_in}
+use Rattle.device_machine.specs.Reactions.{flat_after, send_of, sweep_in}
 use Rattle.device_machine.specs.State.{Machine}
-use Rattle.device_laws.specs.Ticking.{IsQuiet, SettledTicksAreQuiet, TicksNotifyForCause, TicksSendAgain}
-use Rattle.device_laws.specs.Ticking.{TicksSendCaused}
+use Rattle.device_machine.specs.declared.event.Event.TheVariants.{Firmware, Put, Recv, Tick}
+use Rattle.device_laws.specs.Notifying.{IsSettled}
+use Rattle.device_laws.specs.Ticking.{IsQuiet, SettledRowsAreQuiet, SettledTicksAreQuiet, TicksNotifyForCause}
+use Rattle.device_laws.specs.Ticking.{TicksSendAgain, TicksSendCaused}
 use Rattle.device_laws.proofs.Causes.{later_of, seconds_for_cause}
 use Rattle.device_laws.proofs.Sent.{seconds_send_again, seconds_send_caused}
 use Rattle.device_laws.proofs.Settled.{settled_are_quiet}
@@ -53,3 +55,28 @@ by_seconds f n same =
 pub quiet : SettledTicksAreQuiet
 quiet f n h =
     by_seconds f n (settled_are_quiet f.kept.client f.kept.clock n f.kept.next_id f.kept.observations h)
+
+-- ---- rows
+
+carried : (f g : Machine) → AllByRecursion (IsSettled f.kept.client) f.kept.observations
+    → g.kept.client ≡ f.kept.client → g.kept.observations ≡ f.kept.observations
+    → AllByRecursion (IsSettled g.kept.client) g.kept.observations
+carried f g h client observations =
+    subst (λ c. AllByRecursion (IsSettled c) g.kept.observations) (sym client)
+    (subst (λ os. AllByRecursion (IsSettled f.kept.client) os) (sym observations) h)
+
+pub rows_quiet : SettledRowsAreQuiet
+rows_quiet f [] h still = tt
+rows_quiet f (Tick n ∷ events) h still =
+    let q = quiet f n h in
+    let g = flat_after f (Tick n) in
+    (q.sent, rows_quiet g events (carried f g h q.client q.observations) still.1)
+rows_quiet f (Recv server bytes ∷ events) h still =
+    let g = flat_after f (Recv server bytes) in
+    (tt, rows_quiet g events (carried f g h still.0.client still.0.observations) still.1)
+rows_quiet f (Put path value ∷ events) h still =
+    let g = flat_after f (Put path value) in
+    (tt, rows_quiet g events (carried f g h still.0.client still.0.observations) still.1)
+rows_quiet f (Firmware code ∷ events) h still =
+    let g = flat_after f (Firmware code) in
+    (tt, rows_quiet g events (carried f g h still.0.client still.0.observations) still.1)

@@ -1,3 +1,4 @@
+pub mod Changing
 pub mod Confirming
 pub mod Messages
 pub mod Notifying
@@ -5,3 +6,4 @@ pub mod Receiving
 pub mod Ticking
 pub mod Serving
 pub mod Sending
+pub mod Numbering

@@ -1,5 +1,5 @@
 -- Why a device notifies in a tick, and when it does not (OMA LwM2M 1.1 Core, attributes; RFC 7641 section 4).
-use Rattle.std.specs.Prelude.{◌≡◌, ◌≢◌, ℕ, ◌+◌, ◌-◌, ◌^◌, ◌<◌, ◌↔◌, ◌⊎◌, List, [], length, map}
+use Rattle.std.specs.Prelude.{◌≡◌, ◌≢◌, ℕ, ◌+◌, ◌-◌, ◌^◌, ◌<◌, ◌↔◌, ◌⊎◌, List, [], ◌∷◌, length, map}
 use Rattle.std.specs.List.{AllByRecursion, Contains}
 use Rattle.notifier.specs.Due.{IsFirstDue, IsNeverDue}
 use Rattle.notifier.specs.declared.observation.Observation.{Observation}
@@ -8,7 +8,8 @@ use Rattle.notifier.specs.declared.turn.Turn.TheVariants.{Resend}
 use Rattle.device_notifications.specs.Laws.{Notifies, Repeats}
 use Rattle.device_notifications.specs.Pendings.{AreAtRest, pendings_of}
 use Rattle.device_notifications.specs.declared.datagram.Datagram.{Datagram}
-use Rattle.device_machine.specs.declared.event.Event.TheVariants.{Tick}
+use Rattle.device_machine.specs.declared.event.Event.{Event}
+use Rattle.device_machine.specs.declared.event.Event.TheVariants.{Firmware, Put, Recv, Tick}
 use Rattle.device_machine.specs.Reactions.{flat_after, outputs_of, send_of}
 use Rattle.device_machine.specs.State.{Machine}
 use Rattle.device_laws.specs.Notifying.{IsCausedBy, IsDue, IsSettled}
@@ -57,6 +58,36 @@ pub record IsQuiet (f : Machine) (n : ℕ) : Type 0 where
 abbrev pub SettledTicksAreQuiet : Type 0
 SettledTicksAreQuiet =
     (f : Machine) (n : ℕ) → AllByRecursion (IsSettled f.kept.client) f.kept.observations → IsQuiet f n
+
+-- what is managed and the observations are as they were
+pub record IsUnchanged (f g : Machine) : Type 0 where
+  pub client : g.kept.client ≡ f.kept.client
+  pub observations : g.kept.observations ≡ f.kept.observations
+
+-- time passes, or an event changes neither
+abbrev pub IsStill : Machine → Event → Type 0
+IsStill f (Tick n) = Unit {0}
+IsStill f (Recv server bytes) = IsUnchanged f (flat_after f (Recv server bytes))
+IsStill f (Put path value) = IsUnchanged f (flat_after f (Put path value))
+IsStill f (Firmware code) = IsUnchanged f (flat_after f (Firmware code))
+
+-- time passes and nothing is sent; what answers another event is not looked at
+abbrev pub PassesQuietly : Machine → Event → Type 0
+PassesQuietly f (Tick n) = outputs_of f (Tick n) ≡ []
+PassesQuietly f (Recv server bytes) = Unit {0}
+PassesQuietly f (Put path value) = Unit {0}
+PassesQuietly f (Firmware code) = Unit {0}
+
+-- so it is of each event of a row
+abbrev pub EachInRow : (Machine → Event → Type 0) → Machine → List Event → Type 0
+EachInRow P f [] = Unit {0}
+EachInRow P f (event ∷ events) = P f event × EachInRow P (flat_after f event) events
+
+-- as long as nothing changes, whatever arrives, no time that passes sends anything
+abbrev pub SettledRowsAreQuiet : Type 0
+SettledRowsAreQuiet =
+    (f : Machine) (events : List Event) → AllByRecursion (IsSettled f.kept.client) f.kept.observations
+    → EachInRow IsStill f events → EachInRow PassesQuietly f events
 
 -- a tick in whose seconds nothing is due, by the present answers
 abbrev pub TicksAtRestAreQuiet : Type 0

@@ -1,6 +1,7 @@
 //! Why a device notifies in a tick, and when it doesn't.
 
-ghost use Rattle.device_laws.specs.Ticking.{QuietEndsWhenDue, QuietNeverEnds, SettledTicksAreQuiet};
+ghost use Rattle.device_laws.specs.Ticking.{QuietEndsWhenDue, QuietNeverEnds, SettledRowsAreQuiet};
+ghost use Rattle.device_laws.specs.Ticking.{SettledTicksAreQuiet};
 ghost use Rattle.device_laws.specs.Ticking.{TicksAtRestAreQuiet, TicksNotifyForCause, TicksSendAgain, TicksSendCaused};
 
 /// Each datagram of a tick notifies, in one of its seconds, an observation that is there then, for a
@@ -17,6 +18,12 @@ pub fn ticks_notify_for_cause()
 /// last reports, sends nothing, and only sets the clock on.
 pub fn settled_ticks_are_quiet()
     ensures { SettledTicksAreQuiet }
+{}
+
+/// As long as no event changes what is managed or the observations, and they have no pmax, no tick of a row of events
+/// sends anything, however long it is and whatever else arrives.
+pub fn settled_rows_are_quiet()
+    ensures { SettledRowsAreQuiet }
 {}
 
 /// A tick in which nothing is due, by the present answers, sends nothing, and only sets the clock on.
