@@ -24,9 +24,9 @@ use Rattle.notifier.specs.declared.observation.Observation.{Observation}
 use Rattle.device_firmware.specs.Firmware.{firmware_after, outcome_in, uri_of, with_outcome, with_uri}
 use Rattle.device_firmware.specs.declared.event.FirmwareEvent.TheVariants.{Ended}
 use Rattle.device_template.specs.Values.{misses}
-use Rattle.device_requests.specs.Answer.{Outcome, is_content}
+use Rattle.device_requests.specs.Answer.{is_content}
 use Rattle.device_requests.specs.Client.{Client}
-use Rattle.device_requests.specs.Observe.{interest_at, interest_for, interest_in, interest_of, is_read}
+use Rattle.device_requests.specs.Observe.{interest_for, interest_in, interest_of, is_read}
 use Rattle.device_requests.specs.Options.{path_of, segments_of}
 use Rattle.device_requests.specs.Order.{Asks}
 use Rattle.device_requests.specs.Request.{outcome_of, request_by, request_of, request_on, request_with}
@@ -46,8 +46,8 @@ use Rattle.request_laws.proofs.Taking.{is_taken}
 use Rattle.device_machine.specs.Observing.{begun, entered, lacks_place, noted_by, unobserved}
 use Rattle.device_machine.specs.Reactions.{flat_after, on_firmware}
 use Rattle.device_machine.specs.State.{Kept, Machine, with_client}
-use Rattle.device_machine.specs.declared.event.Event.TheVariants.{Firmware, Put, Recv}
-use Rattle.device_laws.specs.Changing.{Ends, EndsAreTaken, EndsMiss, IsDone, PutsMiss, PutsSetOne, RequestsAreDone}
+use Rattle.device_machine.specs.declared.event.Event.TheVariants.{Put, Recv}
+use Rattle.device_laws.specs.Changing.{EndsAreTaken, EndsMiss, PutsMiss, PutsSetOne, RequestsAreDone}
 use Rattle.device_laws.specs.Changing.{SetsOne}
 use Rattle.device_laws.proofs.Received.{observed}
 use Rattle.device_laws.proofs.Senders.{end_missed, end_stores, put_missed, put_stores, put_when}

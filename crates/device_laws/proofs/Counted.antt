@@ -1,5 +1,5 @@
 -- Message IDs that follow one another, and what they are given to.
-use Rattle.std.proofs.Common.{◌≡◌, ℕ, zero, suc, ◌+◌, ◌%◌, ◌<◌, List, [], ◌∷◌, ◌++◌, slice_get, Option, Some}
+use Rattle.std.proofs.Common.{◌≡◌, ℕ, zero, suc, ◌+◌, ◌%◌, ◌<◌, List, [], ◌∷◌, ◌++◌, slice_get, Some}
 use Rattle.std.proofs.Common.{refl, sym, ap, subst, ◌∙◌, arith}
 use Rattle.std.specs.List.{AllByRecursion}
 use Rattle.std.proofs.lemmas.List.{append-nil, append_assoc}
@@ -8,7 +8,7 @@ use Rattle.device_machine.specs.declared.output.Output.{Output}
 use Rattle.device_machine.specs.Reactions.{flat_after, outputs_of}
 use Rattle.device_machine.specs.State.{Machine}
 use Rattle.device_machine.specs.Template.{start_of}
-use Rattle.device_laws.specs.Numbering.{ArrivesInBytes, CountOn, CountsFrom0, EventsNumberOn, GiveAll, GiveInRow, Gives}
+use Rattle.device_laws.specs.Numbering.{ArrivesInBytes, CountOn, EventsNumberOn, GiveAll, GiveInRow, Gives}
 use Rattle.device_laws.specs.Numbering.{HasSent, RowsCountFrom0, StartsUnsent}
 use Rattle.device_laws.specs.Serving.{id_after}
 

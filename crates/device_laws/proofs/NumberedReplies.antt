@@ -3,8 +3,7 @@ use Rattle.std.proofs.Common.{◌≡◌, ℕ, ◌*◌, ◌+◌, ◌/◌, ◌%◌
 use Rattle.std.proofs.Common.{◌↔◌, length, Option, None, Some, Err, option_map, refl, sym, ap, subst, ◌∙◌, arith}
 use Rattle.std.specs.Bool.{if◌then◌else◌}
 use Rattle.std.specs.List.{AllByRecursion, Contains}
-use Rattle.std.proofs.lemmas.List.{append-nil}
-use Rattle.std.proofs.lemmas.List.Elements.{Contains-append_left, Contains-append_right}
+use Rattle.std.proofs.lemmas.List.Elements.{Contains-append_right}
 use Rattle.coap_codec.specs.Message.{Message, Spells, kind_number, options_bytes, payload_bytes, spelling}
 use Rattle.coap_codec.specs.declared.kind.Kind.{Kind}
 use Rattle.coap_codec.specs.declared.kind.Kind.TheVariants.{Con, Non, Ack, Rst}
@@ -13,8 +12,7 @@ use Rattle.object_defs.specs.Path.{full_path}
 use Rattle.object_defs.specs.declared.path.Path.{Path}
 use Rattle.instance_store.specs.Stored.{Stored}
 use Rattle.lwm2m_values.specs.declared.value.Value.{Value}
-use Rattle.notifier.specs.Observed.{as_closed, was_sent}
-use Rattle.notifier.specs.declared.observation.Observation.{Observation}
+use Rattle.notifier.specs.Observed.{was_sent}
 use Rattle.notifier.specs.declared.observation.Timer.{Timer}
 use Rattle.device_firmware.specs.Firmware.{firmware_after}
 use Rattle.device_firmware.specs.declared.event.FirmwareEvent.TheVariants.{Ended}
@@ -30,8 +28,8 @@ use Rattle.device_requests.specs.declared.answer.Code.TheVariants.{BadOption}
 use Rattle.device_requests.specs.declared.observe.Interest.{Interest}
 use Rattle.device_notifications.proofs.Turns.{both, first_of}
 use Rattle.device_machine.specs.Laws.{IsFresh}
-use Rattle.device_machine.specs.Observing.{begun, noted_by, replies_non, reply_mid}
-use Rattle.device_machine.specs.Reactions.{Reaction, acted, again, flat_after, on_firmware, reaction_to, record_of}
+use Rattle.device_machine.specs.Observing.{noted_by, replies_non, reply_mid}
+use Rattle.device_machine.specs.Reactions.{Reaction, acted, again, on_firmware, reaction_to, record_of}
 use Rattle.device_machine.specs.Reactions.{reset, response, sent_to}
 use Rattle.device_machine.specs.State.{Kept, Machine, with_client}
 use Rattle.device_machine.specs.declared.event.Event.{Event}
@@ -42,8 +40,8 @@ use Rattle.device_machine.specs.declared.recorded.Recorded.{Recorded}
 use Rattle.device_laws.specs.Numbering.{EventsNumberOn, Gives, HasSent, IsAcknowledged, NumbersOn, StartsUnsent}
 use Rattle.device_laws.specs.Numbering.{WasSent}
 use Rattle.device_laws.specs.Numbering.Gives.{none_to_ack, none_to_act, none_to_reset, to_non}
-use Rattle.device_laws.specs.Receiving.{Arrival, BeginsConfirmable, IsArrival, IsOldest}
-use Rattle.device_laws.specs.Receiving.Arrival.{ignored, rejected, empty_ack, empty_reset, repeated, fresh}
+use Rattle.device_laws.specs.Receiving.{Arrival, BeginsConfirmable, IsArrival}
+use Rattle.device_laws.specs.Receiving.Arrival.{rejected, empty_ack, empty_reset}
 use Rattle.device_laws.specs.Receiving.IsArrival.{of_stranger, malformed, malformed_otherwise, confirmable_otherwise}
 use Rattle.device_laws.specs.Receiving.IsArrival.{non_confirmable_otherwise, acknowledges, acknowledges_otherwise}
 use Rattle.device_laws.specs.Receiving.IsArrival.{resets, resets_otherwise, asks_again, asks}
@@ -52,7 +50,7 @@ use Rattle.device_laws.specs.Serving.Replies.{acknowledges as by_ack, answers as
 use Rattle.device_laws.proofs.Arrived.{arrival_is, arrival_of, method_tested, reaction_on, reacts}
 use Rattle.device_laws.proofs.Counted.{Given, given_both, given_free, given_none, given_own}
 use Rattle.device_laws.proofs.Each.{acknowledged_each, filtered, noted_each}
-use Rattle.device_laws.proofs.NumberedTicks.{all_still, sent_still, tick_numbers}
+use Rattle.device_laws.proofs.NumberedTicks.{all_still, tick_numbers}
 use Rattle.device_laws.proofs.Received.{observed}
 use Rattle.device_laws.proofs.Repeated.{no_repeat_found}
 use Rattle.device_laws.proofs.Served.{served}

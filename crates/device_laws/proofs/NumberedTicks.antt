@@ -4,22 +4,21 @@ use Rattle.std.proofs.Common.{◌↔◌, is_none, option_map, refl, sym, ap, sub
 use Rattle.std.specs.Bool.{if◌then◌else◌}
 use Rattle.std.specs.List.{AllByRecursion}
 use Rattle.std.specs.Option.{option_to_list}
-use Rattle.std.proofs.lemmas.List.{append-nil, append_assoc, map-append}
+use Rattle.std.proofs.lemmas.List.{append_assoc, map-append}
 use Rattle.std.proofs.lemmas.List.Elements.{Contains-append_left, Contains-append_right}
 use Rattle.coap_codec.specs.Message.{Message, spelling}
-use Rattle.coap_codec.specs.declared.kind.Kind.{Kind}
 use Rattle.coap_codec.specs.declared.kind.Kind.TheVariants.{Con, Non}
 use Rattle.notifier.specs.Observed.{next_number}
 use Rattle.notifier.specs.declared.observation.Observation.{Observation}
 use Rattle.notifier.specs.declared.observation.Timer.{Timer}
 use Rattle.device_requests.specs.Client.{Client}
 use Rattle.device_requests.specs.declared.answer.Answer.{Answer}
-use Rattle.device_notifications.specs.Message.{datagram_of, notification, open_notification, resent}
+use Rattle.device_notifications.specs.Message.{notification, open_notification, resent}
 use Rattle.device_notifications.specs.Second.{Sweep, next_notification, notified_kind, present, second, seconds}
 use Rattle.device_notifications.specs.Second.{sends_nons, told, turn_of}
 use Rattle.device_notifications.specs.declared.datagram.Datagram.{Datagram}
 use Rattle.device_notifications.proofs.Turns.{both, by_all, first_of, weaker}
-use Rattle.device_machine.specs.Reactions.{send_of, sweep_in}
+use Rattle.device_machine.specs.Reactions.{send_of}
 use Rattle.device_machine.specs.State.{Machine}
 use Rattle.device_machine.specs.declared.event.Event.{Event}
 use Rattle.device_machine.specs.declared.event.Event.TheVariants.{Tick}
@@ -27,7 +26,6 @@ use Rattle.device_machine.specs.declared.output.Output.{Output}
 use Rattle.device_machine.specs.declared.output.Output.TheVariants.{Send}
 use Rattle.device_laws.specs.Numbering.{Gives, HasSent, NumbersOn, WasSent}
 use Rattle.device_laws.specs.Numbering.Gives.{none_again, to_con, to_non}
-use Rattle.device_laws.specs.Serving.{id_after}
 use Rattle.device_laws.proofs.Counted.{Given, given_both, given_free, given_none, given_own}
 
 -- ---- what was sent stays sent

@@ -12,12 +12,10 @@ use Rattle.object_defs.specs.declared.definition.ResourceDef.{ResourceDef}
 use Rattle.object_defs.specs.declared.path.FullPath.{FullPath}
 use Rattle.object_defs.specs.declared.path.Path.{Path}
 use Rattle.object_defs.specs.declared.path.Path.TheVariants.{Object, Instance, Resource, Part}
-use Rattle.object_defs.specs.declared.path.ResourcePath.{ResourcePath}
-use Rattle.instance_store.specs.Stored.{Stored, lies_in, resource_path, value_at}
+use Rattle.instance_store.specs.Stored.{Stored, lies_in, value_at}
 use Rattle.notifier.specs.Attributes.{Numbers}
 use Rattle.device_firmware.specs.Firmware.{firmware_after}
 use Rattle.device_firmware.specs.declared.event.FirmwareEvent.{FirmwareEvent}
-use Rattle.lwm2m_payloads.specs.Given.{resource_given}
 use Rattle.lwm2m_payloads.specs.Written.{value_with}
 use Rattle.lwm2m_payloads.specs.Changes.{with_given}
 use Rattle.lwm2m_payloads.specs.declared.format.Format.{Format}
@@ -37,19 +35,18 @@ use Rattle.device_requests.specs.Create.{Newborn, create_unless, newborn}
 use Rattle.device_requests.specs.Delete.{delete_unless}
 use Rattle.device_requests.specs.Execute.{execute_unless}
 use Rattle.device_requests.specs.Options.{content_format_of, queries_of}
-use Rattle.device_requests.specs.Outcomes.{attributes_outcome, create_outcome, delete_outcome, execute_outcome}
+use Rattle.device_requests.specs.Outcomes.{create_outcome, delete_outcome, execute_outcome}
 use Rattle.device_requests.specs.Outcomes.{write_outcome}
-use Rattle.device_requests.specs.Read.{format_at}
 use Rattle.device_requests.specs.Refusals.{done_code, is_refused_now, refusal_of, refusals_of, to_create, to_delete}
 use Rattle.device_requests.specs.Refusals.{to_execute, to_write, to_write_attributes}
-use Rattle.device_requests.specs.Request.{outcome_at, outcome_of, purpose_of, request_with}
+use Rattle.device_requests.specs.Request.{outcome_at, purpose_of, request_with}
 use Rattle.device_requests.specs.Targets.{is_resource, place_of, resource_place}
 use Rattle.device_requests.specs.Write.{event_of, given_to_resource, left, mode_at, new_values, values_given}
 use Rattle.device_requests.specs.Write.{write_unless, written}
 use Rattle.device_requests.specs.WriteAttributes.{annotate_unless, attributes_given}
 use Rattle.request_laws.specs.Creations.{IsCreated}
 use Rattle.request_laws.specs.Deletions.{TakesAway}
-use Rattle.request_laws.specs.Done.{Adds, Annotates, Changes, DoneIsChanged, Executes, Removes, WritesTo}
+use Rattle.request_laws.specs.Done.{Adds, Changes, DoneIsChanged, Executes, Removes, WritesTo}
 use Rattle.request_laws.specs.Executions.{BeginsUpdate, HasNoError}
 use Rattle.request_laws.specs.Taken.{IsTaken}
 use Rattle.request_laws.specs.Writes.{IsInstanceWritten, IsPartWritten, IsResourceWritten}
