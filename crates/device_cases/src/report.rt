@@ -49,9 +49,13 @@ impl Report {
         }
         self.out.put("line ");
         self.out.put_number(u64::from(line));
-        let title = self.title.as_str();
-        self.out
-            .put_all(&[", ", title, ": stated ", stated, ", came ", came, "\n"]);
+        self.out.put(", ");
+        self.out.put(self.title.as_str());
+        self.out.put(": stated ");
+        self.out.put(stated);
+        self.out.put(", came ");
+        self.out.put(came);
+        self.out.put("\n");
     }
 
     /// This line can't be read, or has no place there.
