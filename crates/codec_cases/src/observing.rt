@@ -1,5 +1,7 @@
 //! The observations of a device (RFC 7641): what operations on them answer.
 
+ghost use Rattle.std.specs.Prelude.{◌≤◌, length};
+
 use crate::forms::{last_bytes, put_hex};
 use crate::places::put_yes_no;
 use crate::question::Question;
@@ -101,8 +103,10 @@ fn register(
     }
 }
 
-/// The same bytes.
-fn octets_of(out: &mut Sheet, bytes: &[u8]) -> Bytes {
+/// The same bytes; none where memory runs out.
+fn octets_of(out: &mut Sheet, bytes: &[u8]) -> Bytes
+    ensures { length result ≤ length bytes.now }
+{
     match Bytes::from_slice(out.alloc(), bytes) {
         Ok(bytes) => bytes,
         Err(_) => {
