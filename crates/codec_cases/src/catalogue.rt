@@ -1,176 +1,200 @@
 //! The definitions of objects and of their resources (OMA LwM2M 1.1 Core).
 
-use crate::forms::{self, Unanswered};
-use crate::values;
+use crate::forms::text;
+use crate::places::put_number_or_none;
+use crate::question::Question;
+use crate::values::{kind, kind_name};
+use case_sheet::Sheet;
 use object_defs::{Catalog, CatalogFault, Ops, ResourceDef, decimal_number};
-use std::alloc::{AllocError, Global};
 
-/// The answer to a question of this subject, or `None` where the subject is none of this module's.
-pub fn answer(alloc: Global, subject: &str, rest: &str) -> Result<Option<String>, AllocError> {
-    let found = match subject {
-        "decimal" => decimal(alloc, rest),
-        "catalogue" => catalogue(alloc, rest),
-        _ => return Ok(None),
-    };
-    forms::answered(alloc, found)
+/// Answers a question of this subject; `false` where the subject is none of this module's.
+pub fn answer(subject: &str, question: &mut Question<'_>, out: &mut Sheet) -> bool {
+    match subject {
+        "decimal" => decimal(question, out),
+        "catalogue" => catalogue(question, out),
+        _ => return false,
+    }
+    true
 }
 
 /// `decimal TEXT`: the number that a segment of a path is, or `none`.
-fn decimal(alloc: Global, rest: &str) -> Result<String, Unanswered> {
-    let text = forms::text(alloc, rest)?;
-    match decimal_number(text.as_slice()) {
-        Some(number) => Ok(forms::decimal(alloc, u64::from(number))?),
-        None => forms::fixed(alloc, "none"),
-    }
+fn decimal(question: &mut Question<'_>, out: &mut Sheet) {
+    let text = text(question);
+    put_number_or_none(out, decimal_number(text.as_slice()));
 }
 
 /// `catalogue STEP; STEP; ..`: what a copy of the base catalogue answers to each of these in turn.
-fn catalogue(alloc: Global, rest: &str) -> Result<String, Unanswered> {
-    let mut catalog = Catalog::base(alloc)?.copy()?;
-    let mut out = String::new(alloc);
-    for step in rest.split("; ") {
-        if !out.is_empty() {
-            out.push_str("; ")?;
-        }
-        out.push_str(take_step(alloc, &mut catalog, step)?.as_str())?;
+fn catalogue(question: &mut Question<'_>, out: &mut Sheet) {
+    match Catalog::base(out.alloc()) {
+        Ok(base) => take_steps_of_copy(question, out, &base),
+        Err(_) => out.cut(),
     }
-    Ok(out)
 }
 
-fn take_step(alloc: Global, catalog: &mut Catalog, step: &str) -> Result<String, Unanswered> {
-    let (name, rest) = forms::word(step)?;
-    match name {
-        "vendor" => forms::fixed(alloc, add_objects(catalog, rest)?),
-        "def" => forms::fixed(alloc, add_resources(catalog, rest)?),
-        "object" => object(alloc, catalog, rest),
-        "resource" => resource(alloc, catalog, rest),
-        "objects" => objects(alloc, catalog, rest),
-        _ => Err(Unanswered::Unread("not a step of a catalogue")),
+fn take_steps_of_copy(question: &mut Question<'_>, out: &mut Sheet, base: &Catalog) {
+    match base.copy() {
+        Ok(mut catalog) => take_steps(question, out, &mut catalog),
+        Err(_) => out.cut(),
+    }
+}
+
+fn take_steps(question: &mut Question<'_>, out: &mut Sheet, catalog: &mut Catalog) {
+    for step in question.rest().split("; ") {
+        question.turn_to(step);
+        out.next("; ");
+        take_step(question, out, catalog);
+    }
+}
+
+fn take_step(question: &mut Question<'_>, out: &mut Sheet, catalog: &mut Catalog) {
+    match question.word() {
+        "vendor" => add_objects(question, out, catalog),
+        "def" => add_resources(question, out, catalog),
+        "object" => object(question, out, catalog),
+        "resource" => resource(question, out, catalog),
+        "objects" => objects(question, out, catalog),
+        _ => question.refuse("not a step of a catalogue"),
     }
 }
 
 /// `vendor N` or `vendor N..M`: adds vendors' objects, up to the first that is refused.
-fn add_objects(catalog: &mut Catalog, rest: &str) -> Result<&'static str, Unanswered> {
-    let (first, last) = range(rest)?;
+fn add_objects(question: &mut Question<'_>, out: &mut Sheet, catalog: &mut Catalog) {
+    let (first, last) = range(question);
     for id in first..=last {
         if let Err(fault) = catalog.add_vendor(id) {
-            return refused(fault);
+            put_fault(out, fault);
+            return;
         }
     }
-    Ok("ok")
+    out.put("ok");
 }
 
 /// `def O/R OPS COUNT NEED KIND` or `def O/R..S ..`: adds resources to an object, up to the first that is refused.
-fn add_resources(catalog: &mut Catalog, rest: &str) -> Result<&'static str, Unanswered> {
-    let (path, rest) = forms::word(rest)?;
-    let (object, ids) = path_of(path)?;
-    let (first, last) = range(ids)?;
-    let (ops, rest) = ops_at(rest)?;
-    let (multiple, rest) = either(rest, "single", "multiple")?;
-    let (mandatory, rest) = either(rest, "optional", "mandatory")?;
-    let (kind, rest) = values::kind_at(rest)?;
-    forms::end(rest)?;
+fn add_resources(question: &mut Question<'_>, out: &mut Sheet, catalog: &mut Catalog) {
+    let (object, ids) = path(question);
+    let (first, last) = range_of(question, ids);
+    let mut definition = ResourceDef {
+        id: first,
+        ops: ops(question),
+        multiple: either(question, "single", "multiple"),
+        mandatory: either(question, "optional", "mandatory"),
+        kind: kind(question),
+    };
+    question.end();
     for id in first..=last {
-        let definition = ResourceDef {
-            id,
-            ops,
-            multiple,
-            mandatory,
-            kind,
-        };
+        definition.id = id;
         if let Err(fault) = catalog.add_resource(object, definition) {
-            return refused(fault);
+            put_fault(out, fault);
+            return;
         }
     }
-    Ok("ok")
+    out.put("ok");
+}
+
+fn put_fault(out: &mut Sheet, fault: CatalogFault) {
+    match fault {
+        CatalogFault::IdRange => out.put("id-range"),
+        CatalogFault::Duplicate => out.put("duplicate"),
+        CatalogFault::TooMany => out.put("too-many"),
+        CatalogFault::Memory => out.cut(),
+    }
 }
 
 /// `object O`: how many resources the object has, or `none` where there is no such object.
-fn object(alloc: Global, catalog: &Catalog, rest: &str) -> Result<String, Unanswered> {
-    let (id, rest) = forms::half(rest)?;
-    forms::end(rest)?;
-    match catalog.object(id) {
-        Some(object) => {
-            let count = object.resources.as_slice().len();
-            Ok(forms::decimal(alloc, count as u64)?)
-        }
-        None => forms::fixed(alloc, "none"),
+fn object(question: &mut Question<'_>, out: &mut Sheet, catalog: &Catalog) {
+    match catalog.object(question.last_half()) {
+        Some(object) => out.put_number(object.resources.as_slice().len() as u64),
+        None => out.put("none"),
     }
 }
 
 /// `resource O/R`: the definition of a resource, or `none`.
-fn resource(alloc: Global, catalog: &Catalog, rest: &str) -> Result<String, Unanswered> {
-    let (object, id) = path_of(rest)?;
-    let (id, rest) = forms::half(id)?;
-    forms::end(rest)?;
-    let Some(found) = catalog.resource(object, id) else {
-        return forms::fixed(alloc, "none");
-    };
-    let number = forms::decimal(alloc, u64::from(found.id))?;
-    let ops = ops_name(found.ops);
-    let count = if found.multiple { "multiple" } else { "single" };
-    let need = if found.mandatory {
-        "mandatory"
-    } else {
-        "optional"
-    };
-    let kind = values::kind_name(found.kind);
-    let words = [number.as_str(), " ", ops, " ", count, " ", need, " ", kind];
-    Ok(forms::joined(alloc, &words)?)
+fn resource(question: &mut Question<'_>, out: &mut Sheet, catalog: &Catalog) {
+    let (object, id) = path(question);
+    let id = question.half_of(id);
+    question.end();
+    match catalog.resource(object, id) {
+        Some(found) => put_definition(out, found),
+        None => out.put("none"),
+    }
+}
+
+/// Adds the definition of a resource: its number, the operations, what else is so, and the kind.
+pub fn put_definition(out: &mut Sheet, definition: &ResourceDef) {
+    let is_multiple = definition.multiple;
+    let is_mandatory = definition.mandatory;
+    out.put_number(u64::from(definition.id));
+    out.put_all(&[
+        " ",
+        ops_name(definition.ops),
+        if is_multiple { " multiple" } else { " single" },
+        if is_mandatory {
+            " mandatory "
+        } else {
+            " optional "
+        },
+        kind_name(definition.kind),
+    ]);
 }
 
 /// `objects`: the numbers of the objects, in the order in which they stand.
-fn objects(alloc: Global, catalog: &Catalog, rest: &str) -> Result<String, Unanswered> {
-    forms::end(rest)?;
-    let mut out = String::new(alloc);
+fn objects(question: &mut Question<'_>, out: &mut Sheet, catalog: &Catalog) {
+    question.end();
+    let mut separator = "";
     for object in catalog.objects() {
-        let id = forms::decimal(alloc, u64::from(object.id))?;
-        crate::places::add(&mut out, " ", id.as_str())?;
+        out.put(separator);
+        out.put_number(u64::from(object.id));
+        separator = " ";
     }
-    Ok(out)
 }
 
-/// The first and the last number of `N` or `N..M`.
-fn range(word: &str) -> Result<(u16, u16), Unanswered> {
+/// The last word as the first and the last number of `N` or `N..M`.
+fn range(question: &mut Question<'_>) -> (u16, u16) {
+    let word = question.word();
+    question.end();
+    range_of(question, word)
+}
+
+fn range_of(question: &mut Question<'_>, word: &str) -> (u16, u16) {
     let (first, last) = match word.split_once("..") {
         Some(ends) => ends,
         None => (word, word),
     };
-    let (first, _) = forms::half(first)?;
-    let (last, rest) = forms::half(last)?;
-    forms::end(rest)?;
-    Ok((first, last))
+    (question.half_of(first), question.half_of(last))
 }
 
-/// The object of `O/R`, and what stands after the slash.
-fn path_of(word: &str) -> Result<(u16, &str), Unanswered> {
-    let Some((object, rest)) = word.split_once('/') else {
-        return Err(Unanswered::Unread("a resource without a slash"));
-    };
-    let (object, _) = forms::half(object)?;
-    Ok((object, rest))
-}
-
-/// Whether the first word is the second of two names, and not the first.
-fn either<'a>(rest: &'a str, no: &str, yes: &str) -> Result<(bool, &'a str), Unanswered> {
-    let (word, rest) = forms::word(rest)?;
-    if word == no {
-        Ok((false, rest))
-    } else if word == yes {
-        Ok((true, rest))
-    } else {
-        Err(Unanswered::Unread("another word was expected"))
-    }
-}
-
-fn ops_at(rest: &str) -> Result<(Ops, &str), Unanswered> {
-    let (word, rest) = forms::word(rest)?;
-    for ops in [Ops::R, Ops::W, Ops::RW, Ops::E] {
-        if ops_name(ops) == word {
-            return Ok((ops, rest));
+/// The next word as the object of `O/R`, and what stands after the slash.
+fn path<'a>(question: &mut Question<'a>) -> (u16, &'a str) {
+    match question.word().split_once('/') {
+        Some((object, rest)) => (question.half_of(object), rest),
+        None => {
+            question.refuse("a resource without a slash");
+            (0, "")
         }
     }
-    Err(Unanswered::Unread("not operations"))
+}
+
+/// Whether the next word is the second of two names, and not the first.
+fn either(question: &mut Question<'_>, no: &str, yes: &str) -> bool {
+    let word = question.word();
+    if word != no && word != yes {
+        question.refuse("another word was expected");
+    }
+    word == yes
+}
+
+/// The operations that the next word names.
+fn ops(question: &mut Question<'_>) -> Ops {
+    match question.word() {
+        "r" => Ops::R,
+        "w" => Ops::W,
+        "rw" => Ops::RW,
+        "e" => Ops::E,
+        _ => {
+            question.refuse("not operations");
+            Ops::R
+        }
+    }
 }
 
 fn ops_name(ops: Ops) -> &'static str {
@@ -179,14 +203,5 @@ fn ops_name(ops: Ops) -> &'static str {
         Ops::W => "w",
         Ops::RW => "rw",
         Ops::E => "e",
-    }
-}
-
-fn refused(fault: CatalogFault) -> Result<&'static str, Unanswered> {
-    match fault {
-        CatalogFault::IdRange => Ok("id-range"),
-        CatalogFault::Duplicate => Ok("duplicate"),
-        CatalogFault::TooMany => Ok("too-many"),
-        CatalogFault::Memory => Err(Unanswered::Memory),
     }
 }

@@ -1,22 +1,24 @@
 //! Firmware update (OMA LwM2M 1.1 Core, object 5): which events are taken in which State, and what they lead to.
 
-use crate::forms::{Unanswered, answered, bytes, end, fixed, half, joined, signed, word};
-use crate::places::{text_value, text_word};
+use crate::forms::{last_bytes, put_text};
+use crate::places::text_value;
+use crate::question::Question;
+use crate::stating::{stated, stated_store};
+use case_sheet::Sheet;
 use device_firmware::{FirmwareEvent, take, takes};
 use instance_store::Store;
-use lwm2m_values::{Text, Value};
+use lwm2m_values::Value;
 use object_defs::ResourcePath;
-use std::alloc::{AllocError, Global};
 
-/// The answer to a question of this subject, or `None` where the subject is none of this module's.
-pub fn answer(alloc: Global, subject: &str, rest: &str) -> Result<Option<String>, AllocError> {
-    let found = match subject {
-        "firmware" => event_in_state(alloc, rest),
-        "package" => package(alloc, rest),
-        "package-uri" => package_uri(alloc, rest),
-        _ => return Ok(None),
-    };
-    answered(alloc, found)
+/// Answers a question of this subject; `false` where the subject is none of this module's.
+pub fn answer(subject: &str, question: &mut Question<'_>, out: &mut Sheet) -> bool {
+    match subject {
+        "firmware" => event_in_state(question, out),
+        "package" => package(question, out),
+        "package-uri" => package_uri(question, out),
+        _ => return false,
+    }
+    true
 }
 
 fn resource(resource: u16) -> ResourcePath {
@@ -27,95 +29,86 @@ fn resource(resource: u16) -> ResourcePath {
     }
 }
 
-/// The device has instance 0 of object 5 in this State, with Update Result 9 and the Package URI coap://old; or, for
-/// the word `none`, no such instance.
-fn store_in(alloc: Global, state: &str) -> Result<Store, Unanswered> {
-    if state == "none" {
-        return Ok(Store::new(alloc));
+/// The device has instance 0 of object 5 in the State of the next word, with Update Result 9 and the Package URI
+/// coap://old; or, for the word `none`, no such instance.
+fn store_in_state(question: &mut Question<'_>) -> Store {
+    let word = question.word();
+    if word == "none" {
+        return Store::new(question.alloc());
     }
-    let front = "/5/0/1 text coap://old; /5/0/3 whole ";
-    let statement = joined(alloc, &[front, state, "; /5/0/5 whole 9"])?;
-    crate::stores::store_of(alloc, statement.as_str())
+    let mut store = stated_store(question, "/5/0/1 text coap://old; /5/0/5 whole 9");
+    let state = Value::Whole(question.integer_of(word));
+    stated(question, store.put(resource(3), state));
+    store
 }
 
 /// The event that words name: `clear`, `package`, `uri` to coap://new, `update`, or `ended CODE`.
-fn event(alloc: Global, rest: &str) -> Result<FirmwareEvent, Unanswered> {
-    let (name, rest) = word(rest)?;
-    if name == "ended" {
-        let (code, rest) = half(rest)?;
-        end(rest)?;
-        let code = u8::try_from(code)
-            .ok()
-            .ok_or(Unanswered::Unread("not a code of one byte"))?;
-        return Ok(FirmwareEvent::Ended(code));
-    }
-    end(rest)?;
+fn event(question: &mut Question<'_>) -> FirmwareEvent {
+    let name = question.word();
+    let code = if name == "ended" { question.byte() } else { 0 };
+    question.end();
     match name {
-        "clear" => Ok(FirmwareEvent::Cleared),
-        "package" => Ok(FirmwareEvent::Package),
-        "uri" => Ok(FirmwareEvent::Uri(Text::from_str(alloc, "coap://new")?)),
-        "update" => Ok(FirmwareEvent::Update),
-        _ => Err(Unanswered::Unread("not an event")),
+        "clear" => FirmwareEvent::Cleared,
+        "package" => FirmwareEvent::Package,
+        "uri" => FirmwareEvent::Uri(text_value(question, "coap://new")),
+        "update" => FirmwareEvent::Update,
+        "ended" => FirmwareEvent::Ended(code),
+        _ => {
+            question.refuse("not an event");
+            FirmwareEvent::Cleared
+        }
     }
-}
-
-/// What a resource of the instance holds, or `none`.
-fn held(alloc: Global, store: &Store, number: u16) -> Result<String, Unanswered> {
-    match store.get(resource(number).single()) {
-        Some(Value::Whole(number)) => Ok(signed(alloc, *number)?),
-        Some(Value::Text(text)) => Ok(text_word(alloc, text.as_str())?),
-        _ => fixed(alloc, "none"),
-    }
-}
-
-fn taken_word(is_taken: bool) -> &'static str {
-    if is_taken { "taken" } else { "refused" }
 }
 
 /// `firmware STATE EVENT`: whether the event is taken, and the State, the Update Result and the Package URI after it.
-fn event_in_state(alloc: Global, rest: &str) -> Result<String, Unanswered> {
-    let (state, rest) = word(rest)?;
-    let mut store = store_in(alloc, state)?;
-    let event = event(alloc, rest)?;
+fn event_in_state(question: &mut Question<'_>, out: &mut Sheet) {
+    let mut store = store_in_state(question);
+    let event = event(question);
     let can_be_taken = takes(&store, &event);
-    let is_taken = take(alloc, &mut store, event)?;
-    if can_be_taken != is_taken {
-        return fixed(alloc, "takes and take differ");
+    match take(out.alloc(), &mut store, event) {
+        Ok(is_taken) if is_taken != can_be_taken => out.put("takes and take differ"),
+        Ok(is_taken) => put_state(out, &store, is_taken),
+        Err(_) => out.cut(),
     }
-    let (state, result) = (held(alloc, &store, 3)?, held(alloc, &store, 5)?);
-    let uri = held(alloc, &store, 1)?;
-    let (state, result, uri) = (state.as_str(), result.as_str(), uri.as_str());
-    let words = [taken_word(is_taken), " ", state, " ", result, " ", uri];
-    Ok(joined(alloc, &words)?)
 }
 
-/// What writing the Package or the Package URI is.
-fn name_of(event: &FirmwareEvent) -> &'static str {
-    match event {
+fn put_state(out: &mut Sheet, store: &Store, is_taken: bool) {
+    out.put(if is_taken { "taken" } else { "refused" });
+    for number in [3, 5, 1] {
+        out.put(" ");
+        put_held(out, store, number);
+    }
+}
+
+/// Adds what a resource of the instance holds, or `none`.
+fn put_held(out: &mut Sheet, store: &Store, number: u16) {
+    match store.get(resource(number).single()) {
+        Some(Value::Whole(number)) => out.put_signed(*number),
+        Some(Value::Text(text)) => put_text(out, text.as_str().as_bytes()),
+        _ => out.put("none"),
+    }
+}
+
+/// Adds what writing the Package or the Package URI is.
+fn put_name(out: &mut Sheet, event: &FirmwareEvent) {
+    out.put(match event {
         FirmwareEvent::Cleared => "clear",
         FirmwareEvent::Package => "package",
         FirmwareEvent::Uri(_) => "uri",
         FirmwareEvent::Update => "update",
         FirmwareEvent::Ended(_) => "ended",
-    }
+    });
 }
 
 /// `package HEX`: what writing these bytes as the Package is.
-fn package(alloc: Global, rest: &str) -> Result<String, Unanswered> {
-    let (content, rest) = bytes(alloc, rest)?;
-    end(rest)?;
-    fixed(
-        alloc,
-        name_of(&FirmwareEvent::of_package(content.as_slice())),
-    )
+fn package(question: &mut Question<'_>, out: &mut Sheet) {
+    let content = last_bytes(question);
+    put_name(out, &FirmwareEvent::of_package(content.as_slice()));
 }
 
 /// `package-uri TEXT`: what writing this text as the Package URI is.
-fn package_uri(alloc: Global, rest: &str) -> Result<String, Unanswered> {
-    let (uri, rest) = word(rest)?;
-    end(rest)?;
-    fixed(
-        alloc,
-        name_of(&FirmwareEvent::of_uri(text_value(alloc, uri)?)),
-    )
+fn package_uri(question: &mut Question<'_>, out: &mut Sheet) {
+    let word = question.word();
+    question.end();
+    put_name(out, &FirmwareEvent::of_uri(text_value(question, word)));
 }

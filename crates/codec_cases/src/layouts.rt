@@ -1,262 +1,269 @@
 //! The fields of this profile's formats as bytes (docs/use/files.md): numbers, paths, kinds, values and definitions of
-//! resources, read and written, and the place of the first fault.
+//! resources, as they are read, and the place of the first fault.
 
 ghost use Rattle.std.specs.Prelude.{◌≡◌, nat_lt};
 ghost use Rattle.std.specs.List.{list_all};
 
-use crate::forms::{
-    Unanswered, answered, bytes, decimal, end, fixed, half, hex_word, integer, joined, natural,
-    push, put_words, signed, word,
-};
-use crate::places::{add, full_path_word, path};
-use crate::values::{kind_at as kind_of, kind_name, value_at as value_of, value_words};
+use crate::catalogue::put_definition;
+use crate::forms::{last_bytes, put_hex};
+use crate::places::{put_full_path, put_numbers, put_path};
+use crate::question::Question;
+use crate::values::{kind_name, kind_of, put_value};
 use byte_layout::{
-    Break, Items, LayoutFault, ReadError, bytes_at, fault_at, i64_at, items_at, put_bytes, put_i64,
-    put_u8, put_u16, put_u32, u8_at, u8_at_most, u16_at, u16_at_most, u32_at,
+    Break, Items, LayoutFault, ReadError, bytes_at, fault_at, i64_at, items_at, u8_at, u8_at_most,
+    u16_at, u16_at_most, u32_at,
 };
-use lwm2m_values::Value;
-use object_defs::{InstancePath, Ops, Path, ResourceDef, path_text};
-use scenario_layout::{
-    kind_at, path_at, place_at, put_kind, put_path, put_place, put_resources, put_value,
-    resources_at, value_at,
-};
-use std::alloc::{AllocError, Global};
+use case_sheet::Sheet;
+use lwm2m_values::ValueKind;
+use object_defs::{Path, ResourceDef};
+use scenario_layout::{kind_at, path_at, place_at, put_resources, resources_at, value_at};
+use std::alloc::Global;
 
-/// The answer to a question of this subject, or `None` where the subject is none of this module's.
-pub fn answer(alloc: Global, subject: &str, rest: &str) -> Result<Option<String>, AllocError> {
-    let found = match subject {
-        "fields" => fields(alloc, rest),
-        "fronts" => fronts(alloc, rest),
-        "spelled" => spelled(alloc, rest),
-        "definitions" => definitions(alloc, rest),
-        _ => return Ok(None),
-    };
-    answered(alloc, found)
-}
-
-/// Why bytes were not read: by their fault, or because the question has no such field.
-#[derive(Drop)]
-enum Unfound {
-    Bytes(ReadError),
-    Question(Unanswered),
-}
-
-impl From<ReadError> for Unfound {
-    fn from(error: ReadError) -> Unfound {
-        Unfound::Bytes(error)
+/// Answers a question of this subject; `false` where the subject is none of this module's.
+pub fn answer(subject: &str, question: &mut Question<'_>, out: &mut Sheet) -> bool {
+    match subject {
+        "fields" => fields(question, out),
+        "fronts" => fronts(question, out),
+        "definitions" => definitions(question, out),
+        _ => return false,
     }
-}
-
-impl From<Unanswered> for Unfound {
-    fn from(unanswered: Unanswered) -> Unfound {
-        Unfound::Question(unanswered)
-    }
-}
-
-impl From<AllocError> for Unfound {
-    fn from(_e: AllocError) -> Unfound {
-        Unfound::Question(Unanswered::Memory)
-    }
+    true
 }
 
 /// `fields FIELD,FIELD.. HEX`: what the fields hold, where they are all of the bytes; else the first fault.
-fn fields(alloc: Global, rest: &str) -> Result<String, Unanswered> {
-    let (names, rest) = word(rest)?;
-    let (bytes, rest) = bytes(alloc, rest)?;
-    end(rest)?;
-    read_fields(alloc, names, bytes.as_slice())
+fn fields(question: &mut Question<'_>, out: &mut Sheet) {
+    let names = question.word();
+    let bytes = last_bytes(question);
+    put_read(question, out, names, bytes.as_slice());
 }
 
 /// `fronts FIELD,FIELD.. HEX`: what each shorter front of the bytes answers, once where it is the same as the one
 /// before.
-fn fronts(alloc: Global, rest: &str) -> Result<String, Unanswered> {
-    let (names, rest) = word(rest)?;
-    let (bytes, rest) = bytes(alloc, rest)?;
-    end(rest)?;
-    let mut last = String::new(alloc);
-    let mut list = String::new(alloc);
-    let mut front = Vec::new(alloc);
-    for byte in bytes.iter() {
-        let answer = read_fields(alloc, names, front.as_slice())?;
-        if answer.as_str() != last.as_str() {
-            add(&mut list, "; ", answer.as_str())?;
+fn fronts(question: &mut Question<'_>, out: &mut Sheet) {
+    let names = question.word();
+    let bytes = last_bytes(question);
+    let mut last = Sheet::new(out.alloc());
+    for len in 0..bytes.len() {
+        if let Some((front, _)) = bytes.split_at_checked(len) {
+            let mut answer = Sheet::new(out.alloc());
+            put_read(question, &mut answer, names, front);
+            put_changed(out, &answer, &last);
+            last = answer;
         }
-        last = answer;
-        push(&mut front, *byte)?;
-    }
-    Ok(list)
-}
-
-fn read_fields(alloc: Global, names: &str, bytes: &[u8]) -> Result<String, Unanswered> {
-    told(alloc, bytes.len(), found(alloc, names, bytes))
-}
-
-/// What was found, or the fault of n bytes.
-fn told(alloc: Global, total: usize, found: Result<String, Unfound>) -> Result<String, Unanswered> {
-    match found {
-        Ok(text) => Ok(text),
-        Err(Unfound::Question(unanswered)) => Err(unanswered),
-        Err(Unfound::Bytes(error)) => fault_text(alloc, fault_at(total, error)),
     }
 }
 
-fn fault_at_place(alloc: Global, name: &str, place: usize) -> Result<String, Unanswered> {
-    let place = decimal(alloc, place as u64)?;
-    Ok(joined(alloc, &[name, place.as_str()])?)
+/// Adds an answer, unless it is the same as the one before.
+fn put_changed(out: &mut Sheet, answer: &Sheet, last: &Sheet) {
+    if answer.as_str() != last.as_str() {
+        out.next("; ");
+        put_sheet(out, answer);
+    }
 }
 
-fn fault_text(alloc: Global, fault: LayoutFault) -> Result<String, Unanswered> {
+fn put_sheet(out: &mut Sheet, sheet: &Sheet) {
+    if sheet.is_cut() {
+        out.cut();
+    }
+    out.put(sheet.as_str());
+}
+
+/// Adds what all of the bytes hold, a field after another, or their first fault.
+fn put_read(question: &mut Question<'_>, out: &mut Sheet, names: &str, bytes: &[u8]) {
+    let mut list = Sheet::new(out.alloc());
+    match put_fields(question, &mut list, names, bytes) {
+        Ok(()) => put_sheet(out, &list),
+        Err(error) => put_fault(out, fault_at(bytes.len(), error)),
+    }
+}
+
+fn put_fault(out: &mut Sheet, fault: LayoutFault) {
     match fault {
-        LayoutFault::Magic => fixed(alloc, "magic"),
-        LayoutFault::Version => fixed(alloc, "version"),
-        LayoutFault::Cut => fixed(alloc, "cut"),
-        LayoutFault::Trailing => fixed(alloc, "trailing"),
-        LayoutFault::BadField(place) => fault_at_place(alloc, "bad-field ", place),
-        LayoutFault::Limit(place) => fault_at_place(alloc, "limit ", place),
-        LayoutFault::Memory => Err(Unanswered::Memory),
+        LayoutFault::Magic => out.put("magic"),
+        LayoutFault::Version => out.put("version"),
+        LayoutFault::Cut => out.put("cut"),
+        LayoutFault::Trailing => out.put("trailing"),
+        LayoutFault::BadField(place) => {
+            out.put("bad-field ");
+            out.put_number(place as u64);
+        }
+        LayoutFault::Limit(place) => {
+            out.put("limit ");
+            out.put_number(place as u64);
+        }
+        LayoutFault::Memory => out.cut(),
     }
 }
 
-/// What all of the bytes hold, a field after another.
-fn found(alloc: Global, names: &str, bytes: &[u8]) -> Result<String, Unfound> {
-    let mut list = String::new(alloc);
+fn put_fields(
+    question: &mut Question<'_>,
+    out: &mut Sheet,
+    names: &str,
+    bytes: &[u8],
+) -> Result<(), ReadError> {
     let mut left = bytes;
     for name in names.split(',') {
-        let (item, rest) = field_at(alloc, name, left)?;
-        add(&mut list, ", ", item.as_str())?;
-        left = rest;
+        out.next(", ");
+        left = put_field(question, out, name, left)?;
     }
     if left.is_empty() {
-        Ok(list)
+        Ok(())
     } else {
-        Err(Unfound::Bytes(ReadError::Fault(Break::Trailing)))
+        Err(ReadError::Fault(Break::Trailing))
     }
 }
 
-/// What the field of this name holds, and the bytes after it. A number stands after a colon in some names.
-fn field_at<'a>(alloc: Global, name: &str, bytes: &'a [u8]) -> Result<(String, &'a [u8]), Unfound> {
-    match name.split_once(':') {
-        None => plain_field_at(alloc, name, bytes),
-        Some(("value", wanted)) => {
-            let (wanted, _) = kind_of(wanted)?;
-            let (value, rest) = value_at(alloc, Some(wanted), bytes)?;
-            Ok((value_words(alloc, &value)?, rest))
-        }
-        Some(("magic", wanted)) => {
-            let (wanted, _) = natural(wanted)?;
-            let (found, rest) = u32_at(bytes)?;
-            marked(alloc, u64::from(found) == wanted, Break::Magic, rest)
-        }
-        Some((name, number)) => {
-            let (number, _) = half(number)?;
-            numbered_field_at(alloc, name, number, bytes)
-        }
-    }
-}
-
-fn plain_field_at<'a>(
-    alloc: Global,
+/// Adds what the field of this name holds, and returns the bytes after it. A number or a kind stands after a colon in
+/// some names.
+fn put_field<'a>(
+    question: &mut Question<'_>,
+    out: &mut Sheet,
     name: &str,
     bytes: &'a [u8],
-) -> Result<(String, &'a [u8]), Unfound> {
+) -> Result<&'a [u8], ReadError> {
+    match name.split_once(':') {
+        None => put_plain(question, out, name, bytes),
+        Some(("value", wanted)) => put_value_at(out, Some(kind_of(question, wanted)), bytes),
+        Some(("magic", wanted)) => {
+            let wanted = question.natural_of(wanted);
+            let (found, rest) = u32_at(bytes)?;
+            put_marked(out, u64::from(found) == wanted, Break::Magic, rest)
+        }
+        Some((name, number)) => {
+            let number = question.half_of(number);
+            put_numbered(question, out, name, number, bytes)
+        }
+    }
+}
+
+fn put_plain<'a>(
+    question: &mut Question<'_>,
+    out: &mut Sheet,
+    name: &str,
+    bytes: &'a [u8],
+) -> Result<&'a [u8], ReadError> {
     match name {
         "u8" => {
             let (number, rest) = u8_at(bytes)?;
-            Ok((decimal(alloc, u64::from(number))?, rest))
+            out.put_number(u64::from(number));
+            Ok(rest)
         }
         "u16" => {
             let (number, rest) = u16_at(bytes)?;
-            Ok((decimal(alloc, u64::from(number))?, rest))
+            out.put_number(u64::from(number));
+            Ok(rest)
         }
         "u32" => {
             let (number, rest) = u32_at(bytes)?;
-            Ok((decimal(alloc, u64::from(number))?, rest))
+            out.put_number(u64::from(number));
+            Ok(rest)
         }
         "i64" => {
             let (number, rest) = i64_at(bytes)?;
-            Ok((signed(alloc, number)?, rest))
+            out.put_signed(number);
+            Ok(rest)
         }
         "sized" => {
             let (len, rest) = u16_at(bytes)?;
-            let (field, rest) = bytes_at(usize::from(len), rest)?;
-            Ok((hex_word(alloc, field)?, rest))
+            put_bytes_at(out, usize::from(len), rest)
         }
-        _ => named_field_at(alloc, name, bytes),
+        _ => put_named(question, out, name, bytes),
     }
 }
 
-fn named_field_at<'a>(
-    alloc: Global,
+fn put_bytes_at<'a>(out: &mut Sheet, len: usize, bytes: &'a [u8]) -> Result<&'a [u8], ReadError> {
+    let (field, rest) = bytes_at(len, bytes)?;
+    put_hex(out, field);
+    Ok(rest)
+}
+
+fn put_value_at<'a>(
+    out: &mut Sheet,
+    wanted: Option<ValueKind>,
+    bytes: &'a [u8],
+) -> Result<&'a [u8], ReadError> {
+    let (value, rest) = value_at(out.alloc(), wanted, bytes)?;
+    put_value(out, &value);
+    Ok(rest)
+}
+
+fn put_named<'a>(
+    question: &mut Question<'_>,
+    out: &mut Sheet,
     name: &str,
     bytes: &'a [u8],
-) -> Result<(String, &'a [u8]), Unfound> {
+) -> Result<&'a [u8], ReadError> {
     match name {
         "instance" => {
             let (place, rest) = place_at(bytes)?;
-            let path = Path::Instance(place.object, place.instance);
-            Ok((path_text(alloc, path)?, rest))
+            put_path(out, Path::Instance(place.object, place.instance));
+            Ok(rest)
         }
         "path" => {
             let (path, rest) = path_at(bytes)?;
-            Ok((full_path_word(alloc, path)?, rest))
+            put_full_path(out, path);
+            Ok(rest)
         }
         "kind" => {
             let (kind, rest) = kind_at(bytes)?;
-            Ok((String::from_str(alloc, kind_name(kind))?, rest))
+            out.put(kind_name(kind));
+            Ok(rest)
         }
-        "value" => {
-            let (value, rest) = value_at(alloc, None, bytes)?;
-            Ok((value_words(alloc, &value)?, rest))
+        "value" => put_value_at(out, None, bytes),
+        _ => {
+            question.refuse("not a field");
+            Ok(bytes)
         }
-        _ => Err(Unfound::Question(Unanswered::Unread("not a field"))),
     }
 }
 
-fn numbered_field_at<'a>(
-    alloc: Global,
+fn put_numbered<'a>(
+    question: &mut Question<'_>,
+    out: &mut Sheet,
     name: &str,
     number: u16,
     bytes: &'a [u8],
-) -> Result<(String, &'a [u8]), Unfound> {
+) -> Result<&'a [u8], ReadError> {
     match name {
         "version" => {
             let (found, rest) = u8_at(bytes)?;
-            marked(alloc, u16::from(found) == number, Break::Version, rest)
+            put_marked(out, u16::from(found) == number, Break::Version, rest)
         }
         "u8-at-most" => {
-            let limit = u8::try_from(number).ok();
-            let limit = limit.ok_or(Unanswered::Unread("not a limit of one byte"))?;
-            let (found, rest) = u8_at_most(limit, bytes)?;
-            Ok((decimal(alloc, u64::from(found))?, rest))
+            let (found, rest) = u8_at_most(question.byte_of(number), bytes)?;
+            out.put_number(u64::from(found));
+            Ok(rest)
         }
         "u16-at-most" => {
             let (found, rest) = u16_at_most(number, bytes)?;
-            Ok((decimal(alloc, u64::from(found))?, rest))
+            out.put_number(u64::from(found));
+            Ok(rest)
         }
-        "bytes" => {
-            let (field, rest) = bytes_at(usize::from(number), bytes)?;
-            Ok((hex_word(alloc, field)?, rest))
-        }
+        "bytes" => put_bytes_at(out, usize::from(number), bytes),
         "ascending" => {
-            let (numbers, rest) = items_at(&Ascending, alloc, usize::from(number), bytes)?;
-            Ok((crate::places::numbers(alloc, numbers.as_slice())?, rest))
+            let (numbers, rest) = items_at(&Ascending, out.alloc(), usize::from(number), bytes)?;
+            put_numbers(out, numbers.as_slice());
+            Ok(rest)
         }
-        _ => Err(Unfound::Question(Unanswered::Unread("not a field"))),
+        _ => {
+            question.refuse("not a field");
+            Ok(bytes)
+        }
     }
 }
 
 /// A mark or a version, where it is the one that is wanted.
-fn marked<'a>(
-    alloc: Global,
+fn put_marked<'a>(
+    out: &mut Sheet,
     is_wanted: bool,
     fault: Break,
     rest: &'a [u8],
-) -> Result<(String, &'a [u8]), Unfound> {
-    if is_wanted {
-        Ok((String::from_str(alloc, "ok")?, rest))
-    } else {
-        Err(Unfound::Bytes(ReadError::Fault(fault)))
+) -> Result<&'a [u8], ReadError> {
+    if !is_wanted {
+        return Err(ReadError::Fault(fault));
     }
+    out.put("ok");
+    Ok(rest)
 }
 
 /// Numbers of two bytes, each above those before it.
@@ -295,17 +302,16 @@ impl Items for Ascending {
 }
 
 /// `definitions HEX`: the definitions that the bytes are, and the bytes that are written of them; else the first fault.
-fn definitions(alloc: Global, rest: &str) -> Result<String, Unanswered> {
-    let (bytes, rest) = bytes(alloc, rest)?;
-    end(rest)?;
-    told(alloc, bytes.len(), definitions_in(alloc, bytes.as_slice()))
-}
-
-fn definitions_in(alloc: Global, bytes: &[u8]) -> Result<String, Unfound> {
-    let (definitions, again) = written_again(alloc, bytes)?;
-    let text = definitions_text(alloc, definitions.as_slice())?;
-    let again = hex_word(alloc, again.as_slice())?;
-    Ok(joined(alloc, &[text.as_str(), " again ", again.as_str()])?)
+fn definitions(question: &mut Question<'_>, out: &mut Sheet) {
+    let bytes = last_bytes(question);
+    match written_again(out.alloc(), bytes.as_slice()) {
+        Ok((definitions, again)) => {
+            put_definitions(out, definitions.as_slice());
+            out.put(" again ");
+            put_hex(out, again.as_slice());
+        }
+        Err(error) => put_fault(out, fault_at(bytes.len(), error)),
+    }
 }
 
 /// The definitions at the front of the bytes, and the bytes that are written of them.
@@ -319,107 +325,10 @@ fn written_again(alloc: Global, bytes: &[u8]) -> Result<(Vec<ResourceDef>, Vec<u
     Ok((definitions, out))
 }
 
-/// Definitions with semicolons between them: the number, the operations, the kind, and what else is so.
-fn definitions_text(alloc: Global, definitions: &[ResourceDef]) -> Result<String, AllocError> {
-    let mut list = String::new(alloc);
+/// Adds definitions with semicolons between them.
+fn put_definitions(out: &mut Sheet, definitions: &[ResourceDef]) {
     for definition in definitions {
-        let number = decimal(alloc, u64::from(definition.id))?;
-        let ops = ops_word(definition.ops);
-        let kind = kind_name(definition.kind);
-        let count = if definition.multiple {
-            "multiple"
-        } else {
-            "single"
-        };
-        let need = if definition.mandatory {
-            "mandatory"
-        } else {
-            "optional"
-        };
-        add(&mut list, "; ", number.as_str())?;
-        put_words(&mut list, &[" ", ops, " ", count, " ", need, " ", kind])?;
-    }
-    Ok(list)
-}
-
-fn ops_word(ops: Ops) -> &'static str {
-    match ops {
-        Ops::R => "r",
-        Ops::W => "w",
-        Ops::RW => "rw",
-        Ops::E => "e",
-    }
-}
-
-/// `spelled FIELD VALUE; FIELD VALUE ..`: the bytes of the fields.
-fn spelled(alloc: Global, rest: &str) -> Result<String, Unanswered> {
-    let mut out = Vec::new(alloc);
-    for field in rest.split(';') {
-        let (name, rest) = word(field.trim())?;
-        put_field(alloc, &mut out, name, rest)?;
-    }
-    Ok(hex_word(alloc, out.as_slice())?)
-}
-
-/// Adds the bytes of a field that holds what the words say.
-fn put_field(alloc: Global, out: &mut Vec<u8>, name: &str, rest: &str) -> Result<(), Unanswered> {
-    match name {
-        "u8" | "u16" | "u32" => put_number(out, name, rest),
-        "i64" => {
-            let (number, rest) = integer(rest)?;
-            end(rest)?;
-            Ok(put_i64(out, number)?)
-        }
-        "bytes" => {
-            let (field, rest) = bytes(alloc, rest)?;
-            end(rest)?;
-            Ok(put_bytes(out, field.as_slice())?)
-        }
-        "kind" => {
-            let (kind, rest) = kind_of(rest)?;
-            end(rest)?;
-            Ok(put_kind(out, kind)?)
-        }
-        "value" => {
-            let value = value_of(alloc, rest)?;
-            put_good(out, &value)
-        }
-        _ => put_place_or_path(out, name, rest),
-    }
-}
-
-fn put_number(out: &mut Vec<u8>, name: &str, rest: &str) -> Result<(), Unanswered> {
-    let (number, rest) = natural(rest)?;
-    end(rest)?;
-    let (short, long) = (u16::try_from(number).ok(), u32::try_from(number).ok());
-    match (name, u8::try_from(number).ok(), short, long) {
-        ("u8", Some(number), _, _) => Ok(put_u8(out, number)?),
-        ("u16", _, Some(number), _) => Ok(put_u16(out, number)?),
-        ("u32", _, _, Some(number)) => Ok(put_u32(out, number)?),
-        _ => Err(Unanswered::Unread("the number does not fit")),
-    }
-}
-
-/// Writes a value that keeps to the lengths of its kind.
-fn put_good(out: &mut Vec<u8>, value: &Value) -> Result<(), Unanswered> {
-    if value.is_good() {
-        Ok(put_value(out, value)?)
-    } else {
-        Err(Unanswered::Unread("the value is too long"))
-    }
-}
-
-fn put_place_or_path(out: &mut Vec<u8>, name: &str, rest: &str) -> Result<(), Unanswered> {
-    let (path, rest) = path(rest)?;
-    end(rest)?;
-    match (name, path) {
-        ("instance", Path::Instance(object, instance)) => {
-            Ok(put_place(out, InstancePath { object, instance })?)
-        }
-        ("path", path) => match path.full() {
-            Some(path) => Ok(put_path(out, path)?),
-            None => Err(Unanswered::Unread("not the path of a value")),
-        },
-        _ => Err(Unanswered::Unread("not a field")),
+        out.next("; ");
+        put_definition(out, definition);
     }
 }

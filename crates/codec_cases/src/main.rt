@@ -2,8 +2,10 @@
 //! crates, and prints each line whose answer differs. docs/inside/codec-cases.md says how a line is written.
 #![tactic(auto)]
 
+mod attributes;
 mod case;
 mod catalogue;
+mod fields;
 mod firmware;
 mod forms;
 mod layouts;
@@ -14,54 +16,39 @@ mod notifying;
 mod observing;
 mod payloads;
 mod places;
+mod question;
 mod records;
+mod stating;
 mod stores;
 mod tally;
 mod values;
 mod words;
+mod writing;
 
 use case::{Case, Line};
+use case_sheet::Sheet;
+use question::Question;
 use std::alloc::{AllocError, Global};
 use std::io;
 use std::process::ExitCode;
 use tally::Tally;
 
-/// The answer to a question, or `None` where no module has its subject.
-fn answer(alloc: Global, subject: &str, rest: &str) -> Result<Option<String>, AllocError> {
-    if let Some(text) = messages::answer(alloc, subject, rest)? {
-        return Ok(Some(text));
-    }
-    if let Some(text) = values::answer(alloc, subject, rest)? {
-        return Ok(Some(text));
-    }
-    if let Some(text) = records::answer(alloc, subject, rest)? {
-        return Ok(Some(text));
-    }
-    if let Some(text) = catalogue::answer(alloc, subject, rest)? {
-        return Ok(Some(text));
-    }
-    if let Some(text) = words::answer(alloc, subject, rest)? {
-        return Ok(Some(text));
-    }
-    if let Some(text) = payloads::answer(alloc, subject, rest)? {
-        return Ok(Some(text));
-    }
-    if let Some(text) = notifying::answer(alloc, subject, rest)? {
-        return Ok(Some(text));
-    }
-    if let Some(text) = observing::answer(alloc, subject, rest)? {
-        return Ok(Some(text));
-    }
-    if let Some(text) = stores::answer(alloc, subject, rest)? {
-        return Ok(Some(text));
-    }
-    if let Some(text) = firmware::answer(alloc, subject, rest)? {
-        return Ok(Some(text));
-    }
-    if let Some(text) = layouts::answer(alloc, subject, rest)? {
-        return Ok(Some(text));
-    }
-    lines::answer(alloc, subject, rest)
+/// Answers a question; `false` where no module has its subject.
+fn answer(subject: &str, question: &mut Question<'_>, out: &mut Sheet) -> bool {
+    messages::answer(subject, question, out)
+        || values::answer(subject, question, out)
+        || records::answer(subject, question, out)
+        || catalogue::answer(subject, question, out)
+        || words::answer(subject, question, out)
+        || payloads::answer(subject, question, out)
+        || notifying::answer(subject, question, out)
+        || attributes::answer(subject, question, out)
+        || observing::answer(subject, question, out)
+        || stores::answer(subject, question, out)
+        || firmware::answer(subject, question, out)
+        || layouts::answer(subject, question, out)
+        || fields::answer(subject, question, out)
+        || lines::answer(subject, question, out)
 }
 
 /// Asks a question, and prints the line where its answer is another, or where it has none.
@@ -72,22 +59,38 @@ fn check(
     case: &Case<'_>,
     tally: &mut Tally,
 ) -> io::Result<()> {
-    let question = case.question;
-    let (subject, rest) = match question.split_once(' ') {
+    let (subject, words) = match case.question.split_once(' ') {
         Some(parts) => parts,
-        None => (question, ""),
+        None => (case.question, ""),
     };
-    let Some(got) = answer(alloc, subject, rest.trim())? else {
-        return refuse(rt, number, "unknown subject", question, tally);
-    };
-    if let Some(why) = got.as_str().strip_prefix("? ") {
-        return refuse(rt, number, why, question, tally);
+    let mut question = Question::new(alloc, words.trim());
+    let mut got = Sheet::new(alloc);
+    if !answer(subject, &mut question, &mut got) {
+        question.refuse("unknown subject");
     }
+    if question.is_cut() || got.is_cut() {
+        return Err(io::Error::from(AllocError));
+    }
+    match question.fault() {
+        Some(why) => refuse(rt, number, why, case.question, tally),
+        None => compare(rt, number, case, got.as_str(), tally),
+    }
+}
+
+/// Prints the line of a case whose answer is another.
+fn compare(
+    rt: &impl Print,
+    number: u64,
+    case: &Case<'_>,
+    got: &str,
+    tally: &mut Tally,
+) -> io::Result<()> {
     tally.count_case();
-    if (got.as_str() == case.answer) == case.is_same {
+    if (got == case.answer) == case.is_same {
         return Ok(());
     }
     tally.count_other();
+    let question = case.question;
     if case.is_same {
         println!(rt; "line {number}: {question} => {got}")
     } else {

@@ -1,168 +1,191 @@
 //! Messages and their bytes (RFC 7252 section 3).
 
-use crate::forms::{self, Unanswered};
+use crate::forms::{bytes, hex, last_bytes, put_hex};
+use crate::question::Question;
+use case_sheet::Sheet;
 use coap_codec::{
     CoapFault, Kind, Message, Opt, Options, decode, encode, header, uint, uint_bytes,
 };
 use octets::Bytes;
-use std::alloc::{AllocError, Global};
 
-/// The answer to a question of this subject, or `None` where the subject is none of this module's.
-pub fn answer(alloc: Global, subject: &str, rest: &str) -> Result<Option<String>, AllocError> {
-    let found = match subject {
-        "coap" => parts(alloc, rest),
-        "write-coap" => write_parts(alloc, rest),
-        "coap-header" => front(alloc, rest),
-        "coap-fault" => fault_number(alloc, rest),
-        "uint" => number(alloc, rest),
-        "write-uint" => write_number(alloc, rest),
-        _ => return Ok(None),
-    };
-    forms::answered(alloc, found)
+/// Answers a question of this subject; `false` where the subject is none of this module's.
+pub fn answer(subject: &str, question: &mut Question<'_>, out: &mut Sheet) -> bool {
+    match subject {
+        "coap" => parts(question, out),
+        "write-coap" => write_parts(question, out),
+        "coap-header" => front(question, out),
+        "coap-fault" => fault_number(question, out),
+        "uint" => number(question, out),
+        "write-uint" => write_number(question, out),
+        _ => return false,
+    }
+    true
 }
 
 /// `coap HEX`: the parts of the message that bytes are, or their fault.
-fn parts(alloc: Global, rest: &str) -> Result<String, Unanswered> {
-    let (bytes, rest) = forms::bytes(alloc, rest)?;
-    forms::end(rest)?;
-    match decode(alloc, bytes.as_slice()) {
-        Ok(message) => Ok(parts_of(alloc, &message)?),
-        Err(CoapFault::Memory) => Err(Unanswered::Memory),
-        Err(fault) => forms::fixed(alloc, fault_name(fault)),
+fn parts(question: &mut Question<'_>, out: &mut Sheet) {
+    let bytes = last_bytes(question);
+    match decode(out.alloc(), bytes.as_slice()) {
+        Ok(message) => put_parts(out, &message),
+        Err(CoapFault::Memory) => out.cut(),
+        Err(fault) => out.put(fault_name(fault)),
     }
 }
 
-/// The parts of a message.
-fn parts_of(alloc: Global, message: &Message) -> Result<String, AllocError> {
-    let kind = kind_name(message.kind());
-    let code = code_word(alloc, message.code())?;
-    let mid = forms::decimal(alloc, u64::from(message.mid()))?;
-    let token = forms::hex_word(alloc, message.token().as_slice())?;
-    let options = options_of(alloc, message)?;
-    let payload = forms::hex_word(alloc, message.payload().as_slice())?;
-    let mut out = forms::joined(alloc, &[kind, " ", code.as_str(), " mid ", mid.as_str()])?;
-    forms::put_words(&mut out, &[" token ", token.as_str()])?;
-    forms::put_words(&mut out, &[" options ", options.as_str()])?;
-    forms::put_words(&mut out, &[" payload ", payload.as_str()])?;
-    Ok(out)
+/// Adds the parts of a message.
+fn put_parts(out: &mut Sheet, message: &Message) {
+    out.put_all(&[kind_name(message.kind()), " "]);
+    put_code(out, message.code());
+    out.put(" mid ");
+    out.put_number(u64::from(message.mid()));
+    out.put(" token ");
+    put_hex(out, message.token().as_slice());
+    out.put(" options");
+    put_options(out, message.options().as_slice());
+    out.put(" payload ");
+    put_hex(out, message.payload().as_slice());
 }
 
-/// The class and the detail of a code, as in 2.05.
-fn code_word(alloc: Global, code: u8) -> Result<String, AllocError> {
+/// Adds the class and the detail of a code, as in 2.05.
+fn put_code(out: &mut Sheet, code: u8) {
     let (class, detail) = (code / 32, code % 32);
-    format!(in alloc; "{class}.{detail:02}")
+    out.put_number(u64::from(class));
+    out.put(if detail < 10 { ".0" } else { "." });
+    out.put_number(u64::from(detail));
 }
 
-fn options_of(alloc: Global, message: &Message) -> Result<String, AllocError> {
-    if message.options().is_empty() {
-        return String::from_str(alloc, "-");
+/// Adds options, each after a space, or `-` for none.
+fn put_options(out: &mut Sheet, options: &[Opt]) {
+    if options.is_empty() {
+        out.put(" -");
     }
-    let mut out = String::new(alloc);
-    for option in message.options().as_slice() {
-        let number = forms::decimal(alloc, u64::from(option.number))?;
-        let value = forms::hex_word(alloc, option.value.as_slice())?;
-        crate::places::add(&mut out, " ", number.as_str())?;
-        forms::put_words(&mut out, &[":", value.as_str()])?;
+    for option in options {
+        out.put(" ");
+        out.put_number(u64::from(option.number));
+        out.put(":");
+        put_hex(out, option.value.as_slice());
     }
-    Ok(out)
 }
 
 /// `write-coap PARTS`: the bytes of the message of these parts, or `refused` where there is none.
-fn write_parts(alloc: Global, rest: &str) -> Result<String, Unanswered> {
-    let (kind, rest) = kind_at(rest)?;
-    let (code, rest) = code_at(rest)?;
-    let (mid, rest) = forms::half(forms::after(rest, "mid")?)?;
-    let (token, rest) = forms::bytes(alloc, forms::after(rest, "token")?)?;
-    let rest = forms::after(rest, "options")?;
-    let Some((options, rest)) = rest.split_once(" payload ") else {
-        return Err(Unanswered::Unread("no payload"));
-    };
-    let options = options_at(alloc, options)?;
-    let (payload, rest) = forms::bytes(alloc, rest)?;
-    forms::end(rest)?;
-    let (token, payload) = (Bytes::from_vec(token), Bytes::from_vec(payload));
-    let Some(message) = Message::new(kind, code, mid, token, options, payload) else {
-        return forms::fixed(alloc, "refused");
-    };
-    let bytes = encode(alloc, &message)?;
-    Ok(forms::hex_word(alloc, bytes.as_slice())?)
+fn write_parts(question: &mut Question<'_>, out: &mut Sheet) {
+    match message(question) {
+        Some(message) => put_message(out, &message),
+        None => out.put("refused"),
+    }
 }
 
-/// The code of the first word, its class before the dot and its detail after it.
-fn code_at(rest: &str) -> Result<(u8, &str), Unanswered> {
-    let (word, rest) = forms::word(rest)?;
-    if let Some((class, detail)) = word.split_once('.')
+fn put_message(out: &mut Sheet, message: &Message) {
+    match encode(out.alloc(), message) {
+        Ok(bytes) => put_hex(out, bytes.as_slice()),
+        Err(_) => out.cut(),
+    }
+}
+
+/// The message of these parts, if there is one.
+fn message(question: &mut Question<'_>) -> Option<Message> {
+    let (kind, code) = (kind(question), code(question));
+    question.expect("mid");
+    let mid = question.half();
+    question.expect("token");
+    let token = Bytes::from_vec(bytes(question));
+    question.expect("options");
+    let options = options(question);
+    let payload = Bytes::from_vec(last_bytes(question));
+    Message::new(kind, code, mid, token, options, payload)
+}
+
+/// The next word as a code, its class before the dot and its detail after it.
+fn code(question: &mut Question<'_>) -> u8 {
+    if let Some((class, detail)) = question.word().split_once('.')
         && let (Ok(class), Ok(detail)) = (class.parse::<u8>(), detail.parse::<u8>())
         && class < 8
         && detail < 32
     {
-        return Ok((class * 32 + detail, rest));
+        return class * 32 + detail;
     }
-    Err(Unanswered::Unread("not a code"))
+    question.refuse("not a code");
+    0
 }
 
-/// The options of the words `NUMBER:HEX`, `-` for none.
-fn options_at(alloc: Global, words: &str) -> Result<Options, Unanswered> {
-    let mut options = Options::new(alloc);
-    if words == "-" {
-        return Ok(options);
-    }
-    for word in words.split(' ') {
-        options.push(option_of(alloc, word)?)?;
-    }
-    Ok(options)
-}
-
-fn option_of(alloc: Global, word: &str) -> Result<Opt, Unanswered> {
-    let Some((number, value)) = word.split_once(':') else {
-        return Err(Unanswered::Unread("an option without a colon"));
+/// The options of the words `NUMBER:HEX`, `-` for none, up to the word `payload`, which is skipped.
+fn options(question: &mut Question<'_>) -> Options {
+    let mut options = Options::new(question.alloc());
+    let Some((words, behind)) = question.rest().split_once(" payload ") else {
+        question.refuse("no payload");
+        return options;
     };
-    let (number, _) = forms::half(number)?;
-    let value = Bytes::from_vec(forms::hex(alloc, value)?);
-    Ok(Opt { number, value })
+    if words != "-" {
+        for word in words.split(' ') {
+            add_option(question, &mut options, word);
+        }
+    }
+    question.turn_to(behind);
+    options
+}
+
+fn add_option(question: &mut Question<'_>, options: &mut Options, word: &str) {
+    let Some((number, value)) = word.split_once(':') else {
+        question.refuse("an option without a colon");
+        return;
+    };
+    let number = question.half_of(number);
+    let value = Bytes::from_vec(hex(question, value));
+    if options.push(Opt { number, value }).is_err() {
+        question.cut();
+    }
 }
 
 /// `coap-header HEX`: the type and the message ID of what begins as a message does, or `none`.
-fn front(alloc: Global, rest: &str) -> Result<String, Unanswered> {
-    let (bytes, rest) = forms::bytes(alloc, rest)?;
-    forms::end(rest)?;
-    let Some((kind, mid)) = header(bytes.as_slice()) else {
-        return forms::fixed(alloc, "none");
-    };
-    let mid = forms::decimal(alloc, u64::from(mid))?;
-    Ok(forms::joined(alloc, &[kind_name(kind), " mid ", mid.as_str()])?)
+fn front(question: &mut Question<'_>, out: &mut Sheet) {
+    let bytes = last_bytes(question);
+    match header(bytes.as_slice()) {
+        Some((kind, mid)) => {
+            out.put_all(&[kind_name(kind), " mid "]);
+            out.put_number(u64::from(mid));
+        }
+        None => out.put("none"),
+    }
 }
 
 /// `uint HEX`: the number that an option's value of at most 4 bytes spells.
-fn number(alloc: Global, rest: &str) -> Result<String, Unanswered> {
-    let (bytes, rest) = forms::bytes(alloc, rest)?;
-    forms::end(rest)?;
+fn number(question: &mut Question<'_>, out: &mut Sheet) {
+    let bytes = last_bytes(question);
     if bytes.len() > 4 {
-        return Err(Unanswered::Unread("more than 4 bytes"));
+        question.refuse("more than 4 bytes");
+    } else {
+        out.put_number(u64::from(uint(bytes.as_slice())));
     }
-    Ok(forms::decimal(alloc, u64::from(uint(bytes.as_slice())))?)
 }
 
 /// `write-uint N`: the value of an option of this number.
-fn write_number(alloc: Global, rest: &str) -> Result<String, Unanswered> {
-    let (number, rest) = forms::natural(rest)?;
-    forms::end(rest)?;
-    let Ok(number) = u32::try_from(number) else {
-        return Err(Unanswered::Unread("not a number of 32 bits"));
-    };
-    let bytes = uint_bytes(alloc, number)?;
-    Ok(forms::hex_word(alloc, bytes.as_slice())?)
+fn write_number(question: &mut Question<'_>, out: &mut Sheet) {
+    let number = question.last_natural();
+    match u32::try_from(number) {
+        Ok(number) => put_uint(out, number),
+        Err(_) => question.refuse("not a number of 32 bits"),
+    }
 }
 
-/// The type of the first word.
-fn kind_at(rest: &str) -> Result<(Kind, &str), Unanswered> {
-    let (word, rest) = forms::word(rest)?;
-    for kind in [Kind::Con, Kind::Non, Kind::Ack, Kind::Rst] {
-        if kind_name(kind) == word {
-            return Ok((kind, rest));
+fn put_uint(out: &mut Sheet, number: u32) {
+    match uint_bytes(out.alloc(), number) {
+        Ok(bytes) => put_hex(out, bytes.as_slice()),
+        Err(_) => out.cut(),
+    }
+}
+
+/// The type that the next word names.
+fn kind(question: &mut Question<'_>) -> Kind {
+    match question.word() {
+        "con" => Kind::Con,
+        "non" => Kind::Non,
+        "ack" => Kind::Ack,
+        "rst" => Kind::Rst,
+        _ => {
+            question.refuse("not a type of message");
+            Kind::Con
         }
     }
-    Err(Unanswered::Unread("not a type of message"))
 }
 
 fn kind_name(kind: Kind) -> &'static str {
@@ -187,15 +210,16 @@ const FAULTS: [CoapFault; 9] = [
 ];
 
 /// `coap-fault NAME`: the number of a fault.
-fn fault_number(alloc: Global, rest: &str) -> Result<String, Unanswered> {
-    let (word, rest) = forms::word(rest)?;
-    forms::end(rest)?;
+fn fault_number(question: &mut Question<'_>, out: &mut Sheet) {
+    let word = question.word();
+    question.end();
     for fault in FAULTS {
         if fault_name(fault) == word {
-            return Ok(forms::decimal(alloc, u64::from(fault as u8))?);
+            out.put_number(u64::from(fault as u8));
+            return;
         }
     }
-    Err(Unanswered::Unread("not a fault"))
+    question.refuse("not a fault");
 }
 
 fn fault_name(fault: CoapFault) -> &'static str {

@@ -1,22 +1,21 @@
 //! Queries of attributes, and when an observation sends (OMA LwM2M 1.1 Core, attributes).
 
-use crate::forms::{
-    Unanswered, answered, fixed, integer, natural, push, put_words, signed, text, word,
-};
-use crate::places::{add, listed, yes_no};
+use crate::forms::{push, text_of};
+use crate::places::put_yes_no;
+use crate::question::Question;
+use case_sheet::Sheet;
 use notifier::{Change, Level, Name, QueryFault, Report, is_due, parse_query, triggers};
 use octets::Bytes;
-use std::alloc::{AllocError, Global};
 
-/// The answer to a question of this subject, or `None` where the subject is none of this module's.
-pub fn answer(alloc: Global, subject: &str, rest: &str) -> Result<Option<String>, AllocError> {
-    let found = match subject {
-        "query" => changes(alloc, rest),
-        "triggers" => is_triggered(alloc, rest),
-        "due" => is_sent(alloc, rest),
-        _ => return Ok(None),
-    };
-    answered(alloc, found)
+/// Answers a question of this subject; `false` where the subject is none of this module's.
+pub fn answer(subject: &str, question: &mut Question<'_>, out: &mut Sheet) -> bool {
+    match subject {
+        "query" => query(question, out),
+        "triggers" => is_triggered(question, out),
+        "due" => is_sent(question, out),
+        _ => return false,
+    }
+    true
 }
 
 /// The name of an attribute.
@@ -30,61 +29,83 @@ pub fn name_word(name: Name) -> &'static str {
     }
 }
 
-/// The first word as the name of an attribute, and the words after it.
-pub fn name(rest: &str) -> Result<(Name, &str), Unanswered> {
-    let (word, rest) = word(rest)?;
-    let name = match word {
+/// A word as the name of an attribute.
+pub fn name_of(question: &mut Question<'_>, word: &str) -> Name {
+    match word {
         "pmin" => Name::Pmin,
         "pmax" => Name::Pmax,
         "gt" => Name::Gt,
         "lt" => Name::Lt,
         "st" => Name::St,
-        _ => return Err(Unanswered::Unread("not an attribute")),
-    };
-    Ok((name, rest))
+        _ => {
+            question.refuse("not an attribute");
+            Name::Pmin
+        }
+    }
 }
 
 /// The change of a word `NAME=NUMBER`: seconds of pmin and pmax, thousandths of gt, lt and st.
-pub fn change_of(word: &str) -> Result<Change, Unanswered> {
-    let (first, number) = match word.split_once('=') {
+pub fn change_of(question: &mut Question<'_>, word: &str) -> Change {
+    let (name, number) = match word.split_once('=') {
         Some(parts) => parts,
         None => (word, ""),
     };
-    let (name, _) = name(first)?;
-    let (number, _) = integer(number)?;
-    Ok(Change {
-        name,
-        number: Some(number),
-    })
+    Change {
+        name: name_of(question, name),
+        number: Some(question.integer_of(number)),
+    }
 }
 
-fn level(rest: &str) -> Result<(Level, &str), Unanswered> {
-    let (word, rest) = word(rest)?;
-    let level = match word {
+fn level(question: &mut Question<'_>) -> Level {
+    match question.word() {
         "object" => Level::Object,
         "instance" => Level::Instance,
         "resource" => Level::Resource,
         "number" => Level::Number,
-        _ => return Err(Unanswered::Unread("not a level")),
-    };
-    Ok((level, rest))
+        _ => {
+            question.refuse("not a level");
+            Level::Object
+        }
+    }
 }
 
 /// `query LEVEL QUERY ..`: the changes that the queries spell, or their first fault.
-fn changes(alloc: Global, rest: &str) -> Result<String, Unanswered> {
-    let (level, rest) = level(rest)?;
-    let mut texts = Vec::new(alloc);
-    for query in rest.split(' ') {
-        push(&mut texts, text(alloc, query)?)?;
-    }
-    let mut queries = Vec::new(alloc);
+fn query(question: &mut Question<'_>, out: &mut Sheet) {
+    let level = level(question);
+    let texts = texts(question);
+    let mut queries = Vec::new(out.alloc());
     for text in texts.iter() {
-        push(&mut queries, text.as_slice())?;
+        push(question, &mut queries, text.as_slice());
     }
-    match parse_query(alloc, queries.as_slice(), level) {
-        Ok(changes) => Ok(changes_text(alloc, changes.as_slice())?),
-        Err(QueryFault::Memory) => Err(Unanswered::Memory),
-        Err(fault) => fixed(alloc, fault_name(fault)),
+    match parse_query(out.alloc(), queries.as_slice(), level) {
+        Ok(changes) => put_changes(out, changes.as_slice()),
+        Err(QueryFault::Memory) => out.cut(),
+        Err(fault) => out.put(fault_name(fault)),
+    }
+}
+
+/// The texts of the words that are left.
+fn texts(question: &mut Question<'_>) -> Vec<Vec<u8>> {
+    let mut texts = Vec::new(question.alloc());
+    for word in question.rest().split(' ') {
+        let text = text_of(question, word);
+        push(question, &mut texts, text);
+    }
+    texts
+}
+
+/// Adds changes, `-` for none.
+fn put_changes(out: &mut Sheet, changes: &[Change]) {
+    if changes.is_empty() {
+        out.put("-");
+    }
+    for change in changes {
+        out.next(", ");
+        out.put_all(&[name_word(change.name), " "]);
+        match change.number {
+            Some(number) => out.put_signed(number),
+            None => out.put("unset"),
+        }
     }
 }
 
@@ -98,22 +119,6 @@ fn fault_name(fault: QueryFault) -> &'static str {
     }
 }
 
-fn changes_text(alloc: Global, changes: &[Change]) -> Result<String, AllocError> {
-    let mut list = String::new(alloc);
-    for change in changes {
-        let name = name_word(change.name);
-        add(&mut list, ", ", name)?;
-        match change.number {
-            Some(number) => {
-                let number = signed(alloc, number)?;
-                put_words(&mut list, &[" ", number.as_str()])?;
-            }
-            None => list.push_str(" unset")?,
-        }
-    }
-    listed(alloc, list)
-}
-
 /// The conditions on numbers, in thousandths.
 #[derive(Clone, Copy)]
 struct Conditions {
@@ -123,66 +128,74 @@ struct Conditions {
 }
 
 /// The conditions of words such as `gt=50000`.
-fn conditions_of(rest: &str) -> Result<Conditions, Unanswered> {
+fn conditions_of(question: &mut Question<'_>) -> Conditions {
     let mut found = Conditions {
         gt: None,
         lt: None,
         st: None,
     };
-    for word in rest.split(' ').filter(|word| !word.is_empty()) {
-        let change = change_of(word)?;
-        match change.name {
-            Name::Gt => found.gt = change.number,
-            Name::Lt => found.lt = change.number,
-            Name::St => found.st = change.number,
-            Name::Pmin | Name::Pmax => return Err(Unanswered::Unread("not a condition")),
+    for word in question.rest().split(' ') {
+        if !word.is_empty() {
+            add_condition(question, &mut found, word);
         }
     }
-    Ok(found)
+    found
+}
+
+fn add_condition(question: &mut Question<'_>, found: &mut Conditions, word: &str) {
+    let change = change_of(question, word);
+    match change.name {
+        Name::Gt => found.gt = change.number,
+        Name::Lt => found.lt = change.number,
+        Name::St => found.st = change.number,
+        Name::Pmin | Name::Pmax => question.refuse("not a condition"),
+    }
 }
 
 /// `triggers same|other OLD NOW CONDITION ..`: whether a report of the number NOW, with the payload of the last report
 /// or another, is a trigger after one of the number OLD.
-fn is_triggered(alloc: Global, rest: &str) -> Result<String, Unanswered> {
-    let (payload, rest) = match word(rest)? {
-        ("same", rest) => (b"a", rest),
-        ("other", rest) => (b"b", rest),
-        _ => return Err(Unanswered::Unread("neither same nor other")),
-    };
-    let (old, rest) = integer(rest)?;
-    let (now, rest) = integer(rest)?;
-    let conditions = conditions_of(rest)?;
-    let last = Report {
-        payload: Bytes::from_slice(alloc, b"a")?,
-        number: Some(old),
-    };
-    let is_one = triggers(
-        conditions.gt,
-        conditions.lt,
-        conditions.st,
-        &last,
-        Some(now),
-        payload,
-    );
-    fixed(alloc, yes_no(is_one))
+fn is_triggered(question: &mut Question<'_>, out: &mut Sheet) {
+    let is_same = is_same(question);
+    let (old, now) = (question.integer(), question.integer());
+    let Conditions { gt, lt, st } = conditions_of(question);
+    match Bytes::from_slice(out.alloc(), b"a") {
+        Ok(payload) => {
+            let last = Report {
+                payload,
+                number: Some(old),
+            };
+            let payload = if is_same { b"a" } else { b"b" };
+            put_yes_no(out, triggers(gt, lt, st, &last, Some(now), payload));
+        }
+        Err(_) => out.cut(),
+    }
+}
+
+/// Whether a report has the payload of the last one.
+fn is_same(question: &mut Question<'_>) -> bool {
+    let word = question.word();
+    if word != "same" && word != "other" {
+        question.refuse("neither same nor other");
+    }
+    word == "same"
 }
 
 /// `due AGE PMIN PMAX triggered|quiet`, with `-` for no pmax: whether an observation sends whose last message is this
 /// old.
-fn is_sent(alloc: Global, rest: &str) -> Result<String, Unanswered> {
-    let (age, rest) = natural(rest)?;
-    let (pmin, rest) = natural(rest)?;
-    let (pmax, rest) = match rest.strip_prefix("- ") {
-        Some(rest) => (None, rest),
-        None => {
-            let (pmax, rest) = natural(rest)?;
-            (Some(pmax), rest)
-        }
-    };
-    let triggered = match rest {
-        "triggered" => true,
-        "quiet" => false,
-        _ => return Err(Unanswered::Unread("neither triggered nor quiet")),
-    };
-    fixed(alloc, yes_no(is_due(age, pmin, pmax, triggered)))
+fn is_sent(question: &mut Question<'_>, out: &mut Sheet) {
+    let (age, pmin) = (question.natural(), question.natural());
+    let pmax = pmax(question);
+    let word = question.rest();
+    if word != "triggered" && word != "quiet" {
+        question.refuse("neither triggered nor quiet");
+    }
+    put_yes_no(out, is_due(age, pmin, pmax, word == "triggered"));
+}
+
+fn pmax(question: &mut Question<'_>) -> Option<u64> {
+    if question.rest().starts_with("- ") {
+        question.word();
+        return None;
+    }
+    Some(question.natural())
 }

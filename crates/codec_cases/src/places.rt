@@ -1,103 +1,117 @@
-//! The words for paths and texts, and how an answer lists things.
+//! The words for paths and texts, and for what several subjects answer.
 
-use crate::forms::{Unanswered, decimal, end, put_text, text, word};
+use crate::forms::text_of;
+use crate::question::Question;
+use case_sheet::Sheet;
 use lwm2m_values::Text;
 use object_defs::{FullPath, InstancePath, Path, ResourcePath, path_text};
-use std::alloc::{AllocError, Global};
 
-/// The first word as a path, and the words after it.
-pub fn path(rest: &str) -> Result<(Path, &str), Unanswered> {
-    let (word, rest) = word(rest)?;
-    match scenario_words::path(word.as_bytes()) {
-        Ok((path, _)) => Ok((path, rest)),
-        Err(_) => Err(Unanswered::Unread("not a path")),
+/// The next word as a path.
+pub fn path(question: &mut Question<'_>) -> Path {
+    match scenario_words::path(question.word().as_bytes()) {
+        Ok((path, _)) => path,
+        Err(_) => {
+            question.refuse("not a path");
+            Path::Object(0)
+        }
     }
 }
 
-/// The first word as the path to an instance, and the words after it.
-pub fn place(rest: &str) -> Result<(InstancePath, &str), Unanswered> {
-    match path(rest)? {
-        (Path::Instance(object, instance), rest) => Ok((InstancePath { object, instance }, rest)),
-        _ => Err(Unanswered::Unread("not the path of an instance")),
-    }
+/// The last word as a path.
+pub fn last_path(question: &mut Question<'_>) -> Path {
+    let path = path(question);
+    question.end();
+    path
 }
 
-/// The only word as a path.
-pub fn only_path(rest: &str) -> Result<Path, Unanswered> {
-    let (path, rest) = path(rest)?;
-    end(rest)?;
-    Ok(path)
+/// The next word as the path to an instance.
+pub fn place(question: &mut Question<'_>) -> InstancePath {
+    let (object, instance) = match path(question) {
+        Path::Instance(object, instance) => (object, instance),
+        _ => {
+            question.refuse("not the path of an instance");
+            (0, 0)
+        }
+    };
+    InstancePath { object, instance }
 }
 
-/// The only word as the path to an instance.
-pub fn only_place(rest: &str) -> Result<InstancePath, Unanswered> {
-    let (place, rest) = place(rest)?;
-    end(rest)?;
-    Ok(place)
+/// The last word as the path to an instance.
+pub fn last_place(question: &mut Question<'_>) -> InstancePath {
+    let place = place(question);
+    question.end();
+    place
 }
 
-/// The only word as the path to a resource.
-pub fn only_resource(rest: &str) -> Result<ResourcePath, Unanswered> {
-    match only_path(rest)? {
-        Path::Resource(object, instance, resource) => Ok(ResourcePath {
-            object,
-            instance,
-            resource,
-        }),
-        _ => Err(Unanswered::Unread("not the path of a resource")),
-    }
-}
-
-/// The path to one value as it is written.
-pub fn full_path_word(alloc: Global, path: FullPath) -> Result<String, AllocError> {
-    let (object, instance, resource) = (path.object, path.instance, path.resource);
-    match path.part {
-        None => path_text(alloc, Path::Resource(object, instance, resource)),
-        Some(part) => path_text(alloc, Path::Part(object, instance, resource, part)),
+/// The last word as the path to a resource.
+pub fn last_resource(question: &mut Question<'_>) -> ResourcePath {
+    let (object, instance, resource) = match last_path(question) {
+        Path::Resource(object, instance, resource) => (object, instance, resource),
+        _ => {
+            question.refuse("not the path of a resource");
+            (0, 0, 0)
+        }
+    };
+    ResourcePath {
+        object,
+        instance,
+        resource,
     }
 }
 
 /// The Text of a word.
-pub fn text_value(alloc: Global, word: &str) -> Result<Text, Unanswered> {
-    match String::from_utf8(text(alloc, word)?) {
-        Ok(text) => Ok(Text::from_string(text)),
-        Err(_) => Err(Unanswered::Unread("not UTF-8")),
+pub fn text_value(question: &mut Question<'_>, word: &str) -> Text {
+    match String::from_utf8(text_of(question, word)) {
+        Ok(text) => Text::from_string(text),
+        Err(_) => {
+            question.refuse("not UTF-8");
+            Text::from_string(String::new(question.alloc()))
+        }
     }
 }
 
-/// A text as one word, `%-` for the empty one.
-pub fn text_word(alloc: Global, text: &str) -> Result<String, AllocError> {
-    let mut out = String::new(alloc);
-    put_text(alloc, &mut out, text.as_bytes())?;
-    Ok(out)
-}
-
-/// `yes` or `no`.
-pub fn yes_no(is_so: bool) -> &'static str {
-    if is_so { "yes" } else { "no" }
-}
-
-/// Adds an item to a list, after a separator where it is not the first.
-pub fn add(list: &mut String, separator: &str, item: &str) -> Result<(), AllocError> {
-    if !list.is_empty() {
-        list.push_str(separator)?;
+/// Adds a path as it is written.
+pub fn put_path(out: &mut Sheet, path: Path) {
+    match path_text(out.alloc(), path) {
+        Ok(text) => out.put(text.as_str()),
+        Err(_) => out.cut(),
     }
-    list.push_str(item)
 }
 
-/// A list, or `-` where it has no item.
-pub fn listed(alloc: Global, list: String) -> Result<String, AllocError> {
-    if list.is_empty() {
-        return String::from_str(alloc, "-");
+/// Adds the path to one value as it is written.
+pub fn put_full_path(out: &mut Sheet, path: FullPath) {
+    let (object, instance, resource) = (path.object, path.instance, path.resource);
+    put_path(
+        out,
+        match path.part {
+            None => Path::Resource(object, instance, resource),
+            Some(part) => Path::Part(object, instance, resource, part),
+        },
+    );
+}
+
+/// Adds `yes` or `no`.
+pub fn put_yes_no(out: &mut Sheet, is_so: bool) {
+    out.put(if is_so { "yes" } else { "no" });
+}
+
+/// Adds a number, or `none`.
+pub fn put_number_or_none(out: &mut Sheet, number: Option<u16>) {
+    match number {
+        Some(number) => out.put_number(u64::from(number)),
+        None => out.put("none"),
     }
-    Ok(list)
 }
 
-/// Numbers with commas between them, or `-` for none.
-pub fn numbers(alloc: Global, numbers: &[u16]) -> Result<String, AllocError> {
-    let mut list = String::new(alloc);
+/// Adds numbers with commas between them, or `-` for none.
+pub fn put_numbers(out: &mut Sheet, numbers: &[u16]) {
+    if numbers.is_empty() {
+        out.put("-");
+    }
+    let mut separator = "";
     for number in numbers {
-        add(&mut list, ",", decimal(alloc, u64::from(*number))?.as_str())?;
+        out.put(separator);
+        out.put_number(u64::from(*number));
+        separator = ",";
     }
-    listed(alloc, list)
 }

@@ -1,123 +1,119 @@
 //! TLV records (OMA LwM2M 1.1 Core).
 
-use crate::forms::{self, Unanswered};
+use crate::forms::{hex, last_bytes, push, put_hex};
+use crate::question::Question;
+use case_sheet::Sheet;
 use lwm2m_values::{Node, TlvFault, read_tlv, tlv_fits, write_tlv};
 use octets::Bytes;
-use std::alloc::{AllocError, Global};
+use std::alloc::Global;
 
-/// The answer to a question of this subject, or `None` where the subject is none of this module's.
-pub fn answer(alloc: Global, subject: &str, rest: &str) -> Result<Option<String>, AllocError> {
-    let found = match subject {
-        "tlv" => records(alloc, rest),
-        "count-tlv" => count(alloc, rest),
-        "write-tlv" => write_records(alloc, rest),
-        _ => return Ok(None),
-    };
-    forms::answered(alloc, found)
+/// Answers a question of this subject; `false` where the subject is none of this module's.
+pub fn answer(subject: &str, question: &mut Question<'_>, out: &mut Sheet) -> bool {
+    match subject {
+        "tlv" => records(question, out),
+        "count-tlv" => count(question, out),
+        "write-tlv" => write_records(question, out),
+        _ => return false,
+    }
+    true
 }
 
 /// `tlv HEX`: the records that bytes are, or their fault.
-fn records(alloc: Global, rest: &str) -> Result<String, Unanswered> {
-    let (bytes, rest) = forms::bytes(alloc, rest)?;
-    forms::end(rest)?;
-    match read_tlv(alloc, bytes.as_slice()) {
-        Ok(nodes) => Ok(words_of(alloc, nodes.as_slice())?),
-        Err(fault) => refused(alloc, fault),
+fn records(question: &mut Question<'_>, out: &mut Sheet) {
+    let bytes = last_bytes(question);
+    match read_tlv(out.alloc(), bytes.as_slice()) {
+        Ok(nodes) => put_records(out, nodes.as_slice()),
+        Err(fault) => put_fault(out, fault),
     }
 }
 
 /// `count-tlv HEX`: how many records bytes are, those inside others left out, or their fault.
-fn count(alloc: Global, rest: &str) -> Result<String, Unanswered> {
-    let (bytes, rest) = forms::bytes(alloc, rest)?;
-    forms::end(rest)?;
-    match read_tlv(alloc, bytes.as_slice()) {
-        Ok(nodes) => Ok(forms::decimal(alloc, nodes.len() as u64)?),
-        Err(fault) => refused(alloc, fault),
+fn count(question: &mut Question<'_>, out: &mut Sheet) {
+    let bytes = last_bytes(question);
+    match read_tlv(out.alloc(), bytes.as_slice()) {
+        Ok(nodes) => out.put_number(nodes.len() as u64),
+        Err(fault) => put_fault(out, fault),
     }
 }
 
-fn refused(alloc: Global, fault: TlvFault) -> Result<String, Unanswered> {
+fn put_fault(out: &mut Sheet, fault: TlvFault) {
     match fault {
-        TlvFault::Cut => forms::fixed(alloc, "cut"),
-        TlvFault::Nesting => forms::fixed(alloc, "nesting"),
-        TlvFault::Memory => Err(Unanswered::Memory),
+        TlvFault::Cut => out.put("cut"),
+        TlvFault::Nesting => out.put("nesting"),
+        TlvFault::Memory => out.cut(),
     }
 }
 
 /// `write-tlv RECORDS`: the shortest bytes of these records, or `refused` where TLV can't say them.
-fn write_records(alloc: Global, rest: &str) -> Result<String, Unanswered> {
-    let nodes = nodes_at(alloc, rest)?;
+fn write_records(question: &mut Question<'_>, out: &mut Sheet) {
+    let nodes = nodes_of(question);
     if !tlv_fits(nodes.as_slice()) {
-        return forms::fixed(alloc, "refused");
+        out.put("refused");
+        return;
     }
-    let bytes = write_tlv(alloc, nodes.as_slice())?;
-    Ok(forms::hex_word(alloc, bytes.as_slice())?)
+    match write_tlv(out.alloc(), nodes.as_slice()) {
+        Ok(bytes) => put_hex(out, bytes.as_slice()),
+        Err(_) => out.cut(),
+    }
 }
 
-/// The words of records, `-` for none.
-fn words_of(alloc: Global, nodes: &[Node]) -> Result<String, AllocError> {
+/// Adds the words of records, `-` for none.
+fn put_records(out: &mut Sheet, nodes: &[Node]) {
     if nodes.is_empty() {
-        return String::from_str(alloc, "-");
+        out.put("-");
     }
-    let mut out = String::new(alloc);
     for node in nodes {
         match node {
             Node::Instance { id, children } => {
-                begin(alloc, &mut out, "instance", *id)?;
-                out.push_str(" (")?;
-                put_inner(alloc, &mut out, children.as_slice())?;
-                out.push_str(" )")?;
+                put_name(out, "instance", *id);
+                out.put(" (");
+                put_inner(out, children.as_slice());
+                out.put(" )");
             }
-            _ => put_inner_record(alloc, &mut out, node)?,
+            _ => put_inner_record(out, node),
         }
     }
-    Ok(out)
 }
 
 /// Adds the records of an Object Instance.
-fn put_inner(alloc: Global, out: &mut String, nodes: &[Node]) -> Result<(), AllocError> {
+fn put_inner(out: &mut Sheet, nodes: &[Node]) {
     for node in nodes {
-        put_inner_record(alloc, out, node)?;
+        put_inner_record(out, node);
     }
-    Ok(())
 }
 
-fn put_inner_record(alloc: Global, out: &mut String, node: &Node) -> Result<(), AllocError> {
+fn put_inner_record(out: &mut Sheet, node: &Node) {
     let Node::Multi { id, parts } = node else {
-        return put_leaf(alloc, out, node);
+        put_leaf(out, node);
+        return;
     };
-    begin(alloc, out, "multi", *id)?;
-    out.push_str(" (")?;
+    put_name(out, "multi", *id);
+    out.put(" (");
     for part in parts {
-        put_leaf(alloc, out, part)?;
+        put_leaf(out, part);
     }
-    out.push_str(" )")
+    out.put(" )");
 }
 
 /// Adds a record that holds bytes.
-fn put_leaf(alloc: Global, out: &mut String, node: &Node) -> Result<(), AllocError> {
-    match node {
-        Node::Part { id, bytes } => {
-            begin(alloc, out, "part", *id)?;
-            put_bytes(alloc, out, bytes)
+fn put_leaf(out: &mut Sheet, node: &Node) {
+    let (name, id, bytes) = match node {
+        Node::Part { id, bytes } => ("part", *id, bytes),
+        Node::Single { id, bytes } => ("single", *id, bytes),
+        Node::Instance { .. } | Node::Multi { .. } => {
+            out.put(" nested-too-deep");
+            return;
         }
-        Node::Single { id, bytes } => {
-            begin(alloc, out, "single", *id)?;
-            put_bytes(alloc, out, bytes)
-        }
-        Node::Instance { .. } | Node::Multi { .. } => out.push_str(" nested-too-deep"),
-    }
+    };
+    put_name(out, name, id);
+    out.put(" ");
+    put_hex(out, bytes.as_slice());
 }
 
-fn begin(alloc: Global, out: &mut String, name: &str, id: u16) -> Result<(), AllocError> {
-    let space = if out.is_empty() { "" } else { " " };
-    let id = forms::decimal(alloc, u64::from(id))?;
-    forms::put_words(out, &[space, name, " ", id.as_str()])
-}
-
-fn put_bytes(alloc: Global, out: &mut String, bytes: &Bytes) -> Result<(), AllocError> {
-    let word = forms::hex_word(alloc, bytes.as_slice())?;
-    forms::put_words(out, &[" ", word.as_str()])
+fn put_name(out: &mut Sheet, name: &str, id: u16) {
+    out.next(" ");
+    out.put_all(&[name, " "]);
+    out.put_number(u64::from(id));
 }
 
 /// A record whose closing bracket has not come yet.
@@ -136,103 +132,108 @@ struct Unfinished {
 }
 
 /// The records of the words `NAME ID HEX` and `NAME ID ( RECORDS )`, `-` for none.
-fn nodes_at(alloc: Global, rest: &str) -> Result<Vec<Node>, Unanswered> {
-    if rest == "-" {
-        return Ok(Vec::new(alloc));
+fn nodes_of(question: &mut Question<'_>) -> Vec<Node> {
+    let mut records = Unfinished::new(question.alloc());
+    if question.rest() != "-" {
+        records.read(question);
     }
-    let mut records = Unfinished {
-        nodes: Vec::new(alloc),
-        open: Vec::new(alloc),
-    };
-    let mut left = rest;
-    for _ in 0..rest.len() {
-        if left.is_empty() {
-            break;
-        }
-        left = records.take(alloc, left)?;
-    }
-    if records.open.is_empty() && !records.nodes.is_empty() {
-        Ok(records.nodes)
-    } else {
-        Err(Unanswered::Unread("no record, or a bracket is open"))
-    }
+    records.nodes
 }
 
 impl Unfinished {
-    /// Takes the next record, or a bracket, and returns the words after it.
-    fn take<'a>(&mut self, alloc: Global, rest: &'a str) -> Result<&'a str, Unanswered> {
-        let (name, rest) = forms::word(rest)?;
+    fn new(alloc: Global) -> Unfinished {
+        Unfinished {
+            nodes: Vec::new(alloc),
+            open: Vec::new(alloc),
+        }
+    }
+
+    /// Reads all that is left of a question.
+    fn read(&mut self, question: &mut Question<'_>) {
+        for _ in 0..question.rest().len() {
+            if !question.is_over() {
+                self.take(question);
+            }
+        }
+        if self.nodes.is_empty() || !self.open.is_empty() {
+            question.refuse("no record, or a bracket is open");
+        }
+    }
+
+    /// Takes the next record, or a bracket.
+    fn take(&mut self, question: &mut Question<'_>) {
+        let name = question.word();
         if name == ")" {
-            self.close()?;
-            return Ok(rest);
+            self.close(question);
+            return;
         }
-        let (id, rest) = forms::half(rest)?;
-        let (content, rest) = forms::word(rest)?;
+        let id = question.half();
+        let content = question.word();
         if content == "(" {
-            self.begin(alloc, name, id)?;
+            self.begin(question, name, id);
         } else {
-            let bytes = Bytes::from_vec(forms::hex(alloc, content)?);
-            self.put(leaf(name, id, bytes)?)?;
+            let bytes = Bytes::from_vec(hex(question, content));
+            let node = leaf(question, name, id, bytes);
+            self.put(question, node);
         }
-        Ok(rest)
     }
 
     /// Begins a record that holds records.
-    fn begin(&mut self, alloc: Global, name: &str, id: u16) -> Result<(), Unanswered> {
-        let is_instance = match name {
-            "instance" => true,
-            "multi" => false,
-            _ => return Err(Unanswered::Unread("this record holds bytes")),
+    fn begin(&mut self, question: &mut Question<'_>, name: &str, id: u16) {
+        if name != "instance" && name != "multi" {
+            question.refuse("this record holds bytes");
+        }
+        let open = Open {
+            is_instance: name == "instance",
+            id,
+            nodes: Vec::new(question.alloc()),
         };
-        let nodes = Vec::new(alloc);
-        forms::push(
-            &mut self.open,
-            Open {
-                is_instance,
-                id,
-                nodes,
-            },
-        )?;
-        Ok(())
+        push(question, &mut self.open, open);
     }
 
     /// Ends the record that was begun last.
-    fn close(&mut self) -> Result<(), Unanswered> {
-        let Some(
-            Open {
-                is_instance,
-                id,
-                nodes,
-            },
-        ) = self.open.pop()
-        else {
-            return Err(Unanswered::Unread("a bracket too many"));
-        };
-        self.put(if is_instance {
+    fn close(&mut self, question: &mut Question<'_>) {
+        match self.open.pop() {
+            Some(open) => self.put(question, open.node()),
+            None => question.refuse("a bracket too many"),
+        }
+    }
+
+    /// Adds a record inside what was begun last.
+    fn put(&mut self, question: &mut Question<'_>, node: Node) {
+        match self.open.last_mut() {
+            Some(open) => push(question, &mut open.nodes, node),
+            None => push(question, &mut self.nodes, node),
+        }
+    }
+}
+
+impl Open {
+    /// The whole record.
+    fn node(self) -> Node {
+        let Open {
+            is_instance,
+            id,
+            nodes,
+        } = self;
+        if is_instance {
             Node::Instance {
                 id,
                 children: nodes,
             }
         } else {
             Node::Multi { id, parts: nodes }
-        })
-    }
-
-    /// Adds a record inside what was begun last.
-    fn put(&mut self, node: Node) -> Result<(), Unanswered> {
-        match self.open.last_mut() {
-            Some(open) => forms::push(&mut open.nodes, node)?,
-            None => forms::push(&mut self.nodes, node)?,
         }
-        Ok(())
     }
 }
 
 /// A record that holds bytes.
-fn leaf(name: &str, id: u16, bytes: Bytes) -> Result<Node, Unanswered> {
-    match name {
-        "single" => Ok(Node::Single { id, bytes }),
-        "part" => Ok(Node::Part { id, bytes }),
-        _ => Err(Unanswered::Unread("not a record that holds bytes")),
+fn leaf(question: &mut Question<'_>, name: &str, id: u16, bytes: Bytes) -> Node {
+    if name == "part" {
+        return Node::Part { id, bytes };
     }
+    if name != "single" {
+        question.refuse("not a record that holds bytes");
+    }
+    Node::Single { id, bytes }
 }

@@ -1,169 +1,150 @@
 //! Values of resources, as plain text and as the bytes of TLV (OMA LwM2M 1.1 Core).
 
-use crate::forms::{self, Unanswered};
-use lwm2m_values::{Text, Value, ValueFault, ValueKind, bytes_of, read_text, value_of, write_text};
+use crate::forms::{self, put_hex, put_text};
+use crate::places::{self, put_yes_no};
+use crate::question::Question;
+use case_sheet::Sheet;
+use lwm2m_values::{Value, ValueFault, ValueKind, bytes_of, read_text, value_of, write_text};
 use octets::Bytes;
-use std::alloc::{AllocError, Global};
 
-/// The answer to a question of this subject, or `None` where the subject is none of this module's.
-pub fn answer(alloc: Global, subject: &str, rest: &str) -> Result<Option<String>, AllocError> {
-    let found = match subject {
-        "text" => from_text(alloc, rest),
-        "write-text" => to_text(alloc, rest),
-        "tlv-value" => from_bytes(alloc, rest),
-        "write-tlv-value" => to_bytes(alloc, rest),
-        "good" => good(alloc, rest),
-        "copy" => copy(alloc, rest),
-        _ => return Ok(None),
-    };
-    forms::answered(alloc, found)
+/// Answers a question of this subject; `false` where the subject is none of this module's.
+pub fn answer(subject: &str, question: &mut Question<'_>, out: &mut Sheet) -> bool {
+    match subject {
+        "text" => from_text(question, out),
+        "write-text" => to_text(question, out),
+        "tlv-value" => from_bytes(question, out),
+        "write-tlv-value" => to_bytes(question, out),
+        "good" => put_yes_no(out, value(question).is_good()),
+        "copy" => copy(question, out),
+        _ => return false,
+    }
+    true
 }
 
 /// `text KIND TEXT`: the value whose plain text this is.
-fn from_text(alloc: Global, rest: &str) -> Result<String, Unanswered> {
-    let (kind, rest) = kind_at(rest)?;
-    let text = forms::text(alloc, rest)?;
-    read(alloc, read_text(alloc, kind, text.as_slice()))
+fn from_text(question: &mut Question<'_>, out: &mut Sheet) {
+    let kind = kind(question);
+    let text = forms::text(question);
+    let found = read_text(out.alloc(), kind, text.as_slice());
+    put_found(out, found);
 }
 
 /// `write-text KIND VALUE`: the plain text of a value.
-fn to_text(alloc: Global, rest: &str) -> Result<String, Unanswered> {
-    let value = value_at(alloc, rest)?;
-    let text = write_text(alloc, &value)?;
-    let mut out = String::new(alloc);
-    forms::put_text(alloc, &mut out, text.as_slice())?;
-    Ok(out)
+fn to_text(question: &mut Question<'_>, out: &mut Sheet) {
+    match write_text(out.alloc(), &value(question)) {
+        Ok(text) => put_text(out, text.as_slice()),
+        Err(_) => out.cut(),
+    }
 }
 
 /// `tlv-value KIND HEX`: the value whose bytes in TLV these are.
-fn from_bytes(alloc: Global, rest: &str) -> Result<String, Unanswered> {
-    let (kind, rest) = kind_at(rest)?;
-    let (bytes, rest) = forms::bytes(alloc, rest)?;
-    forms::end(rest)?;
-    read(alloc, value_of(alloc, kind, bytes.as_slice()))
+fn from_bytes(question: &mut Question<'_>, out: &mut Sheet) {
+    let kind = kind(question);
+    let bytes = forms::last_bytes(question);
+    let found = value_of(out.alloc(), kind, bytes.as_slice());
+    put_found(out, found);
 }
 
 /// `write-tlv-value KIND VALUE`: the bytes of a value in TLV.
-fn to_bytes(alloc: Global, rest: &str) -> Result<String, Unanswered> {
-    let value = value_at(alloc, rest)?;
-    let bytes = bytes_of(alloc, &value)?;
-    Ok(forms::hex_word(alloc, bytes.as_slice())?)
-}
-
-/// `good KIND VALUE`: whether a value keeps to the lengths of its kind.
-fn good(alloc: Global, rest: &str) -> Result<String, Unanswered> {
-    let value = value_at(alloc, rest)?;
-    forms::fixed(alloc, if value.is_good() { "yes" } else { "no" })
+fn to_bytes(question: &mut Question<'_>, out: &mut Sheet) {
+    match bytes_of(out.alloc(), &value(question)) {
+        Ok(bytes) => put_hex(out, bytes.as_slice()),
+        Err(_) => out.cut(),
+    }
 }
 
 /// `copy KIND VALUE`: a copy of a value, and whether it equals its source.
-fn copy(alloc: Global, rest: &str) -> Result<String, Unanswered> {
-    let value = value_at(alloc, rest)?;
-    let copy = value.copy()?;
-    let words = value_words(alloc, &copy)?;
-    let words = [equality_word(copy == value), " ", words.as_str()];
-    Ok(forms::joined(alloc, &words)?)
+fn copy(question: &mut Question<'_>, out: &mut Sheet) {
+    let value = value(question);
+    match value.copy() {
+        Ok(copy) => {
+            out.put(if copy == value { "equal " } else { "unequal " });
+            put_value(out, &copy);
+        }
+        Err(_) => out.cut(),
+    }
 }
 
-fn equality_word(is_equal: bool) -> &'static str {
-    if is_equal { "equal" } else { "unequal" }
-}
-
-/// The words of what was read, or its fault.
-fn read(alloc: Global, found: Result<Value, ValueFault>) -> Result<String, Unanswered> {
+/// Adds the words of what was read, or its fault.
+fn put_found(out: &mut Sheet, found: Result<Value, ValueFault>) {
     match found {
-        Ok(value) => Ok(value_words(alloc, &value)?),
-        Err(ValueFault::BadValue) => forms::fixed(alloc, "bad-value"),
-        Err(ValueFault::Memory) => Err(Unanswered::Memory),
+        Ok(value) => put_value(out, &value),
+        Err(ValueFault::BadValue) => out.put("bad-value"),
+        Err(ValueFault::Memory) => out.cut(),
     }
 }
 
-/// The words `KIND VALUE` of a value.
-pub fn value_words(alloc: Global, value: &Value) -> Result<String, AllocError> {
-    let mut out = String::from_str(alloc, kind_name(value.kind()))?;
-    out.push(' ')?;
+/// Adds the words `KIND VALUE` of a value.
+pub fn put_value(out: &mut Sheet, value: &Value) {
+    out.put_all(&[kind_name(value.kind()), " "]);
     match value {
-        Value::Text(text) => forms::put_text(alloc, &mut out, text.as_str().as_bytes())?,
-        Value::Whole(number) | Value::Moment(number) => {
-            out.push_str(forms::signed(alloc, *number)?.as_str())?;
-        }
-        Value::Flag(flag) => out.push_str(if *flag { "true" } else { "false" })?,
-        Value::Opaque(bytes) => {
-            out.push_str(forms::hex_word(alloc, bytes.as_slice())?.as_str())?;
-        }
+        Value::Text(text) => put_text(out, text.as_str().as_bytes()),
+        Value::Whole(number) | Value::Moment(number) => out.put_signed(*number),
+        Value::Flag(flag) => out.put(if *flag { "true" } else { "false" }),
+        Value::Opaque(bytes) => put_hex(out, bytes.as_slice()),
         Value::Link(object, instance) => {
-            let object = forms::decimal(alloc, u64::from(*object))?;
-            let instance = forms::decimal(alloc, u64::from(*instance))?;
-            forms::put_words(&mut out, &[object.as_str(), ":", instance.as_str()])?;
+            out.put_number(u64::from(*object));
+            out.put(":");
+            out.put_number(u64::from(*instance));
         }
     }
-    Ok(out)
 }
 
-/// The value of the words `KIND VALUE`.
-pub fn value_at(alloc: Global, rest: &str) -> Result<Value, Unanswered> {
-    let (kind, rest) = kind_at(rest)?;
-    match kind {
-        ValueKind::Text => text_value(alloc, rest),
-        ValueKind::Whole => Ok(Value::Whole(number_at(rest)?)),
-        ValueKind::Flag => flag_at(rest),
-        ValueKind::Opaque => {
-            let (bytes, rest) = forms::bytes(alloc, rest)?;
-            forms::end(rest)?;
-            Ok(Value::Opaque(Bytes::from_vec(bytes)))
-        }
-        ValueKind::Moment => Ok(Value::Moment(number_at(rest)?)),
-        ValueKind::Link => link_at(rest),
+/// What is left of a question, as the value of the words `KIND VALUE`.
+pub fn value(question: &mut Question<'_>) -> Value {
+    match kind(question) {
+        ValueKind::Text => text(question),
+        ValueKind::Whole => Value::Whole(question.last_integer()),
+        ValueKind::Flag => Value::Flag(flag(question)),
+        ValueKind::Opaque => Value::Opaque(Bytes::from_vec(forms::last_bytes(question))),
+        ValueKind::Moment => Value::Moment(question.last_integer()),
+        ValueKind::Link => link(question),
     }
 }
 
-fn text_value(alloc: Global, rest: &str) -> Result<Value, Unanswered> {
-    match String::from_utf8(forms::text(alloc, rest)?) {
-        Ok(text) => Ok(Value::Text(Text::from_string(text))),
-        Err(_) => Err(Unanswered::Unread("not UTF-8")),
+fn text(question: &mut Question<'_>) -> Value {
+    let words = question.rest();
+    Value::Text(places::text_value(question, words))
+}
+
+fn flag(question: &mut Question<'_>) -> bool {
+    let word = question.rest();
+    if word != "true" && word != "false" {
+        question.refuse("neither true nor false");
     }
+    word == "true"
 }
 
-fn number_at(rest: &str) -> Result<i64, Unanswered> {
-    let (number, rest) = forms::integer(rest)?;
-    forms::end(rest)?;
-    Ok(number)
-}
-
-fn flag_at(rest: &str) -> Result<Value, Unanswered> {
-    match rest {
-        "true" => Ok(Value::Flag(true)),
-        "false" => Ok(Value::Flag(false)),
-        _ => Err(Unanswered::Unread("neither true nor false")),
-    }
-}
-
-fn link_at(rest: &str) -> Result<Value, Unanswered> {
-    let Some((object, instance)) = rest.split_once(':') else {
-        return Err(Unanswered::Unread("a link without a colon"));
+fn link(question: &mut Question<'_>) -> Value {
+    let Some((object, instance)) = question.rest().split_once(':') else {
+        question.refuse("a link without a colon");
+        return Value::Link(0, 0);
     };
-    let (object, _) = forms::half(object)?;
-    let (instance, rest) = forms::half(instance)?;
-    forms::end(rest)?;
-    Ok(Value::Link(object, instance))
+    let object = question.half_of(object);
+    question.turn_to(instance);
+    Value::Link(object, question.last_half())
 }
 
-/// The kind that the first word names.
-pub fn kind_at(rest: &str) -> Result<(ValueKind, &str), Unanswered> {
-    let (word, rest) = forms::word(rest)?;
-    for kind in [
-        ValueKind::Text,
-        ValueKind::Whole,
-        ValueKind::Flag,
-        ValueKind::Opaque,
-        ValueKind::Moment,
-        ValueKind::Link,
-    ] {
-        if kind_name(kind) == word {
-            return Ok((kind, rest));
+/// The kind that the next word names.
+pub fn kind(question: &mut Question<'_>) -> ValueKind {
+    let word = question.word();
+    kind_of(question, word)
+}
+
+/// The kind that a word names.
+pub fn kind_of(question: &mut Question<'_>, word: &str) -> ValueKind {
+    match word {
+        "text" => ValueKind::Text,
+        "whole" => ValueKind::Whole,
+        "flag" => ValueKind::Flag,
+        "opaque" => ValueKind::Opaque,
+        "moment" => ValueKind::Moment,
+        "link" => ValueKind::Link,
+        _ => {
+            question.refuse("not a kind of value");
+            ValueKind::Flag
         }
     }
-    Err(Unanswered::Unread("not a kind of value"))
 }
 
 /// The name of a kind.
