@@ -6,3 +6,4 @@ pub mod Signed
 pub mod Whole
 pub mod Loop
 pub mod Written
+pub mod Appended

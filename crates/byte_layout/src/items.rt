@@ -1,4 +1,5 @@
 ghost use Rattle.std.specs.Prelude.{◌≡◌, ◌++◌, [], length, OnOk};
+ghost use Rattle.std.specs.Io.{StartsWith};
 ghost use Rattle.byte_layout.specs.Layout.{each};
 ghost use Rattle.byte_layout.specs.Outcome.{Gives};
 
@@ -49,8 +50,10 @@ pub fn items_at<'a, I: Items>(
 /// How such items are written.
 pub trait PutItems: Items {
     ghost use Rattle.std.specs.Prelude.{◌≡◌, ◌++◌, OnOk};
+    ghost use Rattle.std.specs.Io.{StartsWith};
 
-    /// Writes the item that stands after those. Where memory runs out, some of its bytes may have been written.
+    /// Writes the item that stands after those. Where memory runs out, some of its bytes may have been written behind
+    /// those that stood there.
     fn put_item(
         &self,
         out: &mut Vec<u8>,
@@ -58,18 +61,21 @@ pub trait PutItems: Items {
         item: &Self::Item,
     ) -> Result<(), AllocError>
         requires { (Self.part self.now before.now).Good item.now }
-        ensures { OnOk result (out.new.items ≡ out.old.items ++ (Self.part self.now before.now).spell item.now) };
+        ensures ok { OnOk result (out.new.items ≡ out.old.items ++ (Self.part self.now before.now).spell item.now) }
+        ensures appends { StartsWith out.new.items out.old.items };
 }
 
-/// Writes items one after another. Where memory runs out, some of their bytes may have been written.
+/// Writes items one after another. Where memory runs out, some of their bytes may have been written behind those that
+/// stood there.
 pub fn put_items<I: PutItems>(
     items: &I,
     out: &mut Vec<u8>,
     list: &[I::Item],
 ) -> Result<(), AllocError>
     requires { (each (I.part items.now) (length list.now) []).Good list.now }
-    ensures { OnOk result (out.new.items ≡ out.old.items
+    ensures ok { OnOk result (out.new.items ≡ out.old.items
         ++ (each (I.part items.now) (length list.now) []).spell list.now) }
+    ensures appends { StartsWith out.new.items out.old.items }
 {
     for (i, item) in list.iter().enumerate() {
         items.put_item(out, &list[..i], item)?;
