@@ -29,7 +29,7 @@ use Rattle.device_machine.specs.Reactions.{claimed_mid, on_reset, reaction_to, r
 use Rattle.device_machine.specs.declared.event.Event.TheVariants.{Recv}
 use Rattle.device_machine.specs.State.{Machine}
 
--- ---- an early fault is never a want of memory
+-- ---- where a fault is early, memory did not run out
 
 otherwise : (b : Bool) (x y : Option CoapFault) → (x ≡ Some Memory → ⊥) → (y ≡ Some Memory → ⊥)
     → (if b then x else y) ≡ Some Memory → ⊥
