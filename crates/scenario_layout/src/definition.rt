@@ -1,4 +1,5 @@
 ghost use Rattle.std.specs.Prelude.{◌≡◌, ◌≢◌, ◌++◌, nat_lt, IfErr, OnOk};
+ghost use Rattle.std.specs.Io.{StartsWith};
 ghost use Rattle.std.specs.List.{list_all};
 ghost use Rattle.byte_layout.specs.declared.fault.ReadError.TheVariants.{Memory};
 ghost use Rattle.byte_layout.specs.Outcome.{Gives};
@@ -24,11 +25,13 @@ pub fn resources_at(alloc: Global, bytes: &[u8]) -> Result<(Vec<ResourceDef>, &[
     items_at(&Definitions, alloc, usize::from(count), rest)
 }
 
-/// Writes definitions of resources. Where memory runs out, some of their bytes may have been written.
-#[tactic(auto, unfolding(crate::specs::Definition::resources))]
+/// Writes definitions of resources. Where memory runs out, some of their bytes may have been written behind those that
+/// stood there.
+#[tactic(auto, using(byte_layout::proofs::Appended::appended), unfolding(crate::specs::Definition::resources))]
 pub fn put_resources(out: &mut Vec<u8>, list: &[ResourceDef]) -> Result<(), AllocError>
     requires { resources.Good list.now }
-    ensures { OnOk result (out.new.items ≡ out.old.items ++ resources.spell list.now) }
+    ensures ok { OnOk result (out.new.items ≡ out.old.items ++ resources.spell list.now) }
+    ensures appends { StartsWith out.new.items out.old.items }
 {
     put_u8(out, list.len() as u8)?;
     put_items(&Definitions, out, list)
@@ -60,7 +63,7 @@ impl Items for Definitions {
 }
 
 impl PutItems for Definitions {
-    #[tactic(auto, unfolding(crate::specs::Definition::resource, crate::specs::Definition::ops))]
+    #[tactic(auto, using(byte_layout::proofs::Appended::appended), unfolding(crate::specs::Definition::resource, crate::specs::Definition::ops))]
     fn put_item(
         &self,
         out: &mut Vec<u8>,

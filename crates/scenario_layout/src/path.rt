@@ -1,4 +1,5 @@
 ghost use Rattle.std.specs.Prelude.{◌≡◌, ◌≢◌, ◌++◌, IfErr, OnOk};
+ghost use Rattle.std.specs.Io.{StartsWith};
 ghost use Rattle.byte_layout.specs.declared.fault.ReadError.TheVariants.{Memory};
 ghost use Rattle.byte_layout.specs.Outcome.{Gives};
 ghost use Rattle.scenario_layout.specs.Value.{place, part_number, path};
@@ -53,19 +54,22 @@ fn part_at(bytes: &[u8]) -> Result<(Option<u16>, &[u8]), ReadError>
     }
 }
 
-/// Writes an instance's path. Where memory runs out, some of its bytes may have been written.
-#[tactic(auto, unfolding(crate::specs::Value::place))]
+/// Writes an instance's path. Where memory runs out, some of its bytes may have been written behind those that stood
+/// there.
+#[tactic(auto, using(byte_layout::proofs::Appended::appended), unfolding(crate::specs::Value::place))]
 pub fn put_place(out: &mut Vec<u8>, at: InstancePath) -> Result<(), AllocError>
-    ensures { OnOk result (out.new.items ≡ out.old.items ++ place.spell at) }
+    ensures ok { OnOk result (out.new.items ≡ out.old.items ++ place.spell at) }
+    ensures appends { StartsWith out.new.items out.old.items }
 {
     put_u16(out, at.object)?;
     put_u16(out, at.instance)
 }
 
-/// Writes a value's path. Where memory runs out, some of its bytes may have been written.
-#[tactic(auto, unfolding(crate::specs::Value::path))]
+/// Writes a value's path. Where memory runs out, some of its bytes may have been written behind those that stood there.
+#[tactic(auto, using(byte_layout::proofs::Appended::appended), unfolding(crate::specs::Value::path))]
 pub fn put_path(out: &mut Vec<u8>, p: FullPath) -> Result<(), AllocError>
-    ensures { OnOk result (out.new.items ≡ out.old.items ++ path.spell p) }
+    ensures ok { OnOk result (out.new.items ≡ out.old.items ++ path.spell p) }
+    ensures appends { StartsWith out.new.items out.old.items }
 {
     put_u16(out, p.object)?;
     put_u16(out, p.instance)?;
@@ -73,9 +77,10 @@ pub fn put_path(out: &mut Vec<u8>, p: FullPath) -> Result<(), AllocError>
     put_part(out, p.part)
 }
 
-#[tactic(auto, unfolding(crate::specs::Value::part_number))]
+#[tactic(auto, using(byte_layout::proofs::Appended::appended), unfolding(crate::specs::Value::part_number))]
 fn put_part(out: &mut Vec<u8>, part: Option<u16>) -> Result<(), AllocError>
-    ensures { OnOk result (out.new.items ≡ out.old.items ++ part_number.spell part) }
+    ensures ok { OnOk result (out.new.items ≡ out.old.items ++ part_number.spell part) }
+    ensures appends { StartsWith out.new.items out.old.items }
 {
     match part {
         None => put_u8(out, 0),

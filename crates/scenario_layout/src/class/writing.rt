@@ -1,6 +1,8 @@
-//! A class, written at the end of a vector. Where memory runs out, some of its bytes may have been written.
+//! A class, written at the end of a vector. Where memory runs out, some of its bytes may have been written behind those
+//! that stood there.
 
 ghost use Rattle.std.specs.Prelude.{◌≡◌, ◌≤◌, ◌<◌, ◌++◌, List, [], All, length, drop, OnOk};
+ghost use Rattle.std.specs.Io.{StartsWith};
 ghost use Rattle.byte_layout.specs.Layout.{each};
 ghost use Rattle.lwm2m_values.specs.declared.value.Value.{Value};
 ghost use Rattle.lwm2m_values.specs.Value.{IsGood};
@@ -23,11 +25,12 @@ use object_defs::{Catalog, FullPath, InstancePath, ObjectDef};
 use std::alloc::AllocError;
 
 /// Writes a class as version 2 has it: each that there is has bytes, so nothing is refused. Where memory runs out, some
-/// of its bytes may have been written.
-#[tactic(auto, unfolding(crate::specs::Class::class, crate::specs::Class::notify_in, crate::specs::Class::notify, crate::specs::Class::behind_notify, crate::specs::Class::behind_accounts, crate::specs::Class::behind_objects, crate::specs::Class::behind_instances))]
+/// of its bytes may have been written behind those that stood there.
+#[tactic(auto, using(byte_layout::proofs::Appended::appended), unfolding(crate::specs::Class::class, crate::specs::Class::notify_in, crate::specs::Class::notify, crate::specs::Class::behind_notify, crate::specs::Class::behind_accounts, crate::specs::Class::behind_objects, crate::specs::Class::behind_instances))]
 pub fn put_class(out: &mut Vec<u8>, template: &Template) -> Result<(), AllocError>
     ensures good { (class 2).Good template.now }
     ensures bytes { OnOk result (out.new.items ≡ out.old.items ++ (class 2).spell template.now) }
+    ensures appends { StartsWith out.new.items out.old.items }
 {
     class_has_bytes(template);
     good_parts(template);
@@ -51,10 +54,11 @@ fn own_objects(catalog: &Catalog) -> &[ObjectDef]
     own
 }
 
-#[tactic(auto, unfolding(crate::specs::Class::accounts))]
+#[tactic(auto, using(byte_layout::proofs::Appended::appended), unfolding(crate::specs::Class::accounts))]
 fn put_accounts(out: &mut Vec<u8>, list: &[u16]) -> Result<(), AllocError>
     requires { accounts.Good list.now }
-    ensures { OnOk result (out.new.items ≡ out.old.items ++ accounts.spell list.now) }
+    ensures ok { OnOk result (out.new.items ≡ out.old.items ++ accounts.spell list.now) }
+    ensures appends { StartsWith out.new.items out.old.items }
 {
     put_u8(out, list.len() as u8)?;
     put_each_account(out, list)
@@ -62,7 +66,8 @@ fn put_accounts(out: &mut Vec<u8>, list: &[u16]) -> Result<(), AllocError>
 
 fn put_each_account(out: &mut Vec<u8>, list: &[u16]) -> Result<(), AllocError>
     requires { (each account (length list.now) []).Good list.now }
-    ensures { OnOk result (out.new.items ≡ out.old.items ++ (each account (length list.now) []).spell list.now) }
+    ensures ok { OnOk result (out.new.items ≡ out.old.items ++ (each account (length list.now) []).spell list.now) }
+    ensures appends { StartsWith out.new.items out.old.items }
 {
     for number in list {
         put_u16(out, *number)?;
@@ -70,12 +75,13 @@ fn put_each_account(out: &mut Vec<u8>, list: &[u16]) -> Result<(), AllocError>
     Ok(())
 }
 
-#[tactic(auto, unfolding(crate::specs::Class::objects))]
+#[tactic(auto, using(byte_layout::proofs::Appended::appended), unfolding(crate::specs::Class::objects))]
 fn put_objects(out: &mut Vec<u8>, list: &[ObjectDef]) -> Result<(), AllocError>
     requires few { length list.now ≤ 11 }
     requires defined { All (λ o. resources.Good o.resources) list.now }
-    ensures { OnOk result ((c : Template) → (objects c).Good list.now
+    ensures ok { OnOk result ((c : Template) → (objects c).Good list.now
         → out.new.items ≡ out.old.items ++ (objects c).spell list.now) }
+    ensures appends { StartsWith out.new.items out.old.items }
 {
     put_u8(out, list.len() as u8)?;
     put_each_object(out, list)
@@ -83,8 +89,9 @@ fn put_objects(out: &mut Vec<u8>, list: &[ObjectDef]) -> Result<(), AllocError>
 
 fn put_each_object(out: &mut Vec<u8>, list: &[ObjectDef]) -> Result<(), AllocError>
     requires { All (λ o. resources.Good o.resources) list.now }
-    ensures { OnOk result ((c : Template) → (each (object c) (length list.now) []).Good list.now
+    ensures ok { OnOk result ((c : Template) → (each (object c) (length list.now) []).Good list.now
         → out.new.items ≡ out.old.items ++ (each (object c) (length list.now) []).spell list.now) }
+    ensures appends { StartsWith out.new.items out.old.items }
 {
     for object in list {
         put_object(out, object)?;
@@ -92,29 +99,32 @@ fn put_each_object(out: &mut Vec<u8>, list: &[ObjectDef]) -> Result<(), AllocErr
     Ok(())
 }
 
-#[tactic(auto, unfolding(crate::specs::Class::object, crate::specs::Class::object_id))]
+#[tactic(auto, using(byte_layout::proofs::Appended::appended), unfolding(crate::specs::Class::object, crate::specs::Class::object_id))]
 fn put_object(out: &mut Vec<u8>, definition: &ObjectDef) -> Result<(), AllocError>
     requires { resources.Good definition.now.resources }
-    ensures { OnOk result ((c : Template) (before : List ObjectDef)
+    ensures ok { OnOk result ((c : Template) (before : List ObjectDef)
         → out.new.items ≡ out.old.items ++ (object c before).spell definition.now) }
+    ensures appends { StartsWith out.new.items out.old.items }
 {
     put_u16(out, definition.id)?;
     put_resources(out, definition.resources.as_slice())
 }
 
-#[tactic(auto, unfolding(crate::specs::Class::instances))]
+#[tactic(auto, using(byte_layout::proofs::Appended::appended), unfolding(crate::specs::Class::instances))]
 fn put_instances(out: &mut Vec<u8>, list: &[InstancePath]) -> Result<(), AllocError>
     requires { length list.now < 65536 }
-    ensures { OnOk result ((c : Template) → (instances c).Good list.now
+    ensures ok { OnOk result ((c : Template) → (instances c).Good list.now
         → out.new.items ≡ out.old.items ++ (instances c).spell list.now) }
+    ensures appends { StartsWith out.new.items out.old.items }
 {
     put_u16(out, list.len() as u16)?;
     put_each_instance(out, list)
 }
 
 fn put_each_instance(out: &mut Vec<u8>, list: &[InstancePath]) -> Result<(), AllocError>
-    ensures { OnOk result ((c : Template) → (each (instance c) (length list.now) []).Good list.now
+    ensures ok { OnOk result ((c : Template) → (each (instance c) (length list.now) []).Good list.now
         → out.new.items ≡ out.old.items ++ (each (instance c) (length list.now) []).spell list.now) }
+    ensures appends { StartsWith out.new.items out.old.items }
 {
     for place in list {
         put_place(out, *place)?;
@@ -122,12 +132,13 @@ fn put_each_instance(out: &mut Vec<u8>, list: &[InstancePath]) -> Result<(), All
     Ok(())
 }
 
-#[tactic(auto, unfolding(crate::specs::Class::values))]
+#[tactic(auto, using(byte_layout::proofs::Appended::appended), unfolding(crate::specs::Class::values))]
 fn put_values(out: &mut Vec<u8>, list: &[(FullPath, &Value)]) -> Result<(), AllocError>
     requires few { length list.now < 65536 }
     requires good { All (λ e. IsGood e.1) (shown_pairs list.now) }
-    ensures { OnOk result ((c : Template) → (values c).Good (shown_pairs list.now)
+    ensures ok { OnOk result ((c : Template) → (values c).Good (shown_pairs list.now)
         → out.new.items ≡ out.old.items ++ (values c).spell (shown_pairs list.now)) }
+    ensures appends { StartsWith out.new.items out.old.items }
 {
     put_u16(out, list.len() as u16)?;
     put_each_value(out, list)
@@ -135,8 +146,9 @@ fn put_values(out: &mut Vec<u8>, list: &[(FullPath, &Value)]) -> Result<(), Allo
 
 fn put_each_value(out: &mut Vec<u8>, list: &[(FullPath, &Value)]) -> Result<(), AllocError>
     requires { All (λ e. IsGood e.1) (shown_pairs list.now) }
-    ensures { OnOk result ((c : Template) → (each (entry c) (length list.now) []).Good (shown_pairs list.now)
+    ensures ok { OnOk result ((c : Template) → (each (entry c) (length list.now) []).Good (shown_pairs list.now)
         → out.new.items ≡ out.old.items ++ (each (entry c) (length list.now) []).spell (shown_pairs list.now)) }
+    ensures appends { StartsWith out.new.items out.old.items }
 {
     for (path, value) in list {
         put_entry(out, *path, value)?;
@@ -144,11 +156,12 @@ fn put_each_value(out: &mut Vec<u8>, list: &[(FullPath, &Value)]) -> Result<(), 
     Ok(())
 }
 
-#[tactic(auto, unfolding(crate::specs::Class::entry, crate::specs::Class::value_path))]
+#[tactic(auto, using(byte_layout::proofs::Appended::appended), unfolding(crate::specs::Class::entry, crate::specs::Class::value_path))]
 fn put_entry(out: &mut Vec<u8>, path: FullPath, value: &Value) -> Result<(), AllocError>
     requires { IsGood value.now }
-    ensures { OnOk result ((c : Template) (before : List (FullPath × Value))
+    ensures ok { OnOk result ((c : Template) (before : List (FullPath × Value))
         → out.new.items ≡ out.old.items ++ (entry c before).spell (path, value.now)) }
+    ensures appends { StartsWith out.new.items out.old.items }
 {
     put_path(out, path)?;
     put_value(out, value)
