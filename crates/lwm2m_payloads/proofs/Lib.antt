@@ -6,6 +6,7 @@ pub mod Held
 pub mod Nesting
 pub mod New
 pub mod Once
+pub mod Outside
 pub mod Reading
 pub mod Room
 pub mod Places

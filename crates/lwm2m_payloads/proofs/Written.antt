@@ -107,7 +107,7 @@ at_given Replace (Parts parts) stored p q once =
     ≡ (if b then option_or (part_value parts q.part) None else x)) [ true ↦ refl | false ↦ refl ])
 at_given Update (Parts parts) stored p q once = at_parts parts stored p q once
 
-lies_split : (place : InstancePath) (r : ℕ) (q : FullPath)
+pub lies_split : (place : InstancePath) (r : ℕ) (q : FullPath)
     → lies_in (resource_path (resource_of place r)) q ≡ (lies_in (instance_path place) q && (q.resource == r))
 lies_split place r q =
     elim (q.object == place.object) as (λ a. (a && (q.instance == place.instance) && (q.resource == r))

@@ -1,5 +1,6 @@
 use Rattle.std.proofs.Common.{◌≡◌, ◌++◌}
-use Rattle.lwm2m_payloads.specs.Changes.{with_parts}
+use Rattle.instance_store.specs.Stored.{resource_path}
+use Rattle.lwm2m_payloads.specs.Changes.{with_parts, SameOutside}
 use Rattle.lwm2m_payloads.proofs.changes.put_parts.Given as goal
 
 -- those so far are set, and they and those that are left are all
@@ -8,4 +9,5 @@ invariant-loop-part l = record {
   set : l.store ≡ with_parts l.fn.store l.fn.path l.yielded;
   left : l.fn.parts ≡ l.yielded ++ l.part-iterator.rest.items;
   instances : l.store.instances ≡ l.fn.store.instances;
+  elsewhere : SameOutside (resource_path l.fn.path) l.store l.fn.store;
 }
