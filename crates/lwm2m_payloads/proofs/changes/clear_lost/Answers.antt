@@ -1,4 +1,5 @@
-use Rattle.std.proofs.Common.{◌≡◌, Bool, true, false, drop, Ok, Err, Result, refl, sym, ap, arith, rules, ◌∙◌, if◌then◌else◌}
+use Rattle.std.proofs.Common.{◌≡◌, Bool, true, false, drop, Ok, Err, Result, refl, sym, ap, arith, rules, ◌∙◌}
+use Rattle.std.proofs.Common.{if◌then◌else◌}
 use Rattle.std.proofs.lemmas.Grind.{common_steps}
 use Rattle.instance_store.specs.declared.fault.StoreFault.{StoreFault}
 use Rattle.instance_store.specs.Stored.{value_at, has_instance, instance_of, lies_in, resource_path}
