@@ -1,4 +1,4 @@
-ghost use Rattle.std.specs.Prelude.{◌≡◌, ◌≢◌, ◌++◌, IfErr, OnOk};
+ghost use Rattle.std.specs.Prelude.{◌≡◌, ◌≢◌, ◌++◌, IfErr, OnOk, OnErr};
 ghost use Rattle.byte_layout.specs.declared.fault.ReadError.TheVariants.{Memory};
 ghost use Rattle.byte_layout.specs.Outcome.{Gives};
 ghost use Rattle.scenario_image.specs.Layout.{kind, step_kind};
@@ -46,7 +46,8 @@ pub(crate) fn kind_at(bytes: &[u8]) -> Result<(StepKind, &[u8]), ReadError>
 /// Writes the number of a kind.
 #[tactic(auto, unfolding(crate::specs::Layout::kind))]
 pub(crate) fn put_kind(out: &mut Vec<u8>, k: StepKind) -> Result<(), AllocError>
-    ensures { OnOk result (out.new.items ≡ out.old.items ++ kind.spell k) }
+    ensures ok { OnOk result (out.new.items ≡ out.old.items ++ kind.spell k) }
+    ensures err { OnErr result (out.new.items ≡ out.old.items) }
 {
     let number = match k {
         StepKind::Recv => 1,

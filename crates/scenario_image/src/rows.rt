@@ -2,6 +2,7 @@
 
 ghost use Rattle.std.specs.Prelude.{◌≡◌, ◌≢◌, ◌++◌, nat_lt, length, IfErr, OnOk};
 ghost use Rattle.std.specs.Int.{w16};
+ghost use Rattle.std.specs.Io.{StartsWith};
 ghost use Rattle.byte_layout.specs.declared.fault.Break.TheVariants.{BadField};
 ghost use Rattle.byte_layout.specs.declared.fault.ReadError.TheVariants.{Memory};
 ghost use Rattle.byte_layout.specs.Outcome.{Gives};
@@ -57,11 +58,13 @@ pub(crate) fn row_at<'a>(
     Ok((Row::with_steps(class, steps), rest))
 }
 
-/// Writes the row of a device of one of these classes. Where memory runs out, some of its bytes may have been written.
-#[tactic(auto, unfolding(crate::specs::Layout::row))]
+/// Writes the row of a device of one of these classes. Where memory runs out, some of its bytes may have been written
+/// behind those that stood there.
+#[tactic(auto, using(byte_layout::proofs::Appended::appended), unfolding(crate::specs::Layout::row))]
 pub(crate) fn put_row(out: &mut Vec<u8>, classes: &[Template], held: &Row) -> Result<(), AllocError>
     requires { (row classes.now).Good held.now }
-    ensures { OnOk result (out.new.items ≡ out.old.items ++ (row classes.now).spell held.now) }
+    ensures ok { OnOk result (out.new.items ≡ out.old.items ++ (row classes.now).spell held.now) }
+    ensures appends { StartsWith out.new.items out.old.items }
 {
     put_u16(out, held.class())?;
     put_steps(out, accounts_of(classes, held.class()), held.steps())

@@ -1,6 +1,8 @@
-//! Steps, written at the end of a vector. Where memory runs out, some of their bytes may have been written.
+//! Steps, written at the end of a vector. Where memory runs out, some of their bytes may have been written behind those
+//! that stood there.
 
 ghost use Rattle.std.specs.Prelude.{◌≡◌, ◌++◌, length, None, OnOk, unwrap_or};
+ghost use Rattle.std.specs.Io.{StartsWith};
 ghost use Rattle.object_defs.specs.Path.{full_path};
 ghost use Rattle.scenario_layout.specs.Value.{value};
 ghost use Rattle.scenario_image.specs.Layout.{kind, step_kind, datagram, of_kind, step, steps};
@@ -17,10 +19,11 @@ use scenario_layout::{put_path, put_value};
 use std::alloc::AllocError;
 
 /// Writes a datagram of at most 1,500 bytes.
-#[tactic(auto, unfolding(crate::specs::Layout::datagram))]
+#[tactic(auto, using(byte_layout::proofs::Appended::appended), unfolding(crate::specs::Layout::datagram))]
 fn put_datagram(out: &mut Vec<u8>, bytes: &Bytes) -> Result<(), AllocError>
     requires { datagram.Good bytes.now }
-    ensures { OnOk result (out.new.items ≡ out.old.items ++ datagram.spell bytes.now) }
+    ensures ok { OnOk result (out.new.items ≡ out.old.items ++ datagram.spell bytes.now) }
+    ensures appends { StartsWith out.new.items out.old.items }
 {
     put_u16(out, bytes.len() as u16)?;
     put_bytes(out, bytes.as_slice())
@@ -41,7 +44,8 @@ fn full_of(path: Path) -> FullPath
 /// Writes a value, of any kind.
 fn put_any(out: &mut Vec<u8>, held: &Value) -> Result<(), AllocError>
     requires { (value None).Good held.now }
-    ensures { OnOk result (out.new.items ≡ out.old.items ++ (value None).spell held.now) }
+    ensures ok { OnOk result (out.new.items ≡ out.old.items ++ (value None).spell held.now) }
+    ensures appends { StartsWith out.new.items out.old.items }
 {
     // A value that has a spelling is short, and one that is short is known to be good.
     let _good = held.is_good();
@@ -50,11 +54,12 @@ fn put_any(out: &mut Vec<u8>, held: &Value) -> Result<(), AllocError>
 
 impl<'a> Steps<'a> {
     /// Writes what the step holds.
-    #[tactic(auto, unfolding(crate::specs::Layout::recv, crate::specs::Layout::tick, crate::specs::Layout::put, crate::specs::Layout::firmware, crate::specs::Layout::post, crate::specs::Layout::need))]
+    #[tactic(auto, using(byte_layout::proofs::Appended::appended), unfolding(crate::specs::Layout::recv, crate::specs::Layout::tick, crate::specs::Layout::put, crate::specs::Layout::firmware, crate::specs::Layout::post, crate::specs::Layout::need))]
     fn put_held(&self, out: &mut Vec<u8>, held: &Step) -> Result<(), AllocError>
         requires { (of_kind self.now.accounts.now (step_kind held.now)).Good held.now }
-        ensures { OnOk result (out.new.items ≡ out.old.items
+        ensures ok { OnOk result (out.new.items ≡ out.old.items
             ++ (of_kind self.now.accounts.now (step_kind held.now)).spell held.now) }
+        ensures appends { StartsWith out.new.items out.old.items }
     {
         match held {
             Step::Event(Event::Recv { server, bytes }) => {
@@ -77,7 +82,7 @@ impl<'a> Steps<'a> {
 }
 
 impl<'a> PutItems for Steps<'a> {
-    #[tactic(auto, unfolding(crate::specs::Layout::step))]
+    #[tactic(auto, using(byte_layout::proofs::Appended::appended), unfolding(crate::specs::Layout::step))]
     fn put_item(&self, out: &mut Vec<u8>, _before: &[Step], item: &Step) -> Result<(), AllocError> {
         put_kind(out, item.kind())?;
         self.put_held(out, item)
@@ -85,14 +90,15 @@ impl<'a> PutItems for Steps<'a> {
 }
 
 /// Writes the steps of a row of a class with these accounts.
-#[tactic(auto, unfolding(crate::specs::Layout::steps))]
+#[tactic(auto, using(byte_layout::proofs::Appended::appended), unfolding(crate::specs::Layout::steps))]
 pub(crate) fn put_steps(
     out: &mut Vec<u8>,
     accounts: &[u16],
     list: &[Step],
 ) -> Result<(), AllocError>
     requires { (steps accounts.now).Good list.now }
-    ensures { OnOk result (out.new.items ≡ out.old.items ++ (steps accounts.now).spell list.now) }
+    ensures ok { OnOk result (out.new.items ≡ out.old.items ++ (steps accounts.now).spell list.now) }
+    ensures appends { StartsWith out.new.items out.old.items }
 {
     put_u16(out, list.len() as u16)?;
     put_items(&Steps { accounts }, out, list)

@@ -1,6 +1,7 @@
 //! Which entries have a trace file, and its bytes.
 
-ghost use Rattle.std.specs.Prelude.{◌≡◌, ◌↔◌, ◌<◌, ◌++◌, List, ℕ, length, IfOk, IfErr, OnOk, IsTrue};
+ghost use Rattle.std.specs.Prelude.{◌≡◌, ◌↔◌, ◌<◌, ◌++◌, List, ℕ, length, IfOk, IfErr, OnOk, OnErr, IsTrue};
+ghost use Rattle.std.specs.Io.{StartsWith};
 ghost use Rattle.device_machine.specs.declared.output.Output.TheVariants.{Send};
 ghost use Rattle.trace_file.specs.declared.fault.WriteFault.TheVariants.{TooLarge};
 ghost use Rattle.trace_file.specs.Layout.{act_number, act, datagram, output, output_list, entry, entry_list};
@@ -89,25 +90,28 @@ fn act_number(a: Act) -> u8
 
 #[tactic(auto, unfolding(crate::specs::Layout::act))]
 fn put_act(out: &mut Vec<u8>, a: Act) -> Result<(), AllocError>
-    ensures { OnOk result (out.new.items ≡ out.old.items ++ act.spell a) }
+    ensures ok { OnOk result (out.new.items ≡ out.old.items ++ act.spell a) }
+    ensures err { OnErr result (out.new.items ≡ out.old.items) }
 {
     put_u8(out, act_number(a))
 }
 
-#[tactic(auto, unfolding(crate::specs::Layout::datagram))]
+#[tactic(auto, using(byte_layout::proofs::Appended::appended), unfolding(crate::specs::Layout::datagram))]
 fn put_datagram(out: &mut Vec<u8>, server: u16, bytes: &[u8]) -> Result<(), AllocError>
     requires { length bytes.now < 65536 }
-    ensures { OnOk result (out.new.items ≡ out.old.items ++ datagram.spell (Send server bytes.now)) }
+    ensures ok { OnOk result (out.new.items ≡ out.old.items ++ datagram.spell (Send server bytes.now)) }
+    ensures appends { StartsWith out.new.items out.old.items }
 {
     put_u16(out, server)?;
     put_u16(out, bytes.len() as u16)?;
     put_bytes(out, bytes)
 }
 
-#[tactic(auto, using(crate::proofs::Good::sent_short), unfolding(crate::specs::Layout::output))]
+#[tactic(auto, using(crate::proofs::Good::sent_short, byte_layout::proofs::Appended::appended), unfolding(crate::specs::Layout::output))]
 fn put_output(out: &mut Vec<u8>, item: &Output) -> Result<(), AllocError>
     requires { output.Good item.now }
-    ensures { OnOk result (out.new.items ≡ out.old.items ++ output.spell item.now) }
+    ensures ok { OnOk result (out.new.items ≡ out.old.items ++ output.spell item.now) }
+    ensures appends { StartsWith out.new.items out.old.items }
 {
     match item {
         Output::Send { server, bytes } => {
@@ -132,19 +136,21 @@ impl PutItems for OutputItems {
     }
 }
 
-#[tactic(auto, using(crate::proofs::Good::outputs_below), unfolding(crate::specs::Layout::output_list))]
+#[tactic(auto, using(crate::proofs::Good::outputs_below, byte_layout::proofs::Appended::appended), unfolding(crate::specs::Layout::output_list))]
 fn put_outputs(out: &mut Vec<u8>, items: &[Output]) -> Result<(), AllocError>
     requires { output_list.Good items.now }
-    ensures { OnOk result (out.new.items ≡ out.old.items ++ output_list.spell items.now) }
+    ensures ok { OnOk result (out.new.items ≡ out.old.items ++ output_list.spell items.now) }
+    ensures appends { StartsWith out.new.items out.old.items }
 {
     put_u32(out, items.len() as u32)?;
     put_items(&OutputItems, out, items)
 }
 
-#[tactic(auto, using(crate::proofs::Good::outputs_good), unfolding(crate::specs::Layout::entry))]
+#[tactic(auto, using(crate::proofs::Good::outputs_good, byte_layout::proofs::Appended::appended), unfolding(crate::specs::Layout::entry))]
 fn put_entry(out: &mut Vec<u8>, item: &Entry) -> Result<(), AllocError>
     requires { entry.Good item.now }
-    ensures { OnOk result (out.new.items ≡ out.old.items ++ entry.spell item.now) }
+    ensures ok { OnOk result (out.new.items ≡ out.old.items ++ entry.spell item.now) }
+    ensures appends { StartsWith out.new.items out.old.items }
 {
     put_u16(out, item.worker)?;
     put_u16(out, item.device)?;
