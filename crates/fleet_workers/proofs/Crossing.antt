@@ -31,7 +31,6 @@ use Rattle.scenario_image.specs.contracts.row.Row as Row
 use Rattle.scenario_image.specs.contracts.scenario.Scenario as Scenario
 use Rattle.trace_file.specs.contracts.entry.Entry as Entry
 use Rattle.shared_trace.specs.contracts.next.Next as Next
-use Rattle.shared_trace.specs.contracts.pages.Pages as Pages
 use Rattle.shared_trace.specs.contracts.station.Place as Place
 use Rattle.shared_trace.specs.contracts.station.Station as Station
 use Rattle.shared_trace.specs.contracts.trace.Trace as Trace
@@ -123,11 +122,8 @@ station_send : IsSend Station.the_row
 station_send = declared_send Station.the_type
     (place_send, (search sendable depth 20, (next_send, (search (sendable, std.crosses) depth 20, tt))))
 
-pages_send : IsSend Pages.the_row
-pages_send = search (sendable, std.crosses, entry_send) depth 30 parts 12
-
 pub trace_send : IsSend Trace.the_row
-trace_send = search (sendable, std.crosses, pages_send, station_send) depth 30 parts 12
+trace_send = search (sendable, std.crosses, entry_send, station_send) depth 30 parts 12
 
 pub end_send : IsSend LoopEnd.the_row
 end_send = search sendable depth 30

@@ -159,10 +159,7 @@ fn run_new<R: Threads + Wait + Sync, G: Gate + Sync>(
         return Err(RunFault::Memory(Entries::new(alloc)));
     };
     let (trace, end) = run_all(rt, lock, pass, scenario, workers, batch, gate);
-    let Ok(entries) = trace.into_entries() else {
-        return Err(RunFault::Memory(Entries::new(alloc)));
-    };
-    outcome(alloc, scenario, workers, entries, end)
+    outcome(alloc, scenario, workers, trace.into_entries(), end)
 }
 
 fn are_workers(workers: u16) -> bool

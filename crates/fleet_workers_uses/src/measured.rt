@@ -55,10 +55,7 @@ fn by_rows<R: Wait>(rt: &R, alloc: Global, scenario: &Scenario) -> Option<Made> 
     let Ok(trace) = lock.close(pass) else {
         unreachable!()
     };
-    match trace.into_entries() {
-        Ok(entries) => Some(made_of(entries)),
-        Err(_) => None,
-    }
+    Some(made_of(trace.into_entries()))
 }
 
 /// How often one worker claims a device and puts it again without a step: as often as the rows have steps.

@@ -28,13 +28,13 @@ pub fn opened(
     Ok((lock, first, second))
 }
 
-/// The entries that were made, if there is memory for a list of them.
+/// The entries that were made.
 pub fn closed(
     lock: TicketLock<Trace>,
     scenario: &Scenario,
     first: Pass<Trace>,
     second: Pass<Trace>,
-) -> Result<Entries, AllocError>
+) -> Entries
     requires first { IsPass (lock_id lock) first × IsFirst scenario.now (pass_view first) }
     requires second { IsPass (lock_id lock) second × IsSecond scenario.now (pass_view second) }
 {
@@ -42,10 +42,7 @@ pub fn closed(
     let Ok(trace) = lock.close(pass) else {
         unreachable!()
     };
-    match trace.into_entries() {
-        Ok(entries) => Ok(entries),
-        Err((_, fault)) => Err(fault),
-    }
+    trace.into_entries()
 }
 
 /// Claims, and gives a job up: whether one was got, or else the word for the answer.

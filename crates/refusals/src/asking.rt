@@ -5,8 +5,8 @@ use crate::given::Given;
 use crate::line::Line;
 use crate::marks::Marks;
 use crate::{
-    building, classes, devices, fleets, gathering, images, jobs, lives, locks, puts, sessions,
-    traces, workers,
+    building, classes, devices, fleets, images, jobs, lives, locks, puts, sessions, shared, traces,
+    workers,
 };
 use std::sync::Wait;
 use std::thread::Threads;
@@ -27,7 +27,6 @@ pub fn ask<R: Threads + Wait + Sync>(
         "commit" => fleets::commit(given, marks, line),
         "advance" => jobs::advance(rt, given, marks, line),
         "put" => puts::put(rt, given, marks, line),
-        "into_entries" => gathering::gather(rt, given, marks, line),
         "fleet" => workers::fleet(rt, given, marks, line),
         "class" => classes::state(given, marks, line),
         "add_class" => building::add_class(given, marks, line),
@@ -58,6 +57,7 @@ fn make(call: &str, given: &Given, marks: &mut Marks, line: &mut Line) {
         "write_entries" => traces::write_run(given, marks, line),
         "read_entries" => traces::read_trace(given, marks, line),
         "single" => building::single(given, marks, line),
+        "trace" => shared::new(given, marks, line),
         "open" => sessions::open(given, marks, line),
         "lock" => locks::new(given, marks, line),
         "lock_first" => locks::with_first(given, marks, line),

@@ -7,11 +7,11 @@ ghost use Rattle.shared_trace.specs.Trace.{IsShared, trace_log};
 ghost use Rattle.shared_trace.specs.Job.{MayPut};
 ghost use Rattle.fleet_workers.specs.Knowing.{Knows};
 
-use crate::gathering::{add_gathered, ended};
 use crate::given::Given;
 use crate::jobs::{advanced, claimed, locked};
 use crate::line::Line;
 use crate::marks::{Marks, Mode};
+use crate::shared::{add_run, ended};
 use fleet_workers::{put_job, stop_trace};
 use scenario_image::Scenario;
 use shared_trace::{Job, Trace};
@@ -26,21 +26,13 @@ struct Came {
     words: &'static str,
 }
 
-fn count_of(trace: &Trace) -> usize {
-    let mut count: usize = 0;
-    for _ in trace.entries() {
-        count = count.saturating_add(1);
-    }
-    count
-}
-
 /// Puts a job that came back.
 fn put_again(trace: &mut Trace, worker: u16, job: Job) -> Came
     requires { MayPut trace.old worker job }
     ensures adds { Adds trace_log worker trace.old trace.new }
     ensures shared { IsShared trace.new }
 {
-    let left = count_of(trace);
+    let left = trace.entries().len();
     match trace.put(worker, job) {
         Ok(()) => Came {
             left: Some(left),
@@ -207,7 +199,7 @@ pub fn put<R: Wait>(rt: &R, given: &Given, marks: &mut Marks, line: &mut Line) {
     let (pass, came) = put_last(rt, &lock, pass, given.scenario, &mut none, marks);
     add_came(came, line);
     match ended(rt, lock, pass, given.scenario) {
-        Some(trace) => add_gathered(given, trace, line),
+        Some(trace) => add_run(given, trace, line),
         None => line.add("a pass is out"),
     }
 }

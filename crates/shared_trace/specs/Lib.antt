@@ -1,5 +1,4 @@
 pub mod Next
-pub mod Pages
 pub mod Trace
 pub mod Job
 pub mod Claims

@@ -15,9 +15,7 @@ ghost use Rattle.shared_trace.specs.Kept.{IsTrace, IsStation, table_length, is_p
 ghost use Rattle.shared_trace.specs.declared.station.Place.{Place};
 
 use crate::claims::Claim;
-use crate::entries::EntryIter;
 use crate::job::Job;
-use crate::pages::Pages;
 use crate::start::start_stations;
 use crate::station::{Place, Station, any_out, count_ended, first_left, look_from, lowest_ready};
 use crate::tables::{TABLE, add_posts};
@@ -35,7 +33,7 @@ use trace_file::{Entries, Entry};
 pub struct Trace {
     alloc: Global,
     subject: Snapshot<Scenario>,
-    entries: Pages,
+    entries: Vec<Entry>,
     stations: Vec<Station>,
     posts: Vec<u32>,
     /// Each device before this one is at the end of its row.
@@ -61,12 +59,12 @@ impl Model for Trace {
 
     ghost view = { λ t. record {
       subject = t.subject.value;
-      entries = t.entries.held;
+      entries = t.entries.items;
       places = places_of t.stations.items;
       stopped = t.stopped;
     } };
 
-    ghost invariant = { λ t. IsTrace t.subject.value t.entries.held t.stations.items t.posts.items
+    ghost invariant = { λ t. IsTrace t.subject.value t.entries.items t.stations.items t.posts.items
         × AreEnded t.stations.items t.low × AreIdle (λ g. slice_index t.posts.items g) t.stations.items t.first };
 }
 
@@ -83,7 +81,8 @@ impl Logged for Trace {
 }
 
 impl Trace {
-    /// The trace of a scenario: no entries, and each device parked at the start of its row.
+    /// The trace of a scenario: no entries, and each device parked at the start of its row. The memory for the entries of
+    /// all steps is allocated here, so that no put moves those that stand.
     pub fn new(alloc: Global, scenario: &Scenario) -> Result<Trace, AllocError>
         ensures subject { IfOk result (λ t. t.subject ≡ scenario.now) }
         ensures entries { IfOk result (λ t. t.entries ≡ []) }
@@ -94,7 +93,7 @@ impl Trace {
         let _rows = scenario.rows();
         let stations = start_stations(alloc, scenario)?;
         let posts = vec![in alloc; 0u32; TABLE]?;
-        let entries = Pages::new(alloc)?;
+        let entries = Vec::with_capacity(alloc, scenario.steps())?;
         Ok(Trace {
             alloc,
             subject: Snapshot::of(scenario),
@@ -119,46 +118,19 @@ impl Trace {
     }
 
     /// The entries so far, in order.
-    pub fn entries(&self) -> EntryIter<'_>
-        ensures entries { result ≡ self.now.entries }
+    pub fn entries(&self) -> &[Entry]
+        ensures entries { result.now ≡ self.now.entries }
         ensures shared { IsShared self.now }
     {
-        self.entries.iter()
+        self.entries.as_slice()
     }
 
-    /// The entries, in one list. Without memory for it the trace comes back.
-    pub fn into_entries(self) -> Result<Entries, (Trace, AllocError)>
-        ensures ok { IfOk result (λ r. r ≡ self.entries) }
-        ensures back { IfErr result (λ e. e.0 ≡ self) }
+    /// The entries, in order.
+    pub fn into_entries(self) -> Entries
+        ensures { result ≡ self.entries }
     {
-        let Trace {
-            alloc,
-            subject,
-            entries,
-            stations,
-            posts,
-            low,
-            first,
-            last,
-            stopped,
-        } = self;
-        match entries.into_vec() {
-            Ok(entries) => Ok(Entries::from_vec(entries)),
-            Err((entries, fault)) => {
-                let trace = Trace {
-                    alloc,
-                    subject,
-                    entries,
-                    stations,
-                    posts,
-                    low,
-                    first,
-                    last,
-                    stopped,
-                };
-                Err((trace, fault))
-            }
-        }
+        let Trace { entries, .. } = self;
+        Entries::from_vec(entries)
     }
 
     /// Stops the trace: each later claim answers so.
@@ -271,14 +243,14 @@ impl Trace {
             place,
             known,
             posted,
-            entries,
+            mut entries,
             machine,
             next,
             spent,
         } = job;
-        match self.entries.append(entries) {
+        match self.entries.append(&mut entries) {
             Ok(()) => {}
-            Err((entries, fault)) => {
+            Err(fault) => {
                 let job = Job {
                     alloc,
                     claimed,

@@ -6,7 +6,7 @@ use Rattle.shared_trace.proofs.trace.Trace.claim.Goals as goal
 
 pub returns-then-self-clause-shared : goal.returns-then-self-clause-shared
 returns-then-self-clause-shared c =
-    shared_of c.args.self.now c.self.inside.subject.value c.self.inside.entries.held c.self.inside.stations.items
+    shared_of c.args.self.now c.self.inside.subject.value c.self.inside.entries.items c.self.inside.stations.items
     c.self.inside.posts.items c.self.inside.stopped c.self.view_is c.self.invariant.0
 
 pub returns-in-Some-clause-claims : goal.returns-in-Some-clause-claims
@@ -30,5 +30,5 @@ returns-in-None-clause-stands c = c.idle.ensures.stands c.args.worker
 pub returns-in-None-clause-shared : goal.returns-in-None-clause-shared
 returns-in-None-clause-shared c =
     subst IsShared (sym c.lowest.ensures.same)
-    (shared_of c.args.self.now c.self.inside.subject.value c.self.inside.entries.held c.self.inside.stations.items
+    (shared_of c.args.self.now c.self.inside.subject.value c.self.inside.entries.items c.self.inside.stations.items
     c.self.inside.posts.items c.self.inside.stopped c.self.view_is c.self.invariant.0)

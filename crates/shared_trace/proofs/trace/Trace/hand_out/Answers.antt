@@ -7,17 +7,17 @@ use Rattle.shared_trace.proofs.Idle.{out_idle}
 use Rattle.shared_trace.proofs.trace.Trace.hand_out.Goals as goal
 
 hand : (c : goal.After-as_slice)
-    → IsHanded c.self.inside.subject.value c.self.inside.entries.held c.self.inside.stations.items
+    → IsHanded c.self.inside.subject.value c.self.inside.entries.items c.self.inside.stations.items
     c.self.inside.posts.items c.args.device c.index_mut-station.result.now c.requires.ready.shown
 hand c =
-    handed c.args.self.now c.self.inside.subject.value c.self.inside.entries.held c.self.inside.stations.items
+    handed c.args.self.now c.self.inside.subject.value c.self.inside.entries.items c.self.inside.stations.items
     c.self.inside.posts.items c.self.inside.stopped
     c.args.device c.from.result c.index_mut-station.result.now c.self.view_is c.self.invariant.0 c.requires.ready
     c.from.ensures c.index_mut-station.ensures.value
 
 pub copy_from_slice-requires : goal.copy_from_slice-requires
 copy_from_slice-requires c =
-    let t = table_is c.self.inside.subject.value c.self.inside.entries.held c.self.inside.stations.items
+    let t = table_is c.self.inside.subject.value c.self.inside.entries.items c.self.inside.stations.items
     c.self.inside.posts.items c.args.device c.index_mut-station.result.now
     c.requires.ready.shown (hand c) in
     omega (
@@ -29,22 +29,22 @@ copy_from_slice-requires c =
     )
 
 then : (c : goal.After-new-2)
-    → IsHanded c.self.inside.subject.value c.self.inside.entries.held c.self.inside.stations.items
+    → IsHanded c.self.inside.subject.value c.self.inside.entries.items c.self.inside.stations.items
     c.self.inside.posts.items c.args.device c.index_mut-station.result.now c.requires.ready.shown
 then c =
-    handed c.args.self.now c.self.inside.subject.value c.self.inside.entries.held c.self.inside.stations.items
+    handed c.args.self.now c.self.inside.subject.value c.self.inside.entries.items c.self.inside.stations.items
     c.self.inside.posts.items c.self.inside.stopped
     c.args.device c.from.result c.index_mut-station.result.now c.self.view_is c.self.invariant.0 c.requires.ready
     c.from.ensures c.index_mut-station.ensures.value
 
 pub invariant_of-self : goal.invariant_of-self
 invariant_of-self c = (
-  out_trace c.self.inside.subject.value c.self.inside.entries.held c.self.inside.stations.items
+  out_trace c.self.inside.subject.value c.self.inside.entries.items c.self.inside.stations.items
       c.self.inside.posts.items c.args.device c.args.worker c.from.result
       c.index_mut-station.result.now c.hand_out-machine.new.self c.requires.ready.shown
       (then c) c.from.ensures c.hand_out-machine.ensures.place
       c.hand_out-machine.ensures.kept.0 c.hand_out-machine.ensures.kept.1,
-  out_ended c.self.inside.subject.value c.self.inside.entries.held c.self.inside.stations.items
+  out_ended c.self.inside.subject.value c.self.inside.entries.items c.self.inside.stations.items
       c.self.inside.posts.items c.self.inside.low c.args.device c.from.result
       c.index_mut-station.result.now c.hand_out-machine.new.self c.requires.ready.shown
       (then c) c.from.ensures c.self.invariant.1,
@@ -54,7 +54,7 @@ invariant_of-self c = (
 
 pub invariant_of-result : goal.invariant_of-result
 invariant_of-result c =
-    fresh_job c.args.self.now c.of-claimed.result.value c.self.inside.subject.value c.self.inside.entries.held
+    fresh_job c.args.self.now c.of-claimed.result.value c.self.inside.subject.value c.self.inside.entries.items
     c.new-2.result.items c.self.inside.stations.items c.self.inside.posts.items
     c.copy_from_slice.new.self.items c.new.result.items c.self.inside.stopped c.args.device c.args.worker
     c.index_mut-station.result.now c.requires.ready.shown c.hand_out-machine.result.0
@@ -63,7 +63,7 @@ invariant_of-result c =
 
 pub returns-clause-taken : goal.returns-clause-taken
 returns-clause-taken c = record {
-  parked = parked_now c.args.self.now c.self.inside.subject.value c.self.inside.entries.held
+  parked = parked_now c.args.self.now c.self.inside.subject.value c.self.inside.entries.items
       c.self.inside.stations.items c.self.inside.posts.items c.self.inside.stopped
       c.args.device c.index_mut-station.result.now c.requires.ready.shown c.hand_out-machine.result.0 c.self.view_is
       (then c) c.hand_out-machine.ensures.device;
@@ -73,11 +73,11 @@ returns-clause-taken c = record {
   front = ap (λ t. t.entries) c.of-claimed.ensures;
   entries = c.new-2.ensures.items;
   ready = refl;
-  shows = shows_now c.args.self.now c.self.inside.subject.value c.self.inside.entries.held c.self.inside.stations.items
+  shows = shows_now c.args.self.now c.self.inside.subject.value c.self.inside.entries.items c.self.inside.stations.items
       c.self.inside.posts.items c.self.inside.stopped
       c.args.device c.index_mut-station.result.now c.requires.ready.shown c.hand_out-machine.result.0 c.self.view_is
       (then c) c.hand_out-machine.ensures.device;
-  left = out_view c.args.self.now c.self.inside.subject.value c.self.inside.entries.held c.self.inside.stations.items
+  left = out_view c.args.self.now c.self.inside.subject.value c.self.inside.entries.items c.self.inside.stations.items
       c.self.inside.stopped
       c.args.device c.args.worker c.from.result c.hand_out-machine.new.self c.self.view_is c.from.ensures
       c.hand_out-machine.ensures.place;
@@ -89,7 +89,7 @@ returns-clause-shared c = shared_is _ _ _ _ _ (invariant_of-self c).0
 pub returns-clause-adds : goal.returns-clause-adds
 returns-clause-adds c =
     out_adds c.args.self.now _ c.args.device c.args.worker c.requires.ready.shown c.requires.ready.parked
-    (out_view c.args.self.now c.self.inside.subject.value c.self.inside.entries.held c.self.inside.stations.items
+    (out_view c.args.self.now c.self.inside.subject.value c.self.inside.entries.items c.self.inside.stations.items
     c.self.inside.stopped
     c.args.device c.args.worker c.from.result c.hand_out-machine.new.self c.self.view_is c.from.ensures
     c.hand_out-machine.ensures.place)
@@ -98,7 +98,7 @@ pub returns-clause-stands : goal.returns-clause-stands
 returns-clause-stands c =
     out_stands c.args.self.now _ c.of-claimed.result.value c.args.device c.args.worker c.requires.ready.shown
     c.requires.ready.parked
-    (out_view c.args.self.now c.self.inside.subject.value c.self.inside.entries.held c.self.inside.stations.items
+    (out_view c.args.self.now c.self.inside.subject.value c.self.inside.entries.items c.self.inside.stations.items
     c.self.inside.stopped
     c.args.device c.args.worker c.from.result c.hand_out-machine.new.self c.self.view_is c.from.ensures
     c.hand_out-machine.ensures.place) c.of-claimed.ensures
