@@ -20,7 +20,7 @@ use Rattle.fleet_workers.specs.declared.fleet.RunFault.TheVariants as runs
 use Rattle.fleet_workers.specs.Fleet.{IsFleetRun, AreWorkers}
 use Rattle.bench_commands.specs.declared.fault.Fault.{Fault}
 use Rattle.bench_commands.specs.declared.fault.Fault.TheVariants as faults
-use Rattle.bench_commands.specs.Fault.{IsReadingFault, IsTemplateFault, layout_fault, refused_text, run_fault}
+use Rattle.bench_commands.specs.Fault.{IsReadingFault, layout_fault, refused_text, run_fault}
 use Rattle.bench_commands.specs.Fault.{text_fault, trace_fault}
 use Rattle.bench_commands.specs.RunAnswer.{IsRunFault, IsSavingFault, IsWrongBatch}
 use Rattle.bench_commands.specs.Texts.{IsTextFault}
@@ -157,25 +157,6 @@ pub no_hex : (hex : List ℕ) (f : Fault) → (f ≡ faults.Memory) ⊎ ((f ≡ 
     → IsOneFault hex f
 no_hex hex f (inl memory) = subst (λ g. IsOneFault hex g) (sym memory) tt
 no_hex hex f (inr bad) = subst (λ g. IsOneFault hex g) (sym bad.0) bad.1
-
-pub no_demo : (hex : List ℕ) (f : Fault) → IsTemplateFault f → IsOneFault hex f
-no_demo hex faults.Hex h = absurd h
-no_demo hex faults.Memory h = tt
-no_demo hex faults.Read h = absurd h
-no_demo hex faults.Write h = absurd h
-no_demo hex (faults.Layout fault) h = absurd h
-no_demo hex (faults.Text fault) h = absurd h
-no_demo hex faults.TooLarge h = absurd h
-no_demo hex (faults.Template fault) h = tt
-no_demo hex faults.Workers h = absurd h
-no_demo hex faults.Batch h = absurd h
-no_demo hex faults.Spent h = absurd h
-no_demo hex faults.NoDevice h = absurd h
-no_demo hex faults.PastEnd h = absurd h
-no_demo hex faults.Range h = absurd h
-no_demo hex faults.TooLong h = absurd h
-no_demo hex faults.Bind h = absurd h
-no_demo hex (faults.Session fault) h = absurd h
 
 -- no memory is left
 pub text_memory : (holds : List ℕ → List ℕ → Type 0) (fails : List ℕ → Type 0) (path : List ℕ) (f : Fault)

@@ -2,6 +2,7 @@ pub mod Built
 pub mod Conversing
 pub mod Debugged
 pub mod Delivered
+pub mod DemoClass
 pub mod Ended
 pub mod Faults
 mod LimitedReading

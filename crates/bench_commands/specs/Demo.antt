@@ -1,5 +1,5 @@
 -- The DEMO device: its class, and what it outputs when it has just started (this profile).
-use Rattle.std.specs.Prelude.{ℕ, List, [], ◌∷◌, codes, pos, false}
+use Rattle.std.specs.Prelude.{ℕ, Bool, true, false, ◌&&◌, is_none, List, [], ◌∷◌, codes, pos}
 use Rattle.std.specs.List.{fold}
 use Rattle.object_defs.specs.Path.{full_path}
 use Rattle.object_defs.specs.declared.path.Path.{Path}
@@ -8,8 +8,9 @@ use Rattle.lwm2m_values.specs.declared.value.Value.{Value}
 use Rattle.lwm2m_values.specs.declared.value.Value.TheVariants as value
 use Rattle.instance_store.specs.Stored.{with_instance}
 use Rattle.device_machine.specs.Template.{start_of}
-use Rattle.device_template.specs.Template.{Template, empty_class, with_account, with_store}
+use Rattle.device_template.specs.Template.{Template, empty_class, instance_fault, value_fault, with_account, with_store}
 use Rattle.device_template.specs.Values.{with_value_at}
+use Rattle.device_requests.specs.Targets.{place_of}
 use Rattle.device_machine.specs.Reactions.{outputs_of}
 use Rattle.device_machine.specs.declared.event.Event.TheVariants.{Recv}
 use Rattle.device_machine.specs.declared.output.Output.{Output}
@@ -38,12 +39,23 @@ demo_values =
 
 -- a class with one instance more
 abbrev pub with_place : Template → ℕ × ℕ → Template
-with_place class place =
-    with_store class (with_instance class.store (record { object = place.0; instance = place.1 }))
+with_place class place = with_store class (with_instance class.store (place_of place.0 place.1))
 
 -- a class with one value more
 abbrev pub with_row : Template → Path × Value → Template
 with_row class row = with_store class (with_value_at class.store (full_path row.0) row.1)
+
+-- a class refuses none of these instances, added one after another
+unfoldable pub takes_instances : Template → List (ℕ × ℕ) → Bool
+takes_instances class [] = true
+takes_instances class (place ∷ places) =
+    is_none (instance_fault class (place_of place.0 place.1)) && takes_instances (with_place class place) places
+
+-- a class refuses none of these values, added one after another
+unfoldable pub takes_values : Template → List (Path × Value) → Bool
+takes_values class [] = true
+takes_values class (row ∷ rows) =
+    is_none (value_fault class (full_path row.0) row.1) && takes_values (with_row class row) rows
 
 -- the class: the base objects, one account, these instances and these values; its notifications are Non-confirmable
 unfoldable pub demo_class : Template

@@ -100,9 +100,3 @@ abbrev pub IsReadingFault : Type 0 → Fault → Type 0
 IsReadingFault fails Memory = ⊤
 IsReadingFault fails Read = fails
 IsReadingFault fails _ = ⊥
-
--- what may befall a device that is made: a lack of memory, or that its template refused a part
-abbrev pub IsTemplateFault : Fault → Type 0
-IsTemplateFault Memory = ⊤
-IsTemplateFault (Template fault) = ⊤
-IsTemplateFault _ = ⊥

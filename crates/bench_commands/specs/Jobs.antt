@@ -111,11 +111,10 @@ pub record IsDebugRefused (holds : List ℕ → List ℕ → Type 0) (image trac
 
 -- ---- what is refused
 
--- the word is not hex; or memory or the making of the device failed
+-- the word is not hex; or memory ran out
 abbrev pub IsOneFault : List ℕ → Fault → Type 0
 IsOneFault hex faults.Hex = IsErr (decode_of hex)
 IsOneFault hex faults.Memory = ⊤
-IsOneFault hex (faults.Template fault) = ⊤
 IsOneFault hex _ = ⊥
 
 -- first the image is to blame, and then the work on its scenario

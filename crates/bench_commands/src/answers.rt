@@ -25,7 +25,7 @@ use std::sync::Wait;
 use std::thread::Threads;
 
 /// `one HEX`: what the DEMO device outputs for a datagram from its server, a line for each output, or `nothing`.
-#[tactic(auto, using(crate::proofs::Built::one_done, crate::proofs::Faults::no_hex, crate::proofs::Faults::no_demo, crate::proofs::Faults::one_memory))]
+#[tactic(auto, using(crate::proofs::Built::one_done, crate::proofs::Faults::no_hex, crate::proofs::Faults::one_memory))]
 pub fn one<'a>(alloc: Global, hex: &'a str) -> Result<Answer<'a>, Refusal<'a>>
     ensures done { IfOk result (λ a. IsOneDone hex.entry.now a.status (string_bytes a.text) (files_of a.file)) }
     ensures refused { IfErr result (λ r. IsOneFault hex.entry.now r.fault) }

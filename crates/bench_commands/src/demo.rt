@@ -1,7 +1,7 @@
-ghost use Rattle.std.specs.Prelude.{◌≡◌, IfErr, IfOk, OnOk, map};
-ghost use Rattle.bench_commands.specs.Fault.{IsTemplateFault};
+ghost use Rattle.std.specs.Prelude.{◌≡◌, IfErr, IfOk, OnOk, map, true};
 ghost use Rattle.std.specs.List.{fold};
-ghost use Rattle.bench_commands.specs.Demo.{demo_class, demo_outputs, row_of, value_of, with_place, with_row};
+ghost use Rattle.bench_commands.specs.Demo.{demo_class, demo_outputs, row_of, takes_instances, takes_values, value_of};
+ghost use Rattle.bench_commands.specs.Demo.{with_place, with_row};
 
 use crate::fault::Fault;
 use device_machine::{Device, Event, Outputs, StepFault, Template, TemplateFault};
@@ -50,7 +50,9 @@ fn value_of(alloc: Global, held: Held) -> Result<Value, AllocError>
 }
 
 fn add_instances(template: &mut Template, places: &[(u16, u16)]) -> Result<(), TemplateFault>
-    ensures { OnOk result (template.new ≡ fold with_place template.old places.now) }
+    requires { takes_instances template.old places.now ≡ true }
+    ensures added { OnOk result (template.new ≡ fold with_place template.old places.now) }
+    ensures refused { IfErr result (λ f. f ≡ TemplateFault.Memory) }
 {
     for (object, instance) in places {
         template.add_instance(*object, *instance)?;
@@ -59,8 +61,9 @@ fn add_instances(template: &mut Template, places: &[(u16, u16)]) -> Result<(), T
 }
 
 fn add_values(alloc: Global, template: &mut Template, rows: &[(Path, Held)]) -> Result<(), Fault>
+    requires { takes_values template.old (map row_of rows.now) ≡ true }
     ensures added { OnOk result (template.new ≡ fold with_row template.old (map row_of rows.now)) }
-    ensures refused { IfErr result IsTemplateFault }
+    ensures refused { IfErr result (λ f. f ≡ Fault.Memory) }
 {
     for (path, held) in rows {
         template.add_value(*path, value_of(alloc, *held)?)?;
@@ -71,7 +74,7 @@ fn add_values(alloc: Global, template: &mut Template, rows: &[(Path, Held)]) -> 
 /// The template of the DEMO device.
 pub fn template(alloc: Global) -> Result<Template, Fault>
     ensures made { IfOk result (λ t. t ≡ demo_class) }
-    ensures refused { IfErr result IsTemplateFault }
+    ensures refused { IfErr result (λ f. f ≡ Fault.Memory) }
 {
     let mut template = Template::new(alloc)?;
     template.add_account(SERVER)?;
@@ -83,7 +86,7 @@ pub fn template(alloc: Global) -> Result<Template, Fault>
 /// What the DEMO device, just started, outputs where its server sends these bytes.
 pub fn answer(alloc: Global, bytes: Bytes) -> Result<Outputs, Fault>
     ensures put_out { IfOk result (λ outputs. outputs ≡ demo_outputs bytes) }
-    ensures refused { IfErr result IsTemplateFault }
+    ensures refused { IfErr result (λ f. f ≡ Fault.Memory) }
 {
     let mut device = Device::start(&template(alloc)?)?;
     let event = Event::Recv {
