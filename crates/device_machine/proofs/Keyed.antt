@@ -8,7 +8,7 @@ use Rattle.std.proofs.lemmas.List.Sums.{fold-append}
 use Rattle.coap_codec.specs.Message.{kind_number}
 use Rattle.coap_codec.specs.declared.kind.Kind.{Kind}
 use Rattle.device_machine.specs.State.{is_live, lifetime}
-use Rattle.device_machine.specs.Records.{HasOwnKey, end_of_life, first_end, has_key}
+use Rattle.device_machine.specs.Records.{HasOwnKey, end_of_life, first_end, has_key, is_same_key}
 use Rattle.device_machine.specs.declared.recorded.Recorded.{Recorded}
 use Rattle.device_machine.specs.declared.records.RecordKey.{RecordKey}
 use Rattle.device_machine.specs.contracts.records.RecordKeyClone.TheImpl.{is_clone-value as key_clone}
@@ -17,7 +17,7 @@ use Rattle.device_machine.specs.contracts.records.RecordKeyClone.TheImpl.{is_clo
 
 -- the test by which keys are looked up
 abbrev pub tests_keys : (RecordKey → RecordKey → Bool) → Type 0
-tests_keys eq = (k j : RecordKey) → eq k j ≡ (k.server == j.server && (k.mid == j.mid && k.kind == j.kind))
+tests_keys eq = (k j : RecordKey) → eq k j ≡ is_same_key k j
 
 eqb_turned : (a b : ℕ) → (a == b) ≡ (b == a)
 eqb_turned a b = grind (arith, nat_tests)

@@ -8,6 +8,7 @@ mod Living
 mod Naming
 mod Places
 mod Putting
+mod Recalled
 pub mod Refusing
 pub mod Repeating
 mod Sending

@@ -1,5 +1,8 @@
 -- The recorded requests that a device keeps: how one is found, and when the first of them no longer lives.
-use Rattle.std.specs.Prelude.{◌≡◌, ℕ, ◌+◌, ◌==◌, min, Bool, ◌&&◌, if◌then◌else◌, List, filter, fold}
+use Rattle.std.specs.Prelude.{◌≡◌, ℕ, ◌+◌, ◌==◌, min, Bool, true, ◌&&◌, if◌then◌else◌, List, filter, find, fold}
+use Rattle.std.specs.Prelude.{Option, None, Some}
+use Rattle.std.specs.List.{AllByRecursion}
+use Rattle.indexmap.specs.IndexMap.{IndexMap, IsUnique, values}
 use Rattle.coap_codec.specs.Message.{kind_number}
 use Rattle.coap_codec.specs.declared.kind.Kind.{Kind}
 use Rattle.device_machine.specs.Memory.{remembered}
@@ -7,6 +10,7 @@ use Rattle.device_machine.specs.Reactions.{Reaction, flat_after, outputs_of}
 use Rattle.device_machine.specs.State.{Machine, is_live, lifetime}
 use Rattle.device_machine.specs.declared.event.Event.{Event}
 use Rattle.device_machine.specs.declared.recorded.Recorded.{Recorded}
+use Rattle.device_machine.specs.declared.records.Index.{Index}
 use Rattle.device_machine.specs.declared.records.RecordKey.{RecordKey}
 
 -- the request is of this server, type and message ID
@@ -31,6 +35,31 @@ first_end rs = fold (λ first r. min first (end_of_life r)) 18446744073709551615
 -- each of the requests lives in this second
 abbrev pub AllLive : ℕ → List Recorded → Type 0
 AllLive clock rs = filter (λ r. is_live clock r) rs ≡ rs
+
+-- no request of the list is of this one's server, type and message ID
+abbrev pub IsNewIn : List Recorded → Recorded → Type 0
+IsNewIn rs r = find (has_key r.server r.kind r.mid) rs ≡ None
+
+-- the request is recalled: where there is a second, those that do not live in it are forgotten
+abbrev pub is_recalled : Option ℕ → Recorded → Bool
+is_recalled None r = true
+is_recalled (Some second) r = is_live second r
+
+-- the requests of an index that are recalled
+abbrev pub recalled : Index → List Recorded
+recalled i = filter (λ r. is_recalled i.ended r) (values i.entries)
+
+-- two keys are equal
+abbrev pub is_same_key : RecordKey → RecordKey → Bool
+is_same_key k j = k.server == j.server && (k.mid == j.mid && k.kind == j.kind)
+
+-- each key is that of its request, and no two are equal
+abbrev pub IsKeyed : {S : Type 0} → IndexMap RecordKey Recorded S → Type 0
+IsKeyed m = AllByRecursion HasOwnKey m.entries × IsUnique is_same_key m
+
+-- the entries have their keys, and the index knows the first second in which one of them no longer lives
+abbrev pub IsIndexed : Index → Type 0
+IsIndexed i = IsKeyed i.entries × (i.due ≡ first_end (values i.entries))
 
 -- what a device outputs on an event, and what it keeps of the flat state then
 abbrev pub remembering : Machine → Event → Reaction

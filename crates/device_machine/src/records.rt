@@ -1,12 +1,15 @@
 //! The requests that a device has recorded, found by server, type and message ID.
 
-ghost use Rattle.std.specs.Prelude.{◌≡◌, ◌≢◌, ◌++◌, ◌∷◌, [], None, filter, find, IfOk, OnErr, OnOk};
+ghost use Rattle.std.specs.Prelude.{◌≡◌, ◌≢◌, ◌++◌, ◌∷◌, [], true, false, None, Some, ◌&&◌, filter, find};
+ghost use Rattle.std.specs.Prelude.{IfOk, OnErr, OnOk};
 ghost use Rattle.std.specs.Option.{option_copied};
-ghost use Rattle.std.specs.List.{AllByRecursion};
+ghost use Rattle.std.specs.List.{list_any};
 ghost use Rattle.coap_codec.specs.Message.{kind_number};
 ghost use Rattle.indexmap.specs.IndexMap.{values};
 ghost use Rattle.device_machine.specs.State.{is_live, lifetime};
-ghost use Rattle.device_machine.specs.Records.{HasOwnKey, end_of_life, first_end, has_key};
+ghost use Rattle.device_machine.specs.Records.{IsIndexed, IsKeyed, IsNewIn, end_of_life, first_end, has_key};
+ghost use Rattle.device_machine.specs.Records.{is_recalled, recalled};
+ghost use Rattle.device_machine.specs.declared.recorded.Recorded.{Recorded as Request};
 
 use crate::recorded::Recorded;
 use coap_codec::Kind;
@@ -23,27 +26,37 @@ pub(crate) struct RecordKey {
     kind: u8,
 }
 
+/// Requests, no two of one server, type and message ID. Some are forgotten, and the others recalled: those that are
+/// forgotten are removed when others are added.
+#[derive(Drop)]
+struct Index {
+    entries: IndexMap<RecordKey, Recorded>,
+    /// The first second in which one of the entries no longer lives.
+    due: u64,
+    /// The entries that do not live in this second are forgotten, or where there is no second, none.
+    ended: Option<u64>,
+    /// With this many entries, those that are forgotten are removed before one is added. It is some more than twice as
+    /// many as stayed the last time, so each that is added since pays for a look at two.
+    limit: usize,
+}
+
 /// Recorded requests, no two of one server, type and message ID. Contracts see the list of them, oldest first.
 #[derive(Drop)]
 pub(crate) struct Records {
     alloc: Global,
-    entries: IndexMap<RecordKey, Recorded>,
-    /// The first second in which one of them no longer lives.
-    due: u64,
+    index: Index,
 }
 
 impl Model for Records {
-    ghost use Rattle.std.specs.Prelude.{◌≡◌, List};
-    ghost use Rattle.std.specs.List.{AllByRecursion};
-    ghost use Rattle.indexmap.specs.IndexMap.{values};
+    ghost use Rattle.std.specs.Prelude.{List};
     ghost use Rattle.device_machine.specs.declared.recorded.Recorded.{Recorded};
-    ghost use Rattle.device_machine.specs.Records.{HasOwnKey, first_end};
+    ghost use Rattle.device_machine.specs.Records.{IsIndexed, recalled};
 
     ghost Value = { List Recorded };
 
-    ghost view = { λ r. values r.entries };
+    ghost view = { λ r. recalled r.index };
 
-    ghost invariant = { λ r. AllByRecursion HasOwnKey r.entries.entries × (r.due ≡ first_end (values r.entries)) };
+    ghost invariant = { λ r. IsIndexed r.index };
 }
 
 fn kind_number(kind: Kind) -> u8
@@ -95,14 +108,43 @@ fn first_end(entries: &IndexMap<RecordKey, Recorded>) -> u64
         .fold(u64::MAX, |first, request| first.min(end_of_life(request)))
 }
 
-/// Keeps the requests that live.
-fn keep_living(entries: &mut IndexMap<RecordKey, Recorded>, clock: u64)
-    ensures { entries.new.entries ≡ filter (λ e. is_live clock e.1) entries.old.entries }
+/// Whether the request is recalled. Where there is a second, those that do not live in it are forgotten.
+fn is_recalled(ended: Option<u64>, request: &Recorded) -> bool
+    ensures { result ≡ is_recalled ended request.now }
+{
+    match ended {
+        None => true,
+        Some(second) => is_live(second, request),
+    }
+}
+
+/// The second in which those live that live in this one and are recalled.
+fn later(ended: Option<u64>, clock: u64) -> u64
+    ensures { (r : Request) → (is_recalled (Some result) r ≡ (is_live clock r && is_recalled ended r)) }
+{
+    match ended {
+        None => clock,
+        Some(second) => second.max(clock),
+    }
+}
+
+/// Whether one of the requests is recalled.
+fn recalls_any(entries: &IndexMap<RecordKey, Recorded>, ended: Option<u64>) -> bool
+    ensures { result ≡ list_any (λ r. is_recalled ended r) (values entries.now) }
+{
+    entries.values().any(|request| is_recalled(ended, request))
+}
+
+/// Keeps the requests that are recalled.
+fn keep_recalled(entries: &mut IndexMap<RecordKey, Recorded>, ended: Option<u64>)
+    requires { IsKeyed entries.old }
+    ensures recalled { values entries.new ≡ filter (λ r. is_recalled ended r) (values entries.old) }
+    ensures keyed { IsKeyed entries.new }
 {
     entries.retain(
         |_key: &RecordKey, request: &mut Recorded| -> bool
-            ensures { (result ≡ is_live clock request.old) × (request.new ≡ request.old) }
-        { is_live(clock, request) },
+            ensures { (result ≡ is_recalled ended request.old) × (request.new ≡ request.old) }
+        { is_recalled(ended, request) },
     );
 }
 
@@ -113,7 +155,7 @@ fn request_of(
     kind: Kind,
     mid: u16,
 ) -> Option<&Recorded>
-    requires { AllByRecursion HasOwnKey entries.now.entries }
+    requires { IsKeyed entries.now }
     ensures { option_copied result ≡ find (has_key server kind mid) (values entries.now) }
 {
     let key = RecordKey {
@@ -126,10 +168,10 @@ fn request_of(
 
 /// Adds a request of a new key at the end.
 fn add(entries: &mut IndexMap<RecordKey, Recorded>, request: Recorded) -> Result<(), AllocError>
-    requires keyed { AllByRecursion HasOwnKey entries.old.entries }
-    requires absent { find (has_key request.server request.kind request.mid) (values entries.old) ≡ None }
+    requires keyed { IsKeyed entries.old }
+    requires new { IsNewIn (values entries.old) request }
     ensures ok { OnOk result (values entries.new ≡ values entries.old ++ request ∷ []) }
-    ensures keyed { AllByRecursion HasOwnKey entries.new.entries }
+    ensures keyed { IsKeyed entries.new }
     ensures err { OnErr result (values entries.new ≡ values entries.old) }
 {
     let key = RecordKey {
@@ -145,11 +187,131 @@ fn add(entries: &mut IndexMap<RecordKey, Recorded>, request: Recorded) -> Result
 fn clone_of(
     entries: &IndexMap<RecordKey, Recorded>,
 ) -> Result<IndexMap<RecordKey, Recorded>, AllocError>
-    requires { AllByRecursion HasOwnKey entries.now.entries }
+    requires { IsKeyed entries.now }
     ensures values { IfOk result (λ m. values m ≡ values entries.now) }
-    ensures keyed { IfOk result (λ m. AllByRecursion HasOwnKey m.entries) }
+    ensures keyed { IfOk result (λ m. IsKeyed m) }
 {
     entries.clone()
+}
+
+impl Index {
+    /// No request.
+    fn new(alloc: Global) -> Index
+        ensures none { recalled result ≡ [] }
+        ensures indexed { IsIndexed result }
+    {
+        Index {
+            entries: IndexMap::new(alloc),
+            due: u64::MAX,
+            ended: None,
+            limit: 16,
+        }
+    }
+
+    /// Whether no request is recalled.
+    fn is_empty(&self) -> bool
+        ensures none { result ≡ true → recalled self.now ≡ [] }
+        ensures some { result ≡ false → recalled self.now ≢ [] }
+    {
+        !recalls_any(&self.entries, self.ended)
+    }
+
+    /// A copy, which recalls the same requests.
+    fn copy(&self) -> Result<Index, AllocError>
+        requires { IsIndexed self.now }
+        ensures same { IfOk result (λ i. recalled i ≡ recalled self.now) }
+        ensures indexed { IfOk result (λ i. IsIndexed i) }
+    {
+        Ok(Index {
+            entries: clone_of(&self.entries)?,
+            due: self.due,
+            ended: self.ended,
+            limit: self.limit,
+        })
+    }
+
+    /// The request of this server, type and message ID that is recalled.
+    fn find(&self, server: u16, kind: Kind, mid: u16) -> Option<&Recorded>
+        requires { IsIndexed self.now }
+        ensures { option_copied result ≡ find (has_key server kind mid) (recalled self.now) }
+    {
+        let request = request_of(&self.entries, server, kind, mid)?;
+        if is_recalled(self.ended, request) {
+            Some(request)
+        } else {
+            None
+        }
+    }
+
+    /// Removes the requests that are forgotten.
+    fn remove_forgotten(&mut self)
+        requires { IsIndexed self.old }
+        ensures all { self.new.ended ≡ None }
+        ensures same { values self.new.entries ≡ recalled self.old }
+        ensures indexed { IsIndexed self.new }
+    {
+        keep_recalled(&mut self.entries, self.ended);
+        self.ended = None;
+        self.due = first_end(&self.entries);
+        self.limit = self.entries.len().saturating_mul(2).saturating_add(16);
+    }
+
+    /// Whether the request can be added without a removal: it would be recalled, and no other has its key.
+    fn can_add(&self, request: &Recorded) -> bool
+        requires indexed { IsIndexed self.now }
+        requires new { IsNewIn (recalled self.now) request.now }
+        ensures new { result ≡ true → IsNewIn (values self.now.entries) request.now }
+        ensures recalled { result ≡ true → is_recalled self.now.ended request.now ≡ true }
+    {
+        let Some(second) = self.ended else {
+            return true;
+        };
+        self.entries.len() < self.limit
+            && is_live(second, request)
+            && request_of(&self.entries, request.server, request.kind, request.mid).is_none()
+    }
+
+    /// Removes those that are forgotten, if the request cannot be added otherwise.
+    fn make_room(&mut self, request: &Recorded)
+        requires indexed { IsIndexed self.old }
+        requires new { IsNewIn (recalled self.old) request.now }
+        ensures same { recalled self.new ≡ recalled self.old }
+        ensures indexed { IsIndexed self.new }
+        ensures new { IsNewIn (values self.new.entries) request.now }
+        ensures recalled { is_recalled self.new.ended request.now ≡ true }
+    {
+        if self.can_add(request) {
+            return;
+        }
+        self.remove_forgotten();
+    }
+
+    /// Adds a request that will be recalled, where none has its key.
+    fn append(&mut self, request: Recorded) -> Result<(), AllocError>
+        requires indexed { IsIndexed self.old }
+        requires new { IsNewIn (values self.old.entries) request }
+        requires recalled { is_recalled self.old.ended request ≡ true }
+        ensures added { OnOk result (recalled self.new ≡ recalled self.old ++ request ∷ []) }
+        ensures unchanged { OnErr result (recalled self.new ≡ recalled self.old) }
+        ensures indexed { IsIndexed self.new }
+    {
+        let due = self.due.min(end_of_life(&request));
+        add(&mut self.entries, request)?;
+        self.due = due;
+        Ok(())
+    }
+
+    /// Forgets the requests that do not live in this second.
+    fn forget(&mut self, clock: u64)
+        requires { IsIndexed self.old }
+        ensures living { recalled self.new ≡ filter (λ r. is_live clock r) (recalled self.old) }
+        ensures indexed { IsIndexed self.new }
+    {
+        if clock < self.due {
+            return;
+        }
+        self.ended = Some(later(self.ended, clock));
+    }
 }
 
 impl Records {
@@ -159,8 +321,7 @@ impl Records {
     {
         Records {
             alloc,
-            entries: IndexMap::new(alloc),
-            due: u64::MAX,
+            index: Index::new(alloc),
         }
     }
 
@@ -169,13 +330,12 @@ impl Records {
         ensures same { IfOk result (λ r. r ≡ self.now) }
         ensures grows { OnErr result (self.now ≢ []) }
     {
-        if self.entries.is_empty() {
+        if self.index.is_empty() {
             return Ok(Records::new(self.alloc));
         }
         Ok(Records {
             alloc: self.alloc,
-            entries: clone_of(&self.entries)?,
-            due: self.due,
+            index: self.index.copy()?,
         })
     }
 
@@ -183,7 +343,7 @@ impl Records {
     pub(crate) fn find(&self, server: u16, kind: Kind, mid: u16) -> Option<&Recorded>
         ensures { option_copied result ≡ find (has_key server kind mid) self.now }
     {
-        request_of(&self.entries, server, kind, mid)
+        self.index.find(server, kind, mid)
     }
 
     /// Adds a request, where there is none of its server, type and message ID.
@@ -192,20 +352,14 @@ impl Records {
         ensures added { OnOk result (self.new ≡ self.old ++ request ∷ []) }
         ensures unchanged { OnErr result (self.new ≡ self.old) }
     {
-        let due = self.due.min(end_of_life(&request));
-        add(&mut self.entries, request)?;
-        self.due = due;
-        Ok(())
+        self.index.make_room(&request);
+        self.index.append(request)
     }
 
-    /// Forgets the requests that no longer live in this second. It looks at none where all live.
+    /// Forgets the requests that no longer live in this second. It looks at none.
     pub(crate) fn forget(&mut self, clock: u64)
         ensures { self.new ≡ filter (λ r. is_live clock r) self.old }
     {
-        if clock < self.due {
-            return;
-        }
-        keep_living(&mut self.entries, clock);
-        self.due = first_end(&self.entries);
+        self.index.forget(clock);
     }
 }

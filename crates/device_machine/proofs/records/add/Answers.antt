@@ -18,7 +18,7 @@ last c =
     c.in_ok-insert.ensures.entries
     ∙ insert_entry-new eq-value.it c.args.entries.now (key c) c.args.request
     (found eq-value.it (λ k j. refl) c.args.request.server c.args.request.mid c.kind_number.result c.args.request.kind
-    c.kind_number.ensures c.args.entries.now.entries c.requires.keyed ∙ c.requires.absent)
+    c.kind_number.ensures c.args.entries.now.entries c.requires.keyed.0 ∙ c.requires.new)
 
 pub returns-clause-ok : goal.returns-clause-ok
 unfolding key
@@ -26,7 +26,9 @@ returns-clause-ok c = ap values_of (last c) ∙ values-append c.args.entries.now
 
 pub returns-clause-keyed : goal.returns-clause-keyed
 unfolding key
-returns-clause-keyed c =
-    subst (AllByRecursion HasOwnKey) (sym (last c))
-    (each-append HasOwnKey c.args.entries.now.entries (key c, c.args.request) c.requires.keyed
-    (record { server = refl; mid = refl; kind = c.kind_number.ensures }))
+returns-clause-keyed c = (
+  subst (AllByRecursion HasOwnKey) (sym (last c))
+      (each-append HasOwnKey c.args.entries.now.entries (key c, c.args.request) c.requires.keyed.0
+      (record { server = refl; mid = refl; kind = c.kind_number.ensures })),
+  c.insert.ensures.unique,
+)

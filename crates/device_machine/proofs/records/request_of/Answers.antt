@@ -7,4 +7,4 @@ pub returns : goal.returns
 returns c =
     c.get.ensures.value
     ∙ found eq-value.it (λ k j. refl) c.args.server c.args.mid c.kind_number.result c.args.kind c.kind_number.ensures
-    c.args.entries.now.entries c.requires
+    c.args.entries.now.entries c.requires.0
