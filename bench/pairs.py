@@ -5,7 +5,7 @@
 
 USES is the built program crates/fleet_workers_uses/out/fleet_workers_uses. The scenario is that of runs.py: 4,096
 devices with 100 mixed steps each. Every program is bound to the pair; it runs in TIMES rounds (5), and the least time
-by the clock counts, beyond the start, until all steps are made. `apart` is two serial runs at once, each a process of
+by the clock counts, beyond reading the image, until all steps are made. `apart` is two serial runs at once, each a process of
 its own, against one alone: what the pair itself has to give. README.md says what was measured.
 """
 import itertools
@@ -40,13 +40,13 @@ def seconds(uses, file, pair, copies=1):
 
 def measured(uses, file, pair, times):
     """Times the steps of one: two serial runs apart, and two workers with each batch."""
-    kinds = {kind: f"{file}-{kind.replace(' ', '-')}" for kind in ["start", "serial", *RUNS]}
+    kinds = {kind: f"{file}-{kind.replace(' ', '-')}" for kind in ["image", "serial", *RUNS]}
     least = {}
     for _ in range(times):
         for kind, path in kinds.items():
             least[kind] = min(least.get(kind, 1e9), seconds(uses, path, pair))
         least["apart"] = min(least.get("apart", 1e9), seconds(uses, kinds["serial"], pair, 2))
-    beyond = {kind: it - least["start"] for kind, it in least.items()}
+    beyond = {kind: it - least["image"] for kind, it in least.items()}
     return [2 * beyond["serial"] / beyond["apart"], *(beyond[f"one {it}"] / beyond[f"two {it}"] for it in BATCHES)]
 
 

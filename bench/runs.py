@@ -177,7 +177,7 @@ def write_apart(path, steps, devices, notify=NON):
     if child == 0:
         with open(path, "wb") as out:
             out.write(image([steps] * devices, notify))
-        for kind in ["start", "serial", *RUNS, *ALONE]:
+        for kind in ["image", "start", "serial", *RUNS, *ALONE]:
             with open(path, "rb") as data, open(f"{path}-{kind.replace(' ', '-')}", "w", encoding="ascii") as out:
                 out.write(f"{kind}\n{data.read().hex()}\n")
         os._exit(0)
@@ -252,7 +252,7 @@ class Measured:
         self.least.setdefault(kind, Least()).add(run)
 
     def make(self, uses, kind):
-        steps = 0 if kind == "start" else self.total
+        steps = 0 if kind in ("image", "start") else self.total
         self.add(kind, once([uses], f"steps {steps}\n", f"{self.file}-{kind.replace(' ', '-')}"))
 
     def check(self, lwbench, empty):
@@ -271,10 +271,10 @@ class Measured:
                 *sizes, start.mebibytes(), run.mebibytes()]
 
     def worker_row(self, kind):
-        start, run = self.least["start"], self.least[kind]
-        clock = run.clock - start.clock
+        image, run = self.least["image"], self.least[kind]
+        clock = run.clock - image.clock
         return [self.name, kind, ms(clock), f"{self.total / clock:,.0f}" if clock > SHORTEST else "-",
-                a_step(run.seconds - start.seconds, self.total), run.mebibytes()]
+                a_step(run.seconds - image.seconds, self.total), run.mebibytes()]
 
 
 def measure_serial(uses, lwbench, folder, scenarios, times):
@@ -298,7 +298,7 @@ def measure_workers(uses, folder, times):
     kinds = ["serial", *RUNS, *ALONE]
     for _ in range(times):
         for it in workers:
-            for kind in ["start", *kinds]:
+            for kind in ["image", *kinds]:
                 it.make(uses, kind)
     table(["Steps", "Run", "Clock ms", "Steps/s", "A step", "MiB"],
           [it.worker_row(kind) for it in workers for kind in kinds])

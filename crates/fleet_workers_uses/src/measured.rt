@@ -119,9 +119,9 @@ fn batch_of(word: &str) -> u32 {
     }
 }
 
-/// The run of this kind: `start` starts the devices alone; `serial` is the serial run; `one 16` lets one worker run
-/// with batches of 16, where there may stand `two`, `four`, `all` (64), and 1 or 64; `rows` lets one make each row as
-/// a single batch; `visits` makes none: it claims and puts as often as there are steps.
+/// The run of this kind: `image` makes none; `start` starts the devices alone; `serial` is the serial run; `one 16`
+/// lets one worker run with batches of 16, where there may stand `two`, `four`, `all` (64), and 1 or 64; `rows` lets
+/// one make each row as a single batch; `visits` makes none: it claims and puts as often as there are steps.
 fn run_of<R: Threads + Wait + Sync>(
     rt: &R,
     alloc: Global,
@@ -131,6 +131,7 @@ fn run_of<R: Threads + Wait + Sync>(
     requires { IsSync R.row }
 {
     match kind {
+        "image" => Some(made_of(Entries::new(alloc))),
         "start" => by_nobody(alloc, scenario),
         "serial" => by_serial(alloc, scenario),
         "rows" => by_rows(rt, alloc, scenario),

@@ -1,6 +1,6 @@
 -- A job that is put into its trace again.
 use Rattle.std.proofs.Common.{◌≡◌, ℕ, ◌+◌, ◌<◌, ◌≤◌, nat_lt, ◌⊎◌, inl, inr, Bool, true, false, List, ◌++◌, length, set}
-use Rattle.std.proofs.Common.{Some, slice_get, slice_index, refl, sym, ap, subst, ◌∙◌, arith}
+use Rattle.std.proofs.Common.{Option, Some, slice_get, slice_index, refl, sym, ap, subst, ◌∙◌, arith}
 use Rattle.std.specs.Prelude.{◌==◌, count_by}
 use Rattle.std.specs.List.{AllByRecursion}
 use Rattle.std.proofs.lemmas.List.{length-set}
@@ -11,7 +11,6 @@ use Rattle.scenario_image.specs.Scenario.{Scenario}
 use Rattle.trace_file.specs.declared.entry.Entry.{Entry}
 use Rattle.fleet_core.specs.Run.{steps_in, made_by, posts_of, step_at, IsRun}
 use Rattle.fleet_core.specs.Blocks.{AreOf}
-use Rattle.fleet_core.specs.Board.{ShowsAfter}
 use Rattle.fleet_core.proofs.Sums.{made-append, posts-append}
 use Rattle.fleet_core.proofs.Valid.{posts_within}
 use Rattle.fleet_core.proofs.Blocks.{block_follows, block_others}
@@ -21,7 +20,7 @@ use Rattle.shared_trace.specs.declared.station.Place.{Place}
 use Rattle.shared_trace.specs.declared.station.Place.TheVariants.{Parked, Out}
 use Rattle.shared_trace.specs.declared.station.Station.{Station}
 use Rattle.shared_trace.specs.Next.{next_of}
-use Rattle.shared_trace.specs.Trace.{Traced, IsPlaced, with_block, trace_log}
+use Rattle.shared_trace.specs.Trace.{Traced, HoldsAfter, IsPlaced, with_block, trace_log}
 use Rattle.shared_trace.specs.Job.{Task, IsOf, MayPut}
 use Rattle.shared_trace.specs.Kept.{IsTrace, IsStation, AreEnded, IsTask, IsOnWay, IsJob, places_of}
 use Rattle.shared_trace.proofs.Lists.{set_gives, get-set_other, from_map, map-set, all_weaker}
@@ -32,7 +31,7 @@ use Rattle.shared_trace.proofs.Stepping.{tasked}
 
 -- a job that may be put into a trace
 pub record IsFitting (s : Scenario) (es : List Entry) (stations : List Station) (counts : List ℕ) (w d : ℕ)
-    (front block : List Entry) (x : Device) (known groups : List ℕ) (k : ℕ) (n : Next) : Type 0 where
+    (front block : List Entry) (x : Option Device) (known groups : List ℕ) (k : ℕ) (n : Next) : Type 0 where
   pub trace : IsTrace s es stations counts
   pub task : IsTask s w d front block
   pub way : IsOnWay s d (front ++ block) block x known groups k n
@@ -41,7 +40,7 @@ pub record IsFitting (s : Scenario) (es : List Entry) (stations : List Station) 
   pub posts : (g : ℕ) → posts_of s g front ≤ posts_of s g es
 
 fits_here : (v : Traced) (job : Task) (es : List Entry) (stations : List Station) (counts : List ℕ) (stopped : Bool)
-    (s : Scenario) (w d : ℕ) (front block : List Entry) (x : Device)
+    (s : Scenario) (w d : ℕ) (front block : List Entry) (x : Option Device)
     (known groups : List ℕ) (k : ℕ) (n : Next) → traced s es stations stopped ≡ v
     → tasked s w d front block x false ≡ job → IsTrace s es stations counts
     → IsTask s w d front block → IsOnWay s d (front ++ block) block x known groups k n → MayPut v w job
@@ -62,7 +61,7 @@ fits_here v job es stations counts stopped s w d front block x known groups k n 
     }
 
 pub fitting : (v : Traced) (job : Task) (t : Scenario) (es : List Entry) (stations : List Station) (counts : List ℕ)
-    (stopped : Bool) (s : Scenario) (u w d : ℕ) (front block : List Entry) (x : Device)
+    (stopped : Bool) (s : Scenario) (u w d : ℕ) (front block : List Entry) (x : Option Device)
     (spent : Bool) (known groups : List ℕ) (k : ℕ) (n : Next) → traced t es stations stopped ≡ v
     → tasked s u d front block x spent ≡ job → IsTrace t es stations counts
     → IsJob s u d front block x spent known groups k n → MayPut v w job
@@ -80,7 +79,7 @@ fitting v job t es stations counts stopped s u w d front block x spent known gro
     (subst (λ i. IsOnWay i d (front ++ block) block x known groups k n) subject (inside.ready ready)) may
 
 module _ {s : Scenario} {es : List Entry} {stations : List Station} {counts : List ℕ} {w d : ℕ}
-    {front block : List Entry} {x : Device} {known groups : List ℕ} {k : ℕ} {n : Next}
+    {front block : List Entry} {x : Option Device} {known groups : List ℕ} {k : ℕ} {n : Next}
     (f : IsFitting s es stations counts w d front block x known groups k n) where
   pub own_block : AreOf d block
   own_block = all_weaker (IsOf w d) (λ e. e.device ≡ d) block (λ e h. h.1) f.task.each
@@ -109,7 +108,7 @@ module _ {s : Scenario} {es : List Entry} {stations : List Station} {counts : Li
 
   placed_same : (i : ℕ) (p : Place) → made_by i (es ++ block) ≡ made_by i es → IsPlaced s es i p
       → IsPlaced s (es ++ block) i p
-  placed_same i (Parked y) same h = subst (λ m. ShowsAfter s i m y) (sym same) h
+  placed_same i (Parked y) same h = subst (λ m. HoldsAfter s i m y) (sym same) h
   placed_same i (Out v) same h = subst (λ m. nat_lt m (length (steps_in (slice_get s.rows i))) ≡ true) (sym same) h
 
   put_station : (y z : Station) (i : ℕ) → y.place ≡ Parked x → y.made ≡ k → y.next ≡ n → y.known.items ≡ known
@@ -119,7 +118,7 @@ module _ {s : Scenario} {es : List Entry} {stations : List Station} {counts : Li
       subst (λ j. IsStation s (es ++ block) j z) own
       (subst (IsStation s (es ++ block) d) (set_gives stations d y z
       (subst (λ j. slice_get (set stations d y) j ≡ Some z) (sym own) at)) (record {
-        placed = subst (IsPlaced s (es ++ block) d) (sym place) (subst (λ m. ShowsAfter s d m x) put_made f.way.shows);
+        placed = subst (IsPlaced s (es ++ block) d) (sym place) (subst (λ m. HoldsAfter s d m x) put_made f.way.holds);
         made = made ∙ (f.way.place ∙ put_made);
         next = next ∙ (f.way.next ∙ ap (λ m. next_of (step_at s d m)) put_made);
         known = λ parked. ap length table ∙ f.way.table;

@@ -2,12 +2,7 @@
 use Rattle.std.proofs.Common.{◌≡◌, ℕ, zero, suc, ◌⊎◌, inl, inr, true, List, [], ◌∷◌, ◌++◌, length, replicate, None}
 use Rattle.std.proofs.Common.{Some, slice_get, refl, sym, ap, subst, ◌∙◌}
 use Rattle.std.proofs.lemmas.List.{length-replicate}
-use Rattle.device_template.specs.Template.{Template}
-use Rattle.device_machine.specs.State.{Device, Shows}
-use Rattle.scenario_image.specs.declared.step.Step.{Step}
-use Rattle.scenario_image.specs.Play.{start, IsRowOf}
 use Rattle.scenario_image.specs.Scenario.{Scenario, IsValid}
-use Rattle.fleet_core.specs.Board.{AreStarted}
 use Rattle.trace_file.specs.declared.entry.Entry.{Entry}
 use Rattle.fleet_core.proofs.Board.{zeros}
 use Rattle.shared_trace.specs.declared.station.Place.{Place}
@@ -80,9 +75,3 @@ start_trace s t es stations counts valid same none count all zero_counts =
       posts = λ g. zeros 256 g;
       table = length-replicate {A = ℕ} 256 0;
     })))
-
-pub start_here : (s : Scenario) (devices : List Device) (m n : ℕ) (x : Device) → AreStarted s devices
-    → slice_get devices m ≡ Some x → n ≡ m
-    → (class : Template) (steps : List Step) → IsRowOf s n class steps → Shows x (start class)
-start_here s devices m n x started at same class steps row =
-    started.each m x at class steps (subst (λ i. IsRowOf s i class steps) same row)

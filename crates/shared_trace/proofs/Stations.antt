@@ -1,6 +1,6 @@
 -- What a trace keeps, and what contracts see of it.
 use Rattle.std.proofs.Common.{◌≡◌, ℕ, ◌<◌, ◌≤◌, ◌⊎◌, inl, inr, Bool, true, false, not, List, length, get_or, Some}
-use Rattle.std.proofs.Common.{slice_get, slice_index, refl, sym, ap, subst, ◌∙◌, arith}
+use Rattle.std.proofs.Common.{Option, slice_get, slice_index, refl, sym, ap, subst, ◌∙◌, arith}
 use Rattle.std.proofs.lemmas.List.{length-map}
 use Rattle.std.proofs.lemmas.Option.{slice_get_read}
 use Rattle.std.proofs.lemmas.Bool.{cases_lt, false≢true, false_from_ne_true}
@@ -42,7 +42,8 @@ shared_of v s es stations counts stopped view t = subst IsShared view (shared_is
 
 -- ---- ready devices
 
-ready_parked : (posts : ℕ → ℕ) (p : Place) (n : Next) → is_ready_in posts p n ≡ true → (x : Device) × (p ≡ Parked x)
+ready_parked : (posts : ℕ → ℕ) (p : Place) (n : Next) → is_ready_in posts p n ≡ true → (x : Option Device)
+    × (p ≡ Parked x)
     × (can_go posts n ≡ true)
 ready_parked posts (Parked x) n h = (x, refl, h)
 ready_parked posts (Out w) n h = absurd (false≢true h)

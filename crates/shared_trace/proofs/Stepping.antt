@@ -1,6 +1,6 @@
 -- One step of a job.
 use Rattle.std.proofs.Common.{◌≡◌, ℕ, zero, suc, ◌+◌, ◌<◌, ◌≤◌, eqb, Bool, true, false, ◌⊎◌, inl, inr, List, [], ◌∷◌}
-use Rattle.std.proofs.Common.{◌++◌, length, set, Some, slice_index, refl, sym, ap, subst, ◌∙◌, arith, add-one}
+use Rattle.std.proofs.Common.{◌++◌, length, set, Option, Some, slice_index, refl, sym, ap, subst, ◌∙◌, arith, add-one}
 use Rattle.std.proofs.Common.{get_or-set_same, get_or-set_other}
 use Rattle.std.specs.Prelude.{◌==◌, count_by}
 use Rattle.std.specs.List.{AllByRecursion}
@@ -13,43 +13,44 @@ use Rattle.scenario_image.specs.declared.step.Step.TheVariants.{Event, Post, Nee
 use Rattle.scenario_image.specs.Scenario.{Scenario}
 use Rattle.trace_file.specs.declared.entry.Entry.{Entry}
 use Rattle.fleet_core.specs.Run.{made_by, posts_of, posts_to, is_post, step_at, out_at, is_enabled, entry_of, IsRun}
-use Rattle.fleet_core.specs.Board.{ShowsAfter, posts_after}
+use Rattle.fleet_core.specs.Board.{posts_after}
 use Rattle.fleet_core.proofs.Posts.{one, run_push, enabled_fits, made_same, posts-push}
 use Rattle.fleet_core.proofs.Valid.{posts_within}
 use Rattle.fleet_core.proofs.Taken.{place_below}
 use Rattle.fleet_core.proofs.Ends.{post_group}
 use Rattle.shared_trace.specs.declared.next.Next.{Next}
 use Rattle.shared_trace.specs.Next.{next_of, can_go}
+use Rattle.shared_trace.specs.Trace.{HoldsAfter}
 use Rattle.shared_trace.specs.Job.{Task, IsOf, IsStepped, IsGrown, Advances, seen_by, can_step, entry_next}
 use Rattle.shared_trace.specs.Kept.{IsTask, IsOnWay, IsJob, table_length, groups_in}
 use Rattle.shared_trace.proofs.Lists.{all-push}
 use Rattle.shared_trace.proofs.Nexts.{go_enabled}
 
-abbrev pub tasked : Scenario → ℕ → ℕ → List Entry → List Entry → Device → Bool → Task
+abbrev pub tasked : Scenario → ℕ → ℕ → List Entry → List Entry → Option Device → Bool → Task
 tasked s w d front es x spent =
     record { subject = s; worker = w; device = d; front = front; entries = es; shown = x; spent = spent }
 
 -- a job that may go on
-pub record IsGoing (s : Scenario) (w d : ℕ) (front es : List Entry) (x : Device) (counts groups : List ℕ) (k : ℕ)
+pub record IsGoing (s : Scenario) (w d : ℕ) (front es : List Entry) (x : Option Device) (counts groups : List ℕ) (k : ℕ)
     (n : Next) : Type 0 where
   pub task : IsTask s w d front es
   pub way : IsOnWay s d (front ++ es) es x counts groups k n
 
-pub going : (v : Task) (s : Scenario) (w d : ℕ) (front es : List Entry) (x : Device) (spent : Bool)
+pub going : (v : Task) (s : Scenario) (w d : ℕ) (front es : List Entry) (x : Option Device) (spent : Bool)
     (counts groups : List ℕ) (k : ℕ) (n : Next) → tasked s w d front es x spent ≡ v
     → IsJob s w d front es x spent counts groups k n → v.spent ≡ false → IsGoing s w d front es x counts groups k n
 going v s w d front es x spent counts groups k n view job ready =
     record { task = job.task; way = job.ready (ap (λ t. t.spent) view ∙ ready) }
 
 -- whether it can step
-pub goes : (v : Task) (s : Scenario) (w d : ℕ) (front es : List Entry) (x : Device) (spent : Bool)
+pub goes : (v : Task) (s : Scenario) (w d : ℕ) (front es : List Entry) (x : Option Device) (spent : Bool)
     (counts groups l : List ℕ) (k : ℕ) (n : Next) (b : Bool) → tasked s w d front es x spent ≡ v
     → IsGoing s w d front es x counts groups k n → l ≡ counts → b ≡ can_go (λ g. slice_index l g) n → can_step v ≡ b
 goes v s w d front es x spent counts groups l k n b view g same is =
     sym (is ∙ (ap (λ m. can_go (λ i. slice_index m i) n) same
     ∙ (go_enabled s (front ++ es) d (λ i. slice_index counts i) n g.way.known g.way.next ∙ ap can_step view)))
 
-pub able_here : (s : Scenario) (w d : ℕ) (front es : List Entry) (x : Device) (counts groups l : List ℕ) (k : ℕ)
+pub able_here : (s : Scenario) (w d : ℕ) (front es : List Entry) (x : Option Device) (counts groups l : List ℕ) (k : ℕ)
     (n : Next) (b : Bool)
     → IsGoing s w d front es x counts groups k n → l ≡ counts → b ≡ can_go (λ g. slice_index l g) n
     → is_enabled s (front ++ es) d ≡ b
@@ -57,33 +58,33 @@ able_here s w d front es x counts groups l k n b g same is =
     sym (is ∙ (ap (λ m. can_go (λ i. slice_index m i) n) same
     ∙ go_enabled s (front ++ es) d (λ i. slice_index counts i) n g.way.known g.way.next))
 
-pub shows_here : (v : Task) (s : Scenario) (w d : ℕ) (front es : List Entry) (x : Device) (spent : Bool)
+pub holds_here : (v : Task) (s : Scenario) (w d : ℕ) (front es : List Entry) (x : Option Device) (spent : Bool)
     (counts groups : List ℕ) (k : ℕ) (n : Next) (scenario : Scenario) → tasked s w d front es x spent ≡ v
-    → IsGoing s w d front es x counts groups k n → scenario ≡ v.subject → ShowsAfter scenario d k x
-shows_here v s w d front es x spent counts groups k n scenario view g same =
-    subst (λ t. ShowsAfter t d k x) (ap (λ t. t.subject) view ∙ sym same)
-    (subst (λ m. ShowsAfter s d m x) (sym g.way.place) g.way.shows)
+    → IsGoing s w d front es x counts groups k n → scenario ≡ v.subject → HoldsAfter scenario d k x
+holds_here v s w d front es x spent counts groups k n scenario view g same =
+    subst (λ t. HoldsAfter t d k x) (ap (λ t. t.subject) view ∙ sym same)
+    (subst (λ m. HoldsAfter s d m x) (sym g.way.place) g.way.holds)
 
 -- the step that comes next
-pub step_here : (v : Task) (s : Scenario) (w d : ℕ) (front es : List Entry) (x : Device) (spent : Bool)
+pub step_here : (v : Task) (s : Scenario) (w d : ℕ) (front es : List Entry) (x : Option Device) (spent : Bool)
     (scenario : Scenario) (k : ℕ) (step : Step) → tasked s w d front es x spent ≡ v
     → scenario ≡ v.subject → Some step ≡ step_at scenario d k → step_at s d k ≡ Some step
 step_here v s w d front es x spent scenario k step view same at =
     subst (λ t. step_at t d k ≡ Some step) (same ∙ sym (ap (λ t. t.subject) view)) (sym at)
 
-pub post_within : (s : Scenario) (w d : ℕ) (front es : List Entry) (x : Device) (counts groups : List ℕ) (k : ℕ)
+pub post_within : (s : Scenario) (w d : ℕ) (front es : List Entry) (x : Option Device) (counts groups : List ℕ) (k : ℕ)
     (n : Next) (step : Step) → IsGoing s w d front es x counts groups k n
     → step_at s d k ≡ Some step → (group : ℕ) → step ≡ Post group → group < length counts
 post_within s w d front es x counts groups k n step g at group is =
     omega (arith, post_group s d k group g.task.valid (at ∙ ap Some is), g.way.table)
 
-pub table_room : (s : Scenario) (w d : ℕ) (front es : List Entry) (x : Device) (counts groups : List ℕ) (k : ℕ)
+pub table_room : (s : Scenario) (w d : ℕ) (front es : List Entry) (x : Option Device) (counts groups : List ℕ) (k : ℕ)
     (n : Next) → IsGoing s w d front es x counts groups k n
     → (g : ℕ) → slice_index counts g + 1 < 4294967296
 table_room s w d front es x counts groups k n job g =
     omega (arith, job.way.known g, posts_within s g (front ++ es) job.task.valid job.task.run)
 
-pub place_room : (s : Scenario) (w d : ℕ) (front es : List Entry) (x : Device) (counts groups : List ℕ) (k : ℕ)
+pub place_room : (s : Scenario) (w d : ℕ) (front es : List Entry) (x : Option Device) (counts groups : List ℕ) (k : ℕ)
     (n : Next) (step : Step) → IsGoing s w d front es x counts groups k n
     → step_at s d k ≡ Some step → k + 1 < 4294967296
 place_room s w d front es x counts groups k n step g at = omega (arith, place_below s d k step g.task.valid at)
@@ -130,16 +131,17 @@ grouped_within groups (Need group count) n all within =
 
 -- a step of a job, and what came of it
 pub record IsMade (s : Scenario) (w d : ℕ) (front es : List Entry) (counts groups : List ℕ) (k : ℕ) (step : Step)
-    (e : Entry) (y : Device) (after more : List ℕ) (m : Next) : Type 0 where
+    (e : Entry) (y : Option Device) (after more : List ℕ) (m : Next) : Type 0 where
   pub at : step_at s d k ≡ Some step
   pub able : is_enabled s (front ++ es) d ≡ true
   pub entry : e ≡ record { worker = w; device = d; step = k; outputs = out_at s d k }
-  pub shows : ShowsAfter s d (k + 1) y
+  pub holds : HoldsAfter s d (k + 1) y
   pub known : after ≡ posts_after counts step
   pub posted : more ≡ groups ++ groups_in step
   pub next : m ≡ next_of (step_at s d (k + 1))
 
-made_entry : (s : Scenario) (w d : ℕ) (front es : List Entry) (x y : Device) (counts groups after more : List ℕ) (k : ℕ)
+made_entry : (s : Scenario) (w d : ℕ) (front es : List Entry) (x y : Option Device) (counts groups after more : List ℕ)
+    (k : ℕ)
     (n m : Next) (step : Step) (e : Entry)
     → IsGoing s w d front es x counts groups k n → IsMade s w d front es counts groups k step e y after more m
     → e ≡ entry_of s w d (front ++ es)
@@ -158,18 +160,19 @@ made_task s w d front es e task able is =
       began = task.began;
     })
 
-made_way : (s : Scenario) (w d : ℕ) (seen es : List Entry) (x y : Device) (counts groups after more : List ℕ) (k : ℕ)
+made_way : (s : Scenario) (w d : ℕ) (seen es : List Entry) (x y : Option Device) (counts groups after more : List ℕ)
+    (k : ℕ)
     (n m : Next) (step : Step) → IsOnWay s d seen es x counts groups k n
-    → step_at s d k ≡ Some step → ((group : ℕ) → step ≡ Post group → group < table_length s) → ShowsAfter s d (k + 1) y
+    → step_at s d k ≡ Some step → ((group : ℕ) → step ≡ Post group → group < table_length s) → HoldsAfter s d (k + 1) y
     → after ≡ posts_after counts step → more ≡ groups ++ groups_in step
     → m ≡ next_of (step_at s d (k + 1))
     → IsOnWay s d (seen ++ entry_of s w d seen ∷ []) (es ++ entry_of s w d seen ∷ []) y after more (k + 1) m
-made_way s w d seen es x y counts groups after more k n m step way at within shows known posted next =
+made_way s w d seen es x y counts groups after more k n m step way at within holds known posted next =
     let e = entry_of s w d seen in
     let count : k + 1 ≡ made_by d (seen ++ e ∷ []) = add-one k ∙ (ap suc way.place ∙ sym (made_same d seen e refl)) in
     let here : step_at s d (made_by d seen) ≡ Some step = subst (λ i. step_at s d i ≡ Some step) way.place at in
     record {
-      shows = subst (λ i. ShowsAfter s d i y) count shows;
+      holds = subst (λ i. HoldsAfter s d i y) count holds;
       known = λ g.
           ap (λ l. slice_index l g) known
           ∙ (counted counts step g (λ group is. omega (arith, within group is, way.table))
@@ -187,7 +190,8 @@ made_way s w d seen es x y counts groups after more k n m step way at within sho
       next = next ∙ ap (λ i. next_of (step_at s d i)) count;
     }
 
-pub made_job : (s : Scenario) (w d : ℕ) (front es new : List Entry) (x y : Device) (counts groups after more : List ℕ)
+pub made_job : (s : Scenario) (w d : ℕ) (front es new : List Entry) (x y : Option Device)
+    (counts groups after more : List ℕ)
     (k : ℕ) (n m : Next) (step : Step) (e : Entry)
     → IsGoing s w d front es x counts groups k n → IsMade s w d front es counts groups k step e y after more m
     → new ≡ es ++ e ∷ []
@@ -200,11 +204,11 @@ made_job s w d front es new x y counts groups after more k n m step e g made is 
       ready = λ r. subst (λ l. IsOnWay s d l (es ++ entry_of s w d (front ++ es) ∷ []) y after more (k + 1) m)
           (append_assoc front es (entry_of s w d (front ++ es) ∷ []))
           (made_way s w d (front ++ es) es x y counts groups after more k n m step g.way made.at
-          (λ group at. post_group s d k group g.task.valid (made.at ∙ ap Some at)) made.shows made.known made.posted
+          (λ group at. post_group s d k group g.task.valid (made.at ∙ ap Some at)) made.holds made.known made.posted
           made.next);
     })
 
-pub made_step : (v : Task) (s : Scenario) (w d : ℕ) (front es new : List Entry) (x y : Device) (spent : Bool)
+pub made_step : (v : Task) (s : Scenario) (w d : ℕ) (front es new : List Entry) (x y : Option Device) (spent : Bool)
     (counts groups after more : List ℕ) (k : ℕ) (n m : Next) (step : Step) (e : Entry)
     → tasked s w d front es x spent ≡ v → IsGoing s w d front es x counts groups k n
     → IsMade s w d front es counts groups k step e y after more m → new ≡ es ++ e ∷ []

@@ -1,5 +1,5 @@
 -- What a trace and a job keep beside what contracts see.
-use Rattle.std.specs.Prelude.{◌≡◌, ℕ, ◌<◌, ◌≤◌, ◌==◌, ◌⊎◌, Bool, true, false, List, [], ◌∷◌, ◌++◌, length, map}
+use Rattle.std.specs.Prelude.{◌≡◌, ℕ, ◌<◌, ◌≤◌, ◌==◌, ◌⊎◌, Bool, true, false, Option, List, [], ◌∷◌, ◌++◌, length, map}
 use Rattle.std.specs.Prelude.{count_by, Some}
 use Rattle.std.specs.Prelude.{slice_get, slice_index}
 use Rattle.std.specs.List.{AllByRecursion}
@@ -9,13 +9,12 @@ use Rattle.scenario_image.specs.declared.step.Step.TheVariants.{Event, Post, Nee
 use Rattle.scenario_image.specs.Scenario.{Scenario, IsValid}
 use Rattle.trace_file.specs.declared.entry.Entry.{Entry}
 use Rattle.fleet_core.specs.Run.{made_by, posts_of, step_at, is_enabled, IsRun}
-use Rattle.fleet_core.specs.Board.{ShowsAfter}
 use Rattle.shared_trace.specs.declared.next.Next.{Next}
 use Rattle.shared_trace.specs.declared.station.Place.{Place}
 use Rattle.shared_trace.specs.declared.station.Place.TheVariants.{Parked, Out}
 use Rattle.shared_trace.specs.declared.station.Station.{Station}
 use Rattle.shared_trace.specs.Next.{next_of, can_go, is_end}
-use Rattle.shared_trace.specs.Trace.{IsPlaced}
+use Rattle.shared_trace.specs.Trace.{HoldsAfter, IsPlaced}
 use Rattle.shared_trace.specs.Job.{IsOf}
 
 -- how long the tables of posts are: there is a place for each group that is posted to
@@ -88,13 +87,13 @@ pub record IsTask (s : Scenario) (worker d : ℕ) (front es : List Entry) : Type
   pub each : AllByRecursion (IsOf worker d) es
   pub began : is_enabled s front d ≡ true
 
--- what a job keeps until memory runs out, by the entries that it knows, those at its claim and its own: the device
--- shows the state after its steps; the table counts the posts; and the job has the groups of its own posts, the
+-- what a job keeps until memory runs out, by the entries that it knows, those at its claim and its own: the device is
+-- what is held after its steps; the table counts the posts; and the job has the groups of its own posts, the
 -- device's place in its row, and what the next step asks for
-pub record IsOnWay (s : Scenario) (d : ℕ) (seen es : List Entry) (x : Device) (counts groups : List ℕ) (k : ℕ)
+pub record IsOnWay (s : Scenario) (d : ℕ) (seen es : List Entry) (x : Option Device) (counts groups : List ℕ) (k : ℕ)
     (n : Next)
     : Type 0 where
-  pub shows : ShowsAfter s d (made_by d seen) x
+  pub holds : HoldsAfter s d (made_by d seen) x
   pub known : (g : ℕ) → slice_index counts g ≡ posts_of s g seen
   pub table : length counts ≡ table_length s
   pub posted : (g : ℕ) → count_by (λ h. h == g) groups ≡ posts_of s g es
@@ -102,7 +101,7 @@ pub record IsOnWay (s : Scenario) (d : ℕ) (seen es : List Entry) (x : Device) 
   pub place : k ≡ made_by d seen
   pub next : n ≡ next_of (step_at s d (made_by d seen))
 
-pub record IsJob (s : Scenario) (worker d : ℕ) (front es : List Entry) (x : Device) (spent : Bool)
+pub record IsJob (s : Scenario) (worker d : ℕ) (front es : List Entry) (x : Option Device) (spent : Bool)
     (known posted : List ℕ)
     (place : ℕ) (next : Next) : Type 0 where
   pub task : IsTask s worker d front es

@@ -1,10 +1,10 @@
 -- What contracts see of a trace, and how a lock reads it.
-use Rattle.std.specs.Prelude.{◌≡◌, ℕ, ◌+◌, ◌==◌, Bool, true, false, if◌then◌else◌, List, [], ◌∷◌, ◌++◌, length, Some}
-use Rattle.std.specs.Prelude.{slice_get, slice_set}
+use Rattle.std.specs.Prelude.{◌≡◌, ℕ, ◌+◌, ◌==◌, ◌⊎◌, Bool, true, false, if◌then◌else◌, List, [], ◌∷◌, ◌++◌, length}
+use Rattle.std.specs.Prelude.{Option, None, Some, slice_get, slice_set}
 use Rattle.device_machine.specs.State.{Device}
 use Rattle.scenario_image.specs.Scenario.{Scenario, IsValid}
 use Rattle.trace_file.specs.declared.entry.Entry.{Entry}
-use Rattle.fleet_core.specs.Run.{made_by, is_enabled, IsRun}
+use Rattle.fleet_core.specs.Run.{made_by, step_at, is_enabled, IsRun}
 use Rattle.fleet_core.specs.Waiting.{is_waiting}
 use Rattle.fleet_core.specs.Board.{ShowsAfter}
 use Rattle.ticket_lock.specs.Log.{Reading}
@@ -18,9 +18,15 @@ pub record Traced : Type 0 where
   pub places : List Place
   pub stopped : Bool
 
--- a parked device shows the state after the steps that it has made; one that is out has a step left
+-- what is held of device d after the first k steps of its row: the device, which shows the state then; or none, where
+-- it has made no step, or each
+abbrev pub HoldsAfter : Scenario → ℕ → ℕ → Option Device → Type 0
+HoldsAfter s d k (Some x) = ShowsAfter s d k x
+HoldsAfter s d k None = (k ≡ 0) ⊎ (step_at s d k ≡ None)
+
+-- of a parked device there is what is held after the steps that it has made; one that is out has a step left
 abbrev pub IsPlaced : Scenario → List Entry → ℕ → Place → Type 0
-IsPlaced s es d (Parked x) = ShowsAfter s d (made_by d es) x
+IsPlaced s es d (Parked x) = HoldsAfter s d (made_by d es) x
 IsPlaced s es d (Out worker) = is_waiting s es d ≡ true
 
 -- the entries are a run of the scenario, and each device has its place
@@ -32,7 +38,7 @@ pub record IsShared (t : Traced) : Type 0 where
 
 -- the device is parked, and an entry of it may come next
 pub record IsReady (t : Traced) (d : ℕ) : Type 0 where
-  pub shown : Device
+  pub shown : Option Device
   pub parked : slice_get t.places d ≡ Some (Parked shown)
   pub enabled : is_enabled t.subject t.entries d ≡ true
 
@@ -44,7 +50,7 @@ with_out t d worker =
     record { subject = t.subject; entries = t.entries; places = slice_set t.places d (Out worker); stopped = t.stopped }
 
 -- the device is parked, after these entries more
-abbrev pub with_block : Traced → ℕ → Device → List Entry → Traced
+abbrev pub with_block : Traced → ℕ → Option Device → List Entry → Traced
 with_block t d x block = record {
   subject = t.subject;
   entries = t.entries ++ block;

@@ -8,11 +8,12 @@ ghost use Rattle.ticket_lock.specs.Names.{pass_view, lowest_work};
 ghost use Rattle.shared_trace.specs.Job.{Task, IsOf, StandsIn, IsSameJob, Advances, Steps, seen_by};
 ghost use Rattle.shared_trace.specs.Kept.{IsJob, table_length};
 
+use crate::held::{let_go_at_end, step_held};
 use crate::next::{Next, can_go, next_of};
 use crate::tables::note;
 use crate::trace::Trace;
 use device_machine::Device;
-use fleet_core::{make_step, step_of};
+use fleet_core::step_of;
 use scenario_image::Scenario;
 use std::alloc::{AllocError, Global};
 use std::marker::Model;
@@ -22,7 +23,7 @@ use trace_file::Entry;
 
 /// A device that is out with a worker, and the entries that it has made since. It has to be put into its trace again,
 /// or given up. Contracts see the scenario, the worker, the device, the trace's entries at the claim, the job's own,
-/// what the device shows, and whether memory ran out.
+/// what is held of the device, and whether memory ran out.
 pub struct Job {
     pub(crate) alloc: Global,
     pub(crate) claimed: Snapshot<Trace>,
@@ -32,7 +33,7 @@ pub struct Job {
     pub(crate) known: Vec<u32>,
     pub(crate) posted: Vec<u8>,
     pub(crate) entries: Vec<Entry>,
-    pub(crate) machine: Device,
+    pub(crate) held: Option<Device>,
     pub(crate) next: Next,
     pub(crate) spent: bool,
 }
@@ -54,12 +55,12 @@ impl Model for Job {
       device = j.device;
       front = j.claimed.value.entries;
       entries = j.entries.items;
-      shown = j.machine;
+      shown = j.held;
       spent = j.spent;
     } };
 
     ghost invariant = { λ j. IsJob j.claimed.value.subject j.worker j.device j.claimed.value.entries j.entries.items
-        j.machine j.spent j.known.items j.posted.items j.place j.next };
+        j.held j.spent j.known.items j.posted.items j.place j.next };
 }
 
 /// Why a job makes no more steps.
@@ -99,14 +100,14 @@ impl Job {
             known,
             posted,
             entries,
-            machine,
+            held,
             next: _,
             spent: _,
         } = self;
         drop(known);
         drop(posted);
         drop(entries);
-        drop(machine);
+        drop(held);
     }
 
     /// Makes the device's next step, if it can step by the posts that the job knows. Without memory the job is spent.
@@ -125,10 +126,10 @@ impl Job {
             unreachable!()
         };
         self.spent = true;
-        let outputs = make_step(
+        let outputs = step_held(
             self.alloc,
             scenario,
-            &mut self.machine,
+            &mut self.held,
             self.device,
             self.place,
             step,
@@ -142,6 +143,7 @@ impl Job {
         })?;
         self.place += 1;
         self.next = next_of(step_of(scenario, self.device, self.place));
+        let_go_at_end(&mut self.held, self.next);
         self.spent = false;
         Ok(true)
     }

@@ -4,6 +4,7 @@
 #![tactic(auto)]
 
 mod claims;
+mod held;
 mod job;
 mod next;
 mod start;

@@ -14,8 +14,8 @@ use std::mem;
 /// Where a device is.
 #[derive(Drop)]
 pub enum Place {
-    /// In the trace, until a worker claims it.
-    Parked(Device),
+    /// In the trace, until a worker claims it. A device that has made no step, or each of its row, may be none.
+    Parked(Option<Device>),
     /// With the worker of this number.
     Out(u16),
 }
@@ -65,7 +65,7 @@ impl Station {
     }
 
     /// Hands out the device and the table. The device is then out under the worker.
-    pub(crate) fn hand_out(&mut self, alloc: Global, worker: u16) -> (Device, Vec<u32>)
+    pub(crate) fn hand_out(&mut self, alloc: Global, worker: u16) -> (Option<Device>, Vec<u32>)
         requires { is_parked self.old.place ≡ true }
         ensures device { self.old.place ≡ Parked result.0 }
         ensures table { result.1.items ≡ self.old.known.items }

@@ -4,7 +4,6 @@ ghost use Rattle.std.specs.Prelude.{◌≡◌, ℕ, ◌<◌, ◌≤◌, [], true
 ghost use Rattle.std.specs.Prelude.{IfErr, OnOk, OnErr};
 ghost use Rattle.fleet_core.specs.Run.{IsRun, made_by, is_enabled};
 ghost use Rattle.fleet_core.specs.Waiting.{is_waiting};
-ghost use Rattle.fleet_core.specs.Board.{ShowsAfter, AreStarted};
 ghost use Rattle.ticket_lock.specs.Log.{Adds};
 ghost use Rattle.shared_trace.specs.declared.station.Place.TheVariants.{Parked, Out};
 ghost use Rattle.shared_trace.specs.Trace.{Traced, IsShared, IsReady, with_out, with_block, stopped_of, open_by};
@@ -81,8 +80,9 @@ impl Logged for Trace {
 }
 
 impl Trace {
-    /// The trace of a scenario: no entries, and each device parked at the start of its row. The memory for the entries of
-    /// all steps is allocated here, so that no put moves those that stand.
+    /// The trace of a scenario: no entries, and each device parked at the start of its row. A device is started by the
+    /// job that makes its first step. The memory for the entries of all steps is allocated here, so that no put moves
+    /// those that stand.
     pub fn new(alloc: Global, scenario: &Scenario) -> Result<Trace, AllocError>
         ensures subject { IfOk result (λ t. t.subject ≡ scenario.now) }
         ensures entries { IfOk result (λ t. t.entries ≡ []) }
@@ -192,7 +192,7 @@ impl Trace {
         let alloc = self.alloc;
         let station = &mut self.stations[usize::from(device)];
         let (place, next) = (station.made, station.next);
-        let (machine, mut known) = station.hand_out(alloc, worker);
+        let (held, mut known) = station.hand_out(alloc, worker);
         known.copy_from_slice(self.posts.as_slice());
         self.last = usize::from(device);
         Job {
@@ -204,7 +204,7 @@ impl Trace {
             known,
             posted: Vec::new(alloc),
             entries: Vec::new(alloc),
-            machine,
+            held,
             next,
             spent: false,
         }
@@ -244,7 +244,7 @@ impl Trace {
             known,
             posted,
             mut entries,
-            machine,
+            held,
             next,
             spent,
         } = job;
@@ -260,7 +260,7 @@ impl Trace {
                     known,
                     posted,
                     entries,
-                    machine,
+                    held,
                     next,
                     spent,
                 };
@@ -270,7 +270,7 @@ impl Trace {
         add_posts(&mut self.posts, posted.as_slice());
         self.first = look_from(self.first, self.low, device, posted.as_slice());
         self.stations[usize::from(device)] = Station {
-            place: Place::Parked(machine),
+            place: Place::Parked(held),
             made: place,
             next,
             known,

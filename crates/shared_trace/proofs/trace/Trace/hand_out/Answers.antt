@@ -22,8 +22,8 @@ copy_from_slice-requires c =
     c.requires.ready.shown (hand c) in
     omega (
       arith,
-      c.hand_out-machine.result.1.ok.0,
-      ap length c.hand_out-machine.ensures.table,
+      c.hand_out-held.result.1.ok.0,
+      ap length c.hand_out-held.ensures.table,
       t,
       ap length c.as_slice.ensures.value,
     )
@@ -41,15 +41,15 @@ pub invariant_of-self : goal.invariant_of-self
 invariant_of-self c = (
   out_trace c.self.inside.subject.value c.self.inside.entries.items c.self.inside.stations.items
       c.self.inside.posts.items c.args.device c.args.worker c.from.result
-      c.index_mut-station.result.now c.hand_out-machine.new.self c.requires.ready.shown
-      (then c) c.from.ensures c.hand_out-machine.ensures.place
-      c.hand_out-machine.ensures.kept.0 c.hand_out-machine.ensures.kept.1,
+      c.index_mut-station.result.now c.hand_out-held.new.self c.requires.ready.shown
+      (then c) c.from.ensures c.hand_out-held.ensures.place
+      c.hand_out-held.ensures.kept.0 c.hand_out-held.ensures.kept.1,
   out_ended c.self.inside.subject.value c.self.inside.entries.items c.self.inside.stations.items
       c.self.inside.posts.items c.self.inside.low c.args.device c.from.result
-      c.index_mut-station.result.now c.hand_out-machine.new.self c.requires.ready.shown
+      c.index_mut-station.result.now c.hand_out-held.new.self c.requires.ready.shown
       (then c) c.from.ensures c.self.invariant.1,
   out_idle (λ g. slice_index c.self.inside.posts.items g) c.self.inside.stations.items c.self.inside.first
-      c.from.result c.args.worker c.hand_out-machine.new.self c.hand_out-machine.ensures.place c.self.invariant.2,
+      c.from.result c.args.worker c.hand_out-held.new.self c.hand_out-held.ensures.place c.self.invariant.2,
 )
 
 pub invariant_of-result : goal.invariant_of-result
@@ -57,16 +57,16 @@ invariant_of-result c =
     fresh_job c.args.self.now c.of-claimed.result.value c.self.inside.subject.value c.self.inside.entries.items
     c.new-2.result.items c.self.inside.stations.items c.self.inside.posts.items
     c.copy_from_slice.new.self.items c.new.result.items c.self.inside.stopped c.args.device c.args.worker
-    c.index_mut-station.result.now c.requires.ready.shown c.hand_out-machine.result.0
-    c.self.view_is c.of-claimed.ensures (then c) c.hand_out-machine.ensures.device
+    c.index_mut-station.result.now c.requires.ready.shown c.hand_out-held.result.0
+    c.self.view_is c.of-claimed.ensures (then c) c.hand_out-held.ensures.device
     (c.copy_from_slice.ensures.items ∙ c.as_slice.ensures.value) c.new.ensures.items c.new-2.ensures.items
 
 pub returns-clause-taken : goal.returns-clause-taken
 returns-clause-taken c = record {
   parked = parked_now c.args.self.now c.self.inside.subject.value c.self.inside.entries.items
       c.self.inside.stations.items c.self.inside.posts.items c.self.inside.stopped
-      c.args.device c.index_mut-station.result.now c.requires.ready.shown c.hand_out-machine.result.0 c.self.view_is
-      (then c) c.hand_out-machine.ensures.device;
+      c.args.device c.index_mut-station.result.now c.requires.ready.shown c.hand_out-held.result.0 c.self.view_is
+      (then c) c.hand_out-held.ensures.device;
   enabled = c.requires.ready.enabled;
   subject = ap (λ t. t.subject) c.of-claimed.ensures;
   worker = refl;
@@ -75,12 +75,12 @@ returns-clause-taken c = record {
   ready = refl;
   shows = shows_now c.args.self.now c.self.inside.subject.value c.self.inside.entries.items c.self.inside.stations.items
       c.self.inside.posts.items c.self.inside.stopped
-      c.args.device c.index_mut-station.result.now c.requires.ready.shown c.hand_out-machine.result.0 c.self.view_is
-      (then c) c.hand_out-machine.ensures.device;
+      c.args.device c.index_mut-station.result.now c.requires.ready.shown c.hand_out-held.result.0 c.self.view_is
+      (then c) c.hand_out-held.ensures.device;
   left = out_view c.args.self.now c.self.inside.subject.value c.self.inside.entries.items c.self.inside.stations.items
       c.self.inside.stopped
-      c.args.device c.args.worker c.from.result c.hand_out-machine.new.self c.self.view_is c.from.ensures
-      c.hand_out-machine.ensures.place;
+      c.args.device c.args.worker c.from.result c.hand_out-held.new.self c.self.view_is c.from.ensures
+      c.hand_out-held.ensures.place;
 }
 
 pub returns-clause-shared : goal.returns-clause-shared
@@ -91,8 +91,8 @@ returns-clause-adds c =
     out_adds c.args.self.now _ c.args.device c.args.worker c.requires.ready.shown c.requires.ready.parked
     (out_view c.args.self.now c.self.inside.subject.value c.self.inside.entries.items c.self.inside.stations.items
     c.self.inside.stopped
-    c.args.device c.args.worker c.from.result c.hand_out-machine.new.self c.self.view_is c.from.ensures
-    c.hand_out-machine.ensures.place)
+    c.args.device c.args.worker c.from.result c.hand_out-held.new.self c.self.view_is c.from.ensures
+    c.hand_out-held.ensures.place)
 
 pub returns-clause-stands : goal.returns-clause-stands
 returns-clause-stands c =
@@ -100,5 +100,5 @@ returns-clause-stands c =
     c.requires.ready.parked
     (out_view c.args.self.now c.self.inside.subject.value c.self.inside.entries.items c.self.inside.stations.items
     c.self.inside.stopped
-    c.args.device c.args.worker c.from.result c.hand_out-machine.new.self c.self.view_is c.from.ensures
-    c.hand_out-machine.ensures.place) c.of-claimed.ensures
+    c.args.device c.args.worker c.from.result c.hand_out-held.new.self c.self.view_is c.from.ensures
+    c.hand_out-held.ensures.place) c.of-claimed.ensures

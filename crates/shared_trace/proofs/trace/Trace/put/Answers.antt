@@ -20,13 +20,13 @@ returns-in-Err-clause-shared c =
 fits : (c : goal.After-as_slice)
     → IsFitting c.self.inside.subject.value c.self.inside.entries.items c.self.inside.stations.items
     c.self.inside.posts.items c.args.worker c.job.inside.device c.job.inside.claimed.value.entries
-    c.job.inside.entries.items c.job.inside.machine c.job.inside.known.items c.job.inside.posted.items
+    c.job.inside.entries.items c.job.inside.held c.job.inside.known.items c.job.inside.posted.items
     c.job.inside.place c.job.inside.next
 fits c =
     fitting c.args.self.now c.args.job c.self.inside.subject.value c.self.inside.entries.items
     c.self.inside.stations.items c.self.inside.posts.items c.self.inside.stopped c.job.inside.claimed.value.subject
     c.job.inside.worker c.args.worker c.job.inside.device c.job.inside.claimed.value.entries
-    c.job.inside.entries.items c.job.inside.machine c.job.inside.spent c.job.inside.known.items
+    c.job.inside.entries.items c.job.inside.held c.job.inside.spent c.job.inside.known.items
     c.job.inside.posted.items c.job.inside.place c.job.inside.next
     c.self.view_is c.job.view_is c.self.invariant.0 c.job.invariant c.requires
 
@@ -45,7 +45,7 @@ index_mut-requires c =
     let h = put_place (fitting c.args.self.now c.args.job c.self.inside.subject.value c.self.inside.entries.items
     c.self.inside.stations.items c.self.inside.posts.items c.self.inside.stopped c.job.inside.claimed.value.subject
     c.job.inside.worker c.args.worker c.job.inside.device c.job.inside.claimed.value.entries
-    c.job.inside.entries.items c.job.inside.machine c.job.inside.spent c.job.inside.known.items
+    c.job.inside.entries.items c.job.inside.held c.job.inside.spent c.job.inside.known.items
     c.job.inside.posted.items c.job.inside.place c.job.inside.next
     c.self.view_is c.job.view_is c.self.invariant.0 c.job.invariant c.requires) in
     omega (arith, h, c.from.ensures, c.self.inside.stations.ok.0)
@@ -53,26 +53,26 @@ index_mut-requires c =
 then : (c : goal.After-drop-claimed)
     → IsFitting c.self.inside.subject.value c.self.inside.entries.items c.self.inside.stations.items
     c.self.inside.posts.items c.args.worker c.job.inside.device c.job.inside.claimed.value.entries
-    c.job.inside.entries.items c.job.inside.machine c.job.inside.known.items c.job.inside.posted.items
+    c.job.inside.entries.items c.job.inside.held c.job.inside.known.items c.job.inside.posted.items
     c.job.inside.place c.job.inside.next
 then c =
     fitting c.args.self.now c.args.job c.self.inside.subject.value c.self.inside.entries.items
     c.self.inside.stations.items c.self.inside.posts.items c.self.inside.stopped c.job.inside.claimed.value.subject
     c.job.inside.worker c.args.worker c.job.inside.device c.job.inside.claimed.value.entries
-    c.job.inside.entries.items c.job.inside.machine c.job.inside.spent c.job.inside.known.items
+    c.job.inside.entries.items c.job.inside.held c.job.inside.spent c.job.inside.known.items
     c.job.inside.posted.items c.job.inside.place c.job.inside.next
     c.self.view_is c.job.view_is c.self.invariant.0 c.job.invariant c.requires
 
 ended : (c : goal.After-drop-claimed)
     → AreEnded (set c.self.inside.stations.items c.from.result (record {
-      place = Parked c.job.inside.machine;
+      place = Parked c.job.inside.held;
       made = c.job.inside.place;
       next = c.job.inside.next;
       known = c.job.inside.known;
     })) c.self.inside.low
 ended c =
     put_ended (then c) (record {
-      place = Parked c.job.inside.machine;
+      place = Parked c.job.inside.held;
       made = c.job.inside.place;
       next = c.job.inside.next;
       known = c.job.inside.known;
@@ -81,7 +81,7 @@ ended c =
 pub invariant_of-self-2 : goal.invariant_of-self-2
 invariant_of-self-2 c = (
   put_trace (then c) (record {
-    place = Parked c.job.inside.machine;
+    place = Parked c.job.inside.held;
     made = c.job.inside.place;
     next =
         c.job.inside.next;
@@ -95,7 +95,7 @@ invariant_of-self-2 c = (
   put_idle (λ g. slice_index c.self.inside.posts.items g) (λ g. slice_index c.add_posts.new.posts.items g)
       c.self.inside.stations.items c.self.inside.first c.self.inside.low c.job.inside.device c.from.result
       c.look_from-self-inside.result c.job.inside.posted.items (record {
-        place = Parked c.job.inside.machine;
+        place = Parked c.job.inside.held;
         made = c.job.inside.place;
         next = c.job.inside.next;
         known = c.job.inside.known;
@@ -110,7 +110,7 @@ pub returns-clause-put : goal.returns-clause-put
 returns-clause-put c =
     put_view (then c) c.args.self.now c.self.inside.stopped
     (record {
-      place = Parked c.job.inside.machine;
+      place = Parked c.job.inside.held;
       made = c.job.inside.place;
       next = c.job.inside.next;
       known =
@@ -124,7 +124,7 @@ returns-clause-adds c =
     put_adds (then c) c.args.self.now _ c.self.inside.stopped c.self.view_is
     (put_view (then c) c.args.self.now c.self.inside.stopped
     (record {
-      place = Parked c.job.inside.machine;
+      place = Parked c.job.inside.held;
       made = c.job.inside.place;
       next = c.job.inside.next;
       known =
