@@ -18,7 +18,7 @@ use std::time::Duration;
 const LOOKS: u32 = 2000;
 
 /// For how many microseconds it then sleeps before it looks again.
-const NAP: u64 = 200;
+const NAP: u64 = 50;
 
 /// A value, and the order in which passes take it.
 #[derive(Drop)]
