@@ -8,27 +8,27 @@ ghost use Rattle.device_requests.specs.Answer.{takes_memory};
 ghost use Rattle.device_requests.specs.Outcomes.{read_answer};
 ghost use Rattle.device_requests.specs.Read.{object_payload, one_payload, payload_in, values_payload};
 ghost use Rattle.device_requests.specs.Refusals.{can_be_read};
+ghost use Rattle.device_requests.specs.Targets.{definition_at};
 
 use crate::access::shown_instances;
 use crate::answer::{Answer, Code};
 use crate::client::Client;
-use crate::targets::{defined, definition_at, exists, is_multiple, is_readable, resource_place};
+use crate::targets::{defined, definition_at, exists_as, is_multiple, is_readable, resource_place};
 use instance_store::Store;
 use lwm2m_payloads::{Format, format_for, object_tlv, values_tlv, write_part, write_single};
 use object_defs::object_number::SECURITY;
-use object_defs::{Catalog, Path, ResourcePath};
+use object_defs::{Catalog, Path, ResourceDef, ResourcePath};
 use octets::Bytes;
 use std::alloc::AllocError;
 
-/// Whether what the path names can be read.
-pub(crate) fn can_be_read(catalog: &Catalog, path: Path) -> bool
-    ensures { result ≡ can_be_read catalog.now path }
+/// Whether what the path names can be read, by the definition of its resource.
+fn can_be_read(_catalog: &Catalog, path: Path, definition: Option<ResourceDef>) -> bool
+    requires { definition ≡ definition_at _catalog.now path }
+    ensures { result ≡ can_be_read _catalog.now path }
 {
     match path {
         Path::Object(_) | Path::Instance(_, _) => true,
-        Path::Resource(_, _, _) | Path::Part(_, _, _, _) => {
-            is_readable(definition_at(catalog, path))
-        }
+        Path::Resource(_, _, _) | Path::Part(_, _, _, _) => is_readable(definition),
     }
 }
 
@@ -66,13 +66,16 @@ impl Client {
         &self,
         server: u16,
         place: ResourcePath,
+        definition: Option<ResourceDef>,
         format: Format,
     ) -> Result<Option<Bytes>, AllocError>
+        requires { definition ≡ definition_at self.now.catalogue
+            (Path.Resource place.object place.instance place.resource) }
         ensures { IfOk result (λ b. b ≡ within_limit
             (payload_in self.now server (Path.Resource place.object place.instance place.resource) format)) }
     {
         let path = Path::Resource(place.object, place.instance, place.resource);
-        if is_multiple(definition_at(&self.catalog, path)) {
+        if is_multiple(definition) {
             return self.values_payload(place.object, path);
         }
         match self.store.get(place.single()) {
@@ -82,7 +85,14 @@ impl Client {
     }
 
     /// The payload of a Read of a server, where it has 1,024 bytes at most.
-    fn shown(&self, server: u16, path: Path, format: Format) -> Result<Option<Bytes>, AllocError>
+    fn shown(
+        &self,
+        server: u16,
+        path: Path,
+        definition: Option<ResourceDef>,
+        format: Format,
+    ) -> Result<Option<Bytes>, AllocError>
+        requires { definition ≡ definition_at self.now.catalogue path }
         ensures { IfOk result (λ b. b ≡ within_limit (payload_in self.now server path format)) }
     {
         match path {
@@ -90,7 +100,7 @@ impl Client {
             Path::Instance(object, _) => self.values_payload(object, path),
             Path::Resource(object, instance, resource) => {
                 let place = resource_place(object, instance, resource);
-                self.resource_payload(server, place, format)
+                self.resource_payload(server, place, definition, format)
             }
             Path::Part(object, instance, resource, part) => {
                 let place = resource_place(object, instance, resource);
@@ -114,19 +124,20 @@ impl Client {
         if path.object() == SECURITY {
             return Ok(Answer::bare(self.alloc, Code::Unauthorized));
         }
-        if !exists(&self.catalog, &self.store, path) {
+        let definition = definition_at(&self.catalog, path);
+        if !exists_as(&self.catalog, &self.store, path, definition) {
             return Ok(Answer::bare(self.alloc, Code::NotFound));
         }
         if !self.may_read(server, path) {
             return Ok(Answer::bare(self.alloc, Code::Unauthorized));
         }
-        if !can_be_read(&self.catalog, path) {
+        if !can_be_read(&self.catalog, path, definition) {
             return Ok(Answer::bare(self.alloc, Code::MethodNotAllowed));
         }
-        let Some(format) = format_for(path, definition_at(&self.catalog, path), accept) else {
+        let Some(format) = format_for(path, definition, accept) else {
             return Ok(Answer::bare(self.alloc, Code::NotAcceptable));
         };
-        match self.shown(server, path, format)? {
+        match self.shown(server, path, definition, format)? {
             None => Ok(Answer::bare(self.alloc, Code::InternalServerError)),
             Some(payload) => Ok(Answer::content(format.number(), payload)),
         }

@@ -83,7 +83,19 @@ pub(crate) fn is_readable(definition: Option<ResourceDef>) -> bool
 pub(crate) fn exists(catalog: &Catalog, store: &Store, path: Path) -> bool
     ensures { result ≡ exists catalog.now store.now path }
 {
-    let definition = definition_at(catalog, path);
+    exists_as(catalog, store, path, definition_at(catalog, path))
+}
+
+/// The same, where the definition of the resource has been looked up.
+pub(crate) fn exists_as(
+    catalog: &Catalog,
+    store: &Store,
+    path: Path,
+    definition: Option<ResourceDef>,
+) -> bool
+    requires { definition ≡ definition_at catalog.now path }
+    ensures { result ≡ exists catalog.now store.now path }
+{
     match path {
         Path::Object(object) => catalog.object(object).is_some(),
         Path::Instance(object, instance) => {

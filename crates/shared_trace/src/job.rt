@@ -148,6 +148,19 @@ impl Job {
         Ok(true)
     }
 
+    /// Makes room for the entries of this many steps. Without memory the job is spent.
+    fn make_room(&mut self, steps: u32) -> Result<(), AllocError>
+        requires ready { self.old.spent ≡ false }
+        ensures room { OnOk result (self.new ≡ self.old) }
+        ensures same { IsSameJob self.old self.new }
+        ensures memory { OnErr result (IsTrue self.new.spent) }
+    {
+        self.spent = true;
+        self.entries.reserve(steps as usize)?;
+        self.spent = false;
+        Ok(())
+    }
+
     /// Lets the device make steps, at most this many, until its row ends or a need isn't met by the posts that there
     /// were at the claim and the job's own.
     ///
@@ -172,6 +185,10 @@ impl Job {
     {
         if self.spent {
             return Err(AdvanceFault::Spent);
+        }
+        match self.make_room(batch) {
+            Ok(()) => {}
+            Err(AllocError) => return Err(AdvanceFault::Memory),
         }
         for _made in 0..batch {
             match self.step(scenario) {
