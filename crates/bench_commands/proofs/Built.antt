@@ -1,5 +1,6 @@
 -- What is done and what is refused, put together from its parts.
-use Rattle.std.proofs.Common.{◌≡◌, ℕ, List, [], ◌∷◌, Ok, Option, None, Some, length, inl, inr}
+use Rattle.std.proofs.Common.{◌≡◌, ◌<◌, ◌≤◌, ◌⊎◌, ℕ, List, [], ◌∷◌, Ok, Option, None, Some, length, arith, inl, inr}
+use Rattle.std.proofs.lemmas.Bool.{cases_lt}
 use Rattle.std.specs.Result.{IsOkAnd}
 use Rattle.hex.specs.Hex.{decode_of}
 use Rattle.scenario_image.specs.Scenario.{Scenario}
@@ -13,12 +14,12 @@ use Rattle.fleet_core.specs.declared.verdict.Verdict.{Verdict}
 use Rattle.fleet_core.specs.Verdict.{Judges}
 use Rattle.fleet_core.specs.Waiting.{waiting}
 use Rattle.fleet_workers.specs.declared.fleet.FleetRun.{FleetRun}
-use Rattle.fleet_workers.specs.Fleet.{IsFleetRun}
+use Rattle.fleet_workers.specs.Fleet.{IsFleetRun, AreByBlocks, AreWorkers}
 use Rattle.bench_commands.specs.Demo.{demo_outputs}
 use Rattle.debug_answers.specs.Printed.{printed}
 use Rattle.bench_commands.specs.Runs.{end_line, end_status, verdict_line, verdict_status}
 use Rattle.bench_commands.specs.Files.{Made}
-use Rattle.bench_commands.specs.RunAnswer.{IsSavedAs, IsRunAnswer, IsJudged, IsRunFault}
+use Rattle.bench_commands.specs.RunAnswer.{IsSavedAs, IsRunBy, IsRunAnswer, IsJudged, IsRunFault, IsWrongBatch}
 use Rattle.bench_commands.specs.Jobs.{IsScenarioAt, IsTraceAt, IsImageFault, IsTraceFault, IsOneDone, IsAsmDone}
 use Rattle.bench_commands.specs.Jobs.{IsDisDone, IsRunDone, IsCheckDone, IsRunRefused, IsCheckRefused}
 use Rattle.bench_commands.specs.Texts.{IsTextAt, count_line}
@@ -45,12 +46,30 @@ pub saved_as : (path bytes : List ℕ) (es : List Entry) (made : List Made) → 
     → made ≡ (path, bytes) ∷ [] → IsSavedAs (Some path) es made
 saved_as path bytes es made file same = (bytes, file, same)
 
-pub run_answer : (s : Scenario) (workers : ℕ) (trace : Option (List ℕ)) (r : FleetRun) (status : Status)
-    (text : List ℕ) (made : List Made) → IsFleetRun s workers r
+-- a number that cannot but be from 1 to this one is so
+between : (n most : ℕ) → (((1 ≤ n) × (n ≤ most) → ⊥) → ⊥) → (1 ≤ n) × (n ≤ most)
+between n most h = by (cases_lt 0 n) (cases_lt most n)
+  where
+    by : (0 < n) ⊎ (n ≤ 0) → (most < n) ⊎ (n ≤ most) → (1 ≤ n) × (n ≤ most)
+    by (inl some) (inr few) = (some, few)
+    by (inl some) (inl many) = absurd (h (λ it. omega (arith, it.1, many)))
+    by (inr none) few = absurd (h (λ it. omega (arith, it.0, none)))
+
+pub run_by : (s : Scenario) (workers batch : ℕ) (r : FleetRun) → ((AreWorkers workers → ⊥) → ⊥)
+    → (IsWrongBatch workers batch → ⊥) → IsFleetRun s workers r → AreByBlocks s workers batch r.entries
+    → IsRunBy s workers batch r
+run_by s workers batch r counted bounded right blocks =
+    record { workers_are = are; batch_is = between batch 64 (λ no. bounded (are, no)); right = right; blocks = blocks }
+  where
+    are : AreWorkers workers
+    are = between workers 64 counted
+
+pub run_answer : (s : Scenario) (workers batch : ℕ) (trace : Option (List ℕ)) (r : FleetRun) (status : Status)
+    (text : List ℕ) (made : List Made) → IsRunBy s workers batch r
     → IsSavedAs trace r.entries made → text ≡ end_line (length r.entries) (waiting s r.entries)
     → status ≡ end_status (waiting s r.entries)
-    → IsRunAnswer s workers trace status text made
-run_answer s workers trace r status text made right saved said ended =
+    → IsRunAnswer s workers batch trace status text made
+run_answer s workers batch trace r status text made right saved said ended =
     record { run = r; right = right; saved = saved; text_is = said; status_is = ended }
 
 pub judged_as : (s : Scenario) (es : List Entry) (verdict : Verdict) (status : Status) (text : List ℕ)
@@ -85,11 +104,12 @@ pub dis_done : (holds : List ℕ → List ℕ → Type 0) (input : List ℕ) (s 
 dis_done holds input s status text made found said ended none =
     record { scenario = s; found = found; text_is = said; status_is = ended; made_is = none }
 
-pub run_done : (holds : List ℕ → List ℕ → Type 0) (image : List ℕ) (workers : ℕ) (trace : Option (List ℕ))
+pub run_done : (holds : List ℕ → List ℕ → Type 0) (image : List ℕ) (workers batch : ℕ) (trace : Option (List ℕ))
     (status : Status) (s : Scenario) (text : List ℕ) (made : List Made)
-    → IsScenarioAt holds image s → IsRunAnswer s workers trace status text made
-    → IsRunDone holds image workers trace status text made
-run_done holds image workers trace status s text made found ran = record { scenario = s; found = found; run = ran }
+    → IsScenarioAt holds image s → IsRunAnswer s workers batch trace status text made
+    → IsRunDone holds image workers batch trace status text made
+run_done holds image workers batch trace status s text made found ran =
+    record { scenario = s; found = found; run = ran }
 
 pub check_done : (holds : List ℕ → List ℕ → Type 0) (image trace : List ℕ) (status : Status) (s : Scenario)
     (es : List Entry) (text : List ℕ) (made : List Made)

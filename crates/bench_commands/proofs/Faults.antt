@@ -17,12 +17,12 @@ use Rattle.trace_file.specs.Layout.{IsTraceFile}
 use Rattle.fleet_workers.specs.declared.fleet.FleetRun.{FleetRun}
 use Rattle.fleet_workers.specs.declared.fleet.RunFault.{RunFault}
 use Rattle.fleet_workers.specs.declared.fleet.RunFault.TheVariants as runs
-use Rattle.fleet_workers.specs.Fleet.{IsFleetRun, AreWorkers}
+use Rattle.fleet_workers.specs.Fleet.{AreWorkers}
 use Rattle.bench_commands.specs.declared.fault.Fault.{Fault}
 use Rattle.bench_commands.specs.declared.fault.Fault.TheVariants as faults
 use Rattle.bench_commands.specs.Fault.{IsReadingFault, layout_fault, refused_text, run_fault}
 use Rattle.bench_commands.specs.Fault.{text_fault, trace_fault}
-use Rattle.bench_commands.specs.RunAnswer.{IsRunFault, IsSavingFault, IsWrongBatch}
+use Rattle.bench_commands.specs.RunAnswer.{IsRunBy, IsRunFault, IsSavingFault, IsWrongBatch}
 use Rattle.bench_commands.specs.Texts.{IsTextFault}
 use Rattle.bench_commands.specs.Jobs.{IsFileFault, IsOneFault}
 
@@ -123,7 +123,7 @@ unsaved es trace.TooLarge h = h.0 refl
 unsaved es trace.Memory h = tt
 
 -- a run that was not saved
-pub unsaved_run : (s : Scenario) (workers batch : ℕ) (r : FleetRun) → IsFleetRun s workers r → (f : Fault)
+pub unsaved_run : (s : Scenario) (workers batch : ℕ) (r : FleetRun) → IsRunBy s workers batch r → (f : Fault)
     → IsSavingFault r.entries f
     → IsRunFault s workers batch f
 unsaved_run s workers batch r right faults.Memory h = tt

@@ -37,7 +37,7 @@ IsDone holds (jobs.One hex) status text made = IsOneDone hex.now status text mad
 IsDone holds (jobs.Asm input output) status text made = IsAsmDone holds input.now output.now status text made
 IsDone holds (jobs.Dis input) status text made = IsDisDone holds input.now status text made
 IsDone holds (jobs.Run image workers batch trace) status text made =
-    IsRunDone holds image.now workers (option_map (λ p. p.now) trace) status text made
+    IsRunDone holds image.now workers batch (option_map (λ p. p.now) trace) status text made
 IsDone holds (jobs.Check image trace) status text made = IsCheckDone holds image.now trace.now status text made
 IsDone holds (jobs.Show image trace device from to) status text made =
     IsShowDone holds image.now trace.now (record { device = device; from = from; to = to }) status text made

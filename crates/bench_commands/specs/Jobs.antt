@@ -86,12 +86,13 @@ pub record IsDisDone (holds : List ℕ → List ℕ → Type 0) (input : List �
   pub status_is : status ≡ Done
   pub made_is : made ≡ []
 
--- `run IMAGE [--workers N] [--batch N] [--trace FILE]`: a run of the scenario that this many workers make
-pub record IsRunDone (holds : List ℕ → List ℕ → Type 0) (image : List ℕ) (workers : ℕ) (trace : Option (List ℕ))
+-- `run IMAGE [--workers N] [--batch N] [--trace FILE]`: a run of the scenario that this many workers make,
+-- in batches of at most this many steps
+pub record IsRunDone (holds : List ℕ → List ℕ → Type 0) (image : List ℕ) (workers batch : ℕ) (trace : Option (List ℕ))
     (status : Status) (text : List ℕ) (made : List Made) : Type 0 where
   pub scenario : Scenario
   pub found : IsScenarioAt holds image scenario
-  pub run : IsRunAnswer scenario workers trace status text made
+  pub run : IsRunAnswer scenario workers batch trace status text made
 
 -- `check IMAGE TRACE`: the verdict on the entries
 pub record IsCheckDone (holds : List ℕ → List ℕ → Type 0) (image trace : List ℕ) (status : Status) (text : List ℕ)

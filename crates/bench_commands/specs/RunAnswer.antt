@@ -7,7 +7,7 @@ use Rattle.fleet_core.specs.declared.verdict.Verdict.{Verdict}
 use Rattle.fleet_core.specs.Verdict.{Judges}
 use Rattle.fleet_core.specs.Waiting.{waiting}
 use Rattle.fleet_workers.specs.declared.fleet.FleetRun.{FleetRun}
-use Rattle.fleet_workers.specs.Fleet.{IsFleetRun, AreWorkers, IsBatch}
+use Rattle.fleet_workers.specs.Fleet.{IsFleetRun, AreByBlocks, AreWorkers, IsBatch}
 use Rattle.bench_commands.specs.Files.{Made}
 use Rattle.bench_commands.specs.Runs.{end_line, end_status, verdict_line, verdict_status}
 use Rattle.bench_commands.specs.declared.fault.Fault.{Fault}
@@ -25,11 +25,19 @@ IsSavingFault es Memory = ⊤
 IsSavingFault es TooLarge = (bytes : List ℕ) → IsTraceFile bytes es → ⊥
 IsSavingFault es _ = ⊥
 
--- a run that this many workers made, its trace file where one is asked for, the line of its end, and the status
-pub record IsRunAnswer (s : Scenario) (workers : ℕ) (trace : Option (List ℕ)) (status : Status) (text : List ℕ)
+-- a run that this many workers made, none of which made more steps of a device at a time than the batch; there may be
+-- so many workers, and such a batch
+pub record IsRunBy (s : Scenario) (workers batch : ℕ) (run : FleetRun) : Type 0 where
+  pub workers_are : AreWorkers workers
+  pub batch_is : IsBatch batch
+  pub right : IsFleetRun s workers run
+  pub blocks : AreByBlocks s workers batch run.entries
+
+-- such a run, its trace file where one is asked for, the line of its end, and the status
+pub record IsRunAnswer (s : Scenario) (workers batch : ℕ) (trace : Option (List ℕ)) (status : Status) (text : List ℕ)
     (made : List Made) : Type 0 where
   pub run : FleetRun
-  pub right : IsFleetRun s workers run
+  pub right : IsRunBy s workers batch run
   pub saved : IsSavedAs trace run.entries made
   pub text_is : text ≡ end_line (length run.entries) (waiting s run.entries)
   pub status_is : status ≡ end_status (waiting s run.entries)
@@ -45,7 +53,7 @@ IsRunFault s workers batch Spent = ⊤
 IsRunFault s workers batch Workers = AreWorkers workers → ⊥
 IsRunFault s workers batch Batch = IsWrongBatch workers batch
 IsRunFault s workers batch TooLarge =
-    (run : FleetRun) × IsFleetRun s workers run × ((bytes : List ℕ) → IsTraceFile bytes run.entries → ⊥)
+    (run : FleetRun) × IsRunBy s workers batch run × ((bytes : List ℕ) → IsTraceFile bytes run.entries → ⊥)
 IsRunFault s workers batch _ = ⊥
 
 -- the verdict on the entries, its line, and the status

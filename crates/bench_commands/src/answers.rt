@@ -95,7 +95,7 @@ pub fn run<'a, R: Threads + Wait + Sync, F: Files>(
     trace: Option<&'a str>,
     files: &F,
 ) -> Result<Answer<'a>, Refusal<'a>>
-    ensures done { IfOk result (λ a. IsRunDone (F.holds files.now) image.entry.now workers
+    ensures done { IfOk result (λ a. IsRunDone (F.holds files.now) image.entry.now workers batch
         (option_map (λ p. p.now) trace.entry) a.status (string_bytes a.text) (files_of a.file)) }
     ensures refused { IfErr result (λ r.
         IsRunRefused (F.holds files.now) (F.fails files.now) image.entry.now workers batch r.fault) }

@@ -4,9 +4,8 @@ ghost use Rattle.std.specs.String.{string_bytes};
 ghost use Rattle.bench_commands.specs.Runs.{device_word, device_words, done_line, end_line, end_status, stalled_line};
 ghost use Rattle.bench_commands.specs.Runs.{stalled_text, verdict_line, verdict_status};
 ghost use Rattle.fleet_core.specs.Waiting.{waiting};
-ghost use Rattle.fleet_workers.specs.Fleet.{IsFleetRun};
 ghost use Rattle.bench_commands.specs.Answers.{files_of};
-ghost use Rattle.bench_commands.specs.RunAnswer.{IsJudged, IsRunFault, IsSavedAs, IsSavingFault, IsRunAnswer};
+ghost use Rattle.bench_commands.specs.RunAnswer.{IsJudged, IsRunBy, IsRunFault, IsSavedAs, IsSavingFault, IsRunAnswer};
 
 use crate::answer::{Answer, NewFile};
 use crate::fault::Fault;
@@ -30,7 +29,7 @@ pub fn run_scenario<'a, R: Threads + Wait + Sync>(
     trace: Option<&'a str>,
 ) -> Result<Answer<'a>, Fault>
     ensures done { IfOk result (λ a.
-        IsRunAnswer scenario.now workers (option_map (λ p. p.now) trace.entry) a.status (string_bytes a.text)
+        IsRunAnswer scenario.now workers batch (option_map (λ p. p.now) trace.entry) a.status (string_bytes a.text)
         (files_of a.file)) }
     ensures refused { IfErr result (IsRunFault scenario.now workers batch) }
 {
@@ -44,7 +43,7 @@ pub fn run_scenario<'a, R: Threads + Wait + Sync>(
     })
 }
 
-#[tactic(auto, using(crate::proofs::Faults::run_fault_is))]
+#[tactic(auto, using(crate::proofs::Faults::run_fault_is, crate::proofs::Built::run_by))]
 fn made_by_workers<R: Threads + Wait + Sync>(
     rt: &R,
     alloc: Global,
@@ -52,7 +51,7 @@ fn made_by_workers<R: Threads + Wait + Sync>(
     workers: u16,
     batch: u32,
 ) -> Result<FleetRun, Fault>
-    ensures run { IfOk result (IsFleetRun scenario.now workers) }
+    ensures run { IfOk result (IsRunBy scenario.now workers batch) }
     ensures refused { IfErr result (IsRunFault scenario.now workers batch) }
 {
     match run_fleet(rt, alloc, scenario, workers, batch, &OpenGate) {
