@@ -96,15 +96,6 @@ impl Outputs {
         Outputs { items }
     }
 
-    /// A copy of these outputs.
-    pub fn copy_of(alloc: Global, outputs: &[Output]) -> Result<Outputs, AllocError>
-        ensures { IfOk result (λ o. o ≡ outputs.now) }
-    {
-        Ok(Outputs {
-            items: outputs.to_vec(alloc)?,
-        })
-    }
-
     /// The outputs, in order.
     pub fn as_slice(&self) -> &[Output]
         ensures { result.now ≡ self.now }

@@ -66,7 +66,7 @@ pub(crate) fn perform(
 {
     match take_step(device, step) {
         Ok(None) => Ok(Outputs::from_vec(Vec::new(alloc))),
-        Ok(Some(outputs)) => Outputs::copy_of(alloc, outputs.as_slice()),
+        Ok(Some(outputs)) => Ok(outputs),
         Err(StepFault::Memory) => Err(AllocError),
         Err(StepFault::Spent) => unreachable!(),
     }

@@ -16,6 +16,7 @@ use crate::text::Text;
 use crate::value::Value;
 use base64::DecodeAllocError;
 use base64::engine::general_purpose::STANDARD;
+use itoa::Buffer;
 use octets::Bytes;
 use std::alloc::{AllocError, Global};
 
@@ -112,7 +113,9 @@ fn shortest_text(alloc: Global, value: &Value) -> Result<Bytes, AllocError>
 {
     let text = match value {
         Value::Text(text) => return Bytes::from_slice(alloc, text.as_str().as_bytes()),
-        Value::Whole(number) | Value::Moment(number) => number.to_string(alloc)?,
+        Value::Whole(number) | Value::Moment(number) => {
+            return Bytes::from_slice(alloc, Buffer::new().format(*number).as_bytes());
+        }
         Value::Flag(flag) => String::from_str(alloc, if *flag { "1" } else { "0" })?,
         Value::Opaque(bytes) => STANDARD.encode(alloc, bytes.as_slice())?,
         Value::Link(object, instance) => format!(in alloc; "{object}:{instance}")?,

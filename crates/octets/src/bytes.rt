@@ -35,6 +35,9 @@ impl Bytes {
         ensures copy { IfOk result (λ b. b ≡ bytes.now) }
         ensures short { length bytes.now ≤ 16 → IsOk result }
     {
+        if bytes.is_empty() {
+            return Ok(Bytes::new(alloc));
+        }
         Ok(Bytes {
             items: SmallVec::from_slice(alloc, bytes)?,
         })
