@@ -7,8 +7,9 @@ USES is the built program crates/fleet_workers_uses/out/fleet_workers_uses, and 
 run is made TIMES times (10) under `perf record`, which looks 5,000 times a second at what each processor does, and
 TIMES times under `strace`, which tells how long threads sleep. Both come with Debian's packages linux-perf and strace.
 
-A row has the processor time of a run beyond reading the image; which part of it was spent in the calls under the lock
-and which in looking at the lock's words; and how often and how long all threads together slept.
+A row has the processor time of a run beyond reading the image; which part of it was spent in the functions that visit
+the trace, without what these call of the C library and the system, and which in looking at the lock's words; and how
+often and how long all threads together slept.
 """
 import collections
 import os
@@ -23,7 +24,7 @@ KINDS = [f"{workers} {batch}" for workers in ("one", "two", "four", "all") for b
 
 # A function that a pass waits in, and those that a worker is in while it is inside the lock.
 WAITS = "TicketLock::take"
-VISITS = ("Trace::claim", "visits::")
+VISITS = ("Trace::claim", "Trace::put", "visits::")
 
 
 def looked(uses, file, folder):
@@ -37,8 +38,6 @@ def looked(uses, file, folder):
     found = collections.Counter()
     for count, name in re.findall(r"^ *(\d+) +\[.\] (.*?) *$", said, re.M):
         found[name] += int(count)
-    for count in re.findall(r"^ *(\d+) +\[k\]", said, re.M):
-        found["kernel"] += int(count)
     return found
 
 
