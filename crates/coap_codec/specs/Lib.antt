@@ -4,3 +4,4 @@ pub mod Reading
 pub mod Number
 pub mod OptionNumber
 pub mod Options
+pub mod OptionItems

@@ -5,6 +5,7 @@ use crate::number::uint_bytes;
 use octets::Bytes;
 use std::alloc::{AllocError, Global};
 use std::marker::Model;
+use std::{mem, slice};
 
 /// An option: its number and its value (RFC 7252 section 5.4).
 #[derive(Clone, Debug, PartialEq, Eq, Drop)]
@@ -18,7 +19,15 @@ pub struct Opt {
 /// Contracts see the list of the options.
 #[derive(Clone, Debug, Drop)]
 pub struct Options {
-    items: Vec<Opt>,
+    alloc: Global,
+    items: Items,
+}
+
+/// One option, or a list of others.
+#[derive(Clone, Debug, Drop)]
+enum Items {
+    One(Opt),
+    Listed(Vec<Opt>),
 }
 
 impl Model for Options {
@@ -27,7 +36,9 @@ impl Model for Options {
 
     ghost Value = { List Opt };
 
-    ghost view = { λ o. o.items.items };
+    ghost use Rattle.coap_codec.specs.OptionItems.{items_of};
+
+    ghost view = { λ o. items_of o.items };
 }
 
 impl Options {
@@ -36,7 +47,8 @@ impl Options {
         ensures { result ≡ [] }
     {
         Options {
-            items: Vec::new(alloc),
+            alloc,
+            items: Items::Listed(Vec::new(alloc)),
         }
     }
 
@@ -44,7 +56,10 @@ impl Options {
     pub fn from_vec(items: Vec<Opt>) -> Options
         ensures { result ≡ items.items }
     {
-        Options { items }
+        Options {
+            alloc: *items.allocator(),
+            items: Items::Listed(items),
+        }
     }
 
     /// One more option, after the others.
@@ -52,7 +67,25 @@ impl Options {
         ensures ok { OnOk result (self.new ≡ self.old ++ option ∷ []) }
         ensures err { OnErr result (self.new ≡ self.old) }
     {
-        self.items.push(option)?;
+        match &mut self.items {
+            Items::Listed(items) => {
+                if !items.is_empty() {
+                    items.push(option)?;
+                    return Ok(());
+                }
+            }
+            Items::One(_) => {
+                let mut items = Vec::with_capacity(self.alloc, 4)?;
+                match mem::replace(&mut self.items, Items::Listed(Vec::new(self.alloc))) {
+                    Items::One(first) => items.push(first)?,
+                    Items::Listed(_) => {}
+                }
+                items.push(option)?;
+                self.items = Items::Listed(items);
+                return Ok(());
+            }
+        }
+        self.items = Items::One(option);
         Ok(())
     }
 
@@ -95,20 +128,23 @@ impl Options {
     pub fn as_slice(&self) -> &[Opt]
         ensures { result.now ≡ self.now }
     {
-        self.items.as_slice()
+        match &self.items {
+            Items::One(option) => slice::from_ref(option),
+            Items::Listed(items) => items.as_slice(),
+        }
     }
 
     /// How many options there are.
     pub fn len(&self) -> usize
         ensures { result ≡ length self.now }
     {
-        self.items.len()
+        self.as_slice().len()
     }
 
     /// Whether there is no option.
     pub fn is_empty(&self) -> bool
         ensures { IsTrue result ↔ (length self.now ≡ 0) }
     {
-        self.items.is_empty()
+        self.as_slice().is_empty()
     }
 }
