@@ -24,7 +24,8 @@ use std::marker::Model;
 /// event.
 #[derive(Drop)]
 pub struct Device {
-    machine: Machine,
+    // It has a place of its own, so a device that moves from one owner to another moves few bytes.
+    machine: Box<Machine>,
     spent: bool,
 }
 
@@ -39,7 +40,7 @@ impl Model for Device {
 
     ghost coded = { Prim.hlevel (codes, stored_code, attributes_code) };
 
-    ghost view = { λ d. record { spent = d.spent; flat = living d.machine } };
+    ghost view = { λ d. record { spent = d.spent; flat = living d.machine.value } };
 }
 
 /// The last second that a device's clock can show.
@@ -60,8 +61,9 @@ impl Device {
     pub fn start(template: &Template) -> Result<Device, AllocError>
         ensures { IfOk result (λ d. Shows d (record { kept = start_of template.now; recorded = [] })) }
     {
+        let machine = Machine::start(template)?;
         Ok(Device {
-            machine: Machine::start(template)?,
+            machine: Box::new(machine.alloc(), machine)?,
             spent: false,
         })
     }
@@ -70,8 +72,9 @@ impl Device {
     pub fn copy(&self) -> Result<Device, AllocError>
         ensures { IfOk result (λ d. d ≡ self.now) }
     {
+        let machine = self.machine.copy()?;
         Ok(Device {
-            machine: self.machine.copy()?,
+            machine: Box::new(machine.alloc(), machine)?,
             spent: self.spent,
         })
     }

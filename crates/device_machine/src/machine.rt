@@ -128,6 +128,11 @@ impl Machine {
         &self.observations
     }
 
+    /// Where its memory comes from.
+    pub(crate) fn alloc(&self) -> Global {
+        self.alloc
+    }
+
     /// The second, from 0 at the start.
     pub(crate) fn clock(&self) -> u64
         ensures { result ≡ self.now.kept.clock }

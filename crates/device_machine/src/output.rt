@@ -6,6 +6,7 @@ use device_requests::Act;
 use octets::Bytes;
 use std::alloc::{AllocError, Global};
 use std::marker::Model;
+use std::{mem, slice};
 
 /// What a device outputs.
 #[derive(Clone, Debug, Drop)]
@@ -22,18 +23,27 @@ pub enum Output {
 }
 
 /// What a device outputs at one event, in order. Contracts see the list.
-#[derive(Clone, Debug, Drop)]
+#[derive(Clone, Debug)]
 pub struct Outputs {
-    items: Vec<Output>,
+    alloc: Global,
+    items: Items,
+}
+
+/// Outputs: one, which takes no memory of its own, or a list.
+#[derive(Clone, Debug, Drop)]
+enum Items {
+    One(Output),
+    Listed(Vec<Output>),
 }
 
 impl Model for Outputs {
     ghost use Rattle.std.specs.Prelude.{List};
     ghost use Rattle.device_machine.specs.declared.output.Output.{Output};
+    ghost use Rattle.device_machine.specs.Items.{items_of};
 
     ghost Value = { List Output };
 
-    ghost view = { λ o. o.items.items };
+    ghost view = { λ o. items_of o.items };
 }
 
 impl Outputs {
@@ -42,7 +52,8 @@ impl Outputs {
         ensures { result ≡ [] }
     {
         Outputs {
-            items: Vec::new(alloc),
+            alloc,
+            items: Items::Listed(Vec::new(alloc)),
         }
     }
 
@@ -50,9 +61,10 @@ impl Outputs {
     pub(crate) fn one(alloc: Global, output: Output) -> Result<Outputs, AllocError>
         ensures { IfOk result (λ o. o ≡ output ∷ []) }
     {
-        let mut items = Vec::with_capacity(alloc, 1)?;
-        items.push(output)?;
-        Ok(Outputs { items })
+        Ok(Outputs {
+            alloc,
+            items: Items::One(output),
+        })
     }
 
     /// These datagrams, each sent, in order.
@@ -71,7 +83,32 @@ impl Outputs {
                 bytes: datagram.bytes,
             })?;
         }
-        Ok(Outputs { items })
+        Ok(Outputs {
+            alloc,
+            items: Items::Listed(items),
+        })
+    }
+
+    /// Adds an output after the others.
+    fn push(&mut self, output: Output) -> Result<(), AllocError>
+        ensures added { OnOk result (self.new ≡ self.old ++ output ∷ []) }
+        ensures unchanged { OnErr result (self.new ≡ self.old) }
+    {
+        match &mut self.items {
+            Items::Listed(items) => {
+                items.push(output)?;
+                return Ok(());
+            }
+            Items::One(_) => {}
+        }
+        let mut items = Vec::with_capacity(self.alloc, 2)?;
+        match mem::replace(&mut self.items, Items::Listed(Vec::new(self.alloc))) {
+            Items::One(first) => items.push(first)?,
+            Items::Listed(_) => {}
+        }
+        items.push(output)?;
+        self.items = Items::Listed(items);
+        Ok(())
     }
 
     /// Adds what the device does after the others, if there is something.
@@ -82,10 +119,7 @@ impl Outputs {
     {
         match act {
             None => Ok(()),
-            Some(act) => {
-                self.items.push(Output::Act(act))?;
-                Ok(())
-            }
+            Some(act) => self.push(Output::Act(act)),
         }
     }
 
@@ -93,13 +127,29 @@ impl Outputs {
     pub fn from_vec(items: Vec<Output>) -> Outputs
         ensures { result ≡ items.items }
     {
-        Outputs { items }
+        Outputs {
+            alloc: *items.allocator(),
+            items: Items::Listed(items),
+        }
     }
 
     /// The outputs, in order.
     pub fn as_slice(&self) -> &[Output]
         ensures { result.now ≡ self.now }
     {
-        self.items.as_slice()
+        match &self.items {
+            Items::One(output) => slice::from_ref(output),
+            Items::Listed(items) => items.as_slice(),
+        }
+    }
+}
+
+/// By hand, so that a caller's proof has one step where outputs are dropped, and no case for each place of them.
+impl Drop for Outputs {
+    fn drop(self) {
+        let Outputs {
+            alloc: _,
+            items: _items,
+        } = self;
     }
 }

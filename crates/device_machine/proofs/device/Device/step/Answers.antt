@@ -1,4 +1,5 @@
--- The device's own requests and those of the flat state are alike: the same ones live.
+-- The device's own requests and those of the flat state are alike: the same ones live. What lies in the device's place
+-- is what the device keeps.
 use Rattle.std.proofs.Common.{refl, ap, ◌∙◌}
 use Rattle.device_machine.specs.Reactions.{flat_after}
 use Rattle.device_machine.specs.State.{living}
@@ -8,14 +9,17 @@ use Rattle.device_machine.proofs.device.Device.step.Goals as goal
 pub returns-clause-outputs : goal.returns-clause-outputs
 returns-clause-outputs c =
     λ f shows. c.in_ok-outputs.ensures.gives.sent
-    ∙ (alike c.self.inside.machine f (ap (λ s. s.flat) c.self.view_is ∙ shows.holds) c.args.event.now).outputs
+    ∙ (alike c.deref_mut.result.now f
+    (ap living c.deref_mut.ensures.value ∙ (ap (λ s. s.flat) c.self.view_is ∙ shows.holds))
+    c.args.event.now).outputs
 
 pub returns-clause-shows : goal.returns-clause-shows
 returns-clause-shows c =
     λ f shows. record {
       ready = refl;
       holds = ap living c.in_ok-outputs.ensures.gives.then_flat
-          ∙ living_remembered (flat_after c.self.inside.machine c.args.event.now) c.args.event.now
-          ∙ (alike c.self.inside.machine f (ap (λ s. s.flat) c.self.view_is ∙ shows.holds)
-          c.args.event.now).living_then;
+          ∙ (living_remembered (flat_after c.deref_mut.result.now c.args.event.now) c.args.event.now
+          ∙ (alike c.deref_mut.result.now f
+          (ap living c.deref_mut.ensures.value ∙ (ap (λ s. s.flat) c.self.view_is ∙ shows.holds))
+          c.args.event.now).living_then);
     }
