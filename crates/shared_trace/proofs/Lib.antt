@@ -9,4 +9,5 @@ pub mod Holding
 pub mod Stepping
 pub mod Putting
 pub mod Counting
+pub mod Lengths
 pub mod Starting

@@ -7,7 +7,7 @@ use Rattle.trace_file.specs.declared.entry.Entry.{Entry}
 use Rattle.fleet_core.proofs.Board.{zeros}
 use Rattle.shared_trace.specs.declared.station.Place.{Place}
 use Rattle.shared_trace.specs.declared.station.Station.{Station}
-use Rattle.shared_trace.specs.Kept.{IsTrace, IsStation, AreParked, is_parked, places_of}
+use Rattle.shared_trace.specs.Kept.{IsTrace, IsStation, AreParked, is_parked, places_of, table_length}
 use Rattle.shared_trace.proofs.Lists.{from_map}
 
 cases_pushed : {X : Type 0} (z : X) (xs : List X) (k : ℕ) (x y : X) → (slice_get xs k ≡ Some x)
@@ -61,10 +61,10 @@ all_parked s stations all d p at =
     (all.parked d found.0 found.1)
 
 -- a trace at the start
-pub start_trace : (s t : Scenario) (es : List Entry) (stations : List Station) (counts : List ℕ) → IsValid s → t ≡ s
-    → es ≡ [] → length stations ≡ length s.rows
-    → AreParked s stations → counts ≡ replicate 256 0 → IsTrace t es stations counts
-start_trace s t es stations counts valid same none count all zero_counts =
+pub start_trace : (s t : Scenario) (es : List Entry) (stations : List Station) (counts : List ℕ) (places : ℕ)
+    → IsValid s → t ≡ s → es ≡ [] → length stations ≡ length s.rows → AreParked s stations → places ≡ table_length s
+    → counts ≡ replicate places 0 → IsTrace t es stations counts
+start_trace s t es stations counts places valid same none count all long zero_counts =
     subst (λ u. IsTrace u es stations counts) (sym same)
     (subst (λ l. IsTrace s l stations counts) (sym none)
     (subst (IsTrace s [] stations) (sym zero_counts) (record {
@@ -72,6 +72,6 @@ start_trace s t es stations counts valid same none count all zero_counts =
       run = record { along = tt };
       count = count;
       each = all.each;
-      posts = λ g. zeros 256 g;
-      table = length-replicate {A = ℕ} 256 0;
+      posts = λ g. zeros places g;
+      table = length-replicate {A = ℕ} places 0 ∙ long;
     })))

@@ -17,7 +17,6 @@ use Rattle.fleet_core.specs.Board.{posts_after}
 use Rattle.fleet_core.proofs.Posts.{one, run_push, enabled_fits, made_same, posts-push}
 use Rattle.fleet_core.proofs.Valid.{posts_within}
 use Rattle.fleet_core.proofs.Taken.{place_below}
-use Rattle.fleet_core.proofs.Ends.{post_group}
 use Rattle.shared_trace.specs.declared.next.Next.{Next}
 use Rattle.shared_trace.specs.Next.{next_of, can_go}
 use Rattle.shared_trace.specs.Trace.{HoldsAfter}
@@ -25,6 +24,7 @@ use Rattle.shared_trace.specs.Job.{Task, IsOf, IsStepped, IsGrown, Advances, see
 use Rattle.shared_trace.specs.Kept.{IsTask, IsOnWay, IsJob, table_length, groups_in}
 use Rattle.shared_trace.proofs.Lists.{all-push}
 use Rattle.shared_trace.proofs.Nexts.{go_enabled}
+use Rattle.shared_trace.proofs.Lengths.{post_has_place}
 
 abbrev pub tasked : Scenario → ℕ → ℕ → List Entry → List Entry → Option Device → Bool → Task
 tasked s w d front es x spent =
@@ -76,7 +76,7 @@ pub post_within : (s : Scenario) (w d : ℕ) (front es : List Entry) (x : Option
     (n : Next) (step : Step) → IsGoing s w d front es x counts groups k n
     → step_at s d k ≡ Some step → (group : ℕ) → step ≡ Post group → group < length counts
 post_within s w d front es x counts groups k n step g at group is =
-    omega (arith, post_group s d k group g.task.valid (at ∙ ap Some is), g.way.table)
+    omega (arith, post_has_place s d k group (at ∙ ap Some is), g.way.table)
 
 pub table_room : (s : Scenario) (w d : ℕ) (front es : List Entry) (x : Option Device) (counts groups : List ℕ) (k : ℕ)
     (n : Next) → IsGoing s w d front es x counts groups k n
@@ -204,7 +204,7 @@ made_job s w d front es new x y counts groups after more k n m step e g made is 
       ready = λ r. subst (λ l. IsOnWay s d l (es ++ entry_of s w d (front ++ es) ∷ []) y after more (k + 1) m)
           (append_assoc front es (entry_of s w d (front ++ es) ∷ []))
           (made_way s w d (front ++ es) es x y counts groups after more k n m step g.way made.at
-          (λ group at. post_group s d k group g.task.valid (made.at ∙ ap Some at)) made.holds made.known made.posted
+          (λ group at. post_has_place s d k group (made.at ∙ ap Some at)) made.holds made.known made.posted
           made.next);
     })
 

@@ -1,12 +1,13 @@
 -- What a trace and a job keep beside what contracts see.
-use Rattle.std.specs.Prelude.{◌≡◌, ℕ, ◌<◌, ◌≤◌, ◌==◌, ◌⊎◌, Bool, true, false, Option, List, [], ◌∷◌, ◌++◌, length, map}
+use Rattle.std.specs.Prelude.{◌≡◌, ℕ, ◌+◌, ◌<◌, ◌≤◌, ◌==◌, ◌⊎◌, max, Bool, true, false, Option, List, [], ◌∷◌, ◌++◌}
+use Rattle.std.specs.Prelude.{length, map}
 use Rattle.std.specs.Prelude.{count_by, Some}
 use Rattle.std.specs.Prelude.{slice_get, slice_index}
-use Rattle.std.specs.List.{AllByRecursion}
+use Rattle.std.specs.List.{AllByRecursion, fold}
 use Rattle.device_machine.specs.State.{Device}
 use Rattle.scenario_image.specs.declared.step.Step.{Step}
 use Rattle.scenario_image.specs.declared.step.Step.TheVariants.{Event, Post, Need}
-use Rattle.scenario_image.specs.Scenario.{Scenario, IsValid}
+use Rattle.scenario_image.specs.Scenario.{Row, Scenario, IsValid}
 use Rattle.trace_file.specs.declared.entry.Entry.{Entry}
 use Rattle.fleet_core.specs.Run.{made_by, posts_of, step_at, is_enabled, IsRun}
 use Rattle.shared_trace.specs.declared.next.Next.{Next}
@@ -17,9 +18,22 @@ use Rattle.shared_trace.specs.Next.{next_of, can_go, is_end}
 use Rattle.shared_trace.specs.Trace.{HoldsAfter, IsPlaced}
 use Rattle.shared_trace.specs.Job.{IsOf}
 
--- how long the tables of posts are: there is a place for each group that is posted to
+-- how many places a table needs for this step: for a post those up to its group's
+abbrev pub places_for : Step → ℕ
+places_for (Event event) = 0
+places_for (Post group) = group + 1
+places_for (Need group count) = 0
+
+abbrev pub places_for_steps : List Step → ℕ
+places_for_steps steps = fold (λ most step. max most (places_for step)) 0 steps
+
+abbrev pub places_for_rows : List Row → ℕ
+places_for_rows [] = 0
+places_for_rows (row ∷ rows) = max (places_for_steps row.steps) (places_for_rows rows)
+
+-- how long the tables of posts are: there is a place for each group that is posted to, and none where none is
 abbrev pub table_length : Scenario → ℕ
-table_length s = 256
+table_length s = places_for_rows s.rows
 
 -- the group of a post
 abbrev pub groups_in : Step → List ℕ

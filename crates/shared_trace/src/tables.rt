@@ -1,16 +1,56 @@
 //! Tables of the posts to each group.
 
-ghost use Rattle.std.specs.Prelude.{◌≡◌, ℕ, ◌+◌, ◌^◌, ◌<◌, ◌==◌, ◌++◌, length, slice_index, count_by, OnOk};
+ghost use Rattle.std.specs.Prelude.{◌≡◌, ℕ, ◌+◌, ◌^◌, ◌<◌, ◌==◌, ◌++◌, length, slice_get, slice_index, count_by, OnOk};
 ghost use Rattle.std.specs.List.{AllByRecursion};
 ghost use Rattle.fleet_core.specs.Board.{posts_after};
+ghost use Rattle.fleet_core.specs.Run.{steps_in};
 ghost use Rattle.scenario_image.specs.declared.step.Step.TheVariants.{Post};
-ghost use Rattle.shared_trace.specs.Kept.{groups_in};
+ghost use Rattle.shared_trace.specs.Kept.{groups_in, places_for, places_for_steps, table_length};
 
-use scenario_image::Step;
+use scenario_image::{Scenario, Step};
 use std::alloc::AllocError;
 
-/// How long the tables are: there is a place for each group.
-pub(crate) const TABLE: usize = 256;
+/// How many places a table needs for the step: for a post those up to its group's.
+fn places_for(step: &Step) -> usize
+    ensures { result ≡ places_for step.now }
+{
+    match step {
+        Step::Event(_) | Step::Need(_, _) => 0,
+        Step::Post(group) => usize::from(*group) + 1,
+    }
+}
+
+/// How many places a table needs for these steps.
+fn places_for_steps(steps: &[Step]) -> usize
+    ensures { result ≡ places_for_steps steps.now }
+{
+    steps
+        .iter()
+        .fold(0, |most, step| most.max(places_for(step)))
+}
+
+/// How many places a table needs for the device's row.
+fn places_for_row(scenario: &Scenario, device: u16) -> usize
+    ensures { result ≡ places_for_steps (steps_in (slice_get scenario.now.rows device)) }
+{
+    match scenario.row(device) {
+        None => 0,
+        Some((_, steps)) => places_for_steps(steps),
+    }
+}
+
+/// How long the tables are: there is a place for each group that is posted to, and none where none is. So where no row
+/// posts, a claim copies nothing.
+#[tactic(auto, using(crate::proofs::Lengths::more_rows))]
+pub(crate) fn table_length(scenario: &Scenario) -> usize
+    ensures { result ≡ table_length scenario.now }
+{
+    let mut most = 0;
+    for device in 0..scenario.rows() {
+        most = most.max(places_for_row(scenario, device as u16));
+    }
+    most
+}
 
 /// The posts to a group: none where the table has no place for it.
 pub(crate) fn posts_to(posts: &[u32], group: u8) -> u32

@@ -17,7 +17,7 @@ use crate::claims::Claim;
 use crate::job::Job;
 use crate::start::start_stations;
 use crate::station::{Place, Station, any_out, count_ended, first_left, look_from, lowest_ready};
-use crate::tables::{TABLE, add_posts};
+use crate::tables::{add_posts, table_length};
 use scenario_image::Scenario;
 use std::alloc::{AllocError, Global};
 use std::collections::LinkedList;
@@ -91,8 +91,9 @@ impl Trace {
         ensures shared { IfOk result (λ t. IsShared t) }
     {
         let _rows = scenario.rows();
-        let stations = start_stations(alloc, scenario)?;
-        let posts = vec![in alloc; 0u32; TABLE]?;
+        let places = table_length(scenario);
+        let stations = start_stations(alloc, scenario, places)?;
+        let posts = vec![in alloc; 0u32; places]?;
         let entries = Vec::with_capacity(alloc, scenario.steps())?;
         Ok(Trace {
             alloc,

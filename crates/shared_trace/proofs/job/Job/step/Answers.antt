@@ -1,5 +1,5 @@
 use Rattle.std.proofs.Common.{◌≡◌, true, false, refl, sym, ap, ◌∙◌, arith}
-use Rattle.fleet_core.specs.Run.{out_at, step_at}
+use Rattle.fleet_core.specs.Run.{out_at, step_at, is_enabled}
 use Rattle.shared_trace.specs.Trace.{HoldsAfter}
 use Rattle.std.proofs.Common.{subst, ◌+◌}
 use Rattle.shared_trace.specs.Next.{next_of}
@@ -80,6 +80,10 @@ then c = going c.args.self.now c.self.inside.claimed.value.subject c.self.inside
     c.self.inside.claimed.value.entries c.self.inside.entries.items c.self.inside.held c.self.inside.spent
     c.self.inside.known.items c.self.inside.posted.items c.self.inside.place c.self.inside.next c.self.view_is
     c.self.invariant c.requires.ready
+
+pub returns-in_err-push-clause-began : goal.returns-in_err-push-clause-began
+returns-in_err-push-clause-began c =
+    subst (λ t. is_enabled t.subject t.front t.device ≡ true) c.self.view_is c.self.invariant.task.began
 
 next_is : (c : goal.After-self-3-1) → c.next_of-self-inside.result
     ≡ next_of (step_at c.self.inside.claimed.value.subject c.self.inside.device (c.self.inside.place + 1))
