@@ -2,7 +2,7 @@
 use denote.RattleType.{RattleType}
 use denote.Enum.Declared as E
 use denote.Enum.Enum.{Enum}
-use denote.Param.Send.{IsSend, IsSync, EachSync, enum_sync, recorded_sync, sendable}
+use denote.Param.Send.{IsSend, IsSync, EachSend, EachSync, enum_send, enum_sync, recorded_sync, sendable}
 use denote.Param.SendFields.{declared_send}
 use Rattle.std.proofs.Crossing as std
 use Rattle.std.proofs.MapsCrossing as maps
@@ -23,6 +23,8 @@ use Rattle.device_requests.specs.contracts.client.Client as Client
 use Rattle.device_machine.specs.contracts.recorded.Recorded as Recorded
 use Rattle.device_machine.specs.contracts.records.Records as Records
 use Rattle.device_machine.specs.contracts.output.Output as Output
+use Rattle.device_machine.specs.contracts.output.Items as Items
+use Rattle.device_machine.specs.contracts.output.Outputs as Outputs
 use Rattle.device_machine.specs.contracts.device.Device as Device
 use Rattle.device_machine.specs.contracts.event.Event as Event
 use Rattle.device_template.specs.contracts.template.Template as Template
@@ -66,8 +68,20 @@ attributes_send = search (sendable, std.crosses, maps.crosses) depth 30
 output_send : IsSend Output.the_row
 output_send = search (sendable, bytes_send) depth 30
 
+output_field_send : IsSend (Output.the_field).row
+output_field_send = search (sendable, bytes_send) depth 30
+
+items_parts : EachSend (E.shape Items.the_type).variants
+items_parts = ((output_field_send, tt), ((search (sendable, std.Vec-send, output_send) depth 30, tt), tt))
+
+items_field_send : IsSend (Items.the_field).row
+items_field_send = enum_send (E.shape Items.the_type) items_parts
+
+outputs_send : IsSend Outputs.the_row
+outputs_send = search (sendable, std.crosses, items_field_send) depth 30 parts 12
+
 entry_send : IsSend Entry.the_row
-entry_send = search (sendable, std.Vec-send, output_send) depth 30
+entry_send = search (sendable, outputs_send) depth 30 parts 12
 
 report_send : IsSend Report.the_row
 report_send = search (sendable, bytes_send) depth 30
