@@ -58,6 +58,12 @@ fn by_rows<R: Wait>(rt: &R, alloc: Global, scenario: &Scenario) -> Option<Made> 
     Some(made_of(trace.into_entries()))
 }
 
+/// How many steps one worker makes of which each row is a single batch.
+pub fn count_by_rows<R: Wait>(rt: &R, alloc: Global, scenario: &Scenario) -> Option<usize> {
+    let made = by_rows(rt, alloc, scenario)?;
+    Some(made.count)
+}
+
 /// How often one worker claims a device and puts it again without a step: as often as the rows have steps.
 fn by_visits<R: Wait>(rt: &R, alloc: Global, scenario: &Scenario) -> Option<Made> {
     let Ok(trace) = Trace::new(alloc, scenario) else {

@@ -1,6 +1,7 @@
 //! Runs of one device, of fewer and of more steps than a page of the trace has entries, which is 256.
 ghost use Rattle.std.specs.Thread.{IsSync};
 
+use crate::measured::count_by_rows;
 use crate::scenes::scenario_of;
 use fleet_core::{Verdict, check};
 use fleet_workers::{FleetEnd, OpenGate, run_fleet};
@@ -44,6 +45,14 @@ fn is_made<R: Threads + Wait + Sync>(
     Ok(is_done && matches!(verdict, Verdict::Run))
 }
 
+/// Whether one worker makes as many steps as the device has, where a batch may have more than memory has room for.
+fn is_made_at_once<R: Wait>(rt: &R, alloc: Global, steps: u32) -> Result<bool, AllocError> {
+    let Some(scenario) = seconds(alloc, steps)? else {
+        return Ok(false);
+    };
+    Ok(count_by_rows(rt, alloc, &scenario) == Some(steps as usize))
+}
+
 /// Prints a line for each run.
 pub fn show<R: Threads + Wait + Sync + Print>(rt: &R, alloc: Global) -> io::Result<()>
     requires { IsSync R.row }
@@ -56,5 +65,13 @@ pub fn show<R: Threads + Wait + Sync + Print>(rt: &R, alloc: Global) -> io::Resu
         };
         println!(rt; "two workers make {steps} steps of a device, {batch} at a time: {word}")?;
     }
+    let word = if is_made_at_once(rt, alloc, 600)? {
+        "yes"
+    } else {
+        "no"
+    };
+    println!(rt;
+        "one worker makes 600 steps of a device at once, in a batch of the largest size: {word}"
+    )?;
     Ok(())
 }

@@ -21,6 +21,9 @@ use std::snapshot::Snapshot;
 use ticket_lock::Pass;
 use trace_file::Entry;
 
+/// For so many entries at most room is made at once, whatever the batch: a row may end long before a large one.
+const ROOM: u32 = 64;
+
 /// A device that is out with a worker, and the entries that it has made since. It has to be put into its trace again,
 /// or given up. Contracts see the scenario, the worker, the device, the trace's entries at the claim, the job's own,
 /// what is held of the device, and whether memory ran out.
@@ -148,7 +151,7 @@ impl Job {
         Ok(true)
     }
 
-    /// Makes room for the entries of this many steps. Without memory the job is spent.
+    /// Makes room for the entries of this many steps, or for `ROOM`. Without memory the job is spent.
     fn make_room(&mut self, steps: u32) -> Result<(), AllocError>
         requires ready { self.old.spent ≡ false }
         ensures room { OnOk result (self.new ≡ self.old) }
@@ -156,7 +159,7 @@ impl Job {
         ensures memory { OnErr result (IsTrue self.new.spent) }
     {
         self.spent = true;
-        self.entries.reserve(steps as usize)?;
+        self.entries.reserve(steps.min(ROOM) as usize)?;
         self.spent = false;
         Ok(())
     }
