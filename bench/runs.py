@@ -159,6 +159,7 @@ def serial_scenarios():
 def worker_scenarios():
     """The same, of the scenarios that workers make."""
     yield "mixed", 4096, mixed(100)
+    yield "mixed", 16384, mixed(100)
     yield "ticks", 4096, ticks(100)
 
 
@@ -273,7 +274,7 @@ class Measured:
     def worker_row(self, kind):
         image, run = self.least["image"], self.least[kind]
         clock = run.clock - image.clock
-        return [self.name, kind, ms(clock), f"{self.total / clock:,.0f}" if clock > SHORTEST else "-",
+        return [self.name, str(self.devices), kind, ms(clock), f"{self.total / clock:,.0f}" if clock > SHORTEST else "-",
                 a_step(run.seconds - image.seconds, self.total), run.mebibytes()]
 
 
@@ -300,7 +301,7 @@ def measure_workers(uses, folder, times):
         for it in workers:
             for kind in ["image", *kinds]:
                 it.make(uses, kind)
-    table(["Steps", "Run", "Clock ms", "Steps/s", "A step", "MiB"],
+    table(["Steps", "Devices", "Run", "Clock ms", "Steps/s", "A step", "MiB"],
           [it.worker_row(kind) for it in workers for kind in kinds])
 
 
