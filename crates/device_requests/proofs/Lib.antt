@@ -6,6 +6,7 @@ mod Hiding
 mod Linking
 mod LinksExist
 mod Order
+mod PathAlone
 mod Paths
 mod Present
 mod Queries

@@ -1,5 +1,9 @@
 -- What clauses of private functions name. No promise rests on it.
-use Rattle.std.specs.Prelude.{ℕ, Bool, true, not, List, [], ◌∷◌, Option, None, Some, is_some}
+use Rattle.std.specs.Prelude.{ℕ, ◌==◌, nat_le, Bool, true, ◌&&◌, not, List, [], ◌∷◌, length, Option, None, Some}
+use Rattle.std.specs.Prelude.{is_some}
+use Rattle.std.specs.List.{list_all}
+use Rattle.coap_codec.specs.OptionNumber.{uri_path_option}
+use Rattle.coap_codec.specs.declared.option.Opt.{Opt}
 use Rattle.object_defs.specs.Lines.{first_line}
 use Rattle.object_defs.specs.declared.path.Path.{Path}
 use Rattle.object_defs.specs.declared.path.Path.TheVariants.{Object, Instance, Resource, Part}
@@ -13,6 +17,14 @@ use Rattle.device_requests.specs.Client.{Client}
 use Rattle.device_requests.specs.Refusals.{is_refused_now, unless_taken}
 use Rattle.device_requests.specs.Targets.{place_of}
 use Rattle.device_requests.specs.Write.{event_of, exceeds, left, mode_at, write_unless}
+
+-- the option is a Uri-Path of a length that it may have
+abbrev pub is_segment : Opt → Bool
+is_segment o = o.number == uri_path_option && nat_le (length o.value) 255
+
+-- the options name a path, and say nothing else
+abbrev pub is_path_alone : List Opt → Bool
+is_path_alone options = list_all (λ o. is_segment o) options
 
 -- the numbers of a path; none where there is no path yet
 abbrev pub numbers_in : Option Path → List ℕ

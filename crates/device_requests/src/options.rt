@@ -1,11 +1,11 @@
 //! What the options of a request say (RFC 7252 sections 5.4 and 5.10).
 
-ghost use Rattle.std.specs.Prelude.{◌≡◌, ◌==◌, ◌++◌, ◌∷◌, [], find, None};
+ghost use Rattle.std.specs.Prelude.{◌≡◌, ◌==◌, ◌++◌, ◌∷◌, [], find, true, false, None, IfSome, IfNone};
 ghost use Rattle.std.specs.Option.{option_copied};
 ghost use Rattle.device_requests.specs.Options.{has_known_form, is_critical, repeats, has_unknown_critical};
 ghost use Rattle.device_requests.specs.Options.{has_unrecognized_critical, short_number, accept_of, content_format_of};
 ghost use Rattle.device_requests.specs.Options.{has_query, observe_number, observe_of, segments_of, path_of, path_from};
-ghost use Rattle.device_requests.specs.Inside.{numbers_in};
+ghost use Rattle.device_requests.specs.Inside.{is_path_alone, is_segment, numbers_in};
 
 use coap_codec::option_number::{
     ACCEPT, CONTENT_FORMAT, OBSERVE, URI_HOST, URI_PATH, URI_PORT, URI_QUERY,
@@ -50,13 +50,27 @@ fn has_unknown_critical(options: &[Opt]) -> bool
 
 /// Whether a critical option is not recognized: one that is unknown, one of a wrong length, or a
 /// second Uri-Host, Uri-Port or Accept.
-pub(crate) fn has_unrecognized_critical(options: &[Opt]) -> bool
+fn has_unrecognized_critical(options: &[Opt]) -> bool
     ensures { result ≡ has_unrecognized_critical options.now }
 {
     has_unknown_critical(options)
         || repeats(URI_HOST, options)
         || repeats(URI_PORT, options)
         || repeats(ACCEPT, options)
+}
+
+/// Whether the option is a Uri-Path of a length that it may have.
+fn is_segment(option: &Opt) -> bool
+    ensures { result ≡ is_segment option.now }
+{
+    option.number == URI_PATH && option.value.len() <= 255
+}
+
+/// Whether the options name a path and say nothing else.
+fn is_path_alone(options: &[Opt]) -> bool
+    ensures { result ≡ is_path_alone options.now }
+{
+    options.iter().all(|o| is_segment(o))
 }
 
 /// The number in an option of at most two bytes.
@@ -79,14 +93,14 @@ fn first_of(number: u16, options: &[Opt]) -> Option<&Opt>
 }
 
 /// The format that the first Accept names.
-pub(crate) fn accept_of(options: &[Opt]) -> Option<u16>
+fn accept_of(options: &[Opt]) -> Option<u16>
     ensures { result ≡ accept_of options.now }
 {
     short_number(first_of(ACCEPT, options)?)
 }
 
 /// The format that the first Content-Format names; one of a wrong length counts as none.
-pub(crate) fn content_format_of(options: &[Opt]) -> Option<u16>
+fn content_format_of(options: &[Opt]) -> Option<u16>
     ensures { result ≡ content_format_of options.now }
 {
     short_number(first_of(CONTENT_FORMAT, options)?)
@@ -104,14 +118,14 @@ fn observe_number(option: &Opt) -> Option<u32>
 }
 
 /// The number of the first Observe; one of a wrong length counts as none.
-pub(crate) fn observe_of(options: &[Opt]) -> Option<u32>
+fn observe_of(options: &[Opt]) -> Option<u32>
     ensures { result ≡ observe_of options.now }
 {
     observe_number(first_of(OBSERVE, options)?)
 }
 
 /// Whether there is a Uri-Query.
-pub(crate) fn has_query(options: &[Opt]) -> bool
+fn has_query(options: &[Opt]) -> bool
     ensures { result ≡ has_query options.now }
 {
     options.iter().any(|o| o.number == URI_QUERY)
@@ -143,4 +157,46 @@ pub(crate) fn path_of(options: &[Opt]) -> Option<Path>
         }
     }
     path
+}
+
+/// What options say beside the path.
+#[derive(Drop)]
+pub(crate) struct Said {
+    /// The format that the first Accept names.
+    pub accept: Option<u16>,
+    /// Whether there is a Uri-Query.
+    pub has_query: bool,
+    /// The format that the first Content-Format names.
+    pub content_format: Option<u16>,
+    /// The number of the first Observe.
+    pub observe: Option<u32>,
+}
+
+/// What the options say beside the path, or nothing where one that must be understood is not. Most requests have a path
+/// alone, whose options are looked through once.
+pub(crate) fn said_by(options: &[Opt]) -> Option<Said>
+    ensures understood { IfSome result (λ s. has_unrecognized_critical options.now ≡ false) }
+    ensures accept { IfSome result (λ s. s.accept ≡ accept_of options.now) }
+    ensures query { IfSome result (λ s. s.has_query ≡ has_query options.now) }
+    ensures content_format { IfSome result (λ s. s.content_format ≡ content_format_of options.now) }
+    ensures observe { IfSome result (λ s. s.observe ≡ observe_of options.now) }
+    ensures rejected { IfNone result (has_unrecognized_critical options.now ≡ true) }
+{
+    if is_path_alone(options) {
+        return Some(Said {
+            accept: None,
+            has_query: false,
+            content_format: None,
+            observe: None,
+        });
+    }
+    if has_unrecognized_critical(options) {
+        return None;
+    }
+    Some(Said {
+        accept: accept_of(options),
+        has_query: has_query(options),
+        content_format: content_format_of(options),
+        observe: observe_of(options),
+    })
 }

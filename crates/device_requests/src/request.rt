@@ -12,9 +12,7 @@ use crate::answer::{Answer, Code};
 use crate::client::Client;
 use crate::observe::{Interest, interest_at};
 use crate::operation::{Operation, select};
-use crate::options::{
-    accept_of, content_format_of, has_query, has_unrecognized_critical, observe_of, path_of,
-};
+use crate::options::{path_of, said_by};
 use coap_codec::Message;
 use lwm2m_payloads::Mode;
 use object_defs::Path;
@@ -47,22 +45,21 @@ impl Request {
         ensures rejected { IfErr result (λ code. is_bad_option code ≡ has_unrecognized_critical message.now.options) }
     {
         let options = message.options().as_slice();
-        if has_unrecognized_critical(options) {
+        let Some(said) = said_by(options) else {
             return Err(Code::BadOption);
-        }
+        };
         let Some(path) = path_of(options) else {
             return Err(Code::NotFound);
         };
-        let accept = accept_of(options);
-        let Some(operation) = select(message.code(), accept, has_query(options), path) else {
+        let Some(operation) = select(message.code(), said.accept, said.has_query, path) else {
             return Err(Code::MethodNotAllowed);
         };
         Ok(Request {
             path,
             operation,
-            accept,
-            content_format: content_format_of(options),
-            observe: observe_of(options),
+            accept: said.accept,
+            content_format: said.content_format,
+            observe: said.observe,
         })
     }
 }
