@@ -1,23 +1,24 @@
 -- What a fleet keeps, after one entry more.
 use Rattle.std.proofs.Common.{◌≡◌, ℕ, zero, suc, ◌+◌, ◌<◌, ◌≤◌, eqb, Bool, true, false, ◌⊎◌, inl, inr, List, [], ◌∷◌}
-use Rattle.std.proofs.Common.{◌++◌, length, get_or, None, Some, slice_get, slice_index, slice_set, replicate, refl, sym}
-use Rattle.std.proofs.Common.{ap, subst, ◌∙◌, arith, add-one, get_or-set_same, get_or-set_other}
+use Rattle.std.proofs.Common.{Option, ◌++◌, length, get_or, None, Some, slice_get, slice_index, slice_set, replicate}
+use Rattle.std.proofs.Common.{refl, sym, ap, subst, ◌∙◌, arith, add-one, get_or-set_same, get_or-set_other}
 use Rattle.std.proofs.lemmas.List.{length-set, length-replicate, get_or_past}
 use Rattle.std.proofs.lemmas.Bool.{cases_eq, cases_lt, eq-eqb, ne_eqb}
 use Rattle.std.proofs.lemmas.Option.{slice_get_read}
 use Rattle.device_template.specs.Template.{Template}
-use Rattle.device_machine.specs.State.{Machine, Device, Shows}
+use Rattle.device_machine.specs.State.{Device}
 use Rattle.scenario_image.specs.declared.step.Step.{Step}
 use Rattle.scenario_image.specs.declared.step.Step.TheVariants.{Event, Post, Need}
 use Rattle.scenario_image.specs.Scenario.{Scenario, IsValid}
 use Rattle.device_machine.specs.declared.output.Output.{Output}
-use Rattle.scenario_image.specs.Play.{start, step_after, step_outputs, state_at, IsRowOf, PutsOut, is_step_refused}
+use Rattle.scenario_image.specs.Play.{start, step_outputs, state_at, IsRowOf, PutsOut}
 use Rattle.trace_file.specs.declared.entry.Entry.{Entry}
-use Rattle.fleet_core.specs.Run.{step_at, made_by, posts_to, is_post, posts_of, is_enabled, entry_of, out_at}
+use Rattle.fleet_core.specs.Run.{step_at, made_by, posts_to, is_post, posts_of, may_pass, is_enabled, entry_of, out_at}
 use Rattle.fleet_core.specs.Run.{outputs_before, outputs_with, outputs_in_row}
-use Rattle.fleet_core.specs.Board.{Seen, IsBoard, AreParked, AreStarted, IsFleet, posts_after}
+use Rattle.fleet_core.specs.Board.{Seen, IsBoard, AreParked, HoldsAfter, IsFleet, posts_after}
+use Rattle.fleet_core.proofs.Holding.{nothing}
 use Rattle.fleet_core.proofs.Posts.{one, run_push, made_same, made_other, posts-push, enabled_fits}
-use Rattle.fleet_core.proofs.Valid.{IsStep, step_is, step_stands, state-more, takes_step, posts_within}
+use Rattle.fleet_core.proofs.Valid.{IsStep, step_is, posts_within}
 
 -- ---- lists
 
@@ -93,40 +94,30 @@ board_push s es made posts worker d step board at go =
 
 -- ---- the devices
 
-device_at : (s : Scenario) (es : List Entry) (e : Entry) (devices : List Device) (new : Device) (step : Step)
-    → AreParked s es devices → step_at s e.device (made_by e.device es) ≡ Some step
-    → ((class : Template) (steps : List Step) → IsRowOf s e.device class steps
-    → Shows new (step_after (state_at class steps (made_by e.device es)) step))
-    → (i : ℕ) (x : Device) → slice_get (slice_set devices e.device new) i ≡ Some x
-    → (class : Template) (steps : List Step) → IsRowOf s i class steps
-    → (e.device ≡ i) ⊎ (e.device ≡ i → ⊥) → Shows x (state_at class steps (made_by i (es ++ e ∷ [])))
-device_at s es e devices new step parked at here i x got class steps row (inl own) =
-    let mine : IsRowOf s e.device class steps = subst (λ j. IsRowOf s j class steps) (sym own) row in
+held_at : (s : Scenario) (es : List Entry) (e : Entry) (devices : List (Option Device)) (new : Option Device)
+    → AreParked s es devices → HoldsAfter s e.device (made_by e.device es + 1) new → (i : ℕ) (x : Option Device)
+    → slice_get (slice_set devices e.device new) i ≡ Some x
+    → (e.device ≡ i) ⊎ (e.device ≡ i → ⊥) → HoldsAfter s i (made_by i (es ++ e ∷ [])) x
+held_at s es e devices new parked here i x got (inl own) =
     let is : new ≡ x =
     get-set_same devices e.device new x (subst (λ j. slice_get (slice_set devices e.device new) j ≡ Some x)
     (sym own) got) in
-    let stands = step_stands s e.device (made_by e.device es) step class steps mine at in
-    let count : suc (made_by e.device es) ≡ made_by i (es ++ e ∷ []) =
-    sym (made_same e.device es e refl) ∙ ap (λ j. made_by j (es ++ e ∷ [])) own in
-    subst (λ k. Shows x (state_at class steps k)) count
-    (subst (λ f. Shows x f) (sym (state-more steps (made_by e.device es) step (start class) stands))
-    (subst (λ y. Shows y (step_after (state_at class steps (made_by e.device es)) step)) is
-    (here class steps mine)))
-device_at s es e devices new step parked at here i x got class steps row (inr other) =
-    subst (λ k. Shows x (state_at class steps k)) (sym (made_other i es e other))
-    (parked.each i x (sym (get-set_other devices e.device i new other) ∙ got) class steps row)
+    let count : made_by e.device es + 1 ≡ made_by e.device (es ++ e ∷ []) =
+    add-one (made_by e.device es) ∙ sym (made_same e.device es e refl) in
+    subst (λ j. HoldsAfter s j (made_by j (es ++ e ∷ [])) x) own
+    (subst (λ k. HoldsAfter s e.device k x) count
+    (subst (HoldsAfter s e.device (made_by e.device es + 1)) is here))
+held_at s es e devices new parked here i x got (inr other) =
+    subst (λ k. HoldsAfter s i k x) (sym (made_other i es e other))
+    (parked.each i x (sym (get-set_other devices e.device i new other) ∙ got))
 
-pub parked_push : (s : Scenario) (es : List Entry) (devices : List Device) (worker d : ℕ) (old new : Device)
-    (step : Step)
-    → AreParked s es devices → slice_get devices d ≡ Some old → step_at s d (made_by d es) ≡ Some step
-    → ((f : Machine) → Shows old f → Shows new (step_after f step))
+pub parked_push : (s : Scenario) (es : List Entry) (devices : List (Option Device)) (worker d : ℕ)
+    (new : Option Device)
+    → AreParked s es devices → HoldsAfter s d (made_by d es + 1) new
     → AreParked s (es ++ entry_of s worker d es ∷ []) (slice_set devices d new)
-parked_push s es devices worker d old new step parked was at shows =
+parked_push s es devices worker d new parked here =
     record {
-      each = λ i x got class steps row.
-          device_at s es (entry_of s worker d es) devices new step parked at
-          (λ class steps row. shows (state_at class steps (made_by d es)) (parked.each d old was class steps row)) i x
-          got class steps row (cases_eq d i);
+      each = λ i x got. held_at s es (entry_of s worker d es) devices new parked here i x got (cases_eq d i);
     }
 
 -- what a device outputs at its next step
@@ -146,13 +137,14 @@ zeros zero i = refl
 zeros (suc n) zero = refl
 zeros (suc n) (suc i) = zeros n i
 
-pub starts : (s : Scenario) (es : List Entry) (made posts : List ℕ) (devices : List Device) → IsValid s → es ≡ []
-    → made ≡ replicate (length s.rows) 0 → posts ≡ replicate 256 0
-    → length devices ≡ length s.rows → AreStarted s devices → IsFleet s es made posts devices false
-starts s es made posts devices valid none m p count started =
+pub starts : (s : Scenario) (es : List Entry) (made posts : List ℕ) (devices : List (Option Device)) → IsValid s
+    → es ≡ [] → made ≡ replicate (length s.rows) 0 → posts ≡ replicate 256 0
+    → devices ≡ replicate (length s.rows) None → IsFleet s es made posts devices false
+starts s es made posts devices valid none m p held =
     subst (λ l. IsFleet s l made posts devices false) (sym none)
     (subst (λ l. IsFleet s [] l posts devices false) (sym m)
     (subst (λ l. IsFleet s [] (replicate (length s.rows) 0) l devices false) (sym p)
+    (subst (λ l. IsFleet s [] (replicate (length s.rows) 0) (replicate 256 0) l false) (sym held)
     (record {
       board = record {
         valid = valid;
@@ -162,9 +154,11 @@ starts s es made posts devices valid none m p count started =
         made_is = λ d h. zeros (length s.rows) d;
         posts_is = λ g h. zeros 256 g;
       };
-      count = count;
-      parked = λ h. record { each = λ d x at class steps row. started.each d x at class steps row };
-    })))
+      count = length-replicate {A = Option Device} (length s.rows) None;
+      parked = λ h. record {
+        each = λ d x at. subst (HoldsAfter s d 0) (sym (nothing (length s.rows) d x at)) (inl refl);
+      };
+    }))))
 
 -- ---- one entry more
 
@@ -174,44 +168,48 @@ get_or_any (z ∷ zs) zero x y h = refl
 get_or_any (z ∷ zs) (suc i) x y h = get_or_any zs i x y (omega (arith, h))
 
 -- what a fleet that may go on knows of the next step of a device
-pub record Reads (s : Scenario) (es : List Entry) (devices : List Device) (d place : ℕ) (step : Step)
-    (old : Device) : Type 0 where
+pub record Reads (s : Scenario) (es : List Entry) (devices : List (Option Device)) (d place : ℕ) (step : Step)
+    (old : Option Device) : Type 0 where
   pub at : step_at s d (made_by d es) ≡ Some step
   pub is : IsStep s d (made_by d es) step
   pub go : is_enabled s es d ≡ true
   pub place_is : place ≡ made_by d es
-  pub was : slice_get devices d ≡ Some old
+  pub holds : HoldsAfter s d place old
   pub parked : AreParked s es devices
 
-pub reads : (v : Seen) (s : Scenario) (es : List Entry) (spent : Bool) (made posts : List ℕ) (devices : List Device)
-    (d at place : ℕ) (step : Step) (old : Device)
+pub reads : (v : Seen) (s : Scenario) (es : List Entry) (spent : Bool) (made posts : List ℕ)
+    (devices : List (Option Device)) (d at place : ℕ) (step : Step) (old : Option Device)
     → record { scenario = s; entries = es; spent = spent } ≡ v → IsFleet s es made posts devices spent → spent ≡ false
-    → Some step ≡ step_at v.scenario d (made_by d v.entries) → true ≡ is_enabled v.scenario v.entries d → at ≡ d
-    → place ≡ get_or made at place → old ≡ get_or devices at old → Reads s es devices d place step old
-reads v s es spent made posts devices d at place step old view fleet ready next go from read got =
+    → Some step ≡ step_at v.scenario d (made_by d v.entries)
+    → true ≡ may_pass (λ g. posts_of v.scenario g v.entries) (Some step) → at ≡ d → place ≡ get_or made at place
+    → old ≡ get_or devices at old → Reads s es devices d place step old
+reads v s es spent made posts devices d at place step old view fleet ready next passes from read got =
+    let go : true ≡ is_enabled v.scenario v.entries d =
+    passes ∙ ap (may_pass (λ g. posts_of v.scenario g v.entries)) next in
     let next_is : step_at s d (made_by d es) ≡ Some step =
     subst (λ w. step_at w.scenario d (made_by d w.entries) ≡ Some step) (sym view) (sym next) in
     let is : IsStep s d (made_by d es) step = step_is s d (made_by d es) step fleet.board.valid next_is in
     let within : d < length made = omega (arith, is.within, fleet.board.rows) in
     let here : place ≡ get_or made d place = read ∙ ap (λ i. get_or made i place) from in
+    let place_is : place ≡ made_by d es = here ∙ (get_or_any made d place 0 within ∙ fleet.board.made_is d is.within) in
+    let was : slice_get devices d ≡ Some old =
+    slice_get_read devices (length devices) d old refl (omega (arith, is.within, fleet.count))
+    (got ∙ ap (λ i. get_or devices i old) from) in
     record {
       at = next_is;
       is = is;
       go = subst (λ w. is_enabled w.scenario w.entries d ≡ true) (sym view) (sym go);
-      place_is = here ∙ (get_or_any made d place 0 within ∙ fleet.board.made_is d is.within);
-      was = slice_get_read devices (length devices) d old refl (omega (arith, is.within, fleet.count))
-          (got ∙ ap (λ i. get_or devices i old) from);
+      place_is = place_is;
+      holds = subst (λ k. HoldsAfter s d k old) (sym place_is) ((fleet.parked ready).each d old was);
       parked = fleet.parked ready;
     }
 
-pub not_refused_here : (s : Scenario) (es : List Entry) (devices : List Device) (d place : ℕ) (step : Step)
-    (old : Device) → Reads s es devices d place step old
-    → is_step_refused old step ≡ false
-not_refused_here s es devices d place step old r =
-    takes_step s d (made_by d es) step old r.is (λ class steps row. r.parked.each d old r.was class steps row)
+pub step_stands_here : (s : Scenario) (es : List Entry) (devices : List (Option Device)) (d place : ℕ) (step : Step)
+    (old : Option Device) → Reads s es devices d place step old → step_at s d place ≡ Some step
+step_stands_here s es devices d place step old r = ap (step_at s d) r.place_is ∙ r.at
 
-pub place_early : (s : Scenario) (es : List Entry) (devices : List Device) (d place : ℕ) (step : Step) (old : Device)
-    → Reads s es devices d place step old → place < 4096
+pub place_early : (s : Scenario) (es : List Entry) (devices : List (Option Device)) (d place : ℕ) (step : Step)
+    (old : Option Device) → Reads s es devices d place step old → place < 4096
 place_early s es devices d place step old r = omega (arith, r.is.early, r.place_is)
 
 room_at : (s : Scenario) (es : List Entry) (made posts : List ℕ) (g : ℕ) → IsBoard s es made posts → (g < 256)
@@ -225,16 +223,13 @@ pub posts_room : (s : Scenario) (es : List Entry) (made posts : List ℕ) → Is
 posts_room s es made posts board g = room_at s es made posts g board (cases_lt g 256)
 
 -- the entry that is added is the device's next
-pub entry_is : (s : Scenario) (es : List Entry) (devices : List Device) (worker d place : ℕ) (step : Step)
-    (old : Device) (out : List Output) → Reads s es devices d place step old
-    → ((f : Machine) → Shows old f → out ≡ step_outputs f step)
+pub entry_is : (s : Scenario) (es : List Entry) (devices : List (Option Device)) (worker d place : ℕ) (step : Step)
+    (old : Option Device) (out : List Output) → Reads s es devices d place step old → out ≡ out_at s d place
     → record { worker = worker; device = d; step = place; outputs = out } ≡ entry_of s worker d es
 entry_is s es devices worker d place step old out r puts =
-    let put : out ≡ out_at s d (made_by d es) =
-    puts_out s d (made_by d es) step out r.is
-    (λ class steps row. puts (state_at class steps (made_by d es)) (r.parked.each d old r.was class steps row)) in
     ap (λ k. record { worker = worker; device = d; step = k; outputs = out }) r.place_is
-    ∙ ap (λ o. record { worker = worker; device = d; step = made_by d es; outputs = o }) put
+    ∙ ap (λ o. record { worker = worker; device = d; step = made_by d es; outputs = o })
+    (puts ∙ ap (out_at s d) r.place_is)
 
 pub added : (v : Seen) (s : Scenario) (es new : List Entry) (spent : Bool) (worker d : ℕ) (e : Entry)
     → record { scenario = s; entries = es; spent = spent } ≡ v
@@ -242,14 +237,14 @@ pub added : (v : Seen) (s : Scenario) (es new : List Entry) (spent : Bool) (work
 added v s es new spent worker d e view is same =
     subst (λ w. new ≡ w.entries ++ entry_of w.scenario worker d w.entries ∷ []) view (is ∙ ap (λ x. es ++ x ∷ []) same)
 
-pub fleet_push : (s : Scenario) (es new : List Entry) (made posts posts_then : List ℕ) (devices : List Device)
-    (worker d at place : ℕ) (step : Step) (old then : Device) (e : Entry)
+pub fleet_push : (s : Scenario) (es new : List Entry) (made posts posts_then : List ℕ)
+    (devices : List (Option Device)) (worker d at place : ℕ) (step : Step) (old then : Option Device) (e : Entry)
     → IsBoard s es made posts → length devices ≡ length s.rows → Reads s es devices d place step old → at ≡ d
     → new ≡ es ++ e ∷ [] → e ≡ entry_of s worker d es
-    → posts_then ≡ posts_after posts step → ((f : Machine) → Shows old f → Shows then (step_after f step))
+    → posts_then ≡ posts_after posts step → HoldsAfter s d (place + 1) then
     → IsFleet s new (slice_set made at (place + 1)) posts_then (slice_set devices at then) false
 fleet_push s es new made posts posts_then devices worker d at place step old
-    then e board count r from is same noted_is shows =
+    then e board count r from is same noted_is holds =
     subst (λ i. IsFleet s new (slice_set made i (place + 1)) posts_then (slice_set devices i then) false) (sym from)
     (subst (λ k. IsFleet s new (slice_set made d (k + 1)) posts_then (slice_set devices d then) false) (sym r.place_is)
     (subst (λ p. IsFleet s new (slice_set made d (made_by d es + 1)) p (slice_set devices d then) false) (sym noted_is)
@@ -258,7 +253,8 @@ fleet_push s es new made posts posts_then devices worker d at place step old
     (record {
       board = board_push s es made posts worker d step board r.at r.go;
       count = length-set devices d then ∙ count;
-      parked = λ h. parked_push s es devices worker d old then step r.parked r.was r.at shows;
+      parked = λ h. parked_push s es devices worker d then r.parked
+          (subst (λ k. HoldsAfter s d (k + 1) then) r.place_is holds);
     }))))
 
 -- what a step outputs in the device's row

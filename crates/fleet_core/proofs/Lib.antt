@@ -4,6 +4,7 @@ pub mod Agreeing
 pub mod Clock
 pub mod Valid
 pub mod Started
+pub mod Holding
 pub mod Board
 pub mod Taken
 pub mod Sums

@@ -297,6 +297,12 @@ distance s low v = left (λ d. made_by d v.entries) s.rows * (length s.rows + 1)
 less : (a b r low next : ℕ) → a ≡ suc b → low < r → b * (r + 1) + (r - next) < a * (r + 1) + (r - low)
 less a b r low next h within = let e : a * (r + 1) ≡ suc b * (r + 1) = ap (λ n. n * (r + 1)) h in omega (arith, e)
 
+-- a fleet that has passed a device, and is as it was, is nearer to the end
+pub goes_along : (s : Scenario) (low : ℕ) (v new : Seen) → new ≡ v → low < length s.rows
+    → distance s (low + 1) new < distance s low v
+goes_along s low v new same within =
+    subst (λ w. distance s (low + 1) w < distance s low v) (sym same) (omega (arith, within))
+
 pub goes_down : (s : Scenario) (low next : ℕ) (v new : Seen) → v.scenario ≡ s
     → true ≡ is_enabled v.scenario v.entries low → new ≡ with_entry v 0 low → low < length s.rows
     → distance s next new < distance s low v

@@ -1,5 +1,6 @@
 -- What contracts see of a fleet, and what it keeps.
-use Rattle.std.specs.Prelude.{◌≡◌, ℕ, ◌+◌, ◌<◌, Bool, true, false, List, [], ◌∷◌, ◌++◌, length, Some}
+use Rattle.std.specs.Prelude.{◌≡◌, ℕ, ◌+◌, ◌<◌, ◌⊎◌, Bool, true, false, Option, List, [], ◌∷◌, ◌++◌}
+use Rattle.std.specs.Prelude.{length, None, Some}
 use Rattle.std.specs.Prelude.{slice_get, slice_index, slice_set}
 use Rattle.device_template.specs.Template.{Template}
 use Rattle.device_machine.specs.State.{Device, Shows}
@@ -8,7 +9,7 @@ use Rattle.scenario_image.specs.declared.step.Step.TheVariants.{Event, Post, Nee
 use Rattle.scenario_image.specs.Scenario.{Scenario, IsValid}
 use Rattle.scenario_image.specs.Play.{start, state_at, IsRowOf}
 use Rattle.trace_file.specs.declared.entry.Entry.{Entry}
-use Rattle.fleet_core.specs.Run.{made_by, posts_of, entry_of, Fits, IsRun}
+use Rattle.fleet_core.specs.Run.{made_by, posts_of, step_at, entry_of, Fits, IsRun}
 
 -- what contracts see of a fleet: the scenario, the entries, and whether a lack of memory has spent it
 pub record Seen : Type 0 where
@@ -25,14 +26,22 @@ pub record IsBoard (s : Scenario) (es : List Entry) (made posts : List ℕ) : Ty
   pub made_is : (d : ℕ) → d < length s.rows → slice_index made d ≡ made_by d es
   pub posts_is : (g : ℕ) → g < 256 → slice_index posts g ≡ posts_of s g es
 
--- each device shows the state after the steps that it has made
-pub record AreParked (s : Scenario) (es : List Entry) (devices : List Device) : Type 0 where
-  pub each : (d : ℕ) (x : Device) → slice_get devices d ≡ Some x → (class : Template) (steps : List Step)
-      → IsRowOf s d class steps
-      → Shows x (state_at class steps (made_by d es))
+-- the device shows the state after the first k steps of row d
+abbrev pub ShowsAfter : Scenario → ℕ → ℕ → Device → Type 0
+ShowsAfter s d k x = (class : Template) (steps : List Step) → IsRowOf s d class steps → Shows x (state_at class steps k)
+
+-- what is held of device d after the first k steps of its row: the device, which shows the state then; or none, where
+-- it has made no step, or each
+abbrev pub HoldsAfter : Scenario → ℕ → ℕ → Option Device → Type 0
+HoldsAfter s d k (Some x) = ShowsAfter s d k x
+HoldsAfter s d k None = (k ≡ 0) ⊎ (step_at s d k ≡ None)
+
+-- of each device there is what is held after the steps that it has made
+pub record AreParked (s : Scenario) (es : List Entry) (devices : List (Option Device)) : Type 0 where
+  pub each : (d : ℕ) (x : Option Device) → slice_get devices d ≡ Some x → HoldsAfter s d (made_by d es) x
 
 -- the devices of a fleet that memory has spent are open
-pub record IsFleet (s : Scenario) (es : List Entry) (made posts : List ℕ) (devices : List Device)
+pub record IsFleet (s : Scenario) (es : List Entry) (made posts : List ℕ) (devices : List (Option Device))
     (spent : Bool) : Type 0 where
   pub board : IsBoard s es made posts
   pub count : length devices ≡ length s.rows
@@ -42,10 +51,6 @@ pub record IsFleet (s : Scenario) (es : List Entry) (made posts : List ℕ) (dev
 pub record AreStarted (s : Scenario) (devices : List Device) : Type 0 where
   pub each : (d : ℕ) (x : Device) → slice_get devices d ≡ Some x → (class : Template) (steps : List Step)
       → IsRowOf s d class steps → Shows x (start class)
-
--- the device shows the state after the first k steps of row d
-abbrev pub ShowsAfter : Scenario → ℕ → ℕ → Device → Type 0
-ShowsAfter s d k x = (class : Template) (steps : List Step) → IsRowOf s d class steps → Shows x (state_at class steps k)
 
 -- the posts to each group after a step
 abbrev pub posts_after : List ℕ → Step → List ℕ

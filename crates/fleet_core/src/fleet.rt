@@ -1,10 +1,11 @@
 ghost use Rattle.std.specs.Prelude.{◌≡◌, ℕ, ◌<◌, ◌++◌, ◌∷◌, ◌↔◌, [], length, true, false, Err, IfOk, OnOk, OnErr};
-ghost use Rattle.std.specs.Prelude.{IsSome, IsTrue};
+ghost use Rattle.std.specs.Prelude.{IsSome, IsTrue, Some};
 ghost use Rattle.std.specs.Option.{option_copied};
-ghost use Rattle.fleet_core.specs.Run.{made_by, step_at, posts_of, is_enabled, entry_of, IsRun, CanGo};
+ghost use Rattle.fleet_core.specs.Run.{made_by, may_pass, step_at, posts_of, is_enabled, entry_of, IsRun, CanGo};
 
 use crate::fault::CommitFault;
-use crate::performing::{note_post, perform, start_devices, step_of};
+use crate::held::{let_go_at_end, none_held, step_held};
+use crate::performing::{note_post, step_of};
 use device_machine::Device;
 use scenario_image::{Scenario, Step};
 use std::alloc::{AllocError, Global};
@@ -17,7 +18,7 @@ use trace_file::{Entries, Entry};
 pub struct Fleet<'a> {
     alloc: Global,
     scenario: &'a Scenario,
-    devices: Vec<Device>,
+    devices: Vec<Option<Device>>,
     made: Vec<u32>,
     posts: Vec<u32>,
     entries: Entries,
@@ -44,7 +45,7 @@ impl<'a> Fleet<'a> {
         ensures { IfOk result (λ f. f ≡ record { scenario = scenario.now; entries = []; spent = false }) }
     {
         let rows = scenario.rows();
-        let devices = start_devices(alloc, scenario)?;
+        let devices = none_held(alloc, rows)?;
         Ok(Fleet {
             alloc,
             scenario,
@@ -71,13 +72,22 @@ impl<'a> Fleet<'a> {
         self.posts[usize::from(group)]
     }
 
+    /// Whether the step may come next, if it is a device's next one.
+    fn may_pass(&self, step: &Step) -> bool
+        ensures { result ≡ may_pass (λ g. posts_of self.now.scenario g self.now.entries) (Some step.now) }
+    {
+        match step {
+            Step::Event(_) | Step::Post(_) => true,
+            Step::Need(group, count) => *count <= self.posts(*group),
+        }
+    }
+
     fn is_enabled(&self, device: u16) -> bool
         ensures { result ≡ is_enabled self.now.scenario self.now.entries device }
     {
         match self.next_step(device) {
             None => false,
-            Some(Step::Event(_) | Step::Post(_)) => true,
-            Some(Step::Need(group, count)) => *count <= self.posts(*group),
+            Some(step) => self.may_pass(step),
         }
     }
 
@@ -127,26 +137,29 @@ impl<'a> Fleet<'a> {
         ensures stays_spent { is_enabled self.old.scenario self.old.entries device ≡ true → IsTrue self.old.spent
             → result ≡ Err CommitFault.Spent }
     {
-        if !self.enabled(device) {
+        let Some(step) = self.next_step(device) else {
+            return Err(CommitFault::NotEnabled);
+        };
+        if !self.may_pass(step) {
             return Err(CommitFault::NotEnabled);
         }
         if self.spent {
             return Err(CommitFault::Spent);
         }
-        let Some(step) = self.next_step(device) else {
-            return Err(CommitFault::NotEnabled);
-        };
         let at = usize::from(device);
         let place = self.made[at];
         self.spent = true;
-        let outputs = perform(self.alloc, &mut self.devices[at], step)?;
+        let held = &mut self.devices[at];
+        let outputs = step_held(self.alloc, self.scenario, held, device, place, step)?;
+        let next = place + 1;
+        let_go_at_end(held, step_of(self.scenario, device, next));
         self.entries.push(Entry {
             worker,
             device,
             step: place,
             outputs,
         })?;
-        self.made[at] = place + 1;
+        self.made[at] = next;
         note_post(&mut self.posts, step);
         self.spent = false;
         Ok(())

@@ -13,16 +13,18 @@ use scenario_image::{Scenario, Step};
 use std::alloc::{AllocError, Global};
 use trace_file::Entries;
 
-/// Adds the entry of a device that can go, under worker 0.
-fn add_entry(fleet: &mut Fleet, device: u16) -> Result<(), AllocError>
-    requires enabled { is_enabled fleet.old.scenario fleet.old.entries device ≡ true }
-    requires ready { fleet.old.spent ≡ false }
-    ensures { OnOk result (fleet.new ≡ with_entry fleet.old 0 device) }
+/// Adds the entry of a device, under worker 0, if it can go, and returns whether it can.
+fn add_entry(fleet: &mut Fleet, device: u16) -> Result<bool, AllocError>
+    requires { fleet.old.spent ≡ false }
+    ensures can { IfOk result (λ went. went ≡ is_enabled fleet.old.scenario fleet.old.entries device) }
+    ensures added { IfOk result (λ went. went ≡ true → fleet.new ≡ with_entry fleet.old 0 device) }
+    ensures unchanged { IfOk result (λ went. went ≡ false → fleet.new ≡ fleet.old) }
 {
     match fleet.commit(0, device) {
-        Ok(()) => Ok(()),
+        Ok(()) => Ok(true),
+        Err(CommitFault::NotEnabled) => Ok(false),
         Err(CommitFault::Memory) => Err(AllocError),
-        Err(CommitFault::NotEnabled | CommitFault::Spent) => unreachable!(),
+        Err(CommitFault::Spent) => unreachable!(),
     }
 }
 
@@ -70,12 +72,12 @@ fn serial_entries(alloc: Global, scenario: &Scenario) -> Result<Entries, AllocEr
     let mut low = 0u16;
     'turns: while usize::from(low) < rows {
         let step = fleet.next_step(low);
-        if !fleet.enabled(low) {
+        let went = add_entry(&mut fleet, low)?;
+        if !went {
             mark(&mut wake, step, low);
             low += 1;
             continue 'turns;
         }
-        add_entry(&mut fleet, low)?;
         low = cursor_after(&mut wake, step, low);
     }
     Ok(fleet.into_entries())

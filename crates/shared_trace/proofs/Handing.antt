@@ -10,10 +10,11 @@ use Rattle.device_machine.specs.State.{Device}
 use Rattle.scenario_image.specs.Scenario.{Scenario}
 use Rattle.trace_file.specs.declared.entry.Entry.{Entry}
 use Rattle.fleet_core.specs.Run.{made_by, posts_of, may_pass, is_enabled, IsRun}
+use Rattle.fleet_core.specs.Board.{HoldsAfter}
 use Rattle.ticket_lock.specs.Log.{Adds}
 use Rattle.shared_trace.specs.declared.station.Place.TheVariants.{Parked, Out}
 use Rattle.shared_trace.specs.declared.station.Station.{Station}
-use Rattle.shared_trace.specs.Trace.{Traced, HoldsAfter, IsPlaced, IsReady, with_out, open_by, trace_log}
+use Rattle.shared_trace.specs.Trace.{Traced, IsPlaced, IsReady, with_out, open_by, trace_log}
 use Rattle.shared_trace.specs.Claims.{IsFresh}
 use Rattle.shared_trace.specs.Kept.{IsTrace, IsStation, AreEnded, IsOnWay, IsJob, is_parked, places_of}
 use Rattle.shared_trace.specs.Kept.{table_length}

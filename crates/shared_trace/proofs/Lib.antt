@@ -5,7 +5,6 @@ pub mod Stations
 pub mod Ended
 pub mod Idle
 pub mod Handing
-pub mod Holding
 pub mod Stepping
 pub mod Putting
 pub mod Counting

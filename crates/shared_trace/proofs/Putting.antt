@@ -10,6 +10,7 @@ use Rattle.device_machine.specs.State.{Device}
 use Rattle.scenario_image.specs.Scenario.{Scenario}
 use Rattle.trace_file.specs.declared.entry.Entry.{Entry}
 use Rattle.fleet_core.specs.Run.{steps_in, made_by, posts_of, step_at, IsRun}
+use Rattle.fleet_core.specs.Board.{HoldsAfter}
 use Rattle.fleet_core.specs.Blocks.{AreOf}
 use Rattle.fleet_core.proofs.Sums.{made-append, posts-append}
 use Rattle.fleet_core.proofs.Valid.{posts_within}
@@ -20,7 +21,7 @@ use Rattle.shared_trace.specs.declared.station.Place.{Place}
 use Rattle.shared_trace.specs.declared.station.Place.TheVariants.{Parked, Out}
 use Rattle.shared_trace.specs.declared.station.Station.{Station}
 use Rattle.shared_trace.specs.Next.{next_of}
-use Rattle.shared_trace.specs.Trace.{Traced, HoldsAfter, IsPlaced, with_block, trace_log}
+use Rattle.shared_trace.specs.Trace.{Traced, IsPlaced, with_block, trace_log}
 use Rattle.shared_trace.specs.Job.{Task, IsOf, MayPut}
 use Rattle.shared_trace.specs.Kept.{IsTrace, IsStation, AreEnded, IsTask, IsOnWay, IsJob, places_of}
 use Rattle.shared_trace.proofs.Lists.{set_gives, get-set_other, from_map, map-set, all_weaker}

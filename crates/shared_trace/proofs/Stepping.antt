@@ -13,13 +13,12 @@ use Rattle.scenario_image.specs.declared.step.Step.TheVariants.{Event, Post, Nee
 use Rattle.scenario_image.specs.Scenario.{Scenario}
 use Rattle.trace_file.specs.declared.entry.Entry.{Entry}
 use Rattle.fleet_core.specs.Run.{made_by, posts_of, posts_to, is_post, step_at, out_at, is_enabled, entry_of, IsRun}
-use Rattle.fleet_core.specs.Board.{posts_after}
+use Rattle.fleet_core.specs.Board.{HoldsAfter, posts_after}
 use Rattle.fleet_core.proofs.Posts.{one, run_push, enabled_fits, made_same, posts-push}
 use Rattle.fleet_core.proofs.Valid.{posts_within}
 use Rattle.fleet_core.proofs.Taken.{place_below}
 use Rattle.shared_trace.specs.declared.next.Next.{Next}
 use Rattle.shared_trace.specs.Next.{next_of, can_go}
-use Rattle.shared_trace.specs.Trace.{HoldsAfter}
 use Rattle.shared_trace.specs.Job.{Task, IsOf, IsStepped, IsGrown, Advances, seen_by, can_step, entry_next}
 use Rattle.shared_trace.specs.Kept.{IsTask, IsOnWay, IsJob, table_length, groups_in}
 use Rattle.shared_trace.proofs.Lists.{all-push}

@@ -10,12 +10,13 @@ use Rattle.scenario_image.specs.declared.step.Step.TheVariants.{Event, Post, Nee
 use Rattle.scenario_image.specs.Scenario.{Row, Scenario, IsValid}
 use Rattle.trace_file.specs.declared.entry.Entry.{Entry}
 use Rattle.fleet_core.specs.Run.{made_by, posts_of, step_at, is_enabled, IsRun}
+use Rattle.fleet_core.specs.Board.{HoldsAfter}
 use Rattle.shared_trace.specs.declared.next.Next.{Next}
 use Rattle.shared_trace.specs.declared.station.Place.{Place}
 use Rattle.shared_trace.specs.declared.station.Place.TheVariants.{Parked, Out}
 use Rattle.shared_trace.specs.declared.station.Station.{Station}
 use Rattle.shared_trace.specs.Next.{next_of, can_go, is_end}
-use Rattle.shared_trace.specs.Trace.{HoldsAfter, IsPlaced}
+use Rattle.shared_trace.specs.Trace.{IsPlaced}
 use Rattle.shared_trace.specs.Job.{IsOf}
 
 -- how many places a table needs for this step: for a post those up to its group's

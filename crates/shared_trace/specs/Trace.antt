@@ -6,7 +6,7 @@ use Rattle.scenario_image.specs.Scenario.{Scenario, IsValid}
 use Rattle.trace_file.specs.declared.entry.Entry.{Entry}
 use Rattle.fleet_core.specs.Run.{made_by, step_at, is_enabled, IsRun}
 use Rattle.fleet_core.specs.Waiting.{is_waiting}
-use Rattle.fleet_core.specs.Board.{ShowsAfter}
+use Rattle.fleet_core.specs.Board.{HoldsAfter}
 use Rattle.ticket_lock.specs.Log.{Reading}
 use Rattle.shared_trace.specs.declared.station.Place.{Place}
 use Rattle.shared_trace.specs.declared.station.Place.TheVariants.{Parked, Out}
@@ -17,12 +17,6 @@ pub record Traced : Type 0 where
   pub entries : List Entry
   pub places : List Place
   pub stopped : Bool
-
--- what is held of device d after the first k steps of its row: the device, which shows the state then; or none, where
--- it has made no step, or each
-abbrev pub HoldsAfter : Scenario → ℕ → ℕ → Option Device → Type 0
-HoldsAfter s d k (Some x) = ShowsAfter s d k x
-HoldsAfter s d k None = (k ≡ 0) ⊎ (step_at s d k ≡ None)
 
 -- of a parked device there is what is held after the steps that it has made; one that is out has a step left
 abbrev pub IsPlaced : Scenario → List Entry → ℕ → Place → Type 0

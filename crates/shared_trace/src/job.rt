@@ -8,12 +8,11 @@ ghost use Rattle.ticket_lock.specs.Names.{pass_view, lowest_work};
 ghost use Rattle.shared_trace.specs.Job.{Task, IsOf, StandsIn, IsSameJob, Advances, Steps, seen_by};
 ghost use Rattle.shared_trace.specs.Kept.{IsJob, table_length};
 
-use crate::held::{let_go_at_end, step_held};
 use crate::next::{Next, can_go, next_of};
 use crate::tables::note;
 use crate::trace::Trace;
 use device_machine::Device;
-use fleet_core::step_of;
+use fleet_core::{let_go_at_end, step_held, step_of};
 use scenario_image::Scenario;
 use std::alloc::{AllocError, Global};
 use std::marker::Model;
@@ -21,7 +20,7 @@ use std::snapshot::Snapshot;
 use ticket_lock::Pass;
 use trace_file::Entry;
 
-/// For so many entries at most room is made at once, whatever the batch: a row may end long before a large one.
+/// The most entries that room is made for at once, whatever the batch: a row may end long before a large one.
 const ROOM: u32 = 64;
 
 /// A device that is out with a worker, and the entries that it has made since. It has to be put into its trace again,
@@ -145,8 +144,9 @@ impl Job {
             outputs,
         })?;
         self.place += 1;
-        self.next = next_of(step_of(scenario, self.device, self.place));
-        let_go_at_end(&mut self.held, self.next);
+        let next = step_of(scenario, self.device, self.place);
+        self.next = next_of(next);
+        let_go_at_end(&mut self.held, next);
         self.spent = false;
         Ok(true)
     }

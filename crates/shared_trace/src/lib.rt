@@ -4,7 +4,6 @@
 #![tactic(auto)]
 
 mod claims;
-mod held;
 mod job;
 mod next;
 mod start;

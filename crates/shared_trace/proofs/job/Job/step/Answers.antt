@@ -1,6 +1,6 @@
 use Rattle.std.proofs.Common.{◌≡◌, true, false, refl, sym, ap, ◌∙◌, arith}
 use Rattle.fleet_core.specs.Run.{out_at, step_at, is_enabled}
-use Rattle.shared_trace.specs.Trace.{HoldsAfter}
+use Rattle.fleet_core.specs.Board.{HoldsAfter}
 use Rattle.std.proofs.Common.{subst, ◌+◌}
 use Rattle.shared_trace.specs.Next.{next_of}
 use Rattle.shared_trace.proofs.Stepping.{IsGoing, IsMade, going, goes, able_here, holds_here, step_here, post_within}
@@ -72,7 +72,7 @@ overflow_add-self c =
     c.in-Some.ensures) in
     omega (arith, h)
 
-then : (c : goal.After-self-3-1)
+then : (c : goal.After-self-4-1)
     → IsGoing c.self.inside.claimed.value.subject c.self.inside.worker c.self.inside.device
     c.self.inside.claimed.value.entries c.self.inside.entries.items c.self.inside.held c.self.inside.known.items
     c.self.inside.posted.items c.self.inside.place c.self.inside.next
@@ -85,15 +85,15 @@ pub returns-in_err-push-clause-began : goal.returns-in_err-push-clause-began
 returns-in_err-push-clause-began c =
     subst (λ t. is_enabled t.subject t.front t.device ≡ true) c.self.view_is c.self.invariant.task.began
 
-next_is : (c : goal.After-self-3-1) → c.next_of-self-inside.result
+next_is : (c : goal.After-self-4-1) → c.next_of-self-inside.result
     ≡ next_of (step_at c.self.inside.claimed.value.subject c.self.inside.device (c.self.inside.place + 1))
 next_is c =
     c.next_of-self-inside.ensures
-    ∙ (ap next_of c.step_of-2.ensures
+    ∙ (ap next_of c.step_of-next.ensures
     ∙ ap (λ s. next_of (step_at s c.self.inside.device (c.self.inside.place + 1)))
     (c.requires.scenario ∙ sym (ap (λ t. t.subject) c.self.view_is)))
 
-made : (c : goal.After-self-3-1)
+made : (c : goal.After-self-4-1)
     → IsMade c.self.inside.claimed.value.subject c.self.inside.worker c.self.inside.device
     c.self.inside.claimed.value.entries c.self.inside.entries.items
     c.self.inside.known.items c.self.inside.posted.items c.self.inside.place c.in-Some.step.now
@@ -121,7 +121,8 @@ made c =
           (sym c.if-not-can_go.false ∙ c.can_go.ensures);
       entry = ap (λ o. record { worker = c.self.inside.worker; device = d; step = k; outputs = o })
           (c.in_ok-outputs.ensures.outputs ∙ ap (λ s. out_at s d k) same);
-      holds = c.let_go_at_end.ensures c.self.inside.claimed.value.subject d (k + 1) (next_is c)
+      holds = c.let_go_at_end.ensures c.self.inside.claimed.value.subject d (k + 1)
+          (c.step_of-next.ensures ∙ ap (λ s. step_at s d (k + 1)) same)
           (subst (λ s. HoldsAfter s d (k + 1) c.step_held.new.held) same c.in_ok-outputs.ensures.holds);
       known = c.in_ok-note.ensures.known;
       posted = c.in_ok-note.ensures.posted;

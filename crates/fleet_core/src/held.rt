@@ -1,18 +1,27 @@
-//! What a trace and its jobs hold of a device: nothing before its first step and after its last one.
+//! What is held of a device: nothing before its first step and after its last one.
 
-ghost use Rattle.std.specs.Prelude.{◌≡◌, ℕ, ◌+◌, Some, IfOk, OnOk};
+ghost use Rattle.std.specs.Prelude.{◌≡◌, ℕ, ◌+◌, None, Some, replicate, IfOk, OnOk};
+ghost use Rattle.std.specs.Option.{option_copied};
+ghost use Rattle.device_machine.specs.State.{Device};
 ghost use Rattle.scenario_image.specs.Scenario.{Scenario};
 ghost use Rattle.fleet_core.specs.Run.{step_at, out_at};
-ghost use Rattle.fleet_core.specs.Board.{ShowsAfter};
-ghost use Rattle.device_machine.specs.State.{Device};
-ghost use Rattle.shared_trace.specs.Next.{next_of};
-ghost use Rattle.shared_trace.specs.Trace.{HoldsAfter};
+ghost use Rattle.fleet_core.specs.Board.{ShowsAfter, HoldsAfter};
 
-use crate::next::Next;
+use crate::performing::{make_step, start_of_row};
 use device_machine::{Device, Outputs};
-use fleet_core::{make_step, start_of_row};
 use scenario_image::{Scenario, Step};
 use std::alloc::{AllocError, Global};
+
+/// What is held of so many devices before their first steps.
+pub(crate) fn none_held(alloc: Global, rows: usize) -> Result<Vec<Option<Device>>, AllocError>
+    ensures { IfOk result (λ v. v.items ≡ replicate rows None) }
+{
+    let mut devices = Vec::with_capacity(alloc, rows)?;
+    for _device in 0..rows {
+        devices.push(None)?;
+    }
+    Ok(devices)
+}
 
 /// Starts the device, where it has a step left and there is none yet.
 fn start_held(
@@ -33,8 +42,9 @@ fn start_held(
     Ok(())
 }
 
-/// Lets the device make the step of this number in its row. Only an allocation can fail.
-pub(crate) fn step_held(
+/// Lets the device make the step of this number in its row, and returns what it outputs; it is started first if nothing
+/// is held. Only an allocation can fail; nothing is promised of what is held then.
+pub fn step_held(
     alloc: Global,
     scenario: &Scenario,
     held: &mut Option<Device>,
@@ -55,12 +65,12 @@ pub(crate) fn step_held(
 }
 
 /// Lets go of a device that has no next step.
-pub(crate) fn let_go_at_end(held: &mut Option<Device>, next: Next)
-    ensures { (s : Scenario) (d : ℕ) (k : ℕ) → next ≡ next_of (step_at s d k) → HoldsAfter s d k held.old
+pub fn let_go_at_end(held: &mut Option<Device>, next: Option<&Step>)
+    ensures { (s : Scenario) (d : ℕ) (k : ℕ) → option_copied next.entry ≡ step_at s d k → HoldsAfter s d k held.old
         → HoldsAfter s d k held.new }
 {
     match next {
-        Next::End => *held = None,
-        Next::Free | Next::Waits(_, _) => {}
+        None => *held = None,
+        Some(_) => {}
     }
 }

@@ -1,5 +1,5 @@
-use Rattle.shared_trace.proofs.Holding.{shows_same}
-use Rattle.shared_trace.proofs.held.step_held.Goals as goal
+use Rattle.fleet_core.proofs.Holding.{shows_same}
+use Rattle.fleet_core.proofs.held.step_held.Goals as goal
 
 pub make_step-requires-clause-shows : goal.make_step-requires-clause-shows
 make_step-requires-clause-shows c =

@@ -1,20 +1,15 @@
 -- What is held of a device before its first step, and after its last one.
-use Rattle.std.proofs.Common.{◌≡◌, ℕ, ◌⊎◌, inl, inr, true, false, List, Option, None, Some, refl, sym, subst, ◌∙◌}
+use Rattle.std.proofs.Common.{◌≡◌, ℕ, zero, suc, ◌⊎◌, inl, inr, true, false, List, Option, None, Some, slice_get}
+use Rattle.std.proofs.Common.{replicate, refl, sym, subst, ◌∙◌}
 use Rattle.std.specs.Option.{is_some}
 use Rattle.std.proofs.lemmas.Bool.{false≢true}
 use Rattle.device_template.specs.Template.{Template}
 use Rattle.device_machine.specs.State.{Device, Shows}
 use Rattle.scenario_image.specs.declared.step.Step.{Step}
-use Rattle.scenario_image.specs.declared.step.Step.TheVariants as step
 use Rattle.scenario_image.specs.Play.{start, IsRowOf}
 use Rattle.scenario_image.specs.Scenario.{Scenario}
 use Rattle.fleet_core.specs.Run.{step_at}
-use Rattle.fleet_core.specs.Board.{ShowsAfter}
-use Rattle.shared_trace.specs.declared.next.Next.{Next}
-use Rattle.shared_trace.specs.declared.next.Next.TheVariants.{End, Free, Waits}
-use Rattle.shared_trace.specs.Next.{next_of}
-use Rattle.shared_trace.specs.Trace.{HoldsAfter}
-use Rattle.shared_trace.proofs.Lists.{same_some}
+use Rattle.fleet_core.specs.Board.{ShowsAfter, HoldsAfter}
 
 pub some_held : (held : Option Device) → true ≡ is_some held → (x : Device) × (held ≡ Some x)
 some_held (Some x) there = (x, refl)
@@ -41,17 +36,20 @@ pub held_shows : (s : Scenario) (d k : ℕ) (held : Option Device) (x : Device) 
     → ShowsAfter s d k x
 held_shows s d k held x is holds = subst (HoldsAfter s d k) is holds
 
--- where the next step is the end, there is none
-no_next : (o : Option Step) → End ≡ next_of o → o ≡ None
-no_next None h = refl
-no_next (Some (step.Event event)) h = let e : End ≡ Free = h in absurd cc
-no_next (Some (step.Post group)) h = let e : End ≡ Free = h in absurd cc
-no_next (Some (step.Need group count)) h = let e : End ≡ Waits group count = h in absurd cc
-
-pub none_at_end : (s : Scenario) (d k : ℕ) (next : Next) → next ≡ End → next ≡ next_of (step_at s d k)
+-- where there is no next step, there may be none
+pub none_at_end : (s : Scenario) (d k : ℕ) (next : Option Step) → next ≡ None → next ≡ step_at s d k
     → HoldsAfter s d k None
-none_at_end s d k next end is = inr (no_next (step_at s d k) (sym end ∙ is))
+none_at_end s d k next end is = inr (sym is ∙ end)
+
+same_some : {X : Type 0} (o : Option X) (x y : X) → o ≡ Some x → o ≡ Some y → x ≡ y
+same_some o x y p q = let e : Some x ≡ Some y = sym p ∙ q in cc
 
 pub shows_same : (s : Scenario) (d k : ℕ) (held : Option Device) (x y : Device) → held ≡ Some x → held ≡ Some y
     → ShowsAfter s d k x → ShowsAfter s d k y
 shows_same s d k held x y p q shows = subst (λ z. ShowsAfter s d k z) (same_some held x y p q) shows
+
+-- before a device's first step nothing is held of it
+pub nothing : (n d : ℕ) (x : Option Device) → slice_get (replicate n None) d ≡ Some x → x ≡ None
+nothing zero d x h = let e : None ≡ Some x = h in absurd cc
+nothing (suc n) zero x h = let e : Some None ≡ Some x = h in cc
+nothing (suc n) (suc d) x h = nothing n d x h

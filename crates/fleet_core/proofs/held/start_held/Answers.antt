@@ -1,7 +1,7 @@
 use Rattle.std.proofs.Common.{refl}
 use Rattle.fleet_core.proofs.Taken.{row_below}
-use Rattle.shared_trace.proofs.Holding.{held_shows, none_held, some_held, started}
-use Rattle.shared_trace.proofs.held.start_held.Goals as goal
+use Rattle.fleet_core.proofs.Holding.{held_shows, none_held, some_held, started}
+use Rattle.fleet_core.proofs.held.start_held.Goals as goal
 
 pub returns-then-is_some : goal.returns-then-is_some
 returns-then-is_some c =
