@@ -1,4 +1,4 @@
-ghost use Rattle.std.specs.Prelude.{◌≡◌, ◌↔◌, IsSome, IfSome, IsTrue};
+ghost use Rattle.std.specs.Prelude.{◌≡◌, ◌↔◌, [], IsSome, IfSome, IsTrue};
 ghost use Rattle.coap_codec.specs.Message.{IsOptionList, IsWellFormed};
 
 use crate::{Kind, Opt, Options};
@@ -156,6 +156,13 @@ impl Message {
         ensures well_formed { IsWellFormed self.now }
     {
         &self.options
+    }
+
+    /// The memory of its list of options, without an option, for `decode_in`.
+    pub fn into_spare(self) -> Vec<Opt>
+        ensures { result.items ≡ [] }
+    {
+        self.options.into_spare()
     }
 
     /// The payload, empty where there is none.

@@ -62,6 +62,20 @@ impl Options {
         }
     }
 
+    /// The memory of the list, without an option.
+    pub(crate) fn into_spare(self) -> Vec<Opt>
+        ensures { result.items ≡ [] }
+    {
+        match self.items {
+            Items::One(_) => Vec::new(self.alloc),
+            Items::Listed(items) => {
+                let mut spare = items;
+                spare.clear();
+                spare
+            }
+        }
+    }
+
     /// One more option, after the others.
     pub fn push(&mut self, option: Opt) -> Result<(), AllocError>
         ensures ok { OnOk result (self.new ≡ self.old ++ option ∷ []) }

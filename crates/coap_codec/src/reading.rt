@@ -118,15 +118,16 @@ fn option_at(alloc: Global, number: u16, first: u8, bytes: &[u8]) -> Result<(Opt
     Ok((Opt { number, value }, rest))
 }
 
-/// The options, and the payload after them.
-fn options_at(alloc: Global, bytes: &[u8]) -> Result<(Vec<Opt>, &[u8]), CoapFault>
+/// The options, in the memory of this list, and the payload after them.
+fn options_at(alloc: Global, spare: Vec<Opt>, bytes: &[u8]) -> Result<(Vec<Opt>, &[u8]), CoapFault>
     ensures follow { IfOk result (λ x. IsOptionList 0 x.0.items) }
     ensures parts { IfOk result (λ x. bytes.now ≡ options_bytes 0 x.0.items ++ payload_bytes x.1.now) }
     ensures fault { IfErr result (λ f. f ≢ CoapFault.Memory → BreaksOff 0 bytes.now f) }
     ensures early { (f : CoapFault) → place_fault 0 bytes.now ≡ Some f → result ≡ Err f }
     ensures none { length bytes.now ≡ 0 → IsOk result }
 {
-    let mut found = Vec::new(alloc);
+    let mut found = spare;
+    found.clear();
     let mut number: u16 = 0;
     let mut rest = bytes;
     while let [first, after @ ..] = rest {
@@ -159,18 +160,34 @@ pub fn decode(alloc: Global, bytes: &[u8]) -> Result<Message, CoapFault>
         (λ m. reading_of bytes.now ≡ Ok m)
         (λ f. f ≢ CoapFault.Memory → reading_of bytes.now ≡ Err f) }
 {
-    read(alloc, bytes)
+    decode_in(alloc, Vec::new(alloc), bytes)
 }
 
-/// The same; that there is no other reading is `decode`'s to say.
-fn read(alloc: Global, bytes: &[u8]) -> Result<Message, CoapFault>
+/// The same, where the options lie in the memory of this list: `Message::into_spare` gives it back, so that one can do
+/// for many messages.
+pub fn decode_in(alloc: Global, spare: Vec<Opt>, bytes: &[u8]) -> Result<Message, CoapFault>
+    ensures found { IfOk result (λ m. Spells bytes.now m) }
+    ensures only { (m : Message) → Spells bytes.now m → MatchResult result (λ x. x ≡ m) (λ f. f ≡ CoapFault.Memory) }
+    ensures fault { IfErr result (λ f. f ≢ CoapFault.Memory → HasFault bytes.now f) }
+    ensures refused { (f : CoapFault) → HasFault bytes.now f → IsErrAnd result (λ g. g ≢ CoapFault.Memory → g ≡ f) }
+    ensures early { (f : CoapFault) → HasEarlyFault bytes.now f → result ≡ Err f }
+    ensures empty { is_empty_message bytes.now ≡ true → IsOk result }
+    ensures reading { MatchResult result
+        (λ m. reading_of bytes.now ≡ Ok m)
+        (λ f. f ≢ CoapFault.Memory → reading_of bytes.now ≡ Err f) }
+{
+    read(alloc, spare, bytes)
+}
+
+/// The same; that there is no other reading is `decode_in`'s to say.
+fn read(alloc: Global, spare: Vec<Opt>, bytes: &[u8]) -> Result<Message, CoapFault>
     ensures found { IfOk result (λ m. Spells bytes.now m) }
     ensures fault { IfErr result (λ f. f ≢ CoapFault.Memory → HasFault bytes.now f) }
     ensures early { (f : CoapFault) → HasEarlyFault bytes.now f → result ≡ Err f }
     ensures empty { is_empty_message bytes.now ≡ true → IsOk result }
 {
     let start = start_of(bytes)?;
-    let (options, payload) = options_at(alloc, start.rest)?;
+    let (options, payload) = options_at(alloc, spare, start.rest)?;
     let token = Bytes::from_slice(alloc, start.token)?;
     let payload = Bytes::from_slice(alloc, payload)?;
     Ok(Message::of_parts(

@@ -11,11 +11,20 @@ pub fn encode(alloc: Global, message: &Message) -> Result<Vec<u8>, AllocError>
     ensures spelling { IfOk result (λ v. v.items ≡ spelling message.now) }
 {
     let mut out = Vec::with_capacity(alloc, room_for(message))?;
-    put_header(&mut out, message)?;
-    out.extend_from_slice(message.token().as_slice())?;
-    put_options(&mut out, message.options().as_slice())?;
-    put_payload(&mut out, message.payload().as_slice())?;
+    encode_into(&mut out, message)?;
     Ok(out)
+}
+
+/// Adds the bytes of a message to a buffer, so that one buffer can do for many messages. What is added where memory
+/// runs out is not said.
+pub fn encode_into(out: &mut Vec<u8>, message: &Message) -> Result<(), AllocError>
+    ensures spells { OnOk result (Spells (spelling message.now) message.now) }
+    ensures spelling { OnOk result (out.new.items ≡ out.old.items ++ spelling message.now) }
+{
+    put_header(out, message)?;
+    put_bytes(out, message.token().as_slice())?;
+    put_options(out, message.options().as_slice())?;
+    put_payload(out, message.payload().as_slice())
 }
 
 /// How many bytes the message takes, so that its buffer is made once. It is only a hint: the buffer grows where it is
@@ -68,7 +77,21 @@ fn put_header(out: &mut Vec<u8>, message: &Message) -> Result<(), AllocError>
     let _known = message.options();
     let first = 64 + 16 * kind_bits(message.kind()) + message.token().len() as u8;
     let mid = message.mid();
-    out.extend_from_slice(&[first, message.code(), (mid / 256) as u8, (mid % 256) as u8])
+    out.push(first)?;
+    out.push(message.code())?;
+    out.push((mid / 256) as u8)?;
+    out.push((mid % 256) as u8)?;
+    Ok(())
+}
+
+/// These bytes, of which there often is none: tokens and values of options are short.
+fn put_bytes(out: &mut Vec<u8>, bytes: &[u8]) -> Result<(), AllocError>
+    ensures { OnOk result (out.new.items ≡ out.old.items ++ bytes.now) }
+{
+    if bytes.is_empty() {
+        return Ok(());
+    }
+    out.extend_from_slice(bytes)
 }
 
 /// The nibble of a delta or a length.
@@ -107,7 +130,7 @@ fn put_option(out: &mut Vec<u8>, number: u16, option: &Opt) -> Result<(), AllocE
     out.push(16 * nibble(delta) + nibble(length))?;
     put_extension(out, delta)?;
     put_extension(out, length)?;
-    out.extend_from_slice(option.value.as_slice())
+    put_bytes(out, option.value.as_slice())
 }
 
 /// The options, the first one's number from 0.

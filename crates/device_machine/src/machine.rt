@@ -20,6 +20,7 @@ mod requests;
 use crate::event::Event;
 use crate::output::{Output, Outputs};
 use crate::records::Records;
+use coap_codec::Opt;
 use device_notifications::{Outbox, seconds};
 use device_requests::{Act, Client};
 use device_template::{Template, misses};
@@ -39,6 +40,10 @@ pub(crate) struct Machine {
     next_id: u16,
     recorded: Records,
     alloc: Global,
+    /// Memory for the options of a request. No option is in it between two of them.
+    spare: Vec<Opt>,
+    /// Memory for a reply. What is in it between two of them says nothing.
+    buffer: Vec<u8>,
 }
 
 impl Model for Machine {
@@ -90,6 +95,8 @@ impl Machine {
             next_id: 0,
             recorded: Records::new(alloc),
             alloc,
+            spare: Vec::new(alloc),
+            buffer: Vec::new(alloc),
         })
     }
 
@@ -104,6 +111,8 @@ impl Machine {
             next_id: self.next_id,
             recorded: self.recorded.copy()?,
             alloc: self.alloc,
+            spare: Vec::new(self.alloc),
+            buffer: Vec::new(self.alloc),
         })
     }
 

@@ -8,7 +8,7 @@ ghost use Rattle.std.specs.Fmt.{decimal};
 
 use crate::output::{Output, Outputs};
 use coap_codec::option_number::{CONTENT_FORMAT, LOCATION_PATH, OBSERVE};
-use coap_codec::{Kind, Message, Opt, Options, encode};
+use coap_codec::{Kind, Message, Opt, Options, encode, encode_into};
 use device_requests::Answer;
 use object_defs::InstancePath;
 use octets::Bytes;
@@ -105,23 +105,27 @@ pub(crate) fn reset(alloc: Global, mid: u16) -> Message
 }
 
 /// The datagram of a message.
-pub(crate) fn datagram(alloc: Global, message: &Message) -> Result<Bytes, AllocError>
+fn datagram(alloc: Global, message: &Message) -> Result<Bytes, AllocError>
     ensures { IfOk result (λ b. b ≡ spelling message.now) }
 {
     Ok(Bytes::from_vec(encode(alloc, message)?))
 }
 
-/// The same, where there is a message.
+/// The datagram of a message, where there is one. It is written to the buffer first, and copied: a short one takes no
+/// memory then.
 pub(crate) fn datagram_of(
     alloc: Global,
+    buffer: &mut Vec<u8>,
     message: Option<Message>,
 ) -> Result<Option<Bytes>, AllocError>
     ensures { IfOk result (λ d. d ≡ option_map spelling message) }
 {
-    match message {
-        None => Ok(None),
-        Some(message) => Ok(Some(datagram(alloc, &message)?)),
-    }
+    let Some(message) = message else {
+        return Ok(None);
+    };
+    buffer.clear();
+    encode_into(buffer, &message)?;
+    Ok(Some(Bytes::from_slice(alloc, buffer.as_slice())?))
 }
 
 /// A datagram that is sent to a server, alone, or nothing.

@@ -7,6 +7,7 @@ use denote.Param.SendFields.{declared_send}
 use Rattle.std.proofs.Crossing as std
 use Rattle.std.proofs.MapsCrossing as maps
 use Rattle.octets.specs.contracts.bytes.Bytes as Bytes
+use Rattle.coap_codec.specs.contracts.option.Opt as Opt
 use Rattle.lwm2m_values.specs.contracts.value.Value as Value
 use Rattle.object_defs.specs.contracts.path.Path as Path
 use Rattle.object_defs.specs.contracts.catalog.Catalog as Catalog
@@ -83,6 +84,9 @@ outputs_send = search (sendable, std.crosses, items_field_send) depth 30 parts 1
 entry_send : IsSend Entry.the_row
 entry_send = search (sendable, outputs_send) depth 30 parts 12
 
+opt_send : IsSend Opt.the_row
+opt_send = search (sendable, bytes_send) depth 30
+
 report_send : IsSend Report.the_row
 report_send = search (sendable, bytes_send) depth 30
 
@@ -124,7 +128,7 @@ client_send : IsSend Client.the_row
 client_send = search (sendable, std.crosses, catalog_send, store_send, attributes_send) depth 30 parts 12
 
 pub device_send : IsSend Device.the_row
-device_send = search (sendable, std.crosses, client_send, observations_send, records_send) depth 30 parts 12
+device_send = search (sendable, std.crosses, client_send, observations_send, records_send, opt_send) depth 30 parts 12
 
 place_send : IsSend Place.the_row
 place_send = search (sendable, device_send) depth 30 parts 12

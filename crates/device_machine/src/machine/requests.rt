@@ -15,9 +15,10 @@ use crate::machine::Machine;
 use crate::output::Outputs;
 use crate::recorded::Recorded;
 use crate::reply::{datagram_of, reset, response, sent, sent_to};
-use coap_codec::{CoapFault, Kind, Message, decode, header};
+use coap_codec::{CoapFault, Kind, Message, decode_in, header};
 use device_requests::{Act, Answer};
 use std::alloc::AllocError;
+use std::mem;
 
 /// Whether a code is a request's.
 fn is_request(code: u8) -> bool
@@ -96,7 +97,7 @@ impl Machine {
     {
         let kind = message.kind();
         let mid = message.mid();
-        let reply = datagram_of(self.alloc, reply)?;
+        let reply = datagram_of(self.alloc, &mut self.buffer, reply)?;
         let is_answered = reply.is_some();
         let mut outputs = sent_to(self.alloc, server, &reply)?;
         outputs.act(act)?;
@@ -180,6 +181,17 @@ impl Machine {
         }
     }
 
+    /// Takes a message, and keeps the memory of its options.
+    fn take_owned(&mut self, server: u16, message: Message) -> Result<Outputs, AllocError>
+        ensures gives { IfOk result (λ o. Gives o self.new (on_message self.old server message message.kind)) }
+        ensures grows { OnErr result (message_grows self.old server message message.kind ≡ true) }
+        ensures left { OnErr result (KeepsRecords self.old self.new) }
+    {
+        let outputs = self.take(server, &message)?;
+        self.spare = message.into_spare();
+        Ok(outputs)
+    }
+
     /// Takes bytes that are no message.
     fn take_noise(&self, server: u16, bytes: &[u8]) -> Result<Outputs, AllocError>
         ensures gives { IfOk result (λ o. Gives o self.now (on_noise self.now server bytes.now)) }
@@ -210,8 +222,9 @@ impl Machine {
         if is_ignored(bytes) {
             return Ok(Outputs::none(self.alloc));
         }
-        match decode(self.alloc, bytes) {
-            Ok(message) => self.take(server, &message),
+        let spare = mem::replace(&mut self.spare, Vec::new(self.alloc));
+        match decode_in(self.alloc, spare, bytes) {
+            Ok(message) => self.take_owned(server, message),
             Err(CoapFault::Memory) => Err(AllocError),
             Err(_) => self.take_noise(server, bytes),
         }

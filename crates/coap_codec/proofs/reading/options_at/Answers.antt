@@ -2,7 +2,7 @@ use Rattle.std.proofs.Common.{arith, inr}
 use Rattle.std.proofs.lemmas.Result.{err_from_is_err_and}
 use Rattle.std.proofs.lemmas.Slice.{first_rest}
 use Rattle.std.proofs.lemmas.Bool.{ne_eqb}
-use Rattle.coap_codec.proofs.OptionLists.{list_goes_on, parts_go_on, last_goes_on, breaks_off, at_first, first_option}
+use Rattle.coap_codec.proofs.OptionLists.{list_goes_on, parts_go_on, last_goes_on, breaks_off, first_option}
 use Rattle.coap_codec.proofs.OptionLists.{first_fits}
 use Rattle.coap_codec.proofs.reading.options_at.Goals as goal
 

@@ -1,9 +1,9 @@
 -- What is ignored for its header gets nothing, and only what is copied or claims to be confirmable takes memory.
-use Rattle.std.proofs.Common.{◌<◌, ◌∙◌, Err, ap, arith, refl, subst, sym}
+use Rattle.std.proofs.Common.{◌≡◌, ◌<◌, ◌∙◌, Err, true, ap, arith, refl, subst, sym}
 use Rattle.std.proofs.lemmas.List.Elements.{All-from_get_or}
 use Rattle.std.proofs.lemmas.Result.{on_err_weaker}
 use Rattle.device_requests.specs.Client.{has_account}
-use Rattle.device_machine.specs.Memory.{datagram_grows}
+use Rattle.device_machine.specs.Memory.{datagram_grows, message_grows}
 use Rattle.device_machine.specs.Reactions.{Gives}
 use Rattle.device_machine.specs.State.{Machine}
 use Rattle.device_machine.proofs.Copying.{grows_taken, grows_wanting, ignored}
@@ -20,13 +20,15 @@ returns-then-is_ignored-clause-gives c =
 
 pub returns-in-Ok-clause-grows : goal.returns-in-Ok-clause-grows
 returns-in-Ok-clause-grows c =
-    on_err_weaker c.take.result
+    on_err_weaker c.take_owned.result
     (λ g. all_true (has_account c.args.self.now.kept.client c.args.server) (datagram_grows c.args.bytes.now)
     (ap (λ (f : Machine). has_account f.kept.client c.args.server) (sym c.self.view_is) ∙ sym c.has_account.ensures
     ∙ c.if-not-has_account.false)
     (grows_taken c.args.self.now c.args.server c.args.bytes.now c.in-Ok.message c.in-Ok.ensures.found
-    c.in-Ok.ensures.early g))
-    c.take.ensures.grows
+    c.in-Ok.ensures.early
+    (subst (λ (f : Machine). message_grows f c.args.server c.in-Ok.message c.in-Ok.message.kind ≡ true)
+    c.self.view_is g)))
+    c.take_owned.ensures.grows
 
 pub returns-in-Err-Memory-clause-grows : goal.returns-in-Err-Memory-clause-grows
 returns-in-Err-Memory-clause-grows c =

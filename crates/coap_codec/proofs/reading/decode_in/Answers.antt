@@ -1,5 +1,5 @@
 use Rattle.coap_codec.proofs.Decoding.{is_only, is_refused, is_reading}
-use Rattle.coap_codec.proofs.reading.decode.Goals as goal
+use Rattle.coap_codec.proofs.reading.decode_in.Goals as goal
 
 pub returns-clause-only : goal.returns-clause-only
 returns-clause-only c = is_only _ _ c.read.ensures.found c.read.ensures.fault
