@@ -42,25 +42,17 @@ pub untold : (class : Template) (turns : ℕ) (session : LiveSession) (before af
     → IsServed class turns session None None None None
 untold class turns session before after read_before read_after served =
     record {
-      sent = tt;
-      put_out = served.put_out;
-      handed = served.handed;
-      heard = served.heard;
-      handed_out = tt;
-      readings = served.readings;
-      ticked = served.ticked;
-      read_count = served.read_count;
-      read = tt;
-      live = served.live;
-      in_turns = served.in_turns;
-      asked = served.asked;
-      asked_count = served.asked_count;
-      asked_so = tt;
-      failures = tt;
+      received = served.received;
       refusals = served.refusals;
       few = served.few;
-      refused = tt;
-      spent = served.spent;
+      told = tt;
+      readings = served.readings;
+      read = tt;
+      refused = served.refused;
+      made = served.made;
+      put_out = served.put_out;
+      past_end = served.past_end;
+      deaf = served.deaf;
     }
 
 pub is_shown : (show : Bool) (before after : Option (List ℕ)) → show ≡ true → IsShown show before after

@@ -1,5 +1,7 @@
 //! Scenarios and traces, read from files.
-ghost use Rattle.std.specs.Prelude.{◌≡◌, IfErr, IfOk, Some, option_map};
+ghost use Rattle.std.specs.Prelude.{◌≡◌, ◌≢◌, IfErr, IfOk, Some, option_map};
+ghost use Rattle.byte_layout.specs.declared.fault.LayoutFault.TheVariants.{Memory};
+ghost use Rattle.scenario_image.specs.Image.{IsImage, HasImageFault};
 ghost use Rattle.bench_commands.specs.Fault.{IsReadingFault};
 ghost use Rattle.bench_commands.specs.Jobs.{IsImageFault, IsScenarioAt, IsTraceAt, IsTraceFault};
 ghost use Rattle.bench_commands.specs.Texts.{IsTextAt, IsTextFault};
@@ -8,6 +10,7 @@ use crate::blame::blame;
 use crate::fault::Fault;
 use crate::files::{FileFault, Files};
 use crate::refusal::{Refusal, Why};
+use byte_layout::LayoutFault;
 use scenario_asm::assemble;
 use scenario_image::{Scenario, load};
 use std::alloc::Global;
@@ -43,6 +46,14 @@ fn refused_file<'a>(path: &'a str, fault: Fault) -> Refusal<'a>
     }
 }
 
+/// The scenario whose image these bytes are; else their first fault from the left.
+fn scenario_of(alloc: Global, bytes: &[u8]) -> Result<Scenario, LayoutFault>
+    ensures found { IfOk result (λ s. IsImage bytes.now s) }
+    ensures fault { IfErr result (λ f. f ≢ Memory → HasImageFault bytes.now f) }
+{
+    load(alloc, bytes)
+}
+
 /// The scenario whose image the file at this path is.
 #[tactic(auto, using(crate::proofs::Faults::reading_file, crate::proofs::Faults::broken_at, crate::proofs::Built::scenario_at))]
 pub fn load_scenario<'a, F: Files>(
@@ -55,7 +66,7 @@ pub fn load_scenario<'a, F: Files>(
     ensures named { IfErr result (λ r. option_map (λ p. p.now) r.about ≡ Some path.entry.now) }
 {
     let bytes = read_file(alloc, path, files)?;
-    match load(alloc, bytes.as_slice()) {
+    match scenario_of(alloc, bytes.as_slice()) {
         Ok(scenario) => Ok(scenario),
         Err(fault) => Err(refused_file(path, Fault::from(fault))),
     }

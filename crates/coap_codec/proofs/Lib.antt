@@ -4,3 +4,4 @@ pub mod Completeness
 pub mod OneReading
 pub mod Decoding
 pub mod Soundness
+pub mod WithoutOptions

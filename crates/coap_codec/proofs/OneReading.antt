@@ -74,6 +74,34 @@ empty_tail (o ∷ os) p a b = absurd (omega arith)
 pub drop_four : (a b c d n : ℕ) (rest : List ℕ) → drop (4 + n) (a ∷ b ∷ c ∷ d ∷ rest) ≡ drop n rest
 drop_four a b c d n rest = drop-append-add (a ∷ b ∷ c ∷ d ∷ []) rest n
 
+-- the header of a message has no fault
+pub spelling_clear : (m : Message) → IsWellFormed m → header_fault (spelling m) ≡ None
+spelling_clear m good =
+    let t : ℕ = length m.token in
+    let k : ℕ = kind_number m.kind in
+    let first : ℕ = 64 + 16 * k + t in
+    let tail : List ℕ = options_bytes 0 m.options ++ payload_bytes m.payload in
+    let below : k < 4 = kind_number_below m.kind in
+    let short : t ≤ 8 = good.token in
+    let size : first % 16 ≡ t = omega arith in
+    header_clear first m.code (m.mid / 256) (m.mid % 256) (m.token ++ tail) (omega arith) (omega arith)
+    (omega (arith, length-append m.token tail))
+    (λ z. let e : (length m.token ≡ 0) × (length m.options ≡ 0) × (length m.payload ≡ 0) =
+    good.empty z in (size ∙ e.0, omega (arith, length-append m.token tail, empty_tail m.options m.payload e.1 e.2)))
+
+-- after the token of a message stand its options and its payload
+pub spelling_tail : (m : Message) → IsWellFormed m
+    → drop (4 + token_length (spelling m)) (spelling m) ≡ options_bytes 0 m.options ++ payload_bytes m.payload
+spelling_tail m good =
+    let t : ℕ = length m.token in
+    let k : ℕ = kind_number m.kind in
+    let first : ℕ = 64 + 16 * k + t in
+    let tail : List ℕ = options_bytes 0 m.options ++ payload_bytes m.payload in
+    let short : t ≤ 8 = good.token in
+    let size : first % 16 ≡ t = omega arith in
+    drop_four first m.code (m.mid / 256) (m.mid % 256) (first % 16) (m.token ++ tail)
+    ∙ (ap (λ n. drop n (m.token ++ tail)) size ∙ drop-append_seam m.token tail)
+
 pub read_spelling : (m : Message) → IsWellFormed m → reading_of (spelling m) ≡ Ok m
 unfolding reading_of
 read_spelling m good =
@@ -84,16 +112,8 @@ read_spelling m good =
     let below : k < 4 = kind_number_below m.kind in
     let short : t ≤ 8 = good.token in
     let size : first % 16 ≡ t = omega arith in
-    let clear : header_fault (spelling m) ≡ None =
-    header_clear first m.code (m.mid / 256) (m.mid % 256) (m.token ++ tail) (omega arith) (omega arith)
-    (omega (arith, length-append m.token tail))
-    (λ z. let e : (length m.token ≡ 0) × (length m.options ≡ 0) × (length m.payload ≡ 0) =
-    good.empty z in (size ∙ e.0, omega (arith, length-append m.token tail, empty_tail m.options m.payload e.1 e.2)))
-    in
-    let tail_is : drop (4 + first % 16) (spelling m) ≡ tail =
-    drop_four first m.code (m.mid / 256) (m.mid % 256) (first % 16) (m.token ++ tail)
-    ∙ (ap (λ n. drop n (m.token ++ tail)) size ∙ drop-append_seam m.token tail)
-    in
+    let clear : header_fault (spelling m) ≡ None = spelling_clear m good in
+    let tail_is : drop (4 + first % 16) (spelling m) ≡ tail = spelling_tail m good in
     let found : read_options (length (spelling m)) 0 (drop (4 + first % 16) (spelling m))
     ≡ Ok (record { options = m.options; payload = m.payload }) =
     ap (read_options (length (spelling m)) 0) tail_is

@@ -1,4 +1,4 @@
-ghost use Rattle.std.specs.Prelude.{◌≡◌, ◌≢◌, ◌≤◌, ◌<◌, length, slice_index, IfOk};
+ghost use Rattle.std.specs.Prelude.{◌≡◌, ◌≢◌, ◌≤◌, ◌<◌, length, slice_index, IfOk, IsOk};
 ghost use Rattle.coap_codec.specs.Number.{big_endian, shortest};
 
 use octets::Bytes;
@@ -21,12 +21,13 @@ pub fn uint(bytes: &[u8]) -> u32
     }
 }
 
-/// The fewest bytes of a number, zero in none (RFC 7252 section 3.2).
+/// The fewest bytes of a number, zero in none (RFC 7252 section 3.2). They take no memory.
 pub fn uint_bytes(alloc: Global, n: u32) -> Result<Bytes, AllocError>
     ensures shortest { IfOk result (λ b. b ≡ shortest n) }
     ensures value { IfOk result (λ b. big_endian b ≡ n) }
     ensures fewest { IfOk result (λ b. 0 < length b → slice_index b 0 ≢ 0) }
     ensures len { IfOk result (λ b. length b ≤ 4) }
+    ensures succeeds { IsOk result }
 {
     if n == 0 {
         return Ok(Bytes::new(alloc));

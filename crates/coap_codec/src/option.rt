@@ -1,4 +1,4 @@
-ghost use Rattle.std.specs.Prelude.{◌≡◌, ◌++◌, ◌∷◌, ◌↔◌, [], length, is_some, true, IsTrue, OnOk, OnErr};
+ghost use Rattle.std.specs.Prelude.{◌≡◌, ◌<◌, ◌++◌, ◌∷◌, ◌↔◌, [], length, is_some, true, IsTrue, OnOk, OnErr};
 ghost use Rattle.coap_codec.specs.Options.{number_option};
 
 use crate::number::uint_bytes;
@@ -76,10 +76,11 @@ impl Options {
         }
     }
 
-    /// One more option, after the others.
+    /// One more option, after the others. The first takes no memory.
     pub fn push(&mut self, option: Opt) -> Result<(), AllocError>
         ensures ok { OnOk result (self.new ≡ self.old ++ option ∷ []) }
         ensures err { OnErr result (self.new ≡ self.old) }
+        ensures grows { OnErr result (0 < length self.old) }
     {
         match &mut self.items {
             Items::Listed(items) => {
@@ -113,6 +114,7 @@ impl Options {
         ensures ok { OnOk result (self.new ≡ self.old ++ number_option number value) }
         ensures err { OnErr result (self.new ≡ self.old) }
         ensures grows { OnErr result (is_some value ≡ true) }
+        ensures further { OnErr result (0 < length self.old) }
     {
         let Some(value) = value else {
             return Ok(());
@@ -131,6 +133,7 @@ impl Options {
         ensures ok { OnOk result (self.new ≡ self.old ++ number_option number value) }
         ensures err { OnErr result (self.new ≡ self.old) }
         ensures grows { OnErr result (is_some value ≡ true) }
+        ensures further { OnErr result (0 < length self.old) }
     {
         let Some(value) = value else {
             return Ok(());

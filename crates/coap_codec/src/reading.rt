@@ -1,5 +1,5 @@
-ghost use Rattle.std.specs.Prelude.{◌≡◌, ◌≢◌, ◌≤◌, ◌<◌, ◌+◌, ◌*◌, ◌++◌, ◌∷◌, [], length, drop, IfOk, IfErr, IfSome};
-ghost use Rattle.std.specs.Prelude.{IfNone, IsErrAnd, IsOk, MatchResult, Some, None, Ok, Err, true};
+ghost use Rattle.std.specs.Prelude.{◌≡◌, ◌≢◌, ◌≤◌, ◌<◌, ◌+◌, ◌*◌, ◌++◌, ◌∷◌, List, ℕ, [], length, drop, IfOk, IfErr};
+ghost use Rattle.std.specs.Prelude.{IfSome, IfNone, IsErrAnd, IsOk, IsOkAnd, MatchResult, Some, None, Ok, Err, true};
 ghost use Rattle.coap_codec.specs.Message.{Message, MayFollow, IsOptionList, Spells, kind_number, two_bytes, nibble_of};
 ghost use Rattle.coap_codec.specs.Message.{extension_of, option_bytes, options_bytes, payload_bytes};
 ghost use Rattle.coap_codec.specs.Fault.{token_length, header_fault, width, amount, option_fault, place_fault};
@@ -125,6 +125,8 @@ fn options_at(alloc: Global, spare: Vec<Opt>, bytes: &[u8]) -> Result<(Vec<Opt>,
     ensures fault { IfErr result (λ f. f ≢ CoapFault.Memory → BreaksOff 0 bytes.now f) }
     ensures early { (f : CoapFault) → place_fault 0 bytes.now ≡ Some f → result ≡ Err f }
     ensures none { length bytes.now ≡ 0 → IsOk result }
+    ensures alone { (payload : List ℕ) → bytes.now ≡ payload_bytes payload
+        → IsOkAnd result (λ x. x.1.now ≡ payload) }
 {
     let mut found = spare;
     found.clear();
@@ -153,9 +155,10 @@ pub fn decode(alloc: Global, bytes: &[u8]) -> Result<Message, CoapFault>
     ensures fault { IfErr result (λ f. f ≢ CoapFault.Memory → HasFault bytes.now f) }
     ensures refused { (f : CoapFault) → HasFault bytes.now f → IsErrAnd result (λ g. g ≢ CoapFault.Memory → g ≡ f) }
     // The faults of a header, and those right after the token, are found before memory is taken; an Empty message takes
-    // none.
+    // none, nor does one without options whose payload has at most 16 bytes.
     ensures early { (f : CoapFault) → HasEarlyFault bytes.now f → result ≡ Err f }
     ensures empty { is_empty_message bytes.now ≡ true → IsOk result }
+    ensures no_option { (m : Message) → Spells bytes.now m → m.options ≡ [] → length m.payload ≤ 16 → IsOk result }
     ensures reading { MatchResult result
         (λ m. reading_of bytes.now ≡ Ok m)
         (λ f. f ≢ CoapFault.Memory → reading_of bytes.now ≡ Err f) }
@@ -172,6 +175,7 @@ pub fn decode_in(alloc: Global, spare: Vec<Opt>, bytes: &[u8]) -> Result<Message
     ensures refused { (f : CoapFault) → HasFault bytes.now f → IsErrAnd result (λ g. g ≢ CoapFault.Memory → g ≡ f) }
     ensures early { (f : CoapFault) → HasEarlyFault bytes.now f → result ≡ Err f }
     ensures empty { is_empty_message bytes.now ≡ true → IsOk result }
+    ensures no_option { (m : Message) → Spells bytes.now m → m.options ≡ [] → length m.payload ≤ 16 → IsOk result }
     ensures reading { MatchResult result
         (λ m. reading_of bytes.now ≡ Ok m)
         (λ f. f ≢ CoapFault.Memory → reading_of bytes.now ≡ Err f) }
@@ -185,6 +189,8 @@ fn read(alloc: Global, spare: Vec<Opt>, bytes: &[u8]) -> Result<Message, CoapFau
     ensures fault { IfErr result (λ f. f ≢ CoapFault.Memory → HasFault bytes.now f) }
     ensures early { (f : CoapFault) → HasEarlyFault bytes.now f → result ≡ Err f }
     ensures empty { is_empty_message bytes.now ≡ true → IsOk result }
+    ensures no_option { (payload : List ℕ) → header_fault bytes.now ≡ None
+        → drop (4 + token_length bytes.now) bytes.now ≡ payload_bytes payload → length payload ≤ 16 → IsOk result }
 {
     let start = start_of(bytes)?;
     let (options, payload) = options_at(alloc, spare, start.rest)?;

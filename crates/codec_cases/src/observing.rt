@@ -55,6 +55,7 @@ fn operate(question: &mut Question<'_>, out: &mut Sheet, observations: &mut Obse
         "sent" => sent(question, out, observations),
         "open" => open(question, out, observations),
         "remove" => remove(question, out, observations),
+        "pending" => pending(question, out, observations),
         "cancel" => cancel(question, out, observations),
         "reset" => {
             let (server, mid) = (question.half(), question.last_half());
@@ -77,6 +78,7 @@ fn ask(question: &mut Question<'_>, out: &mut Sheet, observations: &Observations
         "turn" => turn(question, out, observations),
         "bytes" => open_bytes(question, out, observations),
         "due" => due(question, out, observations),
+        "place" => place(question, out, observations),
         _ => question.refuse("not an operation on observations"),
     }
 }
@@ -222,20 +224,46 @@ fn open_bytes(question: &mut Question<'_>, out: &mut Sheet, observations: &Obser
     }
 }
 
-/// `due SECOND`: the first second after this one in which the only observation sends or is removed, while its present
-/// answer is what it last reported and pmax is 60.
-fn due(question: &mut Question<'_>, out: &mut Sheet, observations: &Observations) {
-    let now = question.last_natural();
-    if observations.len() != 1 {
-        question.refuse("not one observation");
-        return;
+/// `pending PLACE idle|changed|gone CODE PMIN PMAX`: says what the present answer of an observation is, and its
+/// periods; `-` for no PMAX. CODE is a byte in decimal, and stands after `gone` alone.
+fn pending(question: &mut Question<'_>, out: &mut Sheet, observations: &mut Observations) {
+    let place = usize::from(question.half());
+    let pending = match question.word() {
+        "idle" => Pending::Idle,
+        "changed" => Pending::Changed,
+        "gone" => Pending::Gone(question.byte()),
+        _ => {
+            question.refuse("not idle, changed or gone");
+            return;
+        }
+    };
+    let pmin = question.natural();
+    let pmax = if question.rest() == "-" {
+        None
+    } else {
+        Some(question.last_natural())
+    };
+    if place >= observations.len() {
+        out.put("none");
+    } else {
+        observations.pending(place, pending, pmin, pmax);
+        out.put("ok");
     }
-    let present = [Pending::Content {
-        triggered: false,
-        pmin: 0,
-        pmax: Some(60),
-    }];
-    match observations.due(now, &present) {
+}
+
+/// `place SERVER TOKEN`: the place of the observation of this name.
+fn place(question: &mut Question<'_>, out: &mut Sheet, observations: &Observations) {
+    let server = question.half();
+    let token = last_bytes(question);
+    match observations.place_of(server, token.as_slice()) {
+        Some(place) => out.put_number(place as u64),
+        None => out.put("none"),
+    }
+}
+
+/// `due SECOND`: the first second after this one in which an observation sends or is removed, by what was said.
+fn due(question: &mut Question<'_>, out: &mut Sheet, observations: &Observations) {
+    match observations.due(question.last_natural()) {
         Some(second) => out.put_number(second),
         None => out.put("none"),
     }

@@ -1,17 +1,17 @@
 //! The answers to `break ..`, `clear ID` and `resume`.
 ghost use Rattle.std.specs.Prelude.{◌≡◌, IfOk, OnErr};
 ghost use Rattle.std.specs.String.{string_bytes};
-ghost use Rattle.debugger.specs.Session.{at_place, with_breaks};
-ghost use Rattle.debug_answers.specs.Answers.{IsBreak, IsCleared, IsResumed};
+ghost use Rattle.debug_answers.specs.Answers.{IsAsBeforeOrAfter, IsBreak, IsCleared, IsResumed};
 
 use crate::lines::{break_line, cleared_line, fixed_line, stop_line};
 use debugger::{Break, Debugger};
 use std::alloc::{AllocError, Global};
 
 /// `break ..`: `break ID`, or `full`. Without memory the breakpoint may have been added, and nothing else has changed.
+#[tactic(auto, using(crate::proofs::Left::added_left))]
 pub fn add_break(alloc: Global, debugger: &mut Debugger, point: Break) -> Result<String, AllocError>
     ensures answer { IfOk result (λ text. IsBreak debugger.old point debugger.new (string_bytes text)) }
-    ensures rest { debugger.new ≡ with_breaks debugger.old debugger.new.breaks }
+    ensures left { OnErr result (IsAsBeforeOrAfter (IsBreak debugger.old point) debugger.old debugger.new) }
 {
     match debugger.add_break(point) {
         Ok(id) => break_line(alloc, id),
@@ -32,10 +32,12 @@ pub fn clear(alloc: Global, debugger: &mut Debugger, id: u8) -> Result<String, A
     }
 }
 
-/// `resume`: `break ID at N`, or `end at N`. Without memory the place may have changed, and nothing else.
+/// `resume`: `break ID at N`, or `end at N`. Without memory the debugger may be at the next stop, and nothing else has
+/// changed.
+#[tactic(auto, using(crate::proofs::Left::resumed_left))]
 pub fn resume(alloc: Global, debugger: &mut Debugger) -> Result<String, AllocError>
     ensures answer { IfOk result (λ text. IsResumed debugger.old debugger.new (string_bytes text)) }
-    ensures moved { debugger.new ≡ at_place debugger.old debugger.new.place }
+    ensures left { OnErr result (IsAsBeforeOrAfter (IsResumed debugger.old) debugger.old debugger.new) }
 {
     let stop = debugger.resume()?;
     stop_line(alloc, stop, debugger.at())

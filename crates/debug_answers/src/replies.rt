@@ -1,8 +1,9 @@
 //! The answer to a line of the debugger's input.
-ghost use Rattle.std.specs.Prelude.{◌≡◌, ◌↔◌, true, IfOk};
+ghost use Rattle.std.specs.Prelude.{◌≡◌, ◌↔◌, true, IfOk, OnErr};
 ghost use Rattle.std.specs.String.{string_bytes};
 ghost use Rattle.debug_words.specs.declared.command.Command.TheVariants.{Quit};
 ghost use Rattle.debug_words.specs.Saying.{IsLineOf};
+ghost use Rattle.debug_answers.specs.Answers.{IsAsBeforeOrAfter};
 ghost use Rattle.debug_answers.specs.Replies.{break_of, IsAnswer, IsReply};
 
 use crate::breaks::{add_break, clear, resume};
@@ -36,9 +37,10 @@ fn break_of(point: Point) -> Break
     }
 }
 
-/// The answer to a command.
+/// The answer to a command. Without memory the debugger is as before, or as after the command.
 fn answer(alloc: Global, debugger: &mut Debugger, command: Command) -> Result<String, AllocError>
-    ensures { IfOk result (λ text. IsAnswer debugger.old command debugger.new (string_bytes text)) }
+    ensures answer { IfOk result (λ text. IsAnswer debugger.old command debugger.new (string_bytes text)) }
+    ensures left { OnErr result (IsAsBeforeOrAfter (IsAnswer debugger.old command) debugger.old debugger.new) }
 {
     match command {
         Command::At => place(alloc, debugger),
@@ -62,10 +64,12 @@ fn is_quit(command: Command) -> bool
 }
 
 /// The answer to a line of the debugger's input, without the LF that ends it: that to the command that it says, or
-/// `bad command` where it says none. `quit` is answered by nothing, and nothing else asks for the end.
-#[tactic(auto, using(crate::proofs::Replied::reply_of, crate::proofs::Replied::bad_reply))]
+/// `bad command` where it says none. `quit` is answered by nothing, and nothing else asks for the end. Without memory
+/// the debugger is as before, or as after the command.
+#[tactic(auto, using(crate::proofs::Replied::reply_of, crate::proofs::Replied::bad_reply, crate::proofs::Left::reply_left))]
 pub fn reply_to(alloc: Global, debugger: &mut Debugger, line: &[u8]) -> Result<Reply, AllocError>
     ensures reply { IfOk result (λ r. IsReply debugger.old line.now debugger.new (string_bytes r.text)) }
+    ensures left { OnErr result (IsAsBeforeOrAfter (IsReply debugger.old line.now) debugger.old debugger.new) }
     ensures last { IfOk result (λ r. (r.is_last ≡ true) ↔ IsLineOf Quit line.now) }
 {
     match read_command(line) {

@@ -118,7 +118,7 @@ fn push_line(
 /// How many observations there are, and a line for each.
 #[tactic(auto, using(crate::proofs::Observed::next_line, crate::proofs::Observed::every_line))]
 fn observation_lines(alloc: Global, observations: &Observations) -> Result<String, AllocError>
-    ensures { IfOk result (λ text. string_bytes text ≡ observation_lines observations.now) }
+    ensures { IfOk result (λ text. string_bytes text ≡ observation_lines observations.now.list) }
 {
     let count = observations.len();
     let mut text = count_line(alloc, count)?;

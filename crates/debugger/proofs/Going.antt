@@ -9,8 +9,7 @@ use Rattle.debugger.specs.declared.copies.Copies.{Copies}
 use Rattle.debugger.specs.declared.moves.Moved.{Moved}
 use Rattle.debugger.specs.Copies.{AreCopiedTo, AreCopied}
 use Rattle.debugger.specs.Session.{Session, IsKept, AreAt, AreCounted}
-use Rattle.debugger.specs.Replayed.{steps_to}
-use Rattle.debugger.specs.Moves.{HasSteps, AreMoved, steps_of}
+use Rattle.debugger.specs.Moves.{HasSteps, AreMoved, steps_of, steps_to}
 use Rattle.debugger.proofs.Moving.{counted_steps}
 use Rattle.debugger.proofs.Copying.{copied_to}
 use Rattle.debugger.proofs.Replaying.{steps_are}
@@ -62,9 +61,9 @@ go_keeps v s es place to made devices breaks copies replayed read counts m new i
 pub go_steps : (v : Session) (s : Scenario) (es : List Entry) (place to steps : ℕ) (made : List ℕ)
     (devices : List Device) (breaks : List (Option Break)) (copies : List Copies) (replayed : ℕ) (read : List Entry)
     (counts m c : List ℕ) → IsInside v s es place made devices breaks copies replayed → read ≡ es → m ≡ made
-    → c ≡ counts → AreCounted s (take to read) counts → steps ≡ steps_of m c (length s.rows) → steps ≡ steps_to v to
+    → c ≡ counts → AreCounted s (take to read) counts → steps ≡ steps_of s m c (length s.rows) → steps ≡ steps_to v to
 go_steps v s es place to steps made devices breaks copies replayed read counts m c inside p q r counted is =
     let there : AreCounted s (take to es) counts = subst (λ l. AreCounted s (take to l) counts) p counted in
-    is ∙ (ap (λ l. steps_of l c (length s.rows)) q ∙ (ap (λ l. steps_of made l (length s.rows)) r
+    is ∙ (ap (λ l. steps_of s l c (length s.rows)) q ∙ (ap (λ l. steps_of s made l (length s.rows)) r
     ∙ (steps_are (seen s es place breaks replayed) to made counts inside.kept.counted there
     ∙ ap (λ w. steps_to w to) inside.view)))

@@ -1,7 +1,7 @@
 -- What a debugger keeps, at its start, at another place and with other breakpoints.
 use Rattle.std.proofs.Common.{◌≡◌, ℕ, ◌+◌, ◌-◌, ◌*◌, ◌<◌, ◌≤◌, ◌↔◌, List, [], ◌∷◌, length, take, get_or, nat_lt, true}
 use Rattle.std.proofs.Common.{false, replicate, Option, None, Some, slice_get, slice_set, refl, sym, ap, subst, ◌∙◌}
-use Rattle.std.proofs.Common.{arith}
+use Rattle.std.proofs.Common.{arith, slice_range}
 use Rattle.std.proofs.lemmas.List.{length-replicate, length-set}
 use Rattle.std.proofs.lemmas.Bool.{ltb-true, ltb-false}
 use Rattle.std.proofs.lemmas.Option.{slice_get_within, slice_get_read}
@@ -22,11 +22,12 @@ use Rattle.debugger.specs.Copies.{AreCopied}
 use Rattle.debugger.specs.Shown.{latest, value_shown, observations_shown, outputs_shown}
 use Rattle.debugger.specs.Session.{Session, IsSession, IsKept, AreAt, AreCounted, most_breaks, at_place, with_breaks}
 use Rattle.debugger.specs.Session.{with_replayed}
-use Rattle.debugger.specs.Replayed.{devices_between, steps_to}
+use Rattle.debugger.specs.Moves.{steps_to}
+use Rattle.debugger.specs.Replayed.{devices_between, events_among, IsReplayedBack}
 use Rattle.debugger.specs.Breaks.{IsTaken, AreAllTaken, IsAdded, IsRemoved}
 use Rattle.debugger.proofs.Rows.{value_is, observations_are}
 use Rattle.debugger.proofs.Numbers.{free_not_all, all_taken}
-use Rattle.debugger.proofs.Replaying.{steps_on, steps_back}
+use Rattle.debugger.proofs.Replaying.{few_on, replayed_back, steps_back, steps_on}
 
 take_none : {X : Type 0} (xs : List X) → take 0 xs ≡ []
 take_none [] = refl
@@ -301,14 +302,21 @@ moved_by v between fields s es place to steps made devices breaks copies replaye
 pub forward_steps : (v : Session) (s : Scenario) (es : List Entry) (place to count left steps : ℕ) (made : List ℕ)
     (devices : List Device) (breaks : List (Option Break)) (copies : List Copies) (replayed : ℕ)
     → IsInside v s es place made devices breaks copies replayed → left ≡ length es - place → count ≤ left
-    → to ≡ place + count → steps ≡ steps_to v to → steps ≡ count
+    → to ≡ place + count → steps ≡ steps_to v to
+    → steps ≡ events_among v.scenario (slice_range v.entries v.place (v.place + count))
 forward_steps v s es place to count left steps made devices breaks copies replayed inside rest more is made_steps =
     let within : to ≤ length es = omega (arith, rest, more, is, inside.kept.within) in
-    let here : steps ≡ steps_to (seen s es place breaks replayed) to =
-    subst (λ w. steps ≡ steps_to w to) (sym inside.view) made_steps in
-    let all : steps_to (seen s es place breaks replayed) to + place ≡ to =
-    steps_on (seen s es place breaks replayed) to inside.kept.run (omega (arith, is)) within in
-    omega (arith, here, all, is)
+    let u = seen s es place breaks replayed in
+    let here : steps ≡ steps_to u to = subst (λ w. steps ≡ steps_to w to) (sym inside.view) made_steps in
+    let all : steps ≡ events_among s (slice_range es place to) =
+    here ∙ steps_on u to inside.kept.run (omega (arith, is)) within in
+    subst (λ w. steps ≡ events_among w.scenario (slice_range w.entries w.place (w.place + count))) inside.view
+    (all ∙ ap (λ k. events_among s (slice_range es place k)) is)
+
+pub forward_few : (v : Session) (steps count : ℕ)
+    → steps ≡ events_among v.scenario (slice_range v.entries v.place (v.place + count)) → steps ≤ count
+forward_few v steps count is =
+    let few = few_on v.scenario v.entries v.place count in omega (arith, is, few)
 
 pub back_steps : (v : Session) (s : Scenario) (es : List Entry) (place to count steps : ℕ) (made : List ℕ)
     (devices : List Device) (breaks : List (Option Break)) (copies : List Copies) (replayed : ℕ)
@@ -324,9 +332,11 @@ back_steps v s es place to count steps made devices breaks copies replayed insid
 pub back_exactly : (v : Session) (s : Scenario) (es : List Entry) (place to count steps : ℕ) (made : List ℕ)
     (devices : List Device) (breaks : List (Option Break)) (copies : List Copies) (replayed : ℕ)
     → IsInside v s es place made devices breaks copies replayed → to ≡ place - count → steps ≡ steps_to v to
-    → steps ≡ steps_to v (v.place - count)
+    → IsReplayedBack v (v.place - count) steps
 back_exactly v s es place to count steps made devices breaks copies replayed inside is made_steps =
-    made_steps ∙ ap (steps_to v) (is ∙ ap (λ w. w.place - count) inside.view)
+    subst (IsReplayedBack v (v.place - count))
+    (sym (made_steps ∙ ap (steps_to v) (is ∙ ap (λ w. w.place - count) inside.view)))
+    (replayed_back v (v.place - count))
 
 pub to_in : (v : Session) (s : Scenario) (es : List Entry) (place to : ℕ) (made : List ℕ) (devices : List Device)
     (breaks : List (Option Break)) (copies : List Copies) (replayed : ℕ)

@@ -11,6 +11,7 @@ pub mod Changing
 pub mod Stopping
 pub mod Keeping
 pub mod Ending
+pub mod Events
 pub mod Devices
 pub mod Going
 pub mod Places

@@ -58,26 +58,26 @@ total_within f g (suc n) within =
     within_next (total f n) (total g n) (f n) (g n) (total f (suc n)) (total g (suc n)) (total_suc f n) (total_suc g n)
     (total_within f g n (λ d less. within d (omega (arith, less)))) (within n (omega arith))
 
-next_last : (a x p q : ℕ) → p ≡ a + x → q ≡ a + suc x → q ≡ suc p
-next_last a x p q e f = omega arith
+next_last : (a x w p q : ℕ) → p ≡ a + x → q ≡ a + (x + w) → q ≡ p + w
+next_last a x w p q e f = omega arith
 
-next_before : (a x p q : ℕ) → p ≡ a + x → q ≡ suc a + x → q ≡ suc p
-next_before a x p q e f = omega arith
+next_before : (a x w p q : ℕ) → p ≡ a + x → q ≡ a + w + x → q ≡ p + w
+next_before a x w p q e f = omega arith
 
-next_by : (f g : ℕ → ℕ) (n k : ℕ) → ((k : ℕ) → k < n → g k ≡ suc (f k) → ((d : ℕ) → (k ≡ d → ⊥) → g d ≡ f d)
-    → total g n ≡ suc (total f n)) → k < suc n → g k ≡ suc (f k) → ((d : ℕ) → (k ≡ d → ⊥) → g d ≡ f d)
-    → (k ≡ n) ⊎ (k ≡ n → ⊥) → total g (suc n) ≡ suc (total f (suc n))
-next_by f g n k before less here others (inl last) =
+next_by : (f g : ℕ → ℕ) (w n k : ℕ) → ((k : ℕ) → k < n → g k ≡ f k + w → ((d : ℕ) → (k ≡ d → ⊥) → g d ≡ f d)
+    → total g n ≡ total f n + w) → k < suc n → g k ≡ f k + w → ((d : ℕ) → (k ≡ d → ⊥) → g d ≡ f d)
+    → (k ≡ n) ⊎ (k ≡ n → ⊥) → total g (suc n) ≡ total f (suc n) + w
+next_by f g w n k before less here others (inl last) =
     let same : total g n ≡ total f n = total_same g f n (λ d low. others d (λ e. omega (arith, e, last, low))) in
-    next_last (total f n) (f n) (total f (suc n)) (total g (suc n)) (total_suc f n)
-    (total_suc g n ∙ (ap (λ a. a + g n) same ∙ ap (λ x. total f n + x) (subst (λ j. g j ≡ suc (f j)) last here)))
-next_by f g n k before less here others (inr other) =
-    next_before (total f n) (f n) (total f (suc n)) (total g (suc n)) (total_suc f n)
+    next_last (total f n) (f n) w (total f (suc n)) (total g (suc n)) (total_suc f n)
+    (total_suc g n ∙ (ap (λ a. a + g n) same ∙ ap (λ x. total f n + x) (subst (λ j. g j ≡ f j + w) last here)))
+next_by f g w n k before less here others (inr other) =
+    next_before (total f n) (f n) w (total f (suc n)) (total g (suc n)) (total_suc f n)
     (total_suc g n ∙ (ap (λ a. a + g n) (before k (omega (arith, less, other)) here others)
-    ∙ ap (λ x. suc (total f n) + x) (others n other)))
+    ∙ ap (λ x. total f n + w + x) (others n other)))
 
--- where one number below n counts one more, the sum is one more
-pub total_next : (f g : ℕ → ℕ) (n k : ℕ) → k < n → g k ≡ suc (f k) → ((d : ℕ) → (k ≡ d → ⊥) → g d ≡ f d)
-    → total g n ≡ suc (total f n)
-total_next f g zero k less here others = absurd (omega (arith, less))
-total_next f g (suc n) k less here others = next_by f g n k (total_next f g n) less here others (cases_eq k n)
+-- where one number below n counts w more, the sum is w more
+pub total_adds : (f g : ℕ → ℕ) (w n k : ℕ) → k < n → g k ≡ f k + w → ((d : ℕ) → (k ≡ d → ⊥) → g d ≡ f d)
+    → total g n ≡ total f n + w
+total_adds f g w zero k less here others = absurd (omega (arith, less))
+total_adds f g w (suc n) k less here others = next_by f g w n k (total_adds f g w n) less here others (cases_eq k n)

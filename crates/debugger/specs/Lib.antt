@@ -6,3 +6,4 @@ pub mod Stops
 pub mod Breaks
 pub mod Moves
 pub mod Searches
+pub mod Faults

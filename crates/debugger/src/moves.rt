@@ -1,12 +1,12 @@
 //! How the devices of a debugger are moved to another place of a run.
 
-ghost use Rattle.std.specs.Prelude.{◌≡◌, ℕ, ◌-◌, ◌%◌, ◌<◌, ◌≤◌, length, take, slice_index, IfOk};
+ghost use Rattle.std.specs.Prelude.{◌≡◌, ℕ, ◌-◌, ◌*◌, ◌/◌, ◌<◌, ◌≤◌, length, take, slice_index, IfOk};
 ghost use Rattle.fleet_core.specs.Run.{IsRun};
 ghost use Rattle.fleet_core.specs.Board.{ShowsAfter};
 ghost use Rattle.debugger.specs.Copies.{HasCopies, AreCopiedTo};
 ghost use Rattle.debugger.specs.Session.{AreAt, AreCounted};
-ghost use Rattle.debugger.specs.Replayed.{steps_between};
-ghost use Rattle.debugger.specs.Moves.{HasSteps, IsMoved, AreMoved, steps_of};
+ghost use Rattle.debugger.specs.Replayed.{events_by};
+ghost use Rattle.debugger.specs.Moves.{HasSteps, IsMoved, AreMoved, steps_between, steps_of};
 
 use crate::copies::{COPY_STEPS, Copies, copy_at};
 use crate::steps::advance;
@@ -23,7 +23,7 @@ pub(crate) struct Moved {
     pub(crate) device: u16,
     /// The device.
     pub(crate) machine: Device,
-    /// How many steps it made for this move.
+    /// How many events it took for this move.
     pub(crate) steps: u64,
 }
 
@@ -32,7 +32,7 @@ pub(crate) struct Moved {
 pub(crate) struct Moves {
     /// Those that take the places of others.
     pub(crate) moved: Vec<Moved>,
-    /// How many steps they made for it together.
+    /// How many events they took for it together.
     pub(crate) steps: u64,
 }
 
@@ -124,7 +124,8 @@ fn device_after(
     requires shows { ShowsAfter scenario.now device from machine.now }
     requires order { from ≤ to }
     requires row { HasSteps scenario.now device to }
-    ensures { IfOk result (λ m. IsMoved scenario.now device to (to - from) m) }
+    ensures { IfOk result (λ m. IsMoved scenario.now device to
+        (events_by scenario.now device to - events_by scenario.now device from) m) }
 {
     let mut later = machine.copy()?;
     let steps = advance(alloc, scenario, &mut later, device, from, to)?;
@@ -146,7 +147,8 @@ fn device_before(
     requires device { device < length scenario.now.rows }
     requires row { HasSteps scenario.now device to }
     requires copied { HasCopies scenario.now device to copies.now }
-    ensures { IfOk result (λ m. IsMoved scenario.now device to (to % 64) m) }
+    ensures { IfOk result (λ m. IsMoved scenario.now device to
+        (events_by scenario.now device to - events_by scenario.now device (64 * (to / 64))) m) }
 {
     let number = to / COPY_STEPS;
     let mut earlier = copy_at(scenario, copies, device, number)?;
@@ -180,7 +182,8 @@ fn moved_device(
     requires device { device < length scenario.now.rows }
     requires first { HasSteps scenario.now device from }
     requires last { HasSteps scenario.now device to }
-    ensures { IfOk result (λ m. IsMoved scenario.now device to (steps_between from to) m) }
+    ensures { IfOk result (λ m. IsMoved scenario.now device to
+        (steps_between scenario.now device from to) m) }
 {
     let _rows = scenario.rows();
     if from <= to {
@@ -209,7 +212,8 @@ pub(crate) fn moved_devices(
     requires first { (d : ℕ) → d < length scenario.now.rows → HasSteps scenario.now d (slice_index made.now d) }
     requires last { (d : ℕ) → d < length scenario.now.rows → HasSteps scenario.now d (slice_index counts.now d) }
     ensures moved { IfOk result (λ v. AreMoved scenario.now counts.now devices.now (length devices.now) v.moved.items) }
-    ensures steps { IfOk result (λ v. v.steps ≡ steps_of made.now counts.now (length scenario.now.rows)) }
+    ensures steps { IfOk result (λ v. v.steps
+        ≡ steps_of scenario.now made.now counts.now (length scenario.now.rows)) }
 {
     let rows = scenario.rows();
     let mut moved = Vec::new(alloc);

@@ -1,12 +1,13 @@
-ghost use Rattle.std.specs.Prelude.{◌≡◌, ℕ, ◌+◌, ◌-◌, ◌*◌, ◌<◌, ◌≤◌, ◌↔◌, length, slice_get, Some, None, Err, IsTrue};
-ghost use Rattle.std.specs.Prelude.{IfOk, IfSome, OnOk, OnErr};
+ghost use Rattle.std.specs.Prelude.{◌≡◌, ℕ, ◌+◌, ◌-◌, ◌*◌, ◌<◌, ◌≤◌, ◌↔◌, length, slice_get, slice_range, Some, None};
+ghost use Rattle.std.specs.Prelude.{Err, IsTrue, IfOk, IfSome, OnOk, OnErr};
 ghost use Rattle.std.specs.Option.{option_copied};
 ghost use Rattle.std.specs.Result.{IsOk, IsErr};
 ghost use Rattle.fleet_core.specs.Run.{made_by, IsRun};
 ghost use Rattle.fleet_core.specs.Verdict.{BreaksAt};
 ghost use Rattle.debugger.specs.Shown.{latest, value_shown, observations_shown, outputs_shown};
 ghost use Rattle.debugger.specs.Session.{IsSession, opened, at_place, with_replayed};
-ghost use Rattle.debugger.specs.Replayed.{devices_between, steps_to};
+ghost use Rattle.debugger.specs.Moves.{steps_to};
+ghost use Rattle.debugger.specs.Replayed.{devices_between, events_among, IsReplayedBack};
 ghost use Rattle.debugger.specs.Stops.{Holds, IsNextStop};
 ghost use Rattle.debugger.specs.Breaks.{IsTaken, AreAllTaken, IsAdded, IsRemoved};
 ghost use Rattle.debugger.specs.Searches.{IsFound, IsBest};
@@ -32,7 +33,7 @@ use trace_file::{Entries, Entry};
 /// A debugger over a run: it stands at a place, from 0 to the count of the entries, and shows each device as it is
 /// after the entries before the place, in their order. It keeps a copy of each device after each 64 of its entries, so
 /// that a move back makes few steps. Contracts see the scenario, the run, the place, the breakpoints, and how many
-/// steps devices made in the last move by a number of entries.
+/// steps devices took in the last move by a number of entries.
 #[derive(Drop)]
 pub struct Debugger<'a> {
     alloc: Global,
@@ -125,14 +126,15 @@ impl<'a> Debugger<'a> {
         self.place
     }
 
-    /// How many steps devices made in the last call of `forward` or `back` that moved; 0 before the first one.
+    /// How many times `Device::step` was called in the last call of `forward` or `back` that moved, once for each
+    /// event; 0 before the first one. A post or a need is no event: the device does not hear of it.
     pub fn replayed(&self) -> u64
         ensures { result ≡ self.now.replayed }
     {
         self.replayed
     }
 
-    /// Moves to another place of the run, and returns how many steps devices made. Without memory nothing changes.
+    /// Moves to another place of the run, and returns how many events devices took. Without memory nothing changes.
     fn go(&mut self, to: usize) -> Result<u64, AllocError>
         requires { to ≤ length self.old.entries }
         ensures moved { OnOk result (self.new ≡ at_place self.old to) }
@@ -162,13 +164,15 @@ impl<'a> Debugger<'a> {
         Ok(steps)
     }
 
-    /// Moves forward by this many entries, each of which is one step that is made.
+    /// Moves forward by this many entries. For each of them that is an event, and no post or need, its device takes it.
     ///
     /// `PastEnd`: there are fewer after the place. `Memory` leaves the place as it was, too.
     pub fn forward(&mut self, count: usize) -> Result<(), ForwardFault>
         ensures moved { OnOk result (self.new
             ≡ with_replayed (at_place self.old (self.old.place + count)) self.new.replayed) }
-        ensures replayed { OnOk result (self.new.replayed ≡ count) }
+        ensures replayed { OnOk result (self.new.replayed ≡ events_among self.old.scenario
+            (slice_range self.old.entries self.old.place (self.old.place + count))) }
+        ensures few { OnOk result (self.new.replayed ≤ count) }
         ensures past_end { (result ≡ Err ForwardFault.PastEnd) ↔ (length self.old.entries < self.old.place + count) }
         ensures unchanged { OnErr result (self.new ≡ self.old) }
     {
@@ -183,15 +187,15 @@ impl<'a> Debugger<'a> {
     }
 
     /// Moves back by this many entries. Each device that has one among them starts from its latest copy that is not
-    /// after the new place, or from the start of its row, and so makes at most 63 steps.
+    /// after the new place, or from the start of its row, and so takes at most 63 events.
     ///
     /// `PastStart`: there are fewer before the place. `Memory` leaves the place as it was, too.
     pub fn back(&mut self, count: usize) -> Result<(), BackFault>
         ensures moved { OnOk result (self.new
             ≡ with_replayed (at_place self.old (self.old.place - count)) self.new.replayed) }
-        ensures replayed { OnOk result (self.new.replayed
+        ensures replayed { OnOk result (IsReplayedBack self.old (self.old.place - count) self.new.replayed) }
+        ensures few { OnOk result (self.new.replayed
             ≤ 63 * devices_between self.old (self.old.place - count) self.old.place) }
-        ensures steps { OnOk result (self.new.replayed ≡ steps_to self.old (self.old.place - count)) }
         ensures past_start { (result ≡ Err BackFault.PastStart) ↔ (self.old.place < count) }
         ensures unchanged { OnErr result (self.new ≡ self.old) }
     {
@@ -219,7 +223,7 @@ impl<'a> Debugger<'a> {
 
     /// The device's observations at the place, in the order of registration.
     pub fn observations(&self, device: u16) -> Result<&Observations, DeviceFault>
-        ensures observations { IfOk result (λ o. o.now
+        ensures observations { IfOk result (λ o. o.now.list
             ≡ observations_shown self.now.scenario self.now.entries self.now.place device) }
         ensures device { IsOk result ↔ (device < length self.now.scenario.rows) }
     {

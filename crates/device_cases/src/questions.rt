@@ -17,6 +17,8 @@ enum Question {
     Clock,
     /// How many observations there are.
     Observations,
+    /// The first second in which the device sends or removes something by itself.
+    Due,
 }
 
 /// What is asked, and the answer that is stated.
@@ -30,6 +32,8 @@ fn read_question(line: u32, text: &str) -> Option<(Question, Stated<'_>)> {
         Some((Question::Clock, Stated::read(line, rest)?))
     } else if name == "observations" {
         Some((Question::Observations, Stated::read(line, rest)?))
+    } else if name == "due" {
+        Some((Question::Due, Stated::read(line, rest)?))
     } else {
         None
     }
@@ -62,6 +66,10 @@ fn put_answer(out: &mut Sheet, question: Question, device: &Device) {
         },
         Question::Clock => out.put_number(device.clock()),
         Question::Observations => out.put_number(device.observations().len() as u64),
+        Question::Due => match device.due() {
+            Some(second) => out.put_number(second),
+            None => out.put("none"),
+        },
     }
 }
 
@@ -75,7 +83,7 @@ fn put_value(out: &mut Sheet, value: &Value) {
 /// Adds the answer that is stated, in the one way to write it. It gives whether it can be read.
 fn put_meaning(out: &mut Sheet, question: Question, text: &str) -> bool {
     match question {
-        Question::Value(_) if text == "none" => {
+        Question::Value(_) | Question::Due if text == "none" => {
             out.put(text);
             true
         }
@@ -86,7 +94,7 @@ fn put_meaning(out: &mut Sheet, question: Question, text: &str) -> bool {
             }
             Err(_) => false,
         },
-        Question::Clock | Question::Observations => match text.parse::<u64>() {
+        Question::Clock | Question::Observations | Question::Due => match text.parse::<u64>() {
             Ok(number) => {
                 out.put_number(number);
                 true

@@ -1,8 +1,9 @@
 -- What a store holds after an event.
-use Rattle.std.proofs.Common.{◌≡◌, ◌≢◌, ℕ, Bool, true, false, cond, ◌&&◌, eqb, List, Option, None, Some, Result, Ok}
+use Rattle.std.proofs.Common.{◌≡◌, ◌≢◌, ℕ, Bool, true, false, cond, ◌&&◌, ◌||◌, eqb, List, Option, None, Some, Result}
+use Rattle.std.proofs.Common.{Ok}
 use Rattle.std.proofs.Common.{Err, pos, refl, sym, ap, ◌∙◌, ◌⊎◌, inl, inr}
 use Rattle.std.specs.Ordering.{eq_by_cmp, is_eq}
-use Rattle.std.specs.Option.{option_map, is_some}
+use Rattle.std.specs.Option.{option_map, is_none, is_some}
 use Rattle.std.proofs.lemmas.Bool.{eq-eqb, false≢true}
 use Rattle.std.specs.declared.cmp.Ordering.{Ordering}
 use Rattle.std.specs.declared.cmp.Ordering.TheVariants.{Less, Equal, Greater}
@@ -108,34 +109,35 @@ taken_as s after event o is h =
 held-uri : (s : Stored) (uri : Option (List ℕ)) (n : ℕ) → eqb n 1 ≡ false → held (with_uri s uri) n ≡ held s n
 held-uri s uri n h = other-uri s uri (at n) (λ e. false≢true (sym h ∙ eq-eqb n 1 (ap (λ (q : FullPath). q.resource) e)))
 
-not_ready : (a b c : Bool) → (a ≡ false) ⊎ ((b ≡ false) ⊎ (c ≡ false)) → (a && (b && c)) ≡ false
-not_ready false b c h = refl
-not_ready true false c h = refl
-not_ready true true c (inl h) = cc
-not_ready true true c (inr (inl h)) = cc
-not_ready true true c (inr (inr h)) = h
+not_ready-outcome : (b c r : Bool) → (b ≡ false) ⊎ (c ≡ false) → ((b && c) && r) ≡ false
+not_ready-outcome false c r h = refl
+not_ready-outcome true false r h = refl
+not_ready-outcome true true r (inl h) = cc
+not_ready-outcome true true r (inr h) = cc
 
-pub wanting-1 : (s : Stored) → held s 1 ≡ None → is_ready s ≡ false
-wanting-1 s h = not_ready (is_some (held s 1)) (is_some (held s 3)) (is_some (held s 5)) (inl (ap is_some h))
-
-pub wanting-3 : (s : Stored) (uri : Option (List ℕ)) → held (with_uri s uri) 3 ≡ None → is_ready s ≡ false
-wanting-3 s uri h =
-    not_ready (is_some (held s 1)) (is_some (held s 3)) (is_some (held s 5))
-    (inr (inl (ap is_some (sym (held-uri s uri 3 refl) ∙ h))))
-
-pub wanting-5 : (s : Stored) (uri : Option (List ℕ)) → held (with_uri s uri) 5 ≡ None → is_ready s ≡ false
-wanting-5 s uri h =
-    not_ready (is_some (held s 1)) (is_some (held s 3)) (is_some (held s 5))
-    (inr (inr (ap is_some (sym (held-uri s uri 5 refl) ∙ h))))
+not_ready-uri : (b a : Bool) (uri : Option (List ℕ)) → a ≡ false → is_some uri ≡ true
+    → (b && (is_none uri || a)) ≡ false
+not_ready-uri false a uri h some = refl
+not_ready-uri true a None h some = cc
+not_ready-uri true a (Some text) h some = h
 
 pub still-5 : (s t : Stored) (v : Value) → t ≡ with_value s (at 3) v → held t 5 ≡ None → held s 5 ≡ None
 still-5 s t v e h = sym (behind s (at 3) (at 5) v) ∙ ap (λ u. held u 5) (sym e) ∙ h
 
--- by what wants of setting the outcome
-pub wanting-outcome : (s : Stored) (uri : Option (List ℕ)) → (held (with_uri s uri) 3 ≡ None)
-    ⊎ (held (with_uri s uri) 5 ≡ None) → is_ready s ≡ false
-wanting-outcome s uri (inl h) = wanting-3 s uri h
-wanting-outcome s uri (inr h) = wanting-5 s uri h
+-- by what wants of setting the Package URI, and the outcome
+pub wanting-uri : (s : Stored) (event : FirmwareEvent) → held s 1 ≡ None → is_some (uri_of event) ≡ true
+    → is_ready s event ≡ false
+wanting-uri s event h some =
+    not_ready-uri (is_some (held s 3) && is_some (held s 5)) (is_some (held s 1)) (uri_of event) (ap is_some h) some
+
+pub wanting-outcome : (s : Stored) (event : FirmwareEvent) → (held (with_uri s (uri_of event)) 3 ≡ None)
+    ⊎ (held (with_uri s (uri_of event)) 5 ≡ None) → is_ready s event ≡ false
+wanting-outcome s event (inl h) =
+    not_ready-outcome (is_some (held s 3)) (is_some (held s 5)) (is_none (uri_of event) || is_some (held s 1))
+    (inl (ap is_some (sym (held-uri s (uri_of event) 3 refl) ∙ h)))
+wanting-outcome s event (inr h) =
+    not_ready-outcome (is_some (held s 3)) (is_some (held s 5)) (is_none (uri_of event) || is_some (held s 1))
+    (inr (ap is_some (sym (held-uri s (uri_of event) 5 refl) ∙ h)))
 
 pub on_err : {A E : Type 0} (r : Result A E) (P : Type 0) → P → OnErr r P
 on_err (Ok x) P p = tt

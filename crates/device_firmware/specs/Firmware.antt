@@ -1,7 +1,8 @@
 -- Firmware update: what is taken in which state, and what it changes (OMA LwM2M 1.1 Core, object 5 Firmware Update; the
 -- table is this profile's).
-use Rattle.std.specs.Prelude.{ℕ, ◌==◌, nat_le, pos, negsuc, Bool, not, ◌&&◌, List, [], ◌∷◌, Option, None, Some, is_some}
-use Rattle.std.specs.Prelude.{option_map, if◌then◌else◌}
+use Rattle.std.specs.Prelude.{ℕ, ◌==◌, nat_le, pos, negsuc, Bool, not, ◌&&◌, ◌||◌, List, [], ◌∷◌, Option, None, Some}
+use Rattle.std.specs.Prelude.{is_some}
+use Rattle.std.specs.Prelude.{is_none, option_map, if◌then◌else◌}
 use Rattle.lwm2m_values.specs.declared.value.Value.{Value}
 use Rattle.lwm2m_values.specs.declared.value.Value.TheVariants.{Text, Whole, Flag, Opaque, Moment, Link}
 use Rattle.object_defs.specs.Numbers.{firmware_update_object, package_uri, update_state, update_result}
@@ -136,7 +137,8 @@ firmware_after stored event = option_map (with_outcome (with_uri stored (uri_of 
 abbrev pub held : Stored → ℕ → Option Value
 held stored number = value_at stored (single_of (firmware_resource number))
 
--- the three resources that change are held, as they are after each event
-abbrev pub is_ready : Stored → Bool
-is_ready stored =
-    is_some (held stored package_uri) && (is_some (held stored update_state) && is_some (held stored update_result))
+-- what an event sets is held: the State and the Update Result, and the Package URI where it changes
+abbrev pub is_ready : Stored → FirmwareEvent → Bool
+is_ready stored event =
+    (is_some (held stored update_state) && is_some (held stored update_result))
+    && (is_none (uri_of event) || is_some (held stored package_uri))

@@ -73,7 +73,7 @@ fn put(store: &mut Store, number: u16, value: Value) -> Result<(), AllocError>
 fn set_uri(store: &mut Store, uri: Option<Text>) -> Result<(), AllocError>
     requires { has_instance store.old firmware ≡ true }
     ensures ok { OnOk result (store.new ≡ with_uri store.old uri) }
-    ensures grows { OnErr result (held store.old package_uri ≡ None) }
+    ensures grows { OnErr result ((held store.old package_uri ≡ None) × (is_some uri ≡ true)) }
 {
     match uri {
         Some(text) => put(store, PACKAGE_URI, Value::Text(text)),
@@ -105,7 +105,7 @@ fn change(
 ) -> Result<(), AllocError>
     requires { has_instance store.old firmware ≡ true }
     ensures ok { OnOk result (store.new ≡ with_outcome (with_uri store.old (uri_of event)) outcome) }
-    ensures grows { OnErr result (is_ready store.old ≡ false) }
+    ensures grows { OnErr result (is_ready store.old event ≡ false) }
 {
     set_uri(store, uri_of(alloc, event))?;
     set_outcome(store, outcome)?;
@@ -118,11 +118,24 @@ fn holds(store: &Store, number: u16) -> bool
     store.get(resource(number).single()).is_some()
 }
 
-/// Whether the three resources that change are held.
-fn is_ready(store: &Store) -> bool
-    ensures { result ≡ is_ready store.now }
+/// Whether an event changes the Package URI.
+fn sets_uri(event: &FirmwareEvent) -> bool
+    ensures { result ≡ is_some (uri_of event.now) }
 {
-    holds(store, PACKAGE_URI) && holds(store, UPDATE_STATE) && holds(store, UPDATE_RESULT)
+    match event {
+        FirmwareEvent::Cleared | FirmwareEvent::Uri(_) => true,
+        FirmwareEvent::Package | FirmwareEvent::Update | FirmwareEvent::Ended(_) => false,
+    }
+}
+
+/// Whether what an event sets is held.
+fn is_ready(store: &Store, event: &FirmwareEvent) -> bool
+    ensures { result ≡ is_ready store.now event.now }
+{
+    if !holds(store, UPDATE_STATE) || !holds(store, UPDATE_RESULT) {
+        return false;
+    }
+    !sets_uri(event) || holds(store, PACKAGE_URI)
 }
 
 /// Whether an event is taken, as `take` does.
@@ -138,14 +151,15 @@ pub fn take(alloc: Global, store: &mut Store, event: FirmwareEvent) -> Result<bo
     ensures answer { IfOk result (λ taken. taken ≡ is_some (firmware_after store.old event)) }
     ensures change { OnOk result (store.new ≡ unwrap_or (firmware_after store.old event) store.old) }
 
-    // Memory can only be wanting where the three resources that change aren't all held.
-    ensures memory { OnErr result (is_ready store.old ≡ false) }
+    // It takes memory only for an event that is taken, where what it sets isn't all held.
+    ensures taken { OnErr result (is_some (firmware_after store.old event) ≡ true) }
+    ensures memory { OnErr result (is_ready store.old event ≡ false) }
     ensures unchanged { OnErr result (store.new ≡ store.old) }
 {
     let Some(outcome) = outcome_in(store, &event) else {
         return Ok(false);
     };
-    if is_ready(store) {
+    if is_ready(store, &event) {
         change(alloc, store, event, outcome)?;
         return Ok(true);
     }

@@ -8,13 +8,15 @@ use Rattle.notifier.specs.declared.observation.Observation.{Observation}
 use Rattle.device_requests.specs.Client.{Client}
 use Rattle.device_notifications.specs.Laws.{StayInOrder}
 use Rattle.device_notifications.specs.Laws.StayInOrder.{none, stays, goes, expires}
-use Rattle.device_notifications.specs.Pendings.{pendings_of}
+use Rattle.device_notifications.specs.Outlooks.{outlooks_of}
 use Rattle.device_notifications.specs.Second.{Sweep, and_then, quiet, second, seconds}
-use Rattle.device_notifications.proofs.Resting.{jumps, loud_second, quiet_second, quiet_seconds}
+use Rattle.device_notifications.proofs.Resting.{first_due, first_sending, jumps, loud_second}
+use Rattle.device_notifications.proofs.Resting.{quiet_second, quiet_seconds, rests_by_second}
 use Rattle.device_notifications.proofs.Turns.{keeps_order}
 use Rattle.device_machine.specs.Reactions.{send_of, sweep_in}
 use Rattle.device_machine.specs.State.{Machine}
-use Rattle.device_laws.specs.Ticking.{EndsQuiet, IsQuiet, QuietEndsWhenDue, QuietNeverEnds, TicksAtRestAreQuiet}
+use Rattle.device_laws.specs.Ticking.{DueEndsQuiet, EndsQuiet, IsQuiet, QuietEndsWhenDue, QuietNeverEnds}
+use Rattle.device_laws.specs.Ticking.{SilenceIsQuiet, TicksAtRestAreQuiet}
 use Rattle.device_laws.proofs.Ticks.{by_seconds}
 
 pub at_rest : TicksAtRestAreQuiet
@@ -58,7 +60,7 @@ few_later client clock (suc n) next_id os =
 
 -- a second that sends nothing and leaves as many as there were is one in which nothing is due
 rests_by : (client : Client) (clock next_id : ℕ) (os : List Observation) (b : Bool)
-    → is_one_due os (pendings_of client os) clock ≡ b
+    → is_one_due os (outlooks_of client os) clock ≡ b
     → (second client clock next_id os).sent ≡ [] → length os ≤ length (second client clock next_id os).left
     → b ≡ false
 rests_by client clock next_id os false due sent left = refl
@@ -70,7 +72,7 @@ rests_by client clock next_id os true due sent left = absurd (by (loud_second cl
 
 -- seconds that send nothing and leave as many as there were are a first one of that kind, and others
 pub record RestsOn (client : Client) (clock n next_id : ℕ) (os : List Observation) : Type 0 where
-  pub rests : is_one_due os (pendings_of client os) (clock + 1) ≡ false
+  pub rests : is_one_due os (outlooks_of client os) (clock + 1) ≡ false
   pub sent : (seconds client (clock + 1) n next_id os).sent ≡ []
   pub left : length os ≤ length (seconds client (clock + 1) n next_id os).left
 
@@ -96,21 +98,21 @@ rests_on client clock n next_id os sent left =
 rests_in : (client : Client) (clock n k next_id : ℕ) (os : List Observation) → k < n
     → (seconds client clock n next_id os).sent ≡ []
     → length os ≤ length (seconds client clock n next_id os).left
-    → is_one_due os (pendings_of client os) (clock + (k + 1)) ≡ false
+    → is_one_due os (outlooks_of client os) (clock + (k + 1)) ≡ false
 rests_in client clock zero k next_id os within sent left = absurd (omega (arith, within))
 rests_in client clock (suc n) zero next_id os within sent left =
     let at : clock + 1 ≡ clock + (0 + 1) = omega arith in
-    subst (λ c. is_one_due os (pendings_of client os) c ≡ false) at
+    subst (λ c. is_one_due os (outlooks_of client os) c ≡ false) at
     (rests_on client clock n next_id os sent left).rests
 rests_in client clock (suc n) (suc k) next_id os within sent left =
     let at : clock + 1 + (k + 1) ≡ clock + (suc k + 1) = omega arith in
     let h = rests_on client clock n next_id os sent left in
-    subst (λ c. is_one_due os (pendings_of client os) c ≡ false) at
+    subst (λ c. is_one_due os (outlooks_of client os) c ≡ false) at
     (rests_in client (clock + 1) n k next_id os (omega (arith, within)) h.sent h.left)
 
 -- whether something is due in a second, by the present answers of a device, and what its observations do in it then
 abbrev is_due_in : Machine → ℕ → Bool
-is_due_in f clock = is_one_due f.kept.observations (pendings_of f.kept.client f.kept.observations) clock
+is_due_in f clock = is_one_due f.kept.observations (outlooks_of f.kept.client f.kept.observations) clock
 
 abbrev turns_in : Machine → ℕ → Sweep
 turns_in f clock = second f.kept.client clock f.kept.next_id f.kept.observations
@@ -129,7 +131,7 @@ rests_if_quiet f n clock h after within =
 -- ---- the second in which quiet ends
 
 ends_quiet : (f : Machine) (first : ℕ)
-    → IsFirstDue f.kept.clock f.kept.observations (pendings_of f.kept.client f.kept.observations) first
+    → IsFirstDue f.kept.clock f.kept.observations (outlooks_of f.kept.client f.kept.observations) first
     → EndsQuiet f first
 ends_quiet f first h =
     record {
@@ -168,7 +170,7 @@ not_quiet f n (inr fewer) h =
     omega (arith, fewer, size)
 
 is_first_due : (f : Machine) (first : ℕ) → EndsQuiet f first
-    → IsFirstDue f.kept.clock f.kept.observations (pendings_of f.kept.client f.kept.observations) first
+    → IsFirstDue f.kept.clock f.kept.observations (outlooks_of f.kept.client f.kept.observations) first
 is_first_due f first h =
     record { later = h.later; fits = h.fits; passes = by (is_due_in f first) refl; none_before = before }
   where
@@ -197,4 +199,19 @@ never_ends f = (
   λ h n within. at_rest f n (λ t after before. h t after (omega (arith, before, within))),
   λ h clock after fits. rests_if_quiet f (clock - f.kept.clock) clock
       (h (clock - f.kept.clock) (omega (arith, after, fits))) after (omega (arith, after)),
+)
+
+pub due_ends : DueEndsQuiet
+due_ends f first = (
+  λ h. ends_quiet f first (first_due f.kept.client f.kept.clock f.kept.next_id f.kept.observations first h),
+  λ h. first_sending f.kept.client f.kept.clock f.kept.next_id f.kept.observations first (is_first_due f first h),
+)
+
+pub silence : SilenceIsQuiet
+silence f = (
+  λ h n within. at_rest f n (λ t after before. rests_by_second f.kept.client t f.kept.next_id f.kept.observations
+      (h t after (omega (arith, before, within)))),
+  λ h t after fits. quiet_second f.kept.client t f.kept.next_id f.kept.observations
+      (rests_if_quiet f (t - f.kept.clock) t (h (t - f.kept.clock) (omega (arith, after, fits))) after
+      (omega (arith, after))),
 )

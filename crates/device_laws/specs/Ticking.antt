@@ -6,10 +6,11 @@ use Rattle.notifier.specs.declared.observation.Observation.{Observation}
 use Rattle.notifier.specs.Resending.{turn_at}
 use Rattle.notifier.specs.declared.turn.Turn.TheVariants.{Resend}
 use Rattle.device_notifications.specs.Laws.{Notifies, Repeats}
-use Rattle.device_notifications.specs.Pendings.{AreAtRest, pendings_of}
+use Rattle.device_notifications.specs.Outlooks.{AreAtRest, outlooks_of}
 use Rattle.device_notifications.specs.declared.datagram.Datagram.{Datagram}
 use Rattle.device_machine.specs.declared.event.Event.{Event}
 use Rattle.device_machine.specs.declared.event.Event.TheVariants.{Firmware, Put, Recv, Tick}
+use Rattle.device_machine.specs.Held.{IsNextSending, IsSilent}
 use Rattle.device_machine.specs.Reactions.{flat_after, outputs_of, send_of}
 use Rattle.device_machine.specs.State.{Machine}
 use Rattle.device_laws.specs.Notifying.{IsCausedBy, IsDue, IsSettled}
@@ -93,7 +94,7 @@ SettledRowsAreQuiet =
 abbrev pub TicksAtRestAreQuiet : Type 0
 TicksAtRestAreQuiet =
     (f : Machine) (n : ℕ)
-    → AreAtRest f.kept.observations (pendings_of f.kept.client f.kept.observations) f.kept.clock (f.kept.clock + n)
+    → AreAtRest f.kept.observations (outlooks_of f.kept.client f.kept.observations) f.kept.clock (f.kept.clock + n)
     → IsQuiet f n
 
 -- ticks that end before this second, which is after the clock and below 2^64, are quiet, and in one that ends with it
@@ -109,11 +110,19 @@ pub record EndsQuiet (f : Machine) (first : ℕ) : Type 0 where
 abbrev pub QuietEndsWhenDue : Type 0
 QuietEndsWhenDue =
     (f : Machine) (first : ℕ)
-    → IsFirstDue f.kept.clock f.kept.observations (pendings_of f.kept.client f.kept.observations) first
+    → IsFirstDue f.kept.clock f.kept.observations (outlooks_of f.kept.client f.kept.observations) first
     ↔ EndsQuiet f first
 
 -- and where none is found, all ticks are quiet that end below 2^64
 abbrev pub QuietNeverEnds : Type 0
 QuietNeverEnds =
-    (f : Machine) → IsNeverDue f.kept.clock f.kept.observations (pendings_of f.kept.client f.kept.observations)
+    (f : Machine) → IsNeverDue f.kept.clock f.kept.observations (outlooks_of f.kept.client f.kept.observations)
     ↔ ((n : ℕ) → f.kept.clock + n < 2 ^ 64 → IsQuiet f n)
+
+-- the second in which a device says that it sends or removes something next is the one in which its quiet ends
+abbrev pub DueEndsQuiet : Type 0
+DueEndsQuiet = (f : Machine) (first : ℕ) → IsNextSending f first ↔ EndsQuiet f first
+
+-- and where it says that there is none, its quiet never ends
+abbrev pub SilenceIsQuiet : Type 0
+SilenceIsQuiet = (f : Machine) → IsSilent f ↔ ((n : ℕ) → f.kept.clock + n < 2 ^ 64 → IsQuiet f n)

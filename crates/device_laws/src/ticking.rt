@@ -1,6 +1,7 @@
 //! Why a device notifies in a tick, and when it doesn't.
 
-ghost use Rattle.device_laws.specs.Ticking.{QuietEndsWhenDue, QuietNeverEnds, SettledRowsAreQuiet};
+ghost use Rattle.device_laws.specs.Ticking.{DueEndsQuiet, QuietEndsWhenDue, QuietNeverEnds, SettledRowsAreQuiet};
+ghost use Rattle.device_laws.specs.Ticking.{SilenceIsQuiet};
 ghost use Rattle.device_laws.specs.Ticking.{SettledTicksAreQuiet};
 ghost use Rattle.device_laws.specs.Ticking.{TicksAtRestAreQuiet, TicksNotifyForCause, TicksSendAgain, TicksSendCaused};
 
@@ -32,8 +33,11 @@ pub fn ticks_at_rest_are_quiet()
 {}
 
 /// Ticks are quiet up to the first second in which something is due, by the present answers: in it something is sent,
-/// or an observation is removed. Where nothing ever is, they are quiet up to the last second below 2^64.
+/// or an observation is removed. Where nothing ever is, they are quiet up to the last second below 2^64. So it is with
+/// the second that the device itself says is due.
 pub fn quiet_ends_when_due()
     ensures first { QuietEndsWhenDue }
     ensures none { QuietNeverEnds }
+    ensures said { DueEndsQuiet }
+    ensures silent { SilenceIsQuiet }
 {}

@@ -12,4 +12,5 @@ mod Recalled
 pub mod Refusing
 pub mod Repeating
 mod Sending
+mod Settling
 mod Ticks

@@ -6,3 +6,4 @@ pub mod Observing
 pub mod Reactions
 pub mod Records
 pub mod State
+pub mod Held

@@ -13,8 +13,14 @@ use Rattle.device_requests.specs.Client.{has_account}
 use Rattle.device_machine.specs.declared.event.Event.{Event}
 use Rattle.device_machine.specs.declared.event.Event.TheVariants.{Recv, Put, Firmware, Tick}
 use Rattle.device_machine.specs.declared.recorded.Recorded.{Recorded}
-use Rattle.device_machine.specs.Reactions.{claims_confirmable, is_request, repeat_of}
-use Rattle.device_machine.specs.State.{Machine, Kept, living}
+use Rattle.device_notifications.specs.Progress.{does_act}
+use Rattle.device_machine.specs.Reactions.{claims_confirmable, is_request, repeat_of, sweep_in}
+use Rattle.device_machine.specs.State.{Machine, Kept, living, value_in}
+use Rattle.device_template.specs.Values.{misses}
+use Rattle.lwm2m_values.specs.Value.{holds_bytes, kind_of}
+use Rattle.lwm2m_values.specs.declared.value.Value.{Value}
+use Rattle.object_defs.specs.Path.{full_path}
+use Rattle.object_defs.specs.declared.path.FullPath.{FullPath}
 
 -- what a repeated request gets takes memory where it is a datagram
 abbrev pub again_grows : Kind → Option (List ℕ) → Bool
@@ -58,15 +64,31 @@ datagram_grows bytes = claims_confirmable bytes || (claims_non_confirmable bytes
 abbrev pub is_ignored : List ℕ → Bool
 is_ignored bytes = not (claims_confirmable bytes || (claims_non_confirmable bytes || is_empty_message bytes))
 
--- an event may take memory: such a datagram of a server that has an account, a value, an end of a download or an update
--- where there is none or Package URI, State and Update Result are not all held, and seconds in which observations have
--- turns
+-- there is an observation, so what changes is read anew for it
+abbrev pub is_observed : Kept → Bool
+is_observed kept = nat_lt 0 (length kept.observations)
+
+-- a value may take memory that fits: a Text or an Opaque, one in a place where none is held, and any while something is
+-- observed
+abbrev pub put_grows : Kept → Option FullPath → Value → Bool
+put_grows kept place value =
+    not (misses kept.client.catalogue kept.client.store place value)
+    && ((holds_bytes (kind_of value) || is_none (value_in kept place)) || is_observed kept)
+
+-- an end of a download or an update may take memory that there is: where State and Update Result are not both held, and
+-- while something is observed
+abbrev pub end_grows : Kept → ℕ → Bool
+end_grows kept code =
+    is_some (firmware_after kept.client.store (Ended code))
+    && (not (is_ready kept.client.store (Ended code)) || is_observed kept)
+
+-- an event may take memory: such a datagram of a server that has an account, such a value, such an end of a download or
+-- an update, and seconds in which something is sent for an observation, or one is removed
 abbrev pub event_grows : Kept → Event → Bool
 event_grows kept (Recv server bytes) = has_account kept.client server && datagram_grows bytes
-event_grows kept (Put path value) = true
-event_grows kept (Firmware code) =
-    not (is_ready kept.client.store && is_some (firmware_after kept.client.store (Ended code)))
-event_grows kept (Tick seconds) = nat_lt 0 (length kept.observations)
+event_grows kept (Put path value) = put_grows kept (full_path path) value
+event_grows kept (Firmware code) = end_grows kept code
+event_grows kept (Tick count) = does_act (sweep_in kept count) kept.observations
 
 -- the clock, the next message ID and the recorded requests are as they were
 pub record KeepsRecords (old new : Machine) : Type 0 where

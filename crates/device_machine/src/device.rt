@@ -1,9 +1,10 @@
-ghost use Rattle.std.specs.Prelude.{◌≡◌, ◌↔◌, [], IfOk, OnOk, IsTrue, Ok, Err};
+ghost use Rattle.std.specs.Prelude.{◌≡◌, ◌↔◌, [], IfOk, MatchOption, OnOk, IsTrue, Ok, Err};
 ghost use Rattle.std.specs.Option.{option_copied};
 ghost use Rattle.object_defs.specs.Path.{full_path};
 ghost use Rattle.device_machine.specs.Template.{start_of};
 ghost use Rattle.device_machine.specs.Memory.{KeepsRecords, event_grows};
-ghost use Rattle.device_machine.specs.State.{Machine, Shows, value_in};
+ghost use Rattle.device_machine.specs.Held.{IsNextSending, IsSilent};
+ghost use Rattle.device_machine.specs.State.{Machine as FlatState, Shows, value_in};
 ghost use Rattle.device_machine.specs.Reactions.{outputs_of, flat_after, is_refused, passes_end};
 
 use crate::event::Event;
@@ -30,9 +31,11 @@ pub struct Device {
 }
 
 impl Model for Device {
+    ghost use Rattle.std.specs.Prelude.{◌≡◌, false};
     ghost use Rattle.std.specs.Coded.{codes};
     ghost use Rattle.instance_store.specs.Stored.{stored_code};
     ghost use Rattle.device_requests.specs.Client.{attributes_code};
+    ghost use Rattle.device_machine.specs.Held.{IsUpToDate};
     ghost use Rattle.device_machine.specs.Template.{start_of};
     ghost use Rattle.device_machine.specs.State.{Device, living};
 
@@ -40,7 +43,9 @@ impl Model for Device {
 
     ghost coded = { Prim.hlevel (codes, stored_code, attributes_code) };
 
-    ghost view = { λ d. record { spent = d.spent; flat = living d.machine.value } };
+    ghost view = { λ d. record { spent = d.spent; flat = living d.machine.value.flat } };
+
+    ghost invariant = { λ d. d.spent ≡ false → IsUpToDate d.machine.value };
 }
 
 /// The last second that a device's clock can show.
@@ -82,18 +87,28 @@ impl Device {
     /// The second that the device's clock shows, from 0 at its start; that of a spent device is the
     /// one that it was left with.
     pub fn clock(&self) -> u64
-        ensures shown { (f : Machine) → Shows self.now f → result ≡ f.kept.clock }
+        ensures shown { (f : FlatState) → Shows self.now f → result ≡ f.kept.clock }
         ensures left { result ≡ self.now.flat.kept.clock }
     {
         self.machine.clock()
+    }
+
+    /// The first second after the clock's, below 2^64, in which the device sends or removes something by itself, if no
+    /// other event comes: a notification, the same once more, or an answer that ends an observation; or an observation
+    /// is removed. None where there is none. Up to the second before it a Tick changes the clock alone. What a spent
+    /// device returns says nothing.
+    pub fn due(&self) -> Option<u64>
+        ensures { (f : FlatState) → Shows self.now f → MatchOption result (IsSilent f) (IsNextSending f) }
+    {
+        self.machine.due()
     }
 
     /// Takes an event, and gives what the device outputs, in order.
     ///
     /// `Memory` leaves the device spent; `Spent` says that it was spent, and changes nothing.
     pub fn step(&mut self, event: &Event) -> Result<Outputs, StepFault>
-        ensures outputs { (f : Machine) → Shows self.old f → IfOk result (λ o. o ≡ outputs_of f event.now) }
-        ensures shows { (f : Machine) → Shows self.old f → OnOk result (Shows self.new (flat_after f event.now)) }
+        ensures outputs { (f : FlatState) → Shows self.old f → IfOk result (λ o. o ≡ outputs_of f event.now) }
+        ensures shows { (f : FlatState) → Shows self.old f → OnOk result (Shows self.new (flat_after f event.now)) }
         ensures spent { (result ≡ Err StepFault.Spent) ↔ IsTrue (is_refused self.old event.now) }
         ensures unchanged { result ≡ Err StepFault.Spent → self.new ≡ self.old }
         ensures memory { result ≡ Err StepFault.Memory → IsTrue self.new.spent }
@@ -114,7 +129,7 @@ impl Device {
 
     /// The attributes that servers set; a spent device gives those that it was left with.
     pub fn attributes(&self) -> &Attributes
-        ensures shown { (f : Machine) → Shows self.now f → result.now ≡ f.kept.client.attributes }
+        ensures shown { (f : FlatState) → Shows self.now f → result.now ≡ f.kept.client.attributes }
         ensures left { result.now ≡ self.now.flat.kept.client.attributes }
     {
         self.machine.attributes()
@@ -123,8 +138,8 @@ impl Device {
     /// The observations, in the order of registration; a spent device gives those that it was
     /// left with.
     pub fn observations(&self) -> &Observations
-        ensures shown { (f : Machine) → Shows self.now f → result.now ≡ f.kept.observations }
-        ensures left { result.now ≡ self.now.flat.kept.observations }
+        ensures shown { (f : FlatState) → Shows self.now f → result.now.list ≡ f.kept.observations }
+        ensures left { result.now.list ≡ self.now.flat.kept.observations }
     {
         self.machine.observations()
     }
@@ -132,7 +147,7 @@ impl Device {
     /// The value at a path of three or four numbers; a spent device gives the one that it was
     /// left with.
     pub fn value(&self, path: &Path) -> Option<&Value>
-        ensures shown { (f : Machine) → Shows self.now f → option_copied result ≡ value_in f.kept (full_path path.now) }
+        ensures shown { (f : FlatState) → Shows self.now f → option_copied result ≡ value_in f.kept (full_path path.now) }
         ensures left { option_copied result ≡ value_in self.now.flat.kept (full_path path.now) }
     {
         let path = path.full()?;

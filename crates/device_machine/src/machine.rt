@@ -1,15 +1,18 @@
 //! All that a device keeps, and what it does on an event.
 
-ghost use Rattle.std.specs.Prelude.{◌≡◌, ◌≢◌, ◌+◌, ◌<◌, ◌^◌, [], true, false, Some, IfOk, OnErr, OnOk, IsFalse};
-ghost use Rattle.instance_store.specs.Stored.{has_instance};
+ghost use Rattle.std.specs.Prelude.{◌≡◌, ◌+◌, ◌<◌, ◌^◌, [], true, false, None, Some, IfOk, OnErr, OnOk, IsFalse};
+ghost use Rattle.std.specs.Prelude.{MatchOption};
+ghost use Rattle.instance_store.specs.Stored.{has_instance, value_at};
 ghost use Rattle.device_template.specs.Values.{instance_at, is_one_too_many, with_value_at};
 ghost use Rattle.device_requests.specs.Client.{with_stored};
 ghost use Rattle.object_defs.specs.Path.{full_path};
 ghost use Rattle.device_machine.specs.Template.{start_of};
-ghost use Rattle.device_machine.specs.Memory.{KeepsRecords, event_grows};
+ghost use Rattle.device_machine.specs.Memory.{KeepsRecords, event_grows, put_grows};
 ghost use Rattle.device_machine.specs.declared.event.Event.TheVariants.{Firmware, Tick};
-ghost use Rattle.device_machine.specs.Reactions.{Gives, on_firmware, on_put, passes_end};
+ghost use Rattle.device_machine.specs.Reactions.{Gives, on_firmware, on_put, passes_end, sweep_in};
 ghost use Rattle.device_machine.specs.Records.{remembering};
+ghost use Rattle.device_machine.specs.Held.{IsNextSending, IsUpToDate, IsSilent};
+ghost use Rattle.device_notifications.specs.Progress.{does_act};
 ghost use Rattle.device_firmware.specs.Firmware.{firmware_after};
 ghost use Rattle.device_firmware.specs.declared.event.FirmwareEvent.TheVariants.{Ended};
 
@@ -21,7 +24,7 @@ use crate::event::Event;
 use crate::output::{Output, Outputs};
 use crate::records::Records;
 use coap_codec::Opt;
-use device_notifications::{Outbox, seconds};
+use device_notifications::{Outbox, say_all, seconds};
 use device_requests::{Act, Client};
 use device_template::{Template, misses};
 use instance_store::{Store, StoreFault};
@@ -31,7 +34,8 @@ use object_defs::{FullPath, Path};
 use std::alloc::{AllocError, Global};
 use std::marker::Model;
 
-/// All that a device keeps. Contracts see it as a flat state, in which each recorded request lives.
+/// All that a device keeps. Contracts see a flat state, in which each recorded request lives, and what was last said of
+/// each observation.
 #[derive(Drop)]
 pub(crate) struct Machine {
     client: Client,
@@ -50,16 +54,19 @@ impl Model for Machine {
     ghost use Rattle.std.specs.Coded.{codes};
     ghost use Rattle.instance_store.specs.Stored.{stored_code};
     ghost use Rattle.device_requests.specs.Client.{attributes_code};
-    ghost use Rattle.device_machine.specs.State.{Machine};
+    ghost use Rattle.device_machine.specs.Held.{Held};
     ghost use Rattle.device_machine.specs.Records.{AllLive};
 
-    ghost Value = { Machine };
+    ghost Value = { Held };
 
     ghost coded = { Prim.hlevel (codes, stored_code, attributes_code) };
 
     ghost view = { λ c. record {
-      kept = record { client = c.client; observations = c.observations; clock = c.clock; next_id = c.next_id };
-      recorded = c.recorded;
+      flat = record {
+        kept = record { client = c.client; observations = c.observations.list; clock = c.clock; next_id = c.next_id };
+        recorded = c.recorded;
+      };
+      said = c.observations.said;
     } };
 
     ghost invariant = { λ c. AllLive c.clock c.recorded };
@@ -70,6 +77,7 @@ fn put_fitting(client: &mut Client, path: FullPath, value: Value) -> Result<(), 
     requires there { has_instance client.old.store (instance_at path) ≡ true }
     requires room { is_one_too_many client.old.store path ≡ false }
     ensures put { OnOk result (client.new ≡ with_stored client.old (with_value_at client.old.store (Some path) value)) }
+    ensures grows { OnErr result (value_at client.old.store path ≡ None) }
     ensures unchanged { OnErr result (client.new ≡ client.old) }
 {
     match client.put(path, value) {
@@ -82,7 +90,10 @@ fn put_fitting(client: &mut Client, path: FullPath, value: Value) -> Result<(), 
 impl Machine {
     /// What a device of the template keeps at its start.
     pub(crate) fn start(template: &Template) -> Result<Machine, AllocError>
-        ensures { IfOk result (λ m. m ≡ record { kept = start_of template.now; recorded = [] }) }
+        ensures { IfOk result (λ m. m ≡ record {
+          flat = record { kept = start_of template.now; recorded = [] };
+          said = [];
+        }) }
     {
         let accounts = template.copy_accounts()?;
         let alloc = *accounts.allocator();
@@ -118,21 +129,21 @@ impl Machine {
 
     /// The values and instances.
     pub(crate) fn store(&self) -> &Store
-        ensures { result.now ≡ self.now.kept.client.store }
+        ensures { result.now ≡ self.now.flat.kept.client.store }
     {
         self.client.store()
     }
 
     /// The attributes that servers set.
     pub(crate) fn attributes(&self) -> &Attributes
-        ensures { result.now ≡ self.now.kept.client.attributes }
+        ensures { result.now ≡ self.now.flat.kept.client.attributes }
     {
         self.client.attributes()
     }
 
     /// The observations.
     pub(crate) fn observations(&self) -> &Observations
-        ensures { result.now ≡ self.now.kept.observations }
+        ensures { result.now.list ≡ self.now.flat.kept.observations }
     {
         &self.observations
     }
@@ -144,20 +155,30 @@ impl Machine {
 
     /// The second, from 0 at the start.
     pub(crate) fn clock(&self) -> u64
-        ensures { result ≡ self.now.kept.clock }
+        ensures { result ≡ self.now.flat.kept.clock }
     {
         self.clock
+    }
+
+    /// The first second after the clock's in which the device sends or removes something by itself.
+    pub(crate) fn due(&self) -> Option<u64>
+        ensures { IsUpToDate self.now → MatchOption result (IsSilent self.now.flat) (IsNextSending self.now.flat) }
+    {
+        self.observations.due(self.clock)
     }
 
     /// Lets seconds pass, in each of which the observations have their turns. They end the life of
     /// recorded requests, and those are forgotten.
     fn tick(&mut self, count: u32) -> Result<Outputs, AllocError>
-        requires { self.old.kept.clock + count < 2 ^ 63 }
-        ensures gives { IfOk result (λ o. Gives o self.new (remembering self.old (Tick count))) }
+        requires fits { self.old.flat.kept.clock + count < 2 ^ 63 }
+        requires up_to_date { IsUpToDate self.old }
+        ensures gives { IfOk result (λ o. Gives o self.new.flat (remembering self.old.flat (Tick count))) }
+        ensures up_to_date { OnOk result (IsUpToDate self.new) }
 
-        // Only observations take memory.
-        ensures grows { OnErr result (self.old.kept.observations ≢ []) }
-        ensures left { OnErr result (KeepsRecords self.old self.new) }
+        // It takes memory only where something is sent or an observation is removed.
+        ensures grows { OnErr result
+            (does_act (sweep_in self.old.flat.kept count) self.old.flat.kept.observations ≡ true) }
+        ensures left { OnErr result (KeepsRecords self.old.flat self.new.flat) }
     {
         let mut outbox = Outbox::new(self.alloc, self.next_id);
         let observations = &mut self.observations;
@@ -180,8 +201,11 @@ impl Machine {
     /// Sets a value where it fits.
     #[tactic(auto, using(crate::proofs::Putting::has_its_instance, crate::proofs::Putting::has_room))]
     fn put(&mut self, path: Path, value: &Value) -> Result<Outputs, AllocError>
-        ensures gives { IfOk result (λ o. Gives o self.new (on_put self.old (full_path path) value.now)) }
-        ensures unchanged { OnErr result (self.new ≡ self.old) }
+        requires { IsUpToDate self.old }
+        ensures gives { IfOk result (λ o. Gives o self.new.flat (on_put self.old.flat (full_path path) value.now)) }
+        ensures up_to_date { OnOk result (IsUpToDate self.new) }
+        ensures grows { OnErr result (put_grows self.old.flat.kept (full_path path) value.now ≡ true) }
+        ensures left { OnErr result (KeepsRecords self.old.flat self.new.flat) }
     {
         let Some(full) = path.full() else {
             return Outputs::one(self.alloc, Output::Act(Act::Missed));
@@ -191,17 +215,21 @@ impl Machine {
         }
         let value = value.copy()?;
         put_fitting(&mut self.client, full, value)?;
+        say_all(&self.client, &mut self.observations)?;
         Ok(Outputs::none(self.alloc))
     }
 
     /// Ends a download or an update of the firmware, where there is one.
     fn end_firmware(&mut self, code: u8) -> Result<Outputs, AllocError>
-        ensures gives { IfOk result (λ o. Gives o self.new
-            (on_firmware self.old (firmware_after self.old.kept.client.store (Ended code)))) }
-        ensures grows { OnErr result (event_grows self.old.kept (Firmware code) ≡ true) }
-        ensures unchanged { OnErr result (self.new ≡ self.old) }
+        requires { IsUpToDate self.old }
+        ensures gives { IfOk result (λ o. Gives o self.new.flat
+            (on_firmware self.old.flat (firmware_after self.old.flat.kept.client.store (Ended code)))) }
+        ensures up_to_date { OnOk result (IsUpToDate self.new) }
+        ensures grows { OnErr result (event_grows self.old.flat.kept (Firmware code) ≡ true) }
+        ensures left { OnErr result (KeepsRecords self.old.flat self.new.flat) }
     {
         if self.client.end_firmware(code)? {
+            say_all(&self.client, &mut self.observations)?;
             return Ok(Outputs::none(self.alloc));
         }
         Outputs::one(self.alloc, Output::Act(Act::Missed))
@@ -210,10 +238,12 @@ impl Machine {
     /// Takes an event, and forgets the recorded requests that no longer live. Only a tick can end a
     /// request's life.
     pub(crate) fn react(&mut self, event: &Event) -> Result<Outputs, AllocError>
-        requires { IsFalse (passes_end self.old.kept.clock event.now) }
-        ensures gives { IfOk result (λ o. Gives o self.new (remembering self.old event.now)) }
-        ensures grows { OnErr result (event_grows self.old.kept event.now ≡ true) }
-        ensures left { OnErr result (KeepsRecords self.old self.new) }
+        requires fits { IsFalse (passes_end self.old.flat.kept.clock event.now) }
+        requires up_to_date { IsUpToDate self.old }
+        ensures gives { IfOk result (λ o. Gives o self.new.flat (remembering self.old.flat event.now)) }
+        ensures up_to_date { OnOk result (IsUpToDate self.new) }
+        ensures grows { OnErr result (event_grows self.old.flat.kept event.now ≡ true) }
+        ensures left { OnErr result (KeepsRecords self.old.flat self.new.flat) }
     {
         match event {
             Event::Recv { server, bytes } => self.receive(*server, bytes.as_slice()),

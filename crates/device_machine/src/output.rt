@@ -1,4 +1,4 @@
-ghost use Rattle.std.specs.Prelude.{◌≡◌, ◌≢◌, ◌∷◌, ◌++◌, [], map, IfOk, OnErr, OnOk};
+ghost use Rattle.std.specs.Prelude.{◌≡◌, ◌≢◌, ◌∷◌, ◌++◌, [], map, IfOk, IsOk, OnErr, OnOk};
 ghost use Rattle.device_machine.specs.Reactions.{acted, send_of};
 
 use device_notifications::Datagram;
@@ -57,9 +57,10 @@ impl Outputs {
         }
     }
 
-    /// One output.
+    /// One output, which takes no memory.
     pub(crate) fn one(alloc: Global, output: Output) -> Result<Outputs, AllocError>
-        ensures { IfOk result (λ o. o ≡ output ∷ []) }
+        ensures one { IfOk result (λ o. o ≡ output ∷ []) }
+        ensures succeeds { IsOk result }
     {
         Ok(Outputs {
             alloc,

@@ -1,164 +1,202 @@
 -- Seconds, as far as they have come, where the clock jumps over those in which nothing is due.
-use Rattle.std.proofs.Common.{◌≡◌, ◌≢◌, ℕ, ◌+◌, ◌-◌, ◌<◌, ◌≤◌, ◌∙◌, false, List, [], ◌∷◌, ◌++◌, length, refl}
-use Rattle.std.proofs.Common.{sym, ap, subst, arith, Result, Ok, Err, OnOk, OnErr}
+use Rattle.std.proofs.Common.{◌≡◌, ◌≢◌, ℕ, zero, suc, ◌+◌, ◌-◌, ◌<◌, ◌≤◌, ◌∙◌, true, List, [], ◌∷◌}
+use Rattle.std.proofs.Common.{◌++◌, length, refl, sym, ap, subst, arith}
+use Rattle.std.proofs.Math.Logic.{inl, inr}
+use Rattle.std.proofs.lemmas.Bool.Decides.{nat_tests}
+use Rattle.std.proofs.lemmas.List.{append-nil, append_assoc}
 use Rattle.notifier.specs.Due.{IsFirstDue, is_one_due}
 use Rattle.notifier.specs.declared.observation.Observation.{Observation}
-use Rattle.notifier.specs.declared.pending.Pending.{Pending}
+use Rattle.notifier.specs.declared.pending.Outlook.{Outlook}
 use Rattle.device_requests.specs.Client.{Client}
+use Rattle.device_notifications.specs.declared.datagram.Datagram.{Datagram}
 use Rattle.device_notifications.specs.Outbox.{Outbox}
-use Rattle.device_notifications.specs.Pendings.{AreAtRest, pendings_of}
-use Rattle.device_notifications.specs.Progress.{Elapsed, Leaves, Stops, StopsIn}
-use Rattle.device_notifications.specs.Second.{Sweep, second, seconds}
-use Rattle.device_notifications.proofs.Places.{begun, elapsed, over, started, stopped_in}
-use Rattle.device_notifications.proofs.Resting.{skipped}
+use Rattle.device_notifications.specs.Outlooks.{AreAtRest, outlooks_of}
+use Rattle.device_notifications.specs.Progress.{Acts, Leaves, StopsIn, does_act}
+use Rattle.device_notifications.specs.Second.{Sweep, and_then, second, seconds}
+use Rattle.device_notifications.proofs.Resting.{loud_second, no_more_left, none_left, none_right, quiet_seconds}
+use Rattle.device_notifications.proofs.Spans.{seconds_add}
 
--- quiet seconds pass
-elapsed_quietly : (client : Client) (clock count : ℕ) (all : List Observation) (before : Outbox) (passed later : ℕ)
-    (os : List Observation) (now : Outbox)
-    → passed ≤ later → later ≤ count → AreAtRest os (pendings_of client os) (clock + passed) (clock + later)
-    → Elapsed client clock count all before passed os now → Elapsed client clock count all before later os now
-elapsed_quietly client clock count all before passed later os now after within rest h =
-    let n : count - passed ≡ later - passed + (count - later) = omega (arith, after, within) in
-    let at : clock + passed + (later - passed) ≡ clock + later = omega (arith, after) in
-    let whole : seconds client (clock + passed) (count - passed) now.next_id os
-    ≡ seconds client (clock + later) (count - later) now.next_id os =
-    ap (λ k. seconds client (clock + passed) k now.next_id os) n
-    ∙ skipped client (clock + passed) (later - passed) (count - later) (clock + later) now.next_id os rest at in
+-- these seconds have passed: what they send was sent, and what they leave is there
+abbrev pub HavePassed : Client → ℕ → List Observation → Outbox → ℕ → List Observation → Outbox → Type 0
+HavePassed client clock all before passed os now = Leaves before (seconds client clock passed before.next_id all) os now
+
+pub none_passed : (client : Client) (clock passed : ℕ) (all : List Observation) (before : Outbox) → passed ≡ 0
+    → HavePassed client clock all before passed all before
+none_passed client clock passed all before none =
+    subst (λ n. HavePassed client clock all before n all before) (sym none)
+    (record { sent = sym (append-nil before.sent); left_is = refl; next_id = refl })
+
+-- what was to be sent, these, and what comes after them
+both_sent : (before : List Datagram) (a b : Sweep) → before ++ (and_then a b).sent ≡ (before ++ a.sent) ++ b.sent
+both_sent before a b = sym (append_assoc before a.sent b.sent)
+
+-- with more seconds, which leave this
+pub more_passed : (client : Client) (clock a b : ℕ) (all os left : List Observation) (before now after : Outbox)
+    → HavePassed client clock all before a os now → Leaves now (seconds client (clock + a) b now.next_id os) left after
+    → HavePassed client clock all before (a + b) left after
+more_passed client clock a b all os left before now after h more =
+    let first = seconds client clock a before.next_id all in
+    let rest : seconds client (clock + a) b first.next_id first.left ≡ seconds client (clock + a) b now.next_id os =
+    (λ j. seconds client (clock + a) b (sym h.next_id j) (sym h.left_is j)) in
+    let whole : seconds client clock (a + b) before.next_id all
+    ≡ and_then first (seconds client (clock + a) b now.next_id os) =
+    seconds_add client clock a b before.next_id all ∙ ap (λ r. and_then first r) rest in
     record {
-      sent = ap (λ (r : Sweep). now.sent ++ r.sent) (sym whole) ∙ h.sent;
-      left = ap (λ (r : Sweep). r.left) (sym whole) ∙ h.left;
-      next_id = ap (λ (r : Sweep). r.next_id) (sym whole) ∙ h.next_id;
+      sent = more.sent ∙ ap (λ xs. xs ++ (seconds client (clock + a) b now.next_id os).sent) h.sent
+          ∙ sym (both_sent before.sent first (seconds client (clock + a) b now.next_id os))
+          ∙ ap (λ (r : Sweep). before.sent ++ r.sent) (sym whole);
+      left_is = more.left_is ∙ ap (λ (r : Sweep). r.left) (sym whole);
+      next_id = more.next_id ∙ ap (λ (r : Sweep). r.next_id) (sym whole);
     }
 
--- the seconds before one that is due have passed
-before_due : (client : Client) (clock count : ℕ) (all : List Observation) (before : Outbox) (now due : ℕ)
-    (os : List Observation) (box : Outbox)
-    → clock ≤ now → now < due → due ≤ clock + count
-    → ((t : ℕ) → now < t → t < due → is_one_due os (pendings_of client os) t ≡ false)
-    → Elapsed client clock count all before (now - clock) os box
-    → Elapsed client clock count all before (due - 1 - clock) os box
-before_due client clock count all before now due os box since later within rest h =
-    elapsed_quietly client clock count all before (now - clock) (due - 1 - clock) os box
-    (omega (arith, since, later)) (omega (arith, since, later, within))
-    (λ t after earlier. rest t (omega (arith, after, since)) (omega (arith, earlier, since, later))) h
+-- quiet seconds pass
+quietly : (client : Client) (clock n : ℕ) (os : List Observation) (now : Outbox)
+    → AreAtRest os (outlooks_of client os) clock (clock + n) → Leaves now (seconds client clock n now.next_id os) os now
+quietly client clock n os now rest =
+    let same = quiet_seconds client clock n now.next_id os rest in
+    record {
+      sent = sym (append-nil now.sent) ∙ ap (λ (r : Sweep). now.sent ++ r.sent) (sym same);
+      left_is = ap (λ (r : Sweep). r.left) (sym same);
+      next_id = ap (λ (r : Sweep). r.next_id) (sym same);
+    }
+
+pub passed_quietly : (client : Client) (clock a b : ℕ) (all os : List Observation) (before now : Outbox)
+    → HavePassed client clock all before a os now
+    → AreAtRest os (outlooks_of client os) (clock + a) (clock + a + b)
+    → HavePassed client clock all before (a + b) os now
+passed_quietly client clock a b all os before now h rest =
+    more_passed client clock a b all os os before now now h (quietly client (clock + a) b os now rest)
+
+-- one second is a second
+one_second : (client : Client) (clock next_id : ℕ) (os : List Observation)
+    → seconds client clock 1 next_id os ≡ second client (clock + 1) next_id os
+one_second client clock next_id os =
+    let t = second client (clock + 1) next_id os in
+    λ j. record { sent = append-nil t.sent j; left = t.left; next_id = t.next_id }
+
+pub passed_one : (client : Client) (clock a at : ℕ) (all os left : List Observation) (before now after : Outbox)
+    → HavePassed client clock all before a os now → at ≡ clock + a + 1
+    → Leaves now (second client at now.next_id os) left after
+    → HavePassed client clock all before (a + 1) left after
+passed_one client clock a at all os left before now after h is more =
+    more_passed client clock a 1 all os left before now after h
+    (subst (λ r. Leaves now r left after)
+    (ap (λ c. second client c now.next_id os) is ∙ sym (one_second client (clock + a) now.next_id os)) more)
+
+-- ---- up to the second that is due
 
 numbers : (clock count now due : ℕ) → clock ≤ now → now < due → due ≤ clock + count
-    → (due - 1 - clock < count) × (due ≡ clock + (due - 1 - clock + 1)) × (due - 1 - clock + 1 ≡ due - clock)
+    → (now - clock + (due - 1 - now) ≡ due - 1 - clock) × (due - 1 - clock < count)
+    × (due ≡ clock + (due - 1 - clock) + 1) × (due - 1 - clock + 1 ≡ due - clock)
 numbers clock count now due since later within = (
+  omega (arith, since, later),
   omega (arith, since, later, within),
   omega (arith, since, later),
   omega (arith, since, later),
 )
 
-before_first : (client : Client) (clock count : ℕ) (all : List Observation) (before : Outbox) (now due : ℕ)
-    (os : List Observation) (ps : List Pending) (box : Outbox)
-    → clock ≤ now → ps ≡ pendings_of client os → IsFirstDue now os ps due → due ≤ clock + count
-    → Elapsed client clock count all before (now - clock) os box
-    → Elapsed client clock count all before (due - 1 - clock) os box
-before_first client clock count all before now due os ps box since known first within h =
-    before_due client clock count all before now due os box since first.later within
-    (λ t after earlier. ap (λ xs. is_one_due os xs t) (sym known) ∙ first.none_before t after earlier) h
+-- the seconds before it have passed
+pub before_due : (client : Client) (clock count now due : ℕ) (all os : List Observation) (ss : List Outlook)
+    (before box : Outbox)
+    → clock ≤ now → due ≤ clock + count → ss ≡ outlooks_of client os → IsFirstDue now os ss due
+    → HavePassed client clock all before (now - clock) os box
+    → HavePassed client clock all before (due - 1 - clock) os box
+before_due client clock count now due all os ss before box since within known first h =
+    let later = first.later in
+    let n = numbers clock count now due since later within in
+    subst (λ k. HavePassed client clock all before k os box) n.0
+    (passed_quietly client clock (now - clock) (due - 1 - now) all os before box h
+    (λ t after earlier. ap (λ xs. is_one_due os xs t) (sym known)
+    ∙ first.none_before t (omega (arith, after, since)) (omega (arith, earlier, since, later))))
 
 -- and then that one
-pub jumped : (client : Client) (clock count : ℕ) (all : List Observation) (before : Outbox) (now due : ℕ)
-    (os : List Observation) (ps : List Pending) (left : List Observation) (box after : Outbox)
-    → clock ≤ now → ps ≡ pendings_of client os → IsFirstDue now os ps due → due ≤ clock + count
+pub jumped : (client : Client) (clock count now due : ℕ) (all os : List Observation) (ss : List Outlook)
+    (left : List Observation) (before box after : Outbox)
+    → clock ≤ now → due ≤ clock + count → ss ≡ outlooks_of client os → IsFirstDue now os ss due
     → Leaves box (second client due box.next_id os) left after
-    → Elapsed client clock count all before (now - clock) os box
-    → Elapsed client clock count all before (due - clock) left after
-jumped client clock count all before now due os ps left box after since known first within leaves h =
+    → HavePassed client clock all before (now - clock) os box
+    → HavePassed client clock all before (due - clock) left after
+jumped client clock count now due all os ss left before box after since within known first leaves h =
     let n = numbers clock count now due since first.later within in
-    subst (λ k. Elapsed client clock count all before k left after) n.2
-    (elapsed client clock count all before (due - 1 - clock) os left box after due n.0 n.1 leaves
-    (before_first client clock count all before now due os ps box since known first within h))
+    subst (λ k. HavePassed client clock all before k left after) n.3
+    (passed_one client clock (due - 1 - clock) due all os left before box after
+    (before_due client clock count now due all os ss before box since within known first h) n.2 leaves)
 
--- or it stops
-pub stopped_at : (client : Client) (clock count : ℕ) (all : List Observation) (before : Outbox) (now due : ℕ)
-    (os : List Observation) (ps : List Pending) (left : List Observation) (box after : Outbox)
-    → clock ≤ now → ps ≡ pendings_of client os → IsFirstDue now os ps due → due ≤ clock + count
-    → Stops client due os box left after → Elapsed client clock count all before (now - clock) os box
-    → StopsIn client clock count all before left after
-stopped_at client clock count all before now due os ps left box after since known first within stops h =
+-- or it stops: it sends or removes something
+pub stopped_at : (client : Client) (clock count now due : ℕ) (all os : List Observation) (ss : List Outlook)
+    (before box : Outbox)
+    → clock ≤ now → due ≤ clock + count → ss ≡ outlooks_of client os → IsFirstDue now os ss due
+    → HavePassed client clock all before (now - clock) os box
+    → StopsIn client clock count before.next_id all os
+stopped_at client clock count now due all os ss before box since within known first h =
     let n = numbers clock count now due since first.later within in
-    stopped_in client clock count all before (due - 1 - clock) os left box after due n.0 n.1 stops
-    (before_first client clock count all before now due os ps box since known first within h)
-
--- with no second left that is due, all have passed
-pub finished : (client : Client) (clock count : ℕ) (all : List Observation) (before : Outbox) (now end : ℕ)
-    (os : List Observation) (ps : List Pending) (box : Outbox)
-    → clock ≤ now → now ≤ clock + count → end ≡ clock + count → ps ≡ pendings_of client os → AreAtRest os ps now end
-    → Elapsed client clock count all before (now - clock) os box
-    → Leaves before (seconds client clock count before.next_id all) os box
-finished client clock count all before now end os ps box since within at known rest h =
-    over client clock count all before count os box (omega arith)
-    (elapsed_quietly client clock count all before (now - clock) count os box
-    (omega (arith, since, within)) (omega arith)
-    (λ t after earlier. ap (λ xs. is_one_due os xs t) (sym known)
-    ∙ rest t (omega (arith, after, since)) (omega (arith, earlier, at))) h)
-
--- at the start none has passed
-pub begins : (client : Client) (clock count now : ℕ) (all : List Observation) (before : Outbox) → now ≡ clock
-    → Elapsed client clock count all before (now - clock) all before
-begins client clock count now all before same =
-    let none : 0 ≡ now - clock = omega (arith, same) in
-    subst (λ k. Elapsed client clock count all before k all before) none (started client clock count all before)
-
-some_first : (os : List Observation) → os ≢ [] → 0 < length os
-some_first [] some = absurd (some refl)
-some_first (o ∷ os) some = omega arith
-
--- where the present answers are not known, the first second stops before the first turn
-pub stopped_first : (client : Client) (clock count : ℕ) (os : List Observation) (box : Outbox) → 0 < count → os ≢ []
-    → StopsIn client clock count os box os box
-stopped_first client clock count os box within some =
+    let at : due ≡ clock + (due - 1 - clock + 1) = omega (arith, n.2) in
+    let there = before_due client clock count now due all os ss before box since within known first h in
     record {
-      passed = 0;
-      within = within;
-      reached = os;
-      posted = box;
-      elapsed = started client clock count os box;
-      stops =
-          record {
-            place = 0;
-            inside = some_first os some;
-            progress = begun client (clock + (0 + 1)) os box;
-          };
+      passed = due - 1 - clock;
+      within = n.1;
+      left_is = there.left_is;
+      acts = subst (λ c. Acts (second client c
+          (seconds client clock (due - 1 - clock) before.next_id all).next_id os) os) at
+          (loud_second client due (seconds client clock (due - 1 - clock) before.next_id all).next_id os
+          (ap (λ xs. is_one_due os xs due) (sym known) ∙ first.passes));
     }
 
--- ---- no second, and one
+-- with no second left that is due, all have passed
+pub finished : (client : Client) (clock count now end : ℕ) (all os : List Observation) (ss : List Outlook)
+    (before box : Outbox)
+    → clock ≤ now → now ≤ clock + count → end ≡ clock + count → ss ≡ outlooks_of client os → AreAtRest os ss now end
+    → HavePassed client clock all before (now - clock) os box
+    → Leaves before (seconds client clock count before.next_id all) os box
+finished client clock count now end all os ss before box since within at known rest h =
+    let all_of : now - clock + (clock + count - now) ≡ count = omega (arith, since, within) in
+    subst (λ k. HavePassed client clock all before k os box) all_of
+    (passed_quietly client clock (now - clock) (clock + count - now) all os before box h
+    (λ t after earlier. ap (λ xs. is_one_due os xs t) (sym known)
+    ∙ rest t (omega (arith, after, since)) (omega (arith, earlier, at, since, within))))
 
-pub none_passed : (client : Client) (clock count : ℕ) (all : List Observation) (before : Outbox) → count ≤ 0
-    → Leaves before (seconds client clock count before.next_id all) all before
-none_passed client clock count all before none =
-    over client clock count all before 0 all before none (started client clock count all before)
+-- ---- where one of the seconds acts, all of them do
 
-pub one_passed : (client : Client) (clock count : ℕ) (all left : List Observation) (before after : Outbox) → count ≡ 1
-    → Leaves before (second client (clock + 1) before.next_id all) left after
-    → Leaves before (seconds client clock count before.next_id all) left after
-one_passed client clock count all left before after one leaves =
-    over client clock count all before (0 + 1) left after (omega (arith, one))
-    (elapsed client clock count all before 0 all left before after (clock + 1) (omega (arith, one)) (omega arith) leaves
-    (started client clock count all before))
+no_more_then : (client : Client) (clock n next_id : ℕ) (os : List Observation)
+    → length (seconds client clock n next_id os).left ≤ length os
+no_more_then client clock zero next_id os = omega arith
+no_more_then client clock (suc n) next_id os =
+    let t = second client (clock + 1) next_id os in
+    let one = no_more_left client (clock + 1) next_id os in
+    let rest = no_more_then client (clock + 1) n t.next_id t.left in
+    omega (arith, one, rest)
 
-pub one_stopped : (client : Client) (clock count : ℕ) (all left : List Observation) (before after : Outbox) → count ≡ 1
-    → Stops client (clock + 1) all before left after → StopsIn client clock count all before left after
-one_stopped client clock count all left before after one stops =
-    stopped_in client clock count all before 0 all left before after (clock + 1) (omega (arith, one)) (omega arith)
-    stops (started client clock count all before)
+some_sent : (xs : List Datagram) → xs ≢ [] → 0 < length xs
+some_sent [] some = absurd (some refl)
+some_sent (x ∷ xs) some = omega arith
 
--- said of the result of the one second
-pub one_done : {X E : Type 0} (r : Result X E) (client : Client) (clock count : ℕ) (all left : List Observation)
-    (before after : Outbox)
-    → count ≡ 1 → OnOk r (Leaves before (second client (clock + 1) before.next_id all) left after)
-    → OnOk r (Leaves before (seconds client clock count before.next_id all) left after)
-one_done (Ok x) client clock count all left before after one leaves =
-    one_passed client clock count all left before after one leaves
-one_done (Err e) client clock count all left before after one leaves = tt
+pub acts_is : (t : Sweep) (os : List Observation) → Acts t os → does_act t os ≡ true
+acts_is t os (inl some) = let one = some_sent t.sent some in grind (arith, nat_tests, one)
+acts_is t os (inr fewer) = grind (arith, nat_tests, fewer)
 
-pub one_not_done : {X E : Type 0} (r : Result X E) (client : Client) (clock count : ℕ) (all left : List Observation)
-    (before after : Outbox)
-    → count ≡ 1 → OnErr r (Stops client (clock + 1) all before left after)
-    → OnErr r (StopsIn client clock count all before left after)
-one_not_done (Ok x) client clock count all left before after one stops = tt
-one_not_done (Err e) client clock count all left before after one stops =
-    one_stopped client clock count all left before after one stops
+acts_within : (a b c : Sweep) (all os : List Observation) → length os ≤ length all → length c.left ≤ length b.left
+    → Acts b os → Acts (and_then a (and_then b c)) all
+acts_within a b c all os less kept (inl some) =
+    inl (λ none. some (none_left b.sent c.sent (none_right a.sent (b.sent ++ c.sent) none)))
+acts_within a b c all os less kept (inr fewer) = inr (omega (arith, less, kept, fewer))
+
+pub acts_in_all : (client : Client) (clock count next_id : ℕ) (all left : List Observation)
+    → StopsIn client clock count next_id all left
+    → does_act (seconds client clock count next_id all) all ≡ true
+acts_in_all client clock count next_id all left h =
+    let k = h.passed in
+    let within = h.within in
+    let first = seconds client clock k next_id all in
+    let t = second client (clock + k + 1) first.next_id first.left in
+    let rest = seconds client (clock + k + 1) (count - k - 1) t.next_id t.left in
+    let n : count ≡ k + suc (count - k - 1) = omega (arith, within) in
+    let at : clock + (k + 1) ≡ clock + k + 1 = omega arith in
+    let whole : seconds client clock count next_id all ≡ and_then first (and_then t rest) =
+    ap (λ m. seconds client clock m next_id all) n ∙ seconds_add client clock k (suc (count - k - 1)) next_id all in
+    let here : Acts t first.left =
+    subst (λ os. Acts (second client (clock + k + 1) first.next_id os) os) h.left_is
+    (subst (λ c. Acts (second client c first.next_id left) left) at h.acts) in
+    ap (λ s. does_act s all) whole
+    ∙ acts_is (and_then first (and_then t rest)) all
+    (acts_within first t rest all first.left (no_more_then client clock k next_id all)
+    (no_more_then client (clock + k + 1) (count - k - 1) t.next_id t.left) here)

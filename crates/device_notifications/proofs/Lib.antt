@@ -1,12 +1,12 @@
-mod Jumps
+mod Deeding
+pub mod Jumps
 mod LaterOnes
 mod MessageIds
 mod Nons
 pub mod Numbers
 mod Options
-mod Passing
 mod Places
-mod Renewals
+mod Planning
 mod Resendings
 pub mod Resting
 pub mod Spans

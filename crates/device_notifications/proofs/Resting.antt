@@ -9,17 +9,18 @@ use Rattle.notifier.specs.Due.{IsFirstDue, acts_at, acts_in, is_due_at, is_one_d
 use Rattle.notifier.specs.Resending.{turn_at}
 use Rattle.notifier.specs.Trigger.{is_due}
 use Rattle.notifier.specs.declared.observation.Observation.{Observation}
-use Rattle.notifier.specs.declared.pending.Pending.TheVariants.{Content}
+use Rattle.notifier.specs.declared.pending.Outlook.{Outlook}
+use Rattle.notifier.specs.declared.pending.Pending.TheVariants.{Idle, Changed}
 use Rattle.notifier.specs.declared.pending.Pending.TheVariants as pending
 use Rattle.notifier.specs.declared.turn.Turn.{Turn}
 use Rattle.notifier.specs.declared.turn.Turn.TheVariants.{Evaluate, Wait, Resend, Expire}
-use Rattle.device_requests.specs.Answer.{is_content}
+use Rattle.device_requests.specs.Answer.{code_byte, is_content}
 use Rattle.device_requests.specs.Client.{Client}
 use Rattle.device_requests.specs.declared.answer.Answer.{Answer}
 use Rattle.device_notifications.specs.declared.evaluation.Evaluation.{Evaluation}
 use Rattle.device_notifications.specs.declared.evaluation.Evaluation.TheVariants.{Quiet, Sends, Gone}
 use Rattle.device_notifications.specs.Laws.{IsFirstSending}
-use Rattle.device_notifications.specs.Pendings.{AreAtRest, pending_of, pendings_of}
+use Rattle.device_notifications.specs.Outlooks.{AreAtRest, outlook_of, outlooks_of}
 use Rattle.device_notifications.specs.Period.{pmin_of, pmax_of}
 use Rattle.device_notifications.specs.Second.{Sweep, and_then, beside, evaluation_of, present, quiet, second, seconds}
 use Rattle.device_notifications.specs.Second.{triggers_now, turn_as, turn_by, turn_of}
@@ -28,53 +29,63 @@ use Rattle.device_notifications.proofs.Turns.{by_all, resends_one}
 
 -- ---- one observation
 
-rests : (c t : Bool) (last clock pmin : ℕ) (pmax : Option ℕ) (a : Answer)
-    → is_due_at last (if c then Content t pmin pmax else pending.Gone) clock ≡ false
-    → (if c then (if is_due (clock - last) pmin pmax t then Sends a else Quiet) else Gone a) ≡ Quiet
-rests true t last clock pmin pmax a h = ap (λ d. if d then Sends a else Quiet) h
-rests false t last clock pmin pmax a h = cc
+-- what is said of content that triggers or not, and of another answer
+abbrev said_of : Bool → Bool → ℕ → Option ℕ → ℕ → Outlook
+said_of c t pmin pmax code =
+    if c then record { pending = if t then Changed else Idle; pmin = pmin; pmax = pmax }
+    else record { pending = pending.Gone code; pmin = pmin; pmax = pmax }
 
-acts : (c t : Bool) (last clock pmin : ℕ) (pmax : Option ℕ) (a : Answer) (P : Evaluation → Type 0)
-    → is_due_at last (if c then Content t pmin pmax else pending.Gone) clock ≡ true
+rests : (c t : Bool) (last clock pmin : ℕ) (pmax : Option ℕ) (code : ℕ) (a : Answer)
+    → is_due_at last (said_of c t pmin pmax code) clock ≡ false
+    → (if c then (if is_due (clock - last) pmin pmax t then Sends a else Quiet) else Gone a) ≡ Quiet
+rests true true last clock pmin pmax code a h = ap (λ d. if d then Sends a else Quiet) h
+rests true false last clock pmin pmax code a h = ap (λ d. if d then Sends a else Quiet) h
+rests false t last clock pmin pmax code a h = cc
+
+acts : (c t : Bool) (last clock pmin : ℕ) (pmax : Option ℕ) (code : ℕ) (a : Answer) (P : Evaluation → Type 0)
+    → is_due_at last (said_of c t pmin pmax code) clock ≡ true
     → (c ≡ true → P (Sends a)) → (c ≡ false → P (Gone a))
     → P (if c then (if is_due (clock - last) pmin pmax t then Sends a else Quiet) else Gone a)
-acts true t last clock pmin pmax a P h s g = subst P (ap (λ d. if d then Sends a else Quiet) (sym h)) (s refl)
-acts false t last clock pmin pmax a P h s g = g refl
+acts true true last clock pmin pmax code a P h s g = subst P (ap (λ d. if d then Sends a else Quiet) (sym h)) (s refl)
+acts true false last clock pmin pmax code a P h s g = subst P (ap (λ d. if d then Sends a else Quiet) (sym h)) (s refl)
+acts false t last clock pmin pmax code a P h s g = g refl
 
 -- one that is not due does nothing
-pub is_quiet : (client : Client) (clock : ℕ) (o : Observation) → is_due_at o.second (pending_of client o) clock ≡ false
+pub is_quiet : (client : Client) (clock : ℕ) (o : Observation) → is_due_at o.second (outlook_of client o) clock ≡ false
     → evaluation_of client clock o ≡ Quiet
 is_quiet client clock o h =
     rests (is_content (present client o)) (triggers_now client o (present client o).payload) o.second clock
-    (pmin_of client o.server o.path) (pmax_of client o.server o.path) (present client o) h
+    (pmin_of client o.server o.path) (pmax_of client o.server o.path) (code_byte (present client o).code)
+    (present client o) h
 
 -- one that is due sends its present answer
 pub by_due : (client : Client) (clock : ℕ) (o : Observation) (P : Evaluation → Type 0)
-    → is_due_at o.second (pending_of client o) clock ≡ true
+    → is_due_at o.second (outlook_of client o) clock ≡ true
     → (is_content (present client o) ≡ true → P (Sends (present client o)))
     → (is_content (present client o) ≡ false → P (Gone (present client o)))
     → P (evaluation_of client clock o)
 by_due client clock o P h s g =
     acts (is_content (present client o)) (triggers_now client o (present client o).payload) o.second clock
-    (pmin_of client o.server o.path) (pmax_of client o.server o.path) (present client o) P h s g
+    (pmin_of client o.server o.path) (pmax_of client o.server o.path) (code_byte (present client o).code)
+    (present client o) P h s g
 
 quiet_as : (client : Client) (clock next_id : ℕ) (o : Observation) (t : Turn)
-    → acts_in t o.second (pending_of client o) clock ≡ false → turn_as client clock next_id o t ≡ quiet next_id (o ∷ [])
+    → acts_in t o.second (outlook_of client o) clock ≡ false → turn_as client clock next_id o t ≡ quiet next_id (o ∷ [])
 quiet_as client clock next_id o Evaluate h = ap (λ v. turn_by client clock next_id o v) (is_quiet client clock o h)
 quiet_as client clock next_id o Wait h = refl
 quiet_as client clock next_id o Resend h = let e : true ≡ false = h in cc
 quiet_as client clock next_id o Expire h = let e : true ≡ false = h in cc
 
 pub quiet_turn : (client : Client) (clock next_id : ℕ) (o : Observation)
-    → acts_at o (pending_of client o) clock ≡ false → turn_of client clock next_id o ≡ quiet next_id (o ∷ [])
+    → acts_at o (outlook_of client o) clock ≡ false → turn_of client clock next_id o ≡ quiet next_id (o ∷ [])
 quiet_turn client clock next_id o h = quiet_as client clock next_id o (turn_at o clock) h
 
 -- something is sent, or one is removed
-abbrev Acts : Sweep → ℕ → Type 0
-Acts t n = (t.sent ≢ []) ⊎ (length t.left < n)
+abbrev pub ActsOn : Sweep → ℕ → Type 0
+ActsOn t n = (t.sent ≢ []) ⊎ (length t.left < n)
 
 loud_as : (client : Client) (clock next_id : ℕ) (o : Observation) (t : Turn) → turn_at o clock ≡ t
-    → acts_in t o.second (pending_of client o) clock ≡ true → Acts (turn_as client clock next_id o t) 1
+    → acts_in t o.second (outlook_of client o) clock ≡ true → ActsOn (turn_as client clock next_id o t) 1
 loud_as client clock next_id o Evaluate is h =
     inl (by_due client clock o (λ v. (turn_by client clock next_id o v).sent ≢ []) h (λ content e. cc)
     (λ no_content e. cc))
@@ -85,7 +96,7 @@ loud_as client clock next_id o Resend is h =
 loud_as client clock next_id o Expire is h = inr (omega arith)
 
 loud_turn : (client : Client) (clock next_id : ℕ) (o : Observation)
-    → acts_at o (pending_of client o) clock ≡ true → Acts (turn_of client clock next_id o) 1
+    → acts_at o (outlook_of client o) clock ≡ true → ActsOn (turn_of client clock next_id o) 1
 loud_turn client clock next_id o h = loud_as client clock next_id o (turn_at o clock) refl h
 
 -- ---- a second
@@ -94,20 +105,20 @@ neither : (a b : Bool) → (a || b) ≡ false → (a ≡ false) × (b ≡ false)
 neither true b h = absurd (let e : true ≡ false = h in cc)
 neither false b h = (refl, h)
 
-none_left : {X : Type 0} (xs ys : List X) → xs ++ ys ≡ [] → xs ≡ []
+pub none_left : {X : Type 0} (xs ys : List X) → xs ++ ys ≡ [] → xs ≡ []
 none_left [] ys h = refl
 none_left (x ∷ xs) ys h = cc
 
-none_right : {X : Type 0} (xs ys : List X) → xs ++ ys ≡ [] → ys ≡ []
+pub none_right : {X : Type 0} (xs ys : List X) → xs ++ ys ≡ [] → ys ≡ []
 none_right [] ys h = h
 none_right (x ∷ xs) ys h = cc
 
 -- where nothing is due, a second changes nothing
 pub quiet_second : (client : Client) (clock next_id : ℕ) (os : List Observation)
-    → is_one_due os (pendings_of client os) clock ≡ false → second client clock next_id os ≡ quiet next_id os
+    → is_one_due os (outlooks_of client os) clock ≡ false → second client clock next_id os ≡ quiet next_id os
 quiet_second client clock next_id [] h = refl
 quiet_second client clock next_id (o ∷ os) h =
-    let parts = neither (acts_at o (pending_of client o) clock) (is_one_due os (pendings_of client os) clock) h in
+    let parts = neither (acts_at o (outlook_of client o) clock) (is_one_due os (outlooks_of client os) clock) h in
     ap (λ (t : Sweep). beside t (second client clock t.next_id os)) (quiet_turn client clock next_id o parts.0)
     ∙ ap (λ r. beside (quiet next_id (o ∷ [])) r) (quiet_second client clock next_id os parts.1)
 
@@ -118,7 +129,7 @@ few_left client clock next_id o =
     (λ is content rests. omega arith) (λ is no_content. omega arith) (λ is. omega arith) (λ is. omega arith)
     (λ is. omega arith)
 
-no_more_left : (client : Client) (clock next_id : ℕ) (os : List Observation)
+pub no_more_left : (client : Client) (clock next_id : ℕ) (os : List Observation)
     → length (second client clock next_id os).left ≤ length os
 no_more_left client clock next_id [] = omega arith
 no_more_left client clock next_id (o ∷ os) =
@@ -129,23 +140,23 @@ no_more_left client clock next_id (o ∷ os) =
     let sizes = length-append t.left rest.left in
     omega (arith, few, more, sizes)
 
-acts_first : (t rest : Sweep) (n : ℕ) → length rest.left ≤ n → Acts t 1 → Acts (beside t rest) (suc n)
+acts_first : (t rest : Sweep) (n : ℕ) → length rest.left ≤ n → ActsOn t 1 → ActsOn (beside t rest) (suc n)
 acts_first t rest n more (inl some) = inl (λ none. some (none_left t.sent rest.sent none))
 acts_first t rest n more (inr fewer) =
     let sizes = length-append t.left rest.left in
     inr (omega (arith, more, fewer, sizes))
 
-acts_later : (t rest : Sweep) (n : ℕ) → length t.left ≤ 1 → Acts rest n → Acts (beside t rest) (suc n)
+acts_later : (t rest : Sweep) (n : ℕ) → length t.left ≤ 1 → ActsOn rest n → ActsOn (beside t rest) (suc n)
 acts_later t rest n few (inl some) = inl (λ none. some (none_right t.sent rest.sent none))
 acts_later t rest n few (inr fewer) =
     let sizes = length-append t.left rest.left in
     inr (omega (arith, few, fewer, sizes))
 
 loud_by : (client : Client) (clock next_id : ℕ) (o : Observation) (os : List Observation) (b : Bool)
-    → acts_at o (pending_of client o) clock ≡ b
-    → ((id : ℕ) → is_one_due os (pendings_of client os) clock ≡ true → Acts (second client clock id os) (length os))
-    → (b || is_one_due os (pendings_of client os) clock) ≡ true
-    → Acts (second client clock next_id (o ∷ os)) (suc (length os))
+    → acts_at o (outlook_of client o) clock ≡ b
+    → ((id : ℕ) → is_one_due os (outlooks_of client os) clock ≡ true → ActsOn (second client clock id os) (length os))
+    → (b || is_one_due os (outlooks_of client os) clock) ≡ true
+    → ActsOn (second client clock next_id (o ∷ os)) (suc (length os))
 loud_by client clock next_id o os true due later h =
     let t = turn_of client clock next_id o in
     acts_first t (second client clock t.next_id os) (length os) (no_more_left client clock t.next_id os)
@@ -156,43 +167,43 @@ loud_by client clock next_id o os false due later h =
 
 -- where something is due, it sends or is removed
 pub loud_second : (client : Client) (clock next_id : ℕ) (os : List Observation)
-    → is_one_due os (pendings_of client os) clock ≡ true → Acts (second client clock next_id os) (length os)
+    → is_one_due os (outlooks_of client os) clock ≡ true → ActsOn (second client clock next_id os) (length os)
 loud_second client clock next_id [] h = let e : false ≡ true = h in absurd (cc)
 loud_second client clock next_id (o ∷ os) h =
-    loud_by client clock next_id o os (acts_at o (pending_of client o) clock) refl
+    loud_by client clock next_id o os (acts_at o (outlook_of client o) clock) refl
     (λ id due. loud_second client clock id os due) h
 
-still : (t : Sweep) (next_id : ℕ) (os : List Observation) → t ≡ quiet next_id os → Acts t (length os) → ⊥
+still : (t : Sweep) (next_id : ℕ) (os : List Observation) → t ≡ quiet next_id os → ActsOn t (length os) → ⊥
 still t next_id os same (inl some) = some (ap (λ (x : Sweep). x.sent) same)
 still t next_id os same (inr fewer) = let size = ap (λ (x : Sweep). length x.left) same in omega (arith, size, fewer)
 
 -- and so what a second does says whether something is due
 due_or_not : (client : Client) (clock next_id : ℕ) (os : List Observation) (b : Bool)
-    → is_one_due os (pendings_of client os) clock ≡ b → second client clock next_id os ≡ quiet next_id os → b ≡ false
+    → is_one_due os (outlooks_of client os) clock ≡ b → second client clock next_id os ≡ quiet next_id os → b ≡ false
 due_or_not client clock next_id os true due same =
     absurd (still (second client clock next_id os) next_id os same (loud_second client clock next_id os due))
 due_or_not client clock next_id os false due same = refl
 
 pub rests_by_second : (client : Client) (clock next_id : ℕ) (os : List Observation)
-    → second client clock next_id os ≡ quiet next_id os → is_one_due os (pendings_of client os) clock ≡ false
+    → second client clock next_id os ≡ quiet next_id os → is_one_due os (outlooks_of client os) clock ≡ false
 rests_by_second client clock next_id os same =
-    due_or_not client clock next_id os (is_one_due os (pendings_of client os) clock) refl same
+    due_or_not client clock next_id os (is_one_due os (outlooks_of client os) clock) refl same
 
 acts_or_not : (client : Client) (clock next_id : ℕ) (os : List Observation) (b : Bool)
-    → is_one_due os (pendings_of client os) clock ≡ b → Acts (second client clock next_id os) (length os) → b ≡ true
+    → is_one_due os (outlooks_of client os) clock ≡ b → ActsOn (second client clock next_id os) (length os) → b ≡ true
 acts_or_not client clock next_id os true due some = refl
 acts_or_not client clock next_id os false due some =
     absurd (still (second client clock next_id os) next_id os (quiet_second client clock next_id os due) some)
 
 pub due_by_second : (client : Client) (clock next_id : ℕ) (os : List Observation)
-    → Acts (second client clock next_id os) (length os) → is_one_due os (pendings_of client os) clock ≡ true
+    → ActsOn (second client clock next_id os) (length os) → is_one_due os (outlooks_of client os) clock ≡ true
 due_by_second client clock next_id os some =
-    acts_or_not client clock next_id os (is_one_due os (pendings_of client os) clock) refl some
+    acts_or_not client clock next_id os (is_one_due os (outlooks_of client os) clock) refl some
 
 -- ---- seconds
 
 pub quiet_seconds : (client : Client) (clock n next_id : ℕ) (os : List Observation)
-    → AreAtRest os (pendings_of client os) clock (clock + n) → seconds client clock n next_id os ≡ quiet next_id os
+    → AreAtRest os (outlooks_of client os) clock (clock + n) → seconds client clock n next_id os ≡ quiet next_id os
 quiet_seconds client clock zero next_id os rest = refl
 quiet_seconds client clock (suc n) next_id os rest =
     let here = quiet_second client (clock + 1) next_id os (rest (clock + 1) (omega arith) (omega arith)) in
@@ -203,7 +214,7 @@ quiet_seconds client clock (suc n) next_id os rest =
 
 -- quiet seconds before others do not count
 pub skipped : (client : Client) (clock n m end next_id : ℕ) (os : List Observation)
-    → AreAtRest os (pendings_of client os) clock end → clock + n ≡ end
+    → AreAtRest os (outlooks_of client os) clock end → clock + n ≡ end
     → seconds client clock (n + m) next_id os ≡ seconds client end m next_id os
 skipped client clock n m end next_id os rest at =
     let quietly = quiet_seconds client clock n next_id os
@@ -213,7 +224,7 @@ skipped client clock n m end next_id os rest at =
     ∙ ap (λ c. seconds client c m next_id os) at
 
 pub jumps : (client : Client) (clock n next_id first : ℕ) (os : List Observation)
-    → IsFirstDue clock os (pendings_of client os) first → first ≤ clock + n
+    → IsFirstDue clock os (outlooks_of client os) first → first ≤ clock + n
     → seconds client clock n next_id os
     ≡ and_then (second client first next_id os)
     (seconds client first (clock + n - first) (second client first next_id os).next_id
@@ -233,7 +244,7 @@ jumps client clock n next_id first os h within =
 -- ---- the first second that sends or removes
 
 pub first_sending : (client : Client) (now next_id : ℕ) (os : List Observation) (first : ℕ)
-    → IsFirstDue now os (pendings_of client os) first → IsFirstSending client now next_id os first
+    → IsFirstDue now os (outlooks_of client os) first → IsFirstSending client now next_id os first
 first_sending client now next_id os first h =
     record {
       later = h.later;
@@ -243,7 +254,7 @@ first_sending client now next_id os first h =
     }
 
 pub first_due : (client : Client) (now next_id : ℕ) (os : List Observation) (first : ℕ)
-    → IsFirstSending client now next_id os first → IsFirstDue now os (pendings_of client os) first
+    → IsFirstSending client now next_id os first → IsFirstDue now os (outlooks_of client os) first
 first_due client now next_id os first h =
     record {
       later = h.later;

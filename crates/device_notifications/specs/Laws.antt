@@ -18,7 +18,7 @@ use Rattle.device_requests.specs.declared.answer.Answer.{Answer}
 use Rattle.device_notifications.specs.declared.datagram.Datagram.{Datagram}
 use Rattle.device_notifications.specs.Message.{datagram_of, open_notification}
 use Rattle.device_notifications.specs.Period.{pmin_of, pmax_of}
-use Rattle.device_notifications.specs.Pendings.{AreAtRest, pendings_of}
+use Rattle.device_notifications.specs.Outlooks.{AreAtRest, outlooks_of}
 use Rattle.device_notifications.specs.Second.{Sweep, age_of, and_then, next_notification, notified_kind, present, quiet}
 use Rattle.device_notifications.specs.Second.{second, seconds, told, turn_of}
 
@@ -226,7 +226,7 @@ CountsMessageIds =
 abbrev pub QuietSecondsChangeNothing : Type 0
 QuietSecondsChangeNothing =
     (client : Client) (clock n next_id : ℕ) (os : List Observation)
-    → AreAtRest os (pendings_of client os) clock (clock + n) → seconds client clock n next_id os ≡ quiet next_id os
+    → AreAtRest os (outlooks_of client os) clock (clock + n) → seconds client clock n next_id os ≡ quiet next_id os
 
 -- a second is the first after this one, below 2^64, in which something is sent or an observation is removed; those
 -- before it change nothing
@@ -237,24 +237,24 @@ pub record IsFirstSending (client : Client) (now next_id : ℕ) (os : List Obser
       ⊎ (length (second client first next_id os).left < length os)
   pub quiet_before : (clock : ℕ) → now < clock → clock < first → second client clock next_id os ≡ quiet next_id os
 
--- that is the second which is found by the present answers
+-- that is the second which is found by what the present answers are
 abbrev pub FindsTheFirstSending : Type 0
 FindsTheFirstSending =
     (client : Client) (now next_id : ℕ) (os : List Observation) (first : ℕ)
-    → IsFirstDue now os (pendings_of client os) first ↔ IsFirstSending client now next_id os first
+    → IsFirstDue now os (outlooks_of client os) first ↔ IsFirstSending client now next_id os first
 
 -- and where none is found, all seconds below 2^64 are quiet
 abbrev pub FindsNoSending : Type 0
 FindsNoSending =
     (client : Client) (now next_id : ℕ) (os : List Observation)
-    → IsNeverDue now os (pendings_of client os)
+    → IsNeverDue now os (outlooks_of client os)
     ↔ ((clock : ℕ) → now < clock → clock < 2 ^ 64 → second client clock next_id os ≡ quiet next_id os)
 
 -- seconds are the first of them in which something is due, and those after it
 abbrev pub SecondsJump : Type 0
 SecondsJump =
     (client : Client) (clock n next_id first : ℕ) (os : List Observation)
-    → IsFirstDue clock os (pendings_of client os) first → first ≤ clock + n
+    → IsFirstDue clock os (outlooks_of client os) first → first ≤ clock + n
     → seconds client clock n next_id os
     ≡ and_then (second client first next_id os)
     (seconds client first (clock + n - first) (second client first next_id os).next_id

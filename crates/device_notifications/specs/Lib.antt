@@ -3,7 +3,8 @@ pub mod Report
 pub mod Period
 pub mod Message
 pub mod Second
-pub mod Pendings
+pub mod Outlooks
 pub mod Progress
+pub mod Deeds
 pub mod Laws
 pub mod ConfirmableLaws

@@ -1,5 +1,5 @@
 -- What a call leaves of what it works on.
-use Rattle.std.specs.Prelude.{◌≡◌, ℕ, ◌+◌, ◌-◌, ◌<◌, List, ◌++◌, length, take, drop}
+use Rattle.std.specs.Prelude.{◌≡◌, ◌≢◌, ℕ, ◌+◌, ◌<◌, nat_lt, Bool, ◌||◌, ◌⊎◌, List, [], ◌++◌, length}
 use Rattle.notifier.specs.declared.observation.Observation.{Observation}
 use Rattle.device_notifications.specs.Outbox.{Outbox}
 use Rattle.device_requests.specs.Client.{Client}
@@ -11,49 +11,17 @@ pub record Leaves (before : Outbox) (turn : Sweep) (left : List Observation) (af
   pub left_is : left ≡ turn.left
   pub next_id : after.next_id ≡ turn.next_id
 
--- the observation at a place has had its turn: what is left of it stands before the next place, and those after it are
--- still to come
-pub record Passes (turn : Sweep) (all left : List Observation) (place next : ℕ) (before after : Outbox) : Type 0 where
-  pub sent : after.sent ≡ before.sent ++ turn.sent
-  pub next_id : after.next_id ≡ turn.next_id
-  pub passed : take next left ≡ take place all ++ turn.left
-  pub coming : drop next left ≡ drop (place + 1) all
+-- something is sent, or one of the observations is removed
+abbrev pub Acts : Sweep → List Observation → Type 0
+Acts turn os = (turn.sent ≢ []) ⊎ (length turn.left < length os)
 
--- the observations before a place have had their turns of a second: with what has been sent, and what still will be,
--- stands what the whole second sends; and so with what is left
-pub record Progress (client : Client) (clock : ℕ) (all : List Observation) (before : Outbox) (os : List Observation)
-    (place : ℕ) (now : Outbox) : Type 0 where
-  pub sent : now.sent ++ (second client clock now.next_id (drop place os)).sent
-      ≡ before.sent ++ (second client clock before.next_id all).sent
-  pub left : take place os ++ (second client clock now.next_id (drop place os)).left
-      ≡ (second client clock before.next_id all).left
-  pub next_id : (second client clock now.next_id (drop place os)).next_id
-      ≡ (second client clock before.next_id all).next_id
+abbrev pub does_act : Sweep → List Observation → Bool
+does_act turn os = nat_lt 0 (length turn.sent) || nat_lt (length turn.left) (length os)
 
--- a second stops before the turn of one of them
-pub record Stops (client : Client) (clock : ℕ) (all : List Observation) (before : Outbox) (os : List Observation)
-    (now : Outbox) : Type 0 where
-  pub place : ℕ
-  pub inside : place < length os
-  pub progress : Progress client clock all before os place now
-
--- some of the seconds have passed: with what has been sent, and what still will be, stands what all of them send;
--- and so with what is left
-pub record Elapsed (client : Client) (clock count : ℕ) (all : List Observation) (before : Outbox) (passed : ℕ)
-    (os : List Observation) (now : Outbox) : Type 0 where
-  pub sent : now.sent ++ (seconds client (clock + passed) (count - passed) now.next_id os).sent
-      ≡ before.sent ++ (seconds client clock count before.next_id all).sent
-  pub left : (seconds client (clock + passed) (count - passed) now.next_id os).left
-      ≡ (seconds client clock count before.next_id all).left
-  pub next_id : (seconds client (clock + passed) (count - passed) now.next_id os).next_id
-      ≡ (seconds client clock count before.next_id all).next_id
-
--- one of the seconds stops, after those that have passed
-pub record StopsIn (client : Client) (clock count : ℕ) (all : List Observation) (before : Outbox)
-    (os : List Observation) (now : Outbox) : Type 0 where
+-- memory runs out in one of the seconds, in which something is to be sent or an observation removed; nothing of it is
+-- done, and the observations are as the seconds before it leave them
+pub record StopsIn (client : Client) (clock count next_id : ℕ) (all left : List Observation) : Type 0 where
   pub passed : ℕ
   pub within : passed < count
-  pub reached : List Observation
-  pub posted : Outbox
-  pub elapsed : Elapsed client clock count all before passed reached posted
-  pub stops : Stops client (clock + (passed + 1)) reached posted os now
+  pub left_is : left ≡ (seconds client clock passed next_id all).left
+  pub acts : Acts (second client (clock + (passed + 1)) (seconds client clock passed next_id all).next_id left) left

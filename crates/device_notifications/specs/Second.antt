@@ -10,9 +10,11 @@ use Rattle.notifier.specs.Resending.{turn_at}
 use Rattle.notifier.specs.Trigger.{is_due, is_triggered}
 use Rattle.notifier.specs.declared.attribute.Name.TheVariants as name
 use Rattle.notifier.specs.declared.observation.Observation.{Observation}
+use Rattle.notifier.specs.declared.observation.Report.{Report}
 use Rattle.notifier.specs.declared.observation.Timer.{Timer}
 use Rattle.notifier.specs.declared.turn.Turn.{Turn}
 use Rattle.notifier.specs.declared.turn.Turn.TheVariants.{Evaluate, Wait, Resend, Expire}
+use Rattle.object_defs.specs.declared.path.Path.{Path}
 use Rattle.device_requests.specs.Answer.{is_content}
 use Rattle.device_requests.specs.Client.{Client}
 use Rattle.device_requests.specs.Outcomes.{read_answer}
@@ -29,15 +31,19 @@ use Rattle.device_notifications.specs.Report.{number_at, report_of}
 abbrev pub present : Client → Observation → Answer
 present client o = read_answer client o.server o.path o.accept
 
+-- whether content with this payload triggers, compared with the last report of a server's observation of a path
+abbrev pub triggers_on : Client → ℕ → Path → Report → List ℕ → Bool
+triggers_on client server path report payload =
+    is_triggered
+    (assigned client.attributes server path name.Gt)
+    (assigned client.attributes server path name.Lt)
+    (assigned client.attributes server path name.St)
+    report.number (number_at client path)
+    report.payload payload
+
 -- whether the present answer triggers, compared with what the observation last reported
 abbrev pub triggers_now : Client → Observation → List ℕ → Bool
-triggers_now client o payload =
-    is_triggered
-    (assigned client.attributes o.server o.path name.Gt)
-    (assigned client.attributes o.server o.path name.Lt)
-    (assigned client.attributes o.server o.path name.St)
-    o.report.number (number_at client o.path)
-    o.report.payload payload
+triggers_now client o payload = triggers_on client o.server o.path o.report payload
 
 -- how many seconds old the last message of an observation is
 abbrev pub age_of : ℕ → Observation → ℕ

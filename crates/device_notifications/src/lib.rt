@@ -2,12 +2,12 @@
 #![tactic(auto)]
 
 mod datagram;
+mod deeds;
 mod evaluation;
-mod jumping;
 mod laws;
 mod notification;
 mod outbox;
-mod pendings;
+mod outlooks;
 mod period;
 mod report;
 mod sweep;
@@ -20,6 +20,7 @@ pub use laws::{
     sends_after_pmin, sends_before_pmax, sends_five_times_at_most,
 };
 pub use outbox::Outbox;
+pub use outlooks::say_all;
 pub use period::{pmax_of, pmin_of};
 pub use report::report_of;
-pub use sweep::{second, seconds};
+pub use sweep::seconds;

@@ -133,7 +133,7 @@ pub(crate) fn resend(
     place: usize,
     outbox: &mut Outbox,
 ) -> Result<(), AllocError>
-    ensures sent { OnOk result ((o : Observation) → slice_get observations.now place ≡ Some o
+    ensures sent { OnOk result ((o : Observation) → slice_get observations.now.list place ≡ Some o
         → outbox.new.sent ≡ outbox.old.sent ++ option_to_list (open_notification o)) }
     ensures next_id { outbox.new.next_id ≡ outbox.old.next_id }
     ensures unchanged { OnErr result (outbox.new ≡ outbox.old) }

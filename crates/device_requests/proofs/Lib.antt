@@ -13,3 +13,4 @@ mod Queries
 mod ReadBack
 pub mod Reading
 pub mod Refusing
+pub mod Unchanged

@@ -25,6 +25,21 @@ code_byte NotAcceptable = 4 * 32 + 6
 code_byte UnsupportedContentFormat = 4 * 32 + 15
 code_byte InternalServerError = 5 * 32
 
+-- the code says that the request changed something (RFC 7252 section 5.9.1)
+abbrev pub is_change : Code → Bool
+is_change Created = true
+is_change Deleted = true
+is_change Changed = true
+is_change Content = false
+is_change BadRequest = false
+is_change Unauthorized = false
+is_change BadOption = false
+is_change NotFound = false
+is_change MethodNotAllowed = false
+is_change NotAcceptable = false
+is_change UnsupportedContentFormat = false
+is_change InternalServerError = false
+
 -- the code is 2.05
 abbrev pub is_content_code : Code → Bool
 is_content_code Content = true

@@ -22,7 +22,7 @@ use Rattle.device_requests.specs.declared.answer.Code.TheVariants.{Changed, BadO
 use Rattle.device_requests.specs.declared.answer.Code.TheVariants.{InternalServerError}
 use Rattle.device_requests.specs.declared.operation.Operation.{Operation}
 use Rattle.device_requests.specs.Access.{may_read}
-use Rattle.device_requests.specs.Answer.{bare, code_byte, content}
+use Rattle.device_requests.specs.Answer.{bare, code_byte, content, is_change}
 use Rattle.device_requests.specs.Discover.{linked}
 use Rattle.object_defs.specs.Lines.{first_line}
 use Rattle.device_requests.specs.Operation.{operation_of}
@@ -73,6 +73,12 @@ FirstLineAnswers =
 abbrev pub RefusalKeeps : Type 0
 RefusalKeeps =
     (client : Client) (server : ℕ) (m : Message) → is_refusal (outcome_of client server m).answer.code ≡ true
+    → (outcome_of client server m).client ≡ client
+
+-- so does each other request whose answer does not say that it changed something
+abbrev pub ChangesAreSaid : Type 0
+ChangesAreSaid =
+    (client : Client) (server : ℕ) (m : Message) → is_change (outcome_of client server m).answer.code ≡ false
     → (outcome_of client server m).client ≡ client
 
 -- a code alone, with neither option nor payload, after which the device does not act

@@ -1,5 +1,5 @@
 ghost use Rattle.std.specs.Prelude.{◌≡◌, [], None, Some};
-ghost use Rattle.device_requests.specs.Answer.{bare, code_byte, content, created, done};
+ghost use Rattle.device_requests.specs.Answer.{bare, code_byte, content, created, done, is_change};
 ghost use Rattle.device_requests.specs.Answer.{is_bad_option, is_content};
 
 use object_defs::InstancePath;
@@ -53,6 +53,24 @@ impl Code {
             Code::NotAcceptable => 0x86,
             Code::UnsupportedContentFormat => 0x8F,
             Code::InternalServerError => 0xA0,
+        }
+    }
+
+    /// Whether it says that the request changed something: 2.01, 2.02 or 2.04 (RFC 7252 section 5.9.1).
+    pub fn is_change(self) -> bool
+        ensures { result ≡ is_change self }
+    {
+        match self {
+            Code::Created | Code::Deleted | Code::Changed => true,
+            Code::Content
+            | Code::BadRequest
+            | Code::Unauthorized
+            | Code::BadOption
+            | Code::NotFound
+            | Code::MethodNotAllowed
+            | Code::NotAcceptable
+            | Code::UnsupportedContentFormat
+            | Code::InternalServerError => false,
         }
     }
 

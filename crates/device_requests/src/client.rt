@@ -1,6 +1,7 @@
 //! What of a device the requests of device management look at and change.
 
-ghost use Rattle.std.specs.Prelude.{◌≡◌, ◌≢◌, ◌↔◌, false, length, Err, IfOk, IsErrOf, IsFalse, IsTrue, OnOk, OnErr};
+ghost use Rattle.std.specs.Prelude.{◌≡◌, ◌≢◌, ◌↔◌, false, true, length, Err, IfOk, IsErrOf, IsFalse, IsTrue, OnOk};
+ghost use Rattle.std.specs.Prelude.{OnErr};
 ghost use Rattle.std.specs.Prelude.{None, Some};
 ghost use Rattle.instance_store.specs.Stored.{has_instance, value_at};
 ghost use Rattle.device_requests.specs.Client.{has_account, with_stored};
@@ -154,8 +155,9 @@ impl Client {
         ensures change { OnOk result (self.new ≡ with_stored self.old
             (unwrap_or (firmware_after self.old.store (Ended code)) self.old.store)) }
 
-        // Only where Package URI, State and Update Result are not all held.
-        ensures memory { OnErr result (is_ready self.old.store ≡ false) }
+        // It takes memory only where there is one, and State and Update Result are not both held.
+        ensures taken { OnErr result (is_some (firmware_after self.old.store (Ended code)) ≡ true) }
+        ensures memory { OnErr result (is_ready self.old.store (Ended code) ≡ false) }
         ensures unchanged { OnErr result (self.new ≡ self.old) }
     {
         take(self.alloc, &mut self.store, FirmwareEvent::Ended(code))

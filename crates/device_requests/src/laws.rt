@@ -2,7 +2,8 @@
 
 ghost use Rattle.device_requests.specs.Execute.{ArgumentsAreTested};
 ghost use Rattle.device_requests.specs.Hiding.{UnreadableIsHidden, UnreadableIsRefused};
-ghost use Rattle.device_requests.specs.Laws.{FirstLineAnswers, LinksWhatExists, RefusalIsCodeAlone, RefusalKeeps};
+ghost use Rattle.device_requests.specs.Laws.{ChangesAreSaid, FirstLineAnswers, LinksWhatExists, RefusalIsCodeAlone};
+ghost use Rattle.device_requests.specs.Laws.{RefusalKeeps};
 ghost use Rattle.device_requests.specs.Laws.{RequestsKeepFrame, WrittenIsRead};
 ghost use Rattle.device_requests.specs.Order.{FormatsPrecedePayloads, MethodsPrecedeObjects, OneTable};
 ghost use Rattle.device_requests.specs.Order.{OnlyReadsObserve, OperationsPrecedeFormats, OptionsComeFirst};
@@ -21,10 +22,11 @@ pub fn first_line_answers()
     ensures { FirstLineAnswers }
 {}
 
-/// A request that is refused changes nothing, and its answer is a code alone; and no request changes the accounts or
-/// the catalogue.
+/// A request that is refused changes nothing, and its answer is a code alone; one whose answer is not 2.01, 2.02 or
+/// 2.04 changes nothing either; and no request changes the accounts or the catalogue.
 pub fn refusals_change_nothing()
     ensures nothing { RefusalKeeps }
+    ensures said { ChangesAreSaid }
     ensures alone { RefusalIsCodeAlone }
     ensures frame { RequestsKeepFrame }
 {}

@@ -357,8 +357,9 @@ impl Client {
             ((not (is_some (firmware_after self.old.store event)), Code.MethodNotAllowed) ∷ []))
             self.old (unwrap_or (firmware_after self.old.store event) self.old.store))) }
 
-        // Only where Package URI, State and Update Result are not all held.
-        ensures memory { OnErr result (is_ready self.old.store ≡ false) }
+        // Only where it is in a state for it, and what changes is not all held.
+        ensures taken { OnErr result (is_some (firmware_after self.old.store event) ≡ true) }
+        ensures memory { OnErr result (is_ready self.old.store event ≡ false) }
         ensures unchanged { OnErr result (self.new ≡ self.old) }
     {
         if take(self.alloc, &mut self.store, event)? {

@@ -6,6 +6,7 @@ mod LinkQueries
 mod LinkReading
 mod LinkTexts
 mod Lists
+mod Parameters
 mod PrintedNumbers
 mod Queries
 mod Reaching

@@ -1,4 +1,5 @@
 pub mod Links
 pub mod Order
+pub mod Parameters
 pub mod Printed
 pub mod Reached

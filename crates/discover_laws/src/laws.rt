@@ -3,6 +3,7 @@
 ghost use Rattle.discover_laws.specs.Links.{DiscoversAreRead, LinksHaveOneReading, ParametersAreQueries};
 ghost use Rattle.discover_laws.specs.Links.{PathsAreRead, WrittenBackIsTheSame};
 ghost use Rattle.discover_laws.specs.Order.{LinksAscend, LinksDiffer};
+ghost use Rattle.discover_laws.specs.Parameters.{FirstLinkShows, OtherLinksShow, ParametersInOrder};
 ghost use Rattle.discover_laws.specs.Printed.{NoneIsValid, OnlyTheseAreRead, PrintedIsRead, PrintedSaysAgain};
 ghost use Rattle.discover_laws.specs.Printed.{RequestsKeepValid};
 ghost use Rattle.discover_laws.specs.Reached.{EventsKeepSound, ReachedAreSound};
@@ -52,3 +53,11 @@ pub fn discovers_are_read()
 {
     links_what_exists();
 }
+
+/// What links show of a path: `dim` where a multiple resource holds parts, the attributes that the server set there,
+/// and on a Discover of a resource the periods that it inherits; in one order, each once.
+pub fn links_show_what_is_set()
+    ensures first { FirstLinkShows }
+    ensures others { OtherLinksShow }
+    ensures order { ParametersInOrder }
+{}

@@ -1,12 +1,11 @@
 -- What a fleet keeps, after one entry more.
 use Rattle.std.proofs.Common.{◌≡◌, ℕ, zero, suc, ◌+◌, ◌<◌, ◌≤◌, eqb, Bool, true, false, ◌⊎◌, inl, inr, List, [], ◌∷◌}
-use Rattle.std.proofs.Common.{Option, ◌++◌, length, get_or, None, Some, slice_get, slice_index, slice_set, replicate}
+use Rattle.std.proofs.Common.{◌++◌, length, get_or, None, Some, slice_get, slice_index, slice_set, replicate}
 use Rattle.std.proofs.Common.{refl, sym, ap, subst, ◌∙◌, arith, add-one, get_or-set_same, get_or-set_other}
 use Rattle.std.proofs.lemmas.List.{length-set, length-replicate, get_or_past}
 use Rattle.std.proofs.lemmas.Bool.{cases_eq, cases_lt, eq-eqb, ne_eqb}
 use Rattle.std.proofs.lemmas.Option.{slice_get_read}
 use Rattle.device_template.specs.Template.{Template}
-use Rattle.device_machine.specs.State.{Device}
 use Rattle.scenario_image.specs.declared.step.Step.{Step}
 use Rattle.scenario_image.specs.declared.step.Step.TheVariants.{Event, Post, Need}
 use Rattle.scenario_image.specs.Scenario.{Scenario, IsValid}
@@ -15,8 +14,7 @@ use Rattle.scenario_image.specs.Play.{start, step_outputs, state_at, IsRowOf, Pu
 use Rattle.trace_file.specs.declared.entry.Entry.{Entry}
 use Rattle.fleet_core.specs.Run.{step_at, made_by, posts_to, is_post, posts_of, may_pass, is_enabled, entry_of, out_at}
 use Rattle.fleet_core.specs.Run.{outputs_before, outputs_with, outputs_in_row}
-use Rattle.fleet_core.specs.Board.{Seen, IsBoard, AreParked, HoldsAfter, IsFleet, posts_after}
-use Rattle.fleet_core.proofs.Holding.{nothing}
+use Rattle.fleet_core.specs.Board.{Seen, IsBoard, AreParked, HoldsAfter, Holding, IsFleet, posts_after}
 use Rattle.fleet_core.proofs.Posts.{one, run_push, made_same, made_other, posts-push, enabled_fits}
 use Rattle.fleet_core.proofs.Valid.{IsStep, step_is, posts_within}
 
@@ -94,8 +92,8 @@ board_push s es made posts worker d step board at go =
 
 -- ---- the devices
 
-held_at : (s : Scenario) (es : List Entry) (e : Entry) (devices : List (Option Device)) (new : Option Device)
-    → AreParked s es devices → HoldsAfter s e.device (made_by e.device es + 1) new → (i : ℕ) (x : Option Device)
+held_at : (s : Scenario) (es : List Entry) (e : Entry) (devices : List Holding) (new : Holding)
+    → AreParked s es devices → HoldsAfter s e.device (made_by e.device es + 1) new → (i : ℕ) (x : Holding)
     → slice_get (slice_set devices e.device new) i ≡ Some x
     → (e.device ≡ i) ⊎ (e.device ≡ i → ⊥) → HoldsAfter s i (made_by i (es ++ e ∷ [])) x
 held_at s es e devices new parked here i x got (inl own) =
@@ -111,8 +109,8 @@ held_at s es e devices new parked here i x got (inr other) =
     subst (λ k. HoldsAfter s i k x) (sym (made_other i es e other))
     (parked.each i x (sym (get-set_other devices e.device i new other) ∙ got))
 
-pub parked_push : (s : Scenario) (es : List Entry) (devices : List (Option Device)) (worker d : ℕ)
-    (new : Option Device)
+pub parked_push : (s : Scenario) (es : List Entry) (devices : List Holding) (worker d : ℕ)
+    (new : Holding)
     → AreParked s es devices → HoldsAfter s d (made_by d es + 1) new
     → AreParked s (es ++ entry_of s worker d es ∷ []) (slice_set devices d new)
 parked_push s es devices worker d new parked here =
@@ -137,14 +135,13 @@ zeros zero i = refl
 zeros (suc n) zero = refl
 zeros (suc n) (suc i) = zeros n i
 
-pub starts : (s : Scenario) (es : List Entry) (made posts : List ℕ) (devices : List (Option Device)) → IsValid s
+pub starts : (s : Scenario) (es : List Entry) (made posts : List ℕ) (devices : List Holding) → IsValid s
     → es ≡ [] → made ≡ replicate (length s.rows) 0 → posts ≡ replicate 256 0
-    → devices ≡ replicate (length s.rows) None → IsFleet s es made posts devices false
-starts s es made posts devices valid none m p held =
+    → length devices ≡ length s.rows → AreParked s [] devices → IsFleet s es made posts devices false
+starts s es made posts devices valid none m p count parked =
     subst (λ l. IsFleet s l made posts devices false) (sym none)
     (subst (λ l. IsFleet s [] l posts devices false) (sym m)
     (subst (λ l. IsFleet s [] (replicate (length s.rows) 0) l devices false) (sym p)
-    (subst (λ l. IsFleet s [] (replicate (length s.rows) 0) (replicate 256 0) l false) (sym held)
     (record {
       board = record {
         valid = valid;
@@ -154,11 +151,9 @@ starts s es made posts devices valid none m p held =
         made_is = λ d h. zeros (length s.rows) d;
         posts_is = λ g h. zeros 256 g;
       };
-      count = length-replicate {A = Option Device} (length s.rows) None;
-      parked = λ h. record {
-        each = λ d x at. subst (HoldsAfter s d 0) (sym (nothing (length s.rows) d x at)) (inl refl);
-      };
-    }))))
+      count = count;
+      parked = λ h. parked;
+    })))
 
 -- ---- one entry more
 
@@ -168,8 +163,8 @@ get_or_any (z ∷ zs) zero x y h = refl
 get_or_any (z ∷ zs) (suc i) x y h = get_or_any zs i x y (omega (arith, h))
 
 -- what a fleet that may go on knows of the next step of a device
-pub record Reads (s : Scenario) (es : List Entry) (devices : List (Option Device)) (d place : ℕ) (step : Step)
-    (old : Option Device) : Type 0 where
+pub record Reads (s : Scenario) (es : List Entry) (devices : List Holding) (d place : ℕ) (step : Step)
+    (old : Holding) : Type 0 where
   pub at : step_at s d (made_by d es) ≡ Some step
   pub is : IsStep s d (made_by d es) step
   pub go : is_enabled s es d ≡ true
@@ -178,7 +173,7 @@ pub record Reads (s : Scenario) (es : List Entry) (devices : List (Option Device
   pub parked : AreParked s es devices
 
 pub reads : (v : Seen) (s : Scenario) (es : List Entry) (spent : Bool) (made posts : List ℕ)
-    (devices : List (Option Device)) (d at place : ℕ) (step : Step) (old : Option Device)
+    (devices : List Holding) (d at place : ℕ) (step : Step) (old : Holding)
     → record { scenario = s; entries = es; spent = spent } ≡ v → IsFleet s es made posts devices spent → spent ≡ false
     → Some step ≡ step_at v.scenario d (made_by d v.entries)
     → true ≡ may_pass (λ g. posts_of v.scenario g v.entries) (Some step) → at ≡ d → place ≡ get_or made at place
@@ -204,12 +199,12 @@ reads v s es spent made posts devices d at place step old view fleet ready next 
       parked = fleet.parked ready;
     }
 
-pub step_stands_here : (s : Scenario) (es : List Entry) (devices : List (Option Device)) (d place : ℕ) (step : Step)
-    (old : Option Device) → Reads s es devices d place step old → step_at s d place ≡ Some step
+pub step_stands_here : (s : Scenario) (es : List Entry) (devices : List Holding) (d place : ℕ) (step : Step)
+    (old : Holding) → Reads s es devices d place step old → step_at s d place ≡ Some step
 step_stands_here s es devices d place step old r = ap (step_at s d) r.place_is ∙ r.at
 
-pub place_early : (s : Scenario) (es : List Entry) (devices : List (Option Device)) (d place : ℕ) (step : Step)
-    (old : Option Device) → Reads s es devices d place step old → place < 4096
+pub place_early : (s : Scenario) (es : List Entry) (devices : List Holding) (d place : ℕ) (step : Step)
+    (old : Holding) → Reads s es devices d place step old → place < 4096
 place_early s es devices d place step old r = omega (arith, r.is.early, r.place_is)
 
 room_at : (s : Scenario) (es : List Entry) (made posts : List ℕ) (g : ℕ) → IsBoard s es made posts → (g < 256)
@@ -223,8 +218,8 @@ pub posts_room : (s : Scenario) (es : List Entry) (made posts : List ℕ) → Is
 posts_room s es made posts board g = room_at s es made posts g board (cases_lt g 256)
 
 -- the entry that is added is the device's next
-pub entry_is : (s : Scenario) (es : List Entry) (devices : List (Option Device)) (worker d place : ℕ) (step : Step)
-    (old : Option Device) (out : List Output) → Reads s es devices d place step old → out ≡ out_at s d place
+pub entry_is : (s : Scenario) (es : List Entry) (devices : List Holding) (worker d place : ℕ) (step : Step)
+    (old : Holding) (out : List Output) → Reads s es devices d place step old → out ≡ out_at s d place
     → record { worker = worker; device = d; step = place; outputs = out } ≡ entry_of s worker d es
 entry_is s es devices worker d place step old out r puts =
     ap (λ k. record { worker = worker; device = d; step = k; outputs = out }) r.place_is
@@ -238,7 +233,7 @@ added v s es new spent worker d e view is same =
     subst (λ w. new ≡ w.entries ++ entry_of w.scenario worker d w.entries ∷ []) view (is ∙ ap (λ x. es ++ x ∷ []) same)
 
 pub fleet_push : (s : Scenario) (es new : List Entry) (made posts posts_then : List ℕ)
-    (devices : List (Option Device)) (worker d at place : ℕ) (step : Step) (old then : Option Device) (e : Entry)
+    (devices : List Holding) (worker d at place : ℕ) (step : Step) (old then : Holding) (e : Entry)
     → IsBoard s es made posts → length devices ≡ length s.rows → Reads s es devices d place step old → at ≡ d
     → new ≡ es ++ e ∷ [] → e ≡ entry_of s worker d es
     → posts_then ≡ posts_after posts step → HoldsAfter s d (place + 1) then

@@ -1,55 +1,70 @@
 -- What is held of a device before its first step, and after its last one.
-use Rattle.std.proofs.Common.{◌≡◌, ℕ, zero, suc, ◌⊎◌, inl, inr, true, false, List, Option, None, Some, slice_get}
-use Rattle.std.proofs.Common.{replicate, refl, sym, subst, ◌∙◌}
-use Rattle.std.specs.Option.{is_some}
+use Rattle.std.proofs.Common.{◌≡◌, ℕ, ◌+◌, ◌⊎◌, inl, inr, true, false, List, [], ◌∷◌, ◌++◌, length, Option, None, Some}
+use Rattle.std.proofs.Common.{slice_get, refl, sym, ap, subst, ◌∙◌, arith, length-append}
 use Rattle.std.proofs.lemmas.Bool.{false≢true}
 use Rattle.device_template.specs.Template.{Template}
 use Rattle.device_machine.specs.State.{Device, Shows}
 use Rattle.scenario_image.specs.declared.step.Step.{Step}
-use Rattle.scenario_image.specs.Play.{start, IsRowOf}
+use Rattle.scenario_image.specs.Play.{start, shown, IsRowOf}
 use Rattle.scenario_image.specs.Scenario.{Scenario}
 use Rattle.fleet_core.specs.Run.{step_at}
-use Rattle.fleet_core.specs.Board.{ShowsAfter, HoldsAfter}
+use Rattle.fleet_core.specs.Board.{ShowsAfter, HoldsAfter, Holding, AreParked}
+use Rattle.fleet_core.proofs.Started.{pushed, never}
 
-pub some_held : (held : Option Device) → true ≡ is_some held → (x : Device) × (held ≡ Some x)
-some_held (Some x) there = (x, refl)
-some_held None there = absurd (false≢true (sym there))
+-- a device that is there
+pub here_after : (s : Scenario) (d k : ℕ) (x : Device) → ShowsAfter s d k x
+    → HoldsAfter s d k (record { shown = x; fresh = false; gone = false })
+here_after s d k x shows = record {
+  shows = shows;
+  fresh = λ e. absurd (false≢true e);
+  gone = λ e. absurd (false≢true e);
+}
 
-pub none_held : (held : Option Device) → false ≡ is_some held → held ≡ None
-none_held (Some x) none = absurd (false≢true none)
-none_held None none = refl
-
--- a device that has a step left, and is none, has made no step
-makes_first : (s : Scenario) (d k : ℕ) (step : Step) → step_at s d k ≡ Some step
-    → (k ≡ 0) ⊎ (step_at s d k ≡ None) → k ≡ 0
-makes_first s d k step at (inl first) = first
-makes_first s d k step at (inr none) = let e : None ≡ Some step = sym none ∙ at in absurd cc
-
--- so it is at its next step once it is started
-pub started : (s : Scenario) (d k : ℕ) (step : Step) (held : Option Device) (x : Device) → step_at s d k ≡ Some step
-    → HoldsAfter s d k held → held ≡ None
+-- a device that is yet to be started has made no step, so it is at its next one once it is started
+pub started : (s : Scenario) (d k : ℕ) (held : Holding) (x : Device) → HoldsAfter s d k held → held.fresh ≡ true
     → ((class : Template) (steps : List Step) → IsRowOf s d class steps → Shows x (start class)) → ShowsAfter s d k x
-started s d k step held x at holds none shows =
-    subst (λ i. ShowsAfter s d i x) (sym (makes_first s d k step at (subst (HoldsAfter s d k) none holds))) shows
+started s d k held x holds fresh shows = subst (λ i. ShowsAfter s d i x) (sym (holds.fresh fresh)) shows
 
-pub held_shows : (s : Scenario) (d k : ℕ) (held : Option Device) (x : Device) → held ≡ Some x → HoldsAfter s d k held
-    → ShowsAfter s d k x
-held_shows s d k held x is holds = subst (HoldsAfter s d k) is holds
+-- one whose memory was let go of has no step left
+pub not_gone : (s : Scenario) (d k : ℕ) (step : Step) (held : Holding) → step_at s d k ≡ Some step
+    → HoldsAfter s d k held → held.gone ≡ true → ⊥
+not_gone s d k step held at holds gone = let e : None ≡ Some step = sym (holds.gone gone) ∙ at in cc
 
--- where there is no next step, there may be none
-pub none_at_end : (s : Scenario) (d k : ℕ) (next : Option Step) → next ≡ None → next ≡ step_at s d k
-    → HoldsAfter s d k None
-none_at_end s d k next end is = inr (sym is ∙ end)
+-- where there is no next step, the memory may be let go of
+pub let_go_then : (s : Scenario) (d k : ℕ) (next : Option Step) (old new : Holding) → next ≡ None
+    → new.shown ≡ old.shown → new.fresh ≡ old.fresh → next ≡ step_at s d k → HoldsAfter s d k old
+    → HoldsAfter s d k new
+let_go_then s d k next old new end same fresh is holds = record {
+  shows = subst (ShowsAfter s d k) (sym same) holds.shows;
+  fresh = λ e. holds.fresh (sym fresh ∙ e);
+  gone = λ e. sym is ∙ end;
+}
 
-same_some : {X : Type 0} (o : Option X) (x y : X) → o ≡ Some x → o ≡ Some y → x ≡ y
-same_some o x y p q = let e : Some x ≡ Some y = sym p ∙ q in cc
+-- ---- all devices, before their first steps
 
-pub shows_same : (s : Scenario) (d k : ℕ) (held : Option Device) (x y : Device) → held ≡ Some x → held ≡ Some y
-    → ShowsAfter s d k x → ShowsAfter s d k y
-shows_same s d k held x y p q shows = subst (λ z. ShowsAfter s d k z) (same_some held x y p q) shows
+-- what is held of the devices of the first rows
+pub record AreBegun (s : Scenario) (n : ℕ) (devices : List Holding) : Type 0 where
+  pub count : length devices ≡ n
+  pub parked : AreParked s [] devices
 
--- before a device's first step nothing is held of it
-pub nothing : (n d : ℕ) (x : Option Device) → slice_get (replicate n None) d ≡ Some x → x ≡ None
-nothing zero d x h = let e : None ≡ Some x = h in absurd cc
-nothing (suc n) zero x h = let e : Some None ≡ Some x = h in cc
-nothing (suc n) (suc d) x h = nothing n d x h
+pub none_begun : (s : Scenario) → AreBegun s 0 []
+none_begun s = record { count = refl; parked = record { each = λ d x e. absurd (never d x e) } }
+
+begun_by : (s : Scenario) (n d : ℕ) (devices : List Holding) (x y : Holding) → length devices ≡ n
+    → HoldsAfter s n 0 y → (slice_get devices d ≡ Some x → HoldsAfter s d 0 x)
+    → (slice_get devices d ≡ Some x) ⊎ ((d ≡ length devices) × (y ≡ x)) → HoldsAfter s d 0 x
+begun_by s n d devices x y count here before (inl h) = before h
+begun_by s n d devices x y count here before (inr h) =
+    subst (λ i. HoldsAfter s i 0 x) (sym (h.0 ∙ count)) (subst (HoldsAfter s n 0) h.1 here)
+
+-- with the device of one row more
+pub more_begun : (s : Scenario) (n : ℕ) (devices more : List Holding) (y : Holding) → AreBegun s n devices
+    → more ≡ devices ++ y ∷ [] → HoldsAfter s n 0 y → AreBegun s (n + 1) more
+more_begun s n devices more y first e here = record {
+  count = omega (arith, first.count, ap length e, length-append devices (y ∷ []));
+  parked = record {
+    each =
+        λ d x at. begun_by s n d devices x y first.count here (first.parked.each d x)
+        (pushed devices y d x (ap (λ l. slice_get l d) (sym e) ∙ at));
+  };
+}

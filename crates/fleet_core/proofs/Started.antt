@@ -13,7 +13,7 @@ pub record AreFirst (s : Scenario) (n : ℕ) (devices : List Device) : Type 0 wh
   pub count : length devices ≡ n
   pub started : AreStarted s devices
 
-never : {X : Type 0} (k : ℕ) (x : X) → slice_get [] k ≡ Some x → ⊥
+pub never : {X : Type 0} (k : ℕ) (x : X) → slice_get [] k ≡ Some x → ⊥
 never k x h = let e : None ≡ Some x = h in cc
 
 cases_pushed : {X : Type 0} (z : X) (xs : List X) (k : ℕ) (x y : X) → (slice_get xs k ≡ Some x)
@@ -23,7 +23,7 @@ cases_pushed z xs k x y (inl h) = inl h
 cases_pushed z xs k x y (inr h) = inr (ap suc h.0, h.1)
 
 -- an element of a list with one more is one of the list, or the one more
-pushed : {X : Type 0} (xs : List X) (y : X) (k : ℕ) (x : X) → slice_get (xs ++ y ∷ []) k ≡ Some x
+pub pushed : {X : Type 0} (xs : List X) (y : X) (k : ℕ) (x : X) → slice_get (xs ++ y ∷ []) k ≡ Some x
     → (slice_get xs k ≡ Some x) ⊎ ((k ≡ length xs) × (y ≡ x))
 pushed [] y zero x h = let e : Some y ≡ Some x = h in inr (refl, cc)
 pushed [] y (suc k) x h = let e : None ≡ Some x = h in absurd cc

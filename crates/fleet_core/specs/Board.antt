@@ -1,5 +1,5 @@
 -- What contracts see of a fleet, and what it keeps.
-use Rattle.std.specs.Prelude.{◌≡◌, ℕ, ◌+◌, ◌<◌, ◌⊎◌, Bool, true, false, Option, List, [], ◌∷◌, ◌++◌}
+use Rattle.std.specs.Prelude.{◌≡◌, ℕ, ◌+◌, ◌<◌, Bool, true, false, List, [], ◌∷◌, ◌++◌}
 use Rattle.std.specs.Prelude.{length, None, Some}
 use Rattle.std.specs.Prelude.{slice_get, slice_index, slice_set}
 use Rattle.device_template.specs.Template.{Template}
@@ -30,18 +30,26 @@ pub record IsBoard (s : Scenario) (es : List Entry) (made posts : List ℕ) : Ty
 abbrev pub ShowsAfter : Scenario → ℕ → ℕ → Device → Type 0
 ShowsAfter s d k x = (class : Template) (steps : List Step) → IsRowOf s d class steps → Shows x (state_at class steps k)
 
--- what is held of device d after the first k steps of its row: the device, which shows the state then; or none, where
--- it has made no step, or each
-abbrev pub HoldsAfter : Scenario → ℕ → ℕ → Option Device → Type 0
-HoldsAfter s d k (Some x) = ShowsAfter s d k x
-HoldsAfter s d k None = (k ≡ 0) ⊎ (step_at s d k ≡ None)
+-- what contracts see of what is held of a device: the device, whether it is yet to be started, so that there is its
+-- class alone, and whether its memory was let go of
+pub record Holding : Type 0 where
+  pub shown : Device
+  pub fresh : Bool
+  pub gone : Bool
+
+-- after the first k steps of row d the device shows the state then. It is yet to be started only where it has made no
+-- step, and its memory was let go of only where it has made each
+pub record HoldsAfter (s : Scenario) (d k : ℕ) (x : Holding) : Type 0 where
+  pub shows : ShowsAfter s d k x.shown
+  pub fresh : x.fresh ≡ true → k ≡ 0
+  pub gone : x.gone ≡ true → step_at s d k ≡ None
 
 -- of each device there is what is held after the steps that it has made
-pub record AreParked (s : Scenario) (es : List Entry) (devices : List (Option Device)) : Type 0 where
-  pub each : (d : ℕ) (x : Option Device) → slice_get devices d ≡ Some x → HoldsAfter s d (made_by d es) x
+pub record AreParked (s : Scenario) (es : List Entry) (devices : List Holding) : Type 0 where
+  pub each : (d : ℕ) (x : Holding) → slice_get devices d ≡ Some x → HoldsAfter s d (made_by d es) x
 
 -- the devices of a fleet that memory has spent are open
-pub record IsFleet (s : Scenario) (es : List Entry) (made posts : List ℕ) (devices : List (Option Device))
+pub record IsFleet (s : Scenario) (es : List Entry) (made posts : List ℕ) (devices : List Holding)
     (spent : Bool) : Type 0 where
   pub board : IsBoard s es made posts
   pub count : length devices ≡ length s.rows

@@ -4,9 +4,8 @@ ghost use Rattle.std.specs.Option.{option_copied};
 ghost use Rattle.fleet_core.specs.Run.{made_by, may_pass, step_at, posts_of, is_enabled, entry_of, IsRun, CanGo};
 
 use crate::fault::CommitFault;
-use crate::held::{let_go_at_end, none_held, step_held};
+use crate::held::{Held, held_of_rows, let_go_at_end, step_held};
 use crate::performing::{note_post, step_of};
-use device_machine::Device;
 use scenario_image::{Scenario, Step};
 use std::alloc::{AllocError, Global};
 use std::marker::Model;
@@ -18,7 +17,7 @@ use trace_file::{Entries, Entry};
 pub struct Fleet<'a> {
     alloc: Global,
     scenario: &'a Scenario,
-    devices: Vec<Option<Device>>,
+    devices: Vec<Held>,
     made: Vec<u32>,
     posts: Vec<u32>,
     entries: Entries,
@@ -45,7 +44,7 @@ impl<'a> Fleet<'a> {
         ensures { IfOk result (λ f. f ≡ record { scenario = scenario.now; entries = []; spent = false }) }
     {
         let rows = scenario.rows();
-        let devices = none_held(alloc, rows)?;
+        let devices = held_of_rows(alloc, scenario)?;
         Ok(Fleet {
             alloc,
             scenario,

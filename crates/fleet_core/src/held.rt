@@ -1,53 +1,122 @@
-//! What is held of a device: nothing before its first step and after its last one.
+//! What is held of a device: its class alone before its first step, and nothing after its last one.
 
-ghost use Rattle.std.specs.Prelude.{◌≡◌, ℕ, ◌+◌, None, Some, replicate, IfOk, OnOk};
+ghost use Rattle.std.specs.Prelude.{◌≡◌, ℕ, ◌+◌, ◌<◌, [], false, Some, length, IfOk, OnOk};
 ghost use Rattle.std.specs.Option.{option_copied};
-ghost use Rattle.device_machine.specs.State.{Device};
 ghost use Rattle.scenario_image.specs.Scenario.{Scenario};
 ghost use Rattle.fleet_core.specs.Run.{step_at, out_at};
-ghost use Rattle.fleet_core.specs.Board.{ShowsAfter, HoldsAfter};
+ghost use Rattle.fleet_core.specs.Board.{ShowsAfter, HoldsAfter, AreParked};
 
 use crate::performing::{make_step, start_of_row};
 use device_machine::{Device, Outputs};
+use device_template::Template;
 use scenario_image::{Scenario, Step};
 use std::alloc::{AllocError, Global};
+use std::marker::Model;
+use std::snapshot::Snapshot;
 
-/// What is held of so many devices before their first steps.
-pub(crate) fn none_held(alloc: Global, rows: usize) -> Result<Vec<Option<Device>>, AllocError>
-    ensures { IfOk result (λ v. v.items ≡ replicate rows None) }
+/// What there is of a device.
+#[derive(Drop)]
+enum State {
+    /// It is yet to be started, as one of this class.
+    Fresh(Snapshot<Template>),
+    Here(Device),
+    /// It was let go of, as this one.
+    Gone(Snapshot<Device>),
+}
+
+/// What is held of a device. Contracts see a device at any time: one that is yet to be started is the start of its
+/// class, and one whose memory was let go of is the very device.
+#[derive(Drop)]
+pub struct Held {
+    state: State,
+}
+
+impl Model for Held {
+    ghost use Rattle.std.specs.Coded.{codes};
+    ghost use Rattle.instance_store.specs.Stored.{stored_code};
+    ghost use Rattle.device_requests.specs.Client.{attributes_code};
+    ghost use Rattle.fleet_core.specs.Board.{Holding};
+    ghost use Rattle.fleet_core.specs.Held.{holding_of};
+
+    ghost Value = { Holding };
+
+    ghost coded = { Prim.hlevel (codes, stored_code, attributes_code) };
+
+    ghost view = { λ h. holding_of h.state };
+}
+
+impl Held {
+    /// What is held of a device before its first step.
+    pub fn new(scenario: &Scenario, device: u16) -> Held
+        requires { device < length scenario.now.rows }
+        ensures { HoldsAfter scenario.now device 0 result }
+    {
+        let _rows = scenario.rows();
+        let Some((class, _)) = scenario.row(device) else {
+            unreachable!()
+        };
+        let Some(class) = scenario.class(class) else {
+            unreachable!()
+        };
+        Held {
+            state: State::Fresh(Snapshot::of(class)),
+        }
+    }
+
+    /// Starts a device that has a step left, if it is yet to be started.
+    fn start(
+        &mut self,
+        scenario: &Scenario,
+        device: u16,
+        _place: u32,
+        _step: &Step,
+    ) -> Result<(), AllocError>
+        requires stands { step_at scenario.now device _place ≡ Some _step.now }
+        requires holds { HoldsAfter scenario.now device _place self.old }
+        ensures shows { OnOk result (ShowsAfter scenario.now device _place self.new.shown) }
+        ensures here { OnOk result ((self.new.fresh ≡ false) × (self.new.gone ≡ false)) }
+    {
+        match self.state {
+            State::Fresh(_) => {}
+            State::Here(_) => return Ok(()),
+            State::Gone(_) => unreachable!(),
+        }
+        self.state = State::Here(start_of_row(scenario, device)?);
+        Ok(())
+    }
+
+    /// Lets go of the device's memory.
+    fn let_go(&mut self)
+        ensures shown { self.new.shown ≡ self.old.shown }
+        ensures fresh { self.new.fresh ≡ self.old.fresh }
+    {
+        let gone = match &self.state {
+            State::Here(machine) => Snapshot::of(machine),
+            State::Fresh(_) | State::Gone(_) => return,
+        };
+        self.state = State::Gone(gone);
+    }
+}
+
+/// What is held of each device before its first step.
+pub(crate) fn held_of_rows(alloc: Global, scenario: &Scenario) -> Result<Vec<Held>, AllocError>
+    ensures count { IfOk result (λ v. length v.items ≡ length scenario.now.rows) }
+    ensures parked { IfOk result (λ v. AreParked scenario.now [] v.items) }
 {
+    let rows = scenario.rows();
     let mut devices = Vec::with_capacity(alloc, rows)?;
-    for _device in 0..rows {
-        devices.push(None)?;
+    for device in 0..rows {
+        devices.push(Held::new(scenario, device as u16))?;
     }
     Ok(devices)
 }
 
-/// Starts the device, where it has a step left and there is none yet.
-fn start_held(
-    scenario: &Scenario,
-    held: &mut Option<Device>,
-    device: u16,
-    _place: u32,
-    _step: &Step,
-) -> Result<(), AllocError>
-    requires stands { step_at scenario.now device _place ≡ Some _step.now }
-    requires holds { HoldsAfter scenario.now device _place held.old }
-    ensures { OnOk result ((x : Device) × (held.new ≡ Some x) × ShowsAfter scenario.now device _place x) }
-{
-    if held.is_some() {
-        return Ok(());
-    }
-    *held = Some(start_of_row(scenario, device)?);
-    Ok(())
-}
-
-/// Lets the device make the step of this number in its row, and returns what it outputs; it is started first if nothing
-/// is held. Only an allocation can fail; nothing is promised of what is held then.
+/// Lets the device make the step of this number in its row, and returns what it outputs; it is started first if it is
+/// yet to be. Only an allocation can fail; nothing is promised of what is held then.
 pub fn step_held(
     alloc: Global,
     scenario: &Scenario,
-    held: &mut Option<Device>,
+    held: &mut Held,
     device: u16,
     place: u32,
     step: &Step,
@@ -57,20 +126,20 @@ pub fn step_held(
     ensures outputs { IfOk result (λ o. o ≡ out_at scenario.now device place) }
     ensures holds { OnOk result (HoldsAfter scenario.now device (place + 1) held.new) }
 {
-    start_held(scenario, held, device, place, step)?;
-    match held {
-        Some(machine) => make_step(alloc, scenario, machine, device, place, step),
-        None => unreachable!(),
+    held.start(scenario, device, place, step)?;
+    match &mut held.state {
+        State::Here(machine) => make_step(alloc, scenario, machine, device, place, step),
+        State::Fresh(_) | State::Gone(_) => unreachable!(),
     }
 }
 
-/// Lets go of a device that has no next step.
-pub fn let_go_at_end(held: &mut Option<Device>, next: Option<&Step>)
+/// Lets go of the memory of a device that has no next step.
+pub fn let_go_at_end(held: &mut Held, next: Option<&Step>)
     ensures { (s : Scenario) (d : ℕ) (k : ℕ) → option_copied next.entry ≡ step_at s d k → HoldsAfter s d k held.old
         → HoldsAfter s d k held.new }
 {
     match next {
-        None => *held = None,
+        None => held.let_go(),
         Some(_) => {}
     }
 }

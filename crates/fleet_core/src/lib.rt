@@ -15,7 +15,7 @@ mod waiting;
 pub use checking::check;
 pub use fault::CommitFault;
 pub use fleet::Fleet;
-pub use held::{let_go_at_end, step_held};
+pub use held::{Held, let_go_at_end, step_held};
 pub use laws::{
     blocks_follow, counts_add_up, devices_stand_alone, outputs_are_the_rows, runs_agree, runs_end,
     runs_grow, steps_are_taken,

@@ -19,6 +19,7 @@ use Rattle.notifier.specs.contracts.observation.Report as Report
 use Rattle.notifier.specs.contracts.observation.Timer as Timer
 use Rattle.notifier.specs.contracts.observation.Observation as Observation
 use Rattle.notifier.specs.contracts.observations.Observations as Observations
+use Rattle.notifier.specs.contracts.pending.Outlook as Outlook
 use Rattle.notifier.specs.contracts.attributes.Attributes as Attributes
 use Rattle.device_requests.specs.contracts.client.Client as Client
 use Rattle.device_machine.specs.contracts.recorded.Recorded as Recorded
@@ -33,7 +34,10 @@ use Rattle.scenario_image.specs.contracts.step.Step as Step
 use Rattle.scenario_image.specs.contracts.row.Row as Row
 use Rattle.scenario_image.specs.contracts.scenario.Scenario as Scenario
 use Rattle.trace_file.specs.contracts.entry.Entry as Entry
+use Rattle.fleet_core.specs.contracts.held.State as State
+use Rattle.fleet_core.specs.contracts.held.Held as Held
 use Rattle.shared_trace.specs.contracts.next.Next as Next
+use Rattle.shared_trace.specs.contracts.pages.Pages as Pages
 use Rattle.shared_trace.specs.contracts.station.Place as Place
 use Rattle.shared_trace.specs.contracts.station.Station as Station
 use Rattle.shared_trace.specs.contracts.trace.Trace as Trace
@@ -121,8 +125,11 @@ observation_send =
       ),
     )
 
+outlook_send : IsSend Outlook.the_row
+outlook_send = search sendable depth 30
+
 observations_send : IsSend Observations.the_row
-observations_send = search (sendable, std.crosses, maps.crosses, observation_send) depth 30 parts 12
+observations_send = search (sendable, std.crosses, maps.crosses, observation_send, outlook_send) depth 30 parts 12
 
 client_send : IsSend Client.the_row
 client_send = search (sendable, std.crosses, catalog_send, store_send, attributes_send) depth 30 parts 12
@@ -130,8 +137,20 @@ client_send = search (sendable, std.crosses, catalog_send, store_send, attribute
 pub device_send : IsSend Device.the_row
 device_send = search (sendable, std.crosses, client_send, observations_send, records_send, opt_send) depth 30 parts 12
 
+state_parts : EachSend (E.shape State.the_type).variants
+state_parts = (
+  (search (sendable, std.crosses) depth 30, tt),
+  ((search (sendable, device_send) depth 30, tt), ((search (sendable, std.crosses) depth 30, tt), tt)),
+)
+
+state_field_send : IsSend (State.the_field).row
+state_field_send = enum_send (E.shape State.the_type) state_parts
+
+held_send : IsSend Held.the_row
+held_send = search (sendable, state_field_send) depth 30 parts 12
+
 place_send : IsSend Place.the_row
-place_send = search (sendable, device_send) depth 30 parts 12
+place_send = search (sendable, held_send) depth 30 parts 12
 
 next_send : IsSend Next.the_row
 next_send = search sendable depth 30
@@ -140,8 +159,11 @@ station_send : IsSend Station.the_row
 station_send = declared_send Station.the_type
     (place_send, (search sendable depth 20, (next_send, (search (sendable, std.crosses) depth 20, tt))))
 
+pages_send : IsSend Pages.the_row
+pages_send = search (sendable, std.crosses, entry_send) depth 30 parts 12
+
 pub trace_send : IsSend Trace.the_row
-trace_send = search (sendable, std.crosses, entry_send, station_send) depth 30 parts 12
+trace_send = search (sendable, std.crosses, pages_send, station_send) depth 30 parts 12
 
 pub end_send : IsSend LoopEnd.the_row
 end_send = search sendable depth 30

@@ -123,11 +123,11 @@ has_claimed v r inside t x y claim aware entered is work claims stands =
 -- where it has put a job before that
 pub claimed_after : (v r inside : Seen) (t : ℕ) (x y : Traced) (job : Task) (claim : Claim) → IsAware trace_log x v
     → inside ≡ arrived trace_log v t x → r ≡ given trace_log inside y → lowest_work r [] ≡ open_by y v.low
-    → Claims (with_block x job.device job.shown job.entries) y v.low claim → ClaimStands y v.low claim
+    → Claims (with_block x job.device job.held job.entries) y v.low claim → ClaimStands y v.low claim
     → HasClaimed r claim
 claimed_after v r inside t x y job claim aware entered is work claims stands =
     let there : r ≡ given trace_log (arrived trace_log v t x) y = is ∙ ap (λ w. given trace_log w y) entered in
-    claim_told v r (with_block x job.device job.shown job.entries) y claim aware.subject (ap (λ w. w.subject) there)
+    claim_told v r (with_block x job.device job.held job.entries) y claim aware.subject (ap (λ w. w.subject) there)
     (ap (λ w. w.low) there) (ap (λ w. w.front) there) work claims stands
 
 -- the trace that a worker finds takes the job that its pass knows

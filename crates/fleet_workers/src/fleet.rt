@@ -159,7 +159,10 @@ fn run_new<R: Threads + Wait + Sync, G: Gate + Sync>(
         return Err(RunFault::Memory(Entries::new(alloc)));
     };
     let (trace, end) = run_all(rt, lock, pass, scenario, workers, batch, gate);
-    outcome(alloc, scenario, workers, trace.into_entries(), end)
+    let Ok(entries) = trace.into_entries() else {
+        return Err(RunFault::Memory(Entries::new(alloc)));
+    };
+    outcome(alloc, scenario, workers, entries, end)
 }
 
 fn are_workers(workers: u16) -> bool

@@ -42,7 +42,7 @@ pub fn claim_job<R: Wait>(
 /// Puts the job, or stops the trace if memory runs out. The answer says whether it was put.
 fn put_or_stop(trace: &mut Trace, worker: u16, job: Job) -> bool
     requires { MayPut trace.old worker job }
-    ensures put { result ≡ true → trace.new ≡ with_block trace.old job.device job.shown job.entries }
+    ensures put { result ≡ true → trace.new ≡ with_block trace.old job.device job.held job.entries }
     ensures stopped { result ≡ false → trace.new ≡ stopped_of trace.old }
     ensures adds { Adds trace_log worker trace.old trace.new }
     ensures shared { IsShared trace.new }
@@ -105,7 +105,7 @@ pub fn put_job<R: Wait>(
 fn put_then_claim(trace: &mut Trace, worker: u16, job: Job) -> Option<Claim>
     requires { MayPut trace.old worker job }
     ensures claims { IfSome result (λ claim.
-        Claims (with_block trace.old job.device job.shown job.entries) trace.new worker claim) }
+        Claims (with_block trace.old job.device job.held job.entries) trace.new worker claim) }
     ensures stands { IfSome result (λ claim. ClaimStands trace.new worker claim) }
     ensures stopped { IfNone result (trace.new ≡ stopped_of trace.old) }
     ensures adds { Adds trace_log worker trace.old trace.new }

@@ -55,7 +55,10 @@ fn by_rows<R: Wait>(rt: &R, alloc: Global, scenario: &Scenario) -> Option<Made> 
     let Ok(trace) = lock.close(pass) else {
         unreachable!()
     };
-    Some(made_of(trace.into_entries()))
+    match trace.into_entries() {
+        Ok(entries) => Some(made_of(entries)),
+        Err(_) => None,
+    }
 }
 
 /// How many steps one worker makes of which each row is a single batch.

@@ -78,7 +78,7 @@ pub fn is_exchanged<R: Wait>(rt: &R, alloc: Global) -> Result<bool, AllocError> 
     let (lock, one, two) = opened(alloc, &scenario)?;
     let (one, two, first) = exchange(rt, &lock, one, two, &scenario);
     let (one, two, then) = exchanged(rt, &lock, one, two, &scenario);
-    let entries = closed(lock, &scenario, one, two);
+    let entries = closed(lock, &scenario, one, two)?;
     let awaited = [(1, 0, 0), (2, 1, 0), (2, 1, 1), (1, 0, 1)];
     Ok(first && then && are(entries.as_slice(), &awaited))
 }
@@ -117,7 +117,7 @@ pub fn is_stopped<R: Wait>(rt: &R, alloc: Global) -> Result<bool, AllocError> {
     let (lock, one, two) = opened(alloc, &scenario)?;
     let (one, two, put) = stop(rt, &lock, one, two, &scenario);
     let (one, found) = word_of_claim(rt, &lock, one);
-    let entries = closed(lock, &scenario, one, two);
+    let entries = closed(lock, &scenario, one, two)?;
     Ok(put && found == "stopped" && are(entries.as_slice(), &[(1, 0, 0)]))
 }
 
@@ -130,6 +130,6 @@ pub fn is_given_up<R: Wait>(rt: &R, alloc: Global) -> Result<bool, AllocError> {
     let (one, given) = word_of_claim(rt, &lock, one);
     let (two, made) = makes(rt, &lock, two, &scenario, 64, 1, 1);
     let (two, found) = word_of_claim(rt, &lock, two);
-    let entries = closed(lock, &scenario, one, two);
+    let entries = closed(lock, &scenario, one, two)?;
     Ok(given == "got" && made && found == "busy" && are(entries.as_slice(), &[(2, 1, 0)]))
 }

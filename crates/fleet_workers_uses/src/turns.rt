@@ -28,13 +28,13 @@ pub fn opened(
     Ok((lock, first, second))
 }
 
-/// The entries that were made.
+/// The entries that were made, if there is memory for a list of them.
 pub fn closed(
     lock: TicketLock<Trace>,
     scenario: &Scenario,
     first: Pass<Trace>,
     second: Pass<Trace>,
-) -> Entries
+) -> Result<Entries, AllocError>
     requires first { IsPass (lock_id lock) first × IsFirst scenario.now (pass_view first) }
     requires second { IsPass (lock_id lock) second × IsSecond scenario.now (pass_view second) }
 {
@@ -42,7 +42,10 @@ pub fn closed(
     let Ok(trace) = lock.close(pass) else {
         unreachable!()
     };
-    trace.into_entries()
+    match trace.into_entries() {
+        Ok(entries) => Ok(entries),
+        Err((_, fault)) => Err(fault),
+    }
 }
 
 /// Claims, and gives a job up: whether one was got, or else the word for the answer.

@@ -1,10 +1,13 @@
 //! What comes of a session.
 use crate::question::Question;
+use crate::udp::put_asked;
 use case_sheet::Sheet;
 use device_machine::{Device, Event, Output, Outputs, StepFault, Template};
 use live_link::{LiveEnd, LiveSession, Packet, ScriptedClock, ScriptedWire, serve_class};
 use scenario_asm::assemble;
 use scenario_image::{Scenario, ScenarioFault, Step, take_steps};
+use std::net::Net;
+use std::thread::Threads;
 
 /// The class of the DEMO device.
 const DEMO: &str = "scenario 1
@@ -28,20 +31,27 @@ value /5/0/9 integer 2
 
 /// Adds the device's steps, the datagrams that it sent, and how the session ended; and, where its steps are not the row
 /// of a scenario, or that row sends something else, that this is so.
-pub fn put_answer(out: &mut Sheet, question: Question) {
+pub fn put_answer<R: Net + Threads>(rt: &R, out: &mut Sheet, question: Question) {
     match assemble(out.alloc(), DEMO) {
         Err(_) => out.put("no device"),
         Ok(demo) => match demo.class(0) {
             None => out.put("no class"),
-            Some(class) => put_session(out, question, class),
+            Some(class) => put_on(rt, out, question, class),
         },
     }
 }
 
-fn put_session(out: &mut Sheet, question: Question, class: &Template) {
+fn put_on<R: Net + Threads>(rt: &R, out: &mut Sheet, mut question: Question, class: &Template) {
     if question.is_cut {
         out.cut();
     }
+    match question.asked.take() {
+        None => put_in_memory(out, question, class),
+        Some(bytes) => put_asked(rt, out, class, bytes),
+    }
+}
+
+fn put_in_memory(out: &mut Sheet, question: Question, class: &Template) {
     let alloc = out.alloc();
     let mut wire = ScriptedWire::new(alloc, question.receipts, question.failing);
     let mut clock = ScriptedClock::new(question.readings);
@@ -51,11 +61,16 @@ fn put_session(out: &mut Sheet, question: Question, class: &Template) {
     }
 }
 
-fn put_served(out: &mut Sheet, session: LiveSession, taken: &[Packet], class: &Template) {
+/// Adds a session: its steps, what was sent, and how it ended.
+pub fn put_session(out: &mut Sheet, session: &LiveSession) {
     put_steps(out, session.steps.as_slice());
     put_packets(out, session.sent.as_slice());
     out.next(", ");
     out.put_all(&["end ", name_of(session.end)]);
+}
+
+fn put_served(out: &mut Sheet, session: LiveSession, taken: &[Packet], class: &Template) {
+    put_session(out, &session);
     let mut sent = Sheet::new(out.alloc());
     put_packets(&mut sent, session.sent.as_slice());
     let mut took = Sheet::new(out.alloc());

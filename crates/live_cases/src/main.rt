@@ -1,5 +1,6 @@
 //! `live_cases`: reads sessions from standard input, each with what has to come of it, lets a device go on over a wire
-//! and a clock in memory, and prints each whose end is another. docs/inside/live-cases.md says how a line is written.
+//! and a clock in memory, or over UDP on this machine's loopback address, and prints each whose end is another.
+//! docs/inside/live-cases.md says how a line is written.
 //!
 //! What prints writes on a `Sheet`, and what reads a line notes what it can't read: neither has a `Result`. A failed
 //! allocation is noted, and `Sheet::finish` returns it. Each `?` at which a device or a session is alive would cost the
@@ -8,19 +9,22 @@
 
 mod answer;
 mod question;
+mod udp;
 
 use answer::put_answer;
 use case_sheet::Sheet;
 use question::Question;
 use std::alloc::{AllocError, Global};
 use std::io;
+use std::net::Net;
 use std::process::ExitCode;
+use std::thread::Threads;
 
 fn main(rt: HostRuntime) -> io::Result<ExitCode> {
     let alloc = rt.alloc();
     let table = io::read_to_string(alloc, rt.reader())?;
     let mut report = Report::new(alloc);
-    report.look_over(table.as_str());
+    report.look_over(&rt, table.as_str());
     let status = report.status();
     let said = report.finish()?;
     rt.print(said.as_str())?;
@@ -55,31 +59,38 @@ impl Report {
         }
     }
 
-    fn look_over(&mut self, table: &str) {
+    fn look_over<R: Net + Threads>(&mut self, rt: &R, table: &str) {
         let mut number = 0u64;
         for line in table.lines() {
             number = number.saturating_add(1);
             if !line.trim().is_empty() && !line.starts_with('#') {
                 self.cases = self.cases.saturating_add(1);
-                self.look_at(line, number);
+                self.look_at(rt, line, number);
             }
         }
     }
 
     /// Compares what comes of a line with what stands after its arrow.
-    fn look_at(&mut self, line: &str, number: u64) {
+    fn look_at<R: Net + Threads>(&mut self, rt: &R, line: &str, number: u64) {
         match line.split_once(" => ") {
             None => self.unread(number, &[" has no arrow\n"]),
             Some((words, stated)) => match Question::read(self.out.alloc(), words) {
                 None => self.unread(number, &[" can't be read: ", words, "\n"]),
-                Some(question) => self.ask(number, words, question, stated.trim()),
+                Some(question) => self.ask(rt, number, words, question, stated.trim()),
             },
         }
     }
 
-    fn ask(&mut self, number: u64, words: &str, question: Question, stated: &str) {
+    fn ask<R: Net + Threads>(
+        &mut self,
+        rt: &R,
+        number: u64,
+        words: &str,
+        question: Question,
+        stated: &str,
+    ) {
         let mut came = Sheet::new(self.out.alloc());
-        put_answer(&mut came, question);
+        put_answer(rt, &mut came, question);
         if came.is_cut() {
             self.out.cut();
         }

@@ -14,6 +14,8 @@ pub struct Question {
     pub receipts: Vec<Receipt>,
     /// The call of `send` that fails, counted from 0, if one does.
     pub failing: Option<u64>,
+    /// The datagram that a client sends over UDP, if it is a session over UDP.
+    pub asked: Option<Vec<u8>>,
     /// Whether memory ran out.
     pub is_cut: bool,
 }
@@ -25,6 +27,7 @@ enum Part {
     Clock,
     Hears,
     Fails,
+    Udp,
 }
 
 impl Part {
@@ -34,6 +37,7 @@ impl Part {
             "clock" => Some(Part::Clock),
             "hears" => Some(Part::Hears),
             "fails" => Some(Part::Fails),
+            "udp" => Some(Part::Udp),
             _ => None,
         }
     }
@@ -47,6 +51,7 @@ impl Question {
             readings: Vec::new(alloc),
             receipts: Vec::new(alloc),
             failing: None,
+            asked: None,
             is_cut: false,
         };
         let mut part = Part::Turns;
@@ -64,6 +69,7 @@ impl Question {
     fn take(&mut self, alloc: Global, part: Part, word: &str) -> bool {
         match part {
             Part::Hears => return self.hear(alloc, word),
+            Part::Udp => return self.ask(alloc, word),
             Part::Turns => match word.parse::<u32>() {
                 Ok(turns) => self.turns = turns,
                 Err(_) => return false,
@@ -112,6 +118,16 @@ impl Question {
             }
             Err(_) => false,
         }
+    }
+
+    /// Takes a datagram that a client sends. Whether it could be read.
+    fn ask(&mut self, alloc: Global, digits: &str) -> bool {
+        match hex::decode(alloc, digits) {
+            Ok(bytes) => self.asked = Some(bytes),
+            Err(FromHexError::OutOfMemory) => self.is_cut = true,
+            Err(_) => return false,
+        }
+        true
     }
 
     fn keep(&mut self, receipt: Receipt) -> bool {

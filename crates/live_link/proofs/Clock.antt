@@ -1,16 +1,11 @@
 -- The seconds that pass at one reading more.
-use Rattle.std.proofs.Common.{◌≡◌, ◌≢◌, ℕ, true, cond, ◌+◌, ◌-◌, ◌<◌, min, nat_lt, List, [], ◌∷◌, ◌++◌, length}
-use Rattle.std.proofs.Common.{take, filter, sum}
-use Rattle.std.proofs.Common.{slice_index, Option, Some, unwrap_or, refl, sym, ap, ◌∙◌, arith, length-append}
-use Rattle.std.proofs.Common.{append-nil}
+use Rattle.std.proofs.Common.{◌≡◌, ℕ, ◌+◌, ◌-◌, ◌<◌, min, List, [], ◌∷◌, ◌++◌, length, take, sum}
+use Rattle.std.proofs.Common.{slice_index, Option, None, Some, unwrap_or, refl, sym, ap, ◌∙◌, arith, length-append}
 use Rattle.std.proofs.lemmas.List.{get_or_append_left, get_or_push, take-append-le, take_all}
-use Rattle.std.proofs.lemmas.List.Elements.{filter-append}
 use Rattle.std.proofs.lemmas.List.Sums.{sum_by_push}
-use Rattle.std.proofs.lemmas.Bool.Decides.{nat_tests}
 use borrow.Author.Count.{below_more}
-use Rattle.live_link.specs.declared.session.LiveEnd.{LiveEnd}
-use Rattle.live_link.specs.Live.{ArePassed, AreTickedAt, most_refused}
-use Rattle.live_link.specs.Serving.{IsTimed, counted_to}
+use Rattle.live_link.specs.Live.{ArePassed}
+use Rattle.live_link.specs.Serving.{IsTimed, counted_to, passed_at}
 
 pub passed_more : (rs ss : List ℕ) (r s : ℕ) → ArePassed rs ss
     → s ≡ min 86400 (r - (slice_index (rs ++ r ∷ []) 0 + sum ss)) → ArePassed (rs ++ r ∷ []) (ss ++ s ∷ [])
@@ -65,60 +60,19 @@ counted_more (first ∷ rs) ss r s h =
     ap Some q
 
 -- one reading more
-pub timed_more : (rs : List ℕ) (counted : Option ℕ) (ticks more : List ℕ) (r s to : ℕ) → IsTimed rs counted ticks
-    → s ≡ min 86400 (r - unwrap_or counted r) → to ≡ unwrap_or counted r + s
-    → more ≡ ticks ++ filter (nat_lt 0) (s ∷ []) → IsTimed (rs ++ r ∷ []) (Some to) more
-timed_more rs counted ticks more r s to h e f m =
+pub timed_more : (rs ss : List ℕ) (counted to : Option ℕ) (r : ℕ) → IsTimed rs counted ss
+    → to ≡ Some (unwrap_or counted r + passed_at counted r)
+    → IsTimed (rs ++ r ∷ []) to (ss ++ passed_at counted r ∷ [])
+timed_more rs ss counted to r h e =
     record {
-      seconds = h.seconds ++ s ∷ [];
-      passed = passed_more rs h.seconds r s h.passed (e ∙ ap (λ n. min 86400 (r - n)) at);
-      counted_is = ap Some (f ∙ ap (λ o. unwrap_or o r + s) h.counted_is)
-          ∙ counted_more rs h.seconds r s h.passed.count;
-      ticks_are = m ∙ ap (λ t. t ++ filter (nat_lt 0) (s ∷ [])) h.ticks_are
-          ∙ sym (filter-append (nat_lt 0) h.seconds (s ∷ []));
+      passed = passed_more rs ss r (passed_at counted r) h.passed (ap (λ n. min 86400 (r - n)) at);
+      counted_is = e ∙ ap (λ o. Some (unwrap_or o r + passed_at counted r)) h.counted_is
+          ∙ counted_more rs ss r (passed_at counted r) h.passed.count;
     }
   where
-    at : unwrap_or counted r ≡ slice_index (rs ++ r ∷ []) 0 + sum h.seconds
-    at = ap (λ o. unwrap_or o r) h.counted_is ∙ sym (first_is rs h.seconds r h.passed.count)
+    at : unwrap_or counted r ≡ slice_index (rs ++ r ∷ []) 0 + sum ss
+    at = ap (λ o. unwrap_or o r) h.counted_is ∙ sym (first_is rs ss r h.passed.count)
 
--- all ticks are among these
-pub all_ticked : (end : LiveEnd) (rs : List ℕ) (counted : Option ℕ) (ticks : List ℕ) → IsTimed rs counted ticks
-    → AreTickedAt end ticks rs
-all_ticked end rs counted ticks h =
-    record {
-      seconds = h.seconds;
-      passed = h.passed;
-      unticked = [];
-      ticks_are = sym h.ticks_are ∙ sym (append-nil ticks);
-      few = omega arith;
-    }
-
--- all ticks but the last are among these
-pub one_unticked : (end : LiveEnd) (rs : List ℕ) (counted : Option ℕ) (ticks : List ℕ) (s : ℕ)
-    → IsTimed rs counted (ticks ++ s ∷ []) → most_refused end ≡ 1 → AreTickedAt end ticks rs
-one_unticked end rs counted ticks s h e =
-    record {
-      seconds = h.seconds;
-      passed = h.passed;
-      unticked = s ∷ [];
-      ticks_are = sym h.ticks_are;
-      few = omega (arith, e);
-    }
-
--- no second passes
-pub timed_still : (rs : List ℕ) (counted : Option ℕ) (ticks : List ℕ) (r s to : ℕ) → IsTimed rs counted ticks
-    → s ≡ min 86400 (r - unwrap_or counted r) → to ≡ unwrap_or counted r + s → s ≡ 0
-    → IsTimed (rs ++ r ∷ []) (Some to) ticks
-timed_still rs counted ticks r s to h e f z =
-    timed_more rs counted ticks ticks r s to h e f
-    (sym (append-nil ticks) ∙ ap (λ n. ticks ++ filter (nat_lt 0) (n ∷ [])) (sym z))
-
-some_pass : (s : ℕ) → s ≢ 0 → filter (nat_lt 0) (s ∷ []) ≡ s ∷ []
-some_pass s h = let t : nat_lt 0 s ≡ true = grind (arith, nat_tests) in ap (λ b. cond b (s ∷ []) []) t
-
--- some seconds pass
-pub timed_on : (rs : List ℕ) (counted : Option ℕ) (ticks : List ℕ) (r s to : ℕ) → IsTimed rs counted ticks
-    → s ≡ min 86400 (r - unwrap_or counted r) → to ≡ unwrap_or counted r + s → s ≢ 0
-    → IsTimed (rs ++ r ∷ []) (Some to) (ticks ++ s ∷ [])
-timed_on rs counted ticks r s to h e f z =
-    timed_more rs counted ticks (ticks ++ s ∷ []) r s to h e f (ap (λ l. ticks ++ l) (sym (some_pass s z)))
+-- no reading was made yet
+pub untimed : IsTimed [] None []
+untimed = record { passed = record { count = refl; each = λ k l. absurd (omega (arith, l)) }; counted_is = refl }

@@ -1,10 +1,7 @@
+pub mod Came
 pub mod Clock
-pub mod Ordered
+pub mod FromStart
 pub mod Rows
-pub mod Scripted
 pub mod Sent
 pub mod Served
-pub mod Stepped
-pub mod Told
 pub mod Turned
-pub mod FromStart

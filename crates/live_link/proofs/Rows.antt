@@ -1,7 +1,6 @@
 -- The steps of a session, as those of a row.
-use Rattle.std.proofs.Common.{◌≡◌, ℕ, zero, suc, ◌≤◌, nat_le, ◌&&◌, true, List, [], ◌∷◌, ◌++◌, length, Option}
-use Rattle.std.proofs.Common.{Some}
-use Rattle.std.proofs.Common.{slice_get, refl, sym, ap, subst, ◌∙◌, arith}
+use Rattle.std.proofs.Common.{◌≡◌, inl, inr, ℕ, zero, suc, ◌≤◌, nat_le, ◌&&◌, true, List, [], ◌∷◌, ◌++◌, length}
+use Rattle.std.proofs.Common.{Option, Some, slice_get, refl, sym, ap, subst, ◌∙◌, append_assoc, append-nil, arith}
 use Rattle.std.proofs.lemmas.Bool.Decides.{nat_tests}
 use Rattle.std.specs.List.{flat_map, AllByRecursion}
 use Rattle.device_template.specs.Template.{Template}
@@ -13,10 +12,14 @@ use Rattle.scenario_image.specs.declared.step.Step.TheVariants.{Event, Post, Nee
 use Rattle.scenario_image.specs.Play.{outputs_in, start, step_after, step_outputs, IsRowOf, PutsOut}
 use Rattle.scenario_image.specs.Scenario.{is_in_range, one_row, Row}
 use Rattle.live_link.specs.declared.session.LiveSession.{LiveSession}
-use Rattle.live_link.specs.Live.{packets_in, sent_by, IsLiveStep, IsSentAt}
+use Rattle.live_link.specs.declared.packet.Packet.{Packet}
+use Rattle.live_link.specs.declared.session.LiveEnd.{LiveEnd}
+use Rattle.live_link.specs.declared.session.LiveEnd.TheVariants.{Turns, ReceiveFault, SendFault, Memory, Spent}
+use Rattle.live_link.specs.Live.{packets_in, sent_by, IsLiveStep, IsSendStopped, IsSentAt, IsSentOf}
 use Rattle.live_link.specs.Row.{AreRowOutputs}
 use Rattle.live_link.specs.Served.{IsServed}
 use Rattle.live_link.specs.Wire.{Traffic}
+use Rattle.live_link.proofs.Served.{sent_push}
 
 first_put_out : (f : Machine) (step : Step) (steps : List Step) (outputs : List Output)
     → PutsOut f (step ∷ steps) 0 outputs → outputs ≡ step_outputs f step
@@ -110,14 +113,36 @@ row_has_outputs class steps = (
   row_outputs_alone class steps,
 )
 
+-- what was sent is a beginning of what the steps output
+stopped_of : (f : Machine) (steps : List Step) (sent : List Packet) (h : IsSendStopped f steps sent)
+    → sent_by f steps ≡ sent ++ h.failed ∷ h.rest
+stopped_of f steps sent h =
+    ap (sent_by f) h.steps_are ∙ sent_push f h.before h.last ∙ ap (λ l. sent_by f h.before ++ l) h.output
+    ∙ sym (append_assoc (sent_by f h.before) h.gone (h.failed ∷ h.rest))
+    ∙ ap (λ l. l ++ h.failed ∷ h.rest) (sym h.sent_is)
+
+all_of : (sent all : List Packet) → sent ≡ all → IsSentOf Memory sent all
+all_of sent all e = ([], sym e ∙ sym (append-nil sent))
+
+sent_of : (end : LiveEnd) (refusals : ℕ) (f : Machine) (steps : List Step) (sent : List Packet)
+    → IsSentAt end refusals f steps sent → IsSentOf end sent (sent_by f steps)
+sent_of Turns refusals f steps sent h = h
+sent_of ReceiveFault refusals f steps sent h = h
+sent_of SendFault refusals f steps sent h = (h.failed, h.rest, stopped_of f steps sent h)
+sent_of Memory zero f steps sent h = all_of sent (sent_by f steps) h
+sent_of Memory (suc n) f steps sent (inl h) = all_of sent (sent_by f steps) h
+sent_of Memory (suc n) f steps sent (inr h) = (h.failed ∷ h.rest, stopped_of f steps sent h)
+sent_of Spent refusals f steps sent h = h
+
 pub row_sent : (class : Template) (turns : ℕ) (session : LiveSession) (before after : Option Traffic)
     (read_before read_after : Option (List ℕ)) → IsServed class turns session before after read_before read_after
     → (all : List (List Output)) → AreRowOutputs (one_row class session.steps.items) 0 all
-    → IsSentAt session.end session.sent.items (flat_map packets_in all)
+    → IsSentOf session.end session.sent.items (flat_map packets_in all)
 row_sent class turns session before after read_before read_after h all row =
-    subst (IsSentAt session.end session.sent.items)
+    subst (IsSentOf session.end session.sent.items)
     (sym (ap (flat_map packets_in) (row_outputs_alone class session.steps.items all row)
-    ∙ along_sent (start class) session.steps.items)) h.put_out
+    ∙ along_sent (start class) session.steps.items))
+    (sent_of session.end h.refusals (start class) session.steps.items session.sent.items (h.put_out (start class) refl))
 
 -- ---- a session's steps are in the range of a scenario's
 

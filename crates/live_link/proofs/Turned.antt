@@ -1,110 +1,123 @@
 -- A session, put together from its turns.
-use Rattle.std.proofs.Common.{◌≡◌, ◌≢◌, ℕ, ◌+◌, ◌≤◌, List, [], ◌∷◌, ◌++◌, length, Option, None, Some, refl, sym, ap}
-use Rattle.std.proofs.Common.{subst}
-use Rattle.std.proofs.Common.{◌∙◌, append_assoc, append-nil, arith, length-append, zero-add}
-use Rattle.device_machine.specs.State.{Device}
+use Rattle.std.proofs.Common.{◌≡◌, ◌≢◌, ℕ, zero, suc, ◌+◌, ◌≤◌, inl, inr, List, [], ◌∷◌, ◌++◌, length}
+use Rattle.std.proofs.Common.{Option, None, Some, refl, sym, ap, subst, ◌∙◌, append_assoc, append-nil, arith}
+use Rattle.std.proofs.Common.{length-append, unwrap_or, zero-add}
+use Rattle.device_machine.specs.declared.event.Event.TheVariants.{Tick}
+use Rattle.device_machine.specs.State.{Device, Shows}
 use Rattle.scenario_image.specs.declared.step.Step.{Step}
+use Rattle.scenario_image.specs.declared.step.Step.TheVariants.{Event}
 use Rattle.live_link.specs.declared.packet.Packet.{Packet}
 use Rattle.live_link.specs.declared.session.LiveEnd.{LiveEnd}
 use Rattle.live_link.specs.declared.session.LiveEnd.TheVariants.{Turns, ReceiveFault, SendFault, Memory, Spent}
 use Rattle.live_link.specs.Wire.{Traffic, Carries, AreRead, traffic_and}
-use Rattle.live_link.specs.Live.{AreTickedAt, IsCountAt, heard_by, ticks_of}
-use Rattle.live_link.specs.Serving.{IsBroken, IsOver, IsServing, IsTimed, IsUnderWay}
-use Rattle.live_link.proofs.Clock.{all_ticked}
+use Rattle.live_link.specs.Live.{heard_steps, tick_steps, turn_steps, AreCountsAt}
+use Rattle.live_link.specs.Served.{IsSession}
+use Rattle.live_link.specs.Serving.{passed_at, IsBroken, IsEarlyEnd, IsServing, IsStepEnd, IsUnderWay}
+use Rattle.live_link.proofs.Clock.{timed_more, untimed}
 use Rattle.live_link.proofs.Sent.{carries_both, carries_none}
-use Rattle.live_link.proofs.Served.{ends_there}
-use Rattle.live_link.proofs.Stepped.{all_heard}
+
+-- ---- the steps of a turn
+
+pub tick_is : (s : ℕ) → s ≢ 0 → tick_steps s ≡ Event (Tick s) ∷ []
+tick_is zero h = absurd (h refl)
+tick_is (suc n) h = refl
+
+pub no_tick : (s : ℕ) → s ≡ 0 → tick_steps s ≡ []
+no_tick zero h = refl
+no_tick (suc n) h = absurd (omega (arith, h))
+
+-- the seconds of a turn pass
+turns_tick : (seconds : List ℕ) (received : List (Option Packet)) (s : ℕ) → length received ≡ length seconds
+    → turn_steps (seconds ++ s ∷ []) received ≡ turn_steps seconds received ++ tick_steps s
+turns_tick [] [] s h = append-nil (tick_steps s)
+turns_tick [] (r ∷ received) s h = absurd (omega (arith, h))
+turns_tick (x ∷ seconds) [] s h = absurd (omega (arith, h))
+turns_tick (x ∷ seconds) (r ∷ received) s h =
+    ap (λ l. tick_steps x ++ heard_steps r ++ l) (turns_tick seconds received s (omega (arith, h)))
+    ∙ sym (append_assoc (tick_steps x ++ heard_steps r) (turn_steps seconds received) (tick_steps s))
+
+-- a turn is made
+turns_more : (seconds : List ℕ) (received : List (Option Packet)) (s : ℕ) (r : Option Packet)
+    → length received ≡ length seconds
+    → turn_steps (seconds ++ s ∷ []) (received ++ r ∷ [])
+    ≡ turn_steps seconds received ++ tick_steps s ++ heard_steps r
+turns_more [] [] s r h = append-nil (tick_steps s ++ heard_steps r)
+turns_more [] (q ∷ received) s r h = absurd (omega (arith, h))
+turns_more (x ∷ seconds) [] s r h = absurd (omega (arith, h))
+turns_more (x ∷ seconds) (q ∷ received) s r h =
+    let front = tick_steps x ++ heard_steps q in
+    let rest = turn_steps seconds received in
+    ap (λ l. front ++ l) (turns_more seconds received s r (omega (arith, h)))
+    ∙ sym (append_assoc front (rest ++ tick_steps s) (heard_steps r))
+    ∙ ap (λ l. l ++ heard_steps r) (sym (append_assoc front rest (tick_steps s)))
 
 -- ---- a call of `receive`
 
-abbrev traffic_with : List Packet → ℕ → List Packet → ℕ → ℕ → Traffic
-traffic_with handed asked sent failures refusals =
-    record { handed = handed; asked = asked; taken = sent; failures = failures; refusals = refusals }
-
-asked_more : (handed more : List Packet) (asked n failures refusals : ℕ) (sent : List Packet)
-    → traffic_and (record { handed = handed; asked = asked; taken = sent; failures = 0; refusals = 0 })
-    (record { handed = more; asked = n; taken = []; failures = failures; refusals = refusals })
-    ≡ record { handed = handed ++ more; asked = asked + n; taken = sent; failures = failures; refusals = refusals }
-asked_more handed more asked n failures refusals sent =
+asked_more : (received : List (Option Packet)) (heard : Option Packet) (sent : List Packet) (failures refusals : ℕ)
+    → traffic_and (record { received = received; taken = sent; failures = 0; refusals = 0 })
+    (record { received = heard ∷ []; taken = []; failures = failures; refusals = refusals })
+    ≡ record { received = received ++ heard ∷ []; taken = sent; failures = failures; refusals = refusals }
+asked_more received heard sent failures refusals =
     let s = append-nil sent in
     let f = zero-add failures in
     let r = zero-add refusals in
     cc
 
-handed_same : (handed : List Packet) (asked : ℕ) (sent : List Packet) (failures refusals : ℕ)
-    → traffic_with (handed ++ []) asked sent failures refusals ≡ traffic_with handed asked sent failures refusals
-handed_same handed asked sent failures refusals =
-    ap (λ (l : List Packet). traffic_with l asked sent failures refusals) (append-nil handed)
-
--- something was handed out
-pub asked_once : (first : Device) (before : Option Traffic) (handed more : List Packet) (asked n : ℕ) (device : Device)
-    (steps : List Step) (sent : List Packet) (between after : Option Traffic)
-    → IsServing first before handed asked device steps sent between
-    → Carries between after (record { handed = more; asked = n; taken = []; failures = 0; refusals = 0 })
-    → IsServing first before (handed ++ more) (asked + n) device steps sent after
-asked_once first before handed more asked n device steps sent between after h k =
+-- it gave this
+pub asked_once : (first : Device) (before : Option Traffic) (received : List (Option Packet)) (heard : Option Packet)
+    (device : Device) (steps : List Step) (sent : List Packet) (between after : Option Traffic)
+    → IsServing first before received device steps sent between
+    → Carries between after (record { received = heard ∷ []; taken = []; failures = 0; refusals = 0 })
+    → IsServing first before (received ++ heard ∷ []) device steps sent after
+asked_once first before received heard device steps sent between after h k =
     record {
       shows = h.shows;
       deaf = h.deaf;
       put_out = h.put_out;
-      told = carries_both before between after _ _ _ h.told k (asked_more handed more asked n 0 0 sent);
+      told = carries_both before between after _ _ _ h.told k (asked_more received heard sent 0 0);
       live = h.live;
     }
 
--- nothing was
-pub asked_in_vain : (first : Device) (before : Option Traffic) (handed : List Packet) (asked : ℕ) (device : Device)
-    (steps : List Step) (sent : List Packet) (between after : Option Traffic)
-    → IsServing first before handed asked device steps sent between
-    → Carries between after (record { handed = []; asked = 1; taken = []; failures = 0; refusals = 0 })
-    → IsServing first before handed (asked + 1) device steps sent after
-asked_in_vain first before handed asked device steps sent between after h k =
-    subst (λ (l : List Packet). IsServing first before l (asked + 1) device steps sent after) (append-nil handed)
-    (asked_once first before handed [] asked 1 device steps sent between after h k)
-
 -- the wire failed
-pub receive_failed : (first : Device) (before : Option Traffic) (asked : ℕ) (device : Device)
+pub receive_failed : (first : Device) (before : Option Traffic) (received : List (Option Packet)) (device : Device)
     (steps : List Step) (sent : List Packet) (between after : Option Traffic)
-    → IsServing first before (heard_by steps) asked device steps sent between
-    → Carries between after (record { handed = []; asked = 1; taken = []; failures = 1; refusals = 0 })
-    → IsBroken ReceiveFault first before (asked + 1) steps sent after
-receive_failed first before asked device steps sent between after h k =
+    → IsServing first before received device steps sent between
+    → Carries between after (record { received = None ∷ []; taken = []; failures = 1; refusals = 0 })
+    → IsBroken ReceiveFault first before (received ++ None ∷ []) (steps ++ heard_steps None) steps sent after
+receive_failed first before received device steps sent between after h k =
     record {
-      early = λ e. cc;
-      handed = heard_by steps;
-      cut = record {
-        deaf = λ e. (h.deaf e).1;
-        put_out = h.put_out;
-        refusals = 0;
-        few = omega arith;
-        told = carries_both before between after _ _ _ h.told k
-            (asked_more (heard_by steps) [] asked 1 1 0 sent ∙ handed_same (heard_by steps) (asked + 1) sent 1 0);
-        live = h.live;
-      };
-      heard = all_heard ReceiveFault (heard_by steps) (heard_by steps) refl;
-      spent = λ f s e. cc;
+      early = tt;
+      refusals = 0;
+      few = omega arith;
+      told = carries_both before between after _ _ _ h.told k (asked_more received None sent 1 0);
+      refused = [];
+      given_are = refl;
+      refused_count = refl;
+      live = h.live;
+      put_out = h.put_out;
+      past_end = λ f s e. absurd cc;
+      deaf = λ e. (h.deaf e).1;
     }
 
--- no memory was left for what was to be handed out
-pub receive_refused : (first : Device) (before : Option Traffic) (asked : ℕ) (device : Device)
+-- no memory was left for the wire
+pub receive_refused : (first : Device) (before : Option Traffic) (received : List (Option Packet)) (device : Device)
     (steps : List Step) (sent : List Packet) (between after : Option Traffic)
-    → IsServing first before (heard_by steps) asked device steps sent between
-    → Carries between after (record { handed = []; asked = 1; taken = []; failures = 0; refusals = 1 })
-    → IsBroken Memory first before (asked + 1) steps sent after
-receive_refused first before asked device steps sent between after h k =
+    → IsServing first before received device steps sent between
+    → Carries between after (record { received = None ∷ []; taken = []; failures = 0; refusals = 1 })
+    → IsBroken Memory first before (received ++ None ∷ []) (steps ++ heard_steps None) steps sent after
+receive_refused first before received device steps sent between after h k =
     record {
-      early = λ e. cc;
-      handed = heard_by steps;
-      cut = record {
-        deaf = λ e. (h.deaf e).1;
-        put_out = λ f s. ([], sym (h.put_out f s) ∙ sym (append-nil sent));
-        refusals = 1;
-        few = omega arith;
-        told = carries_both before between after _ _ _ h.told k
-            (asked_more (heard_by steps) [] asked 1 0 1 sent ∙ handed_same (heard_by steps) (asked + 1) sent 0 1);
-        live = h.live;
-      };
-      heard = all_heard Memory (heard_by steps) (heard_by steps) refl;
-      spent = λ f s e. cc;
+      early = tt;
+      refusals = 1;
+      few = omega arith;
+      told = carries_both before between after _ _ _ h.told k (asked_more received None sent 0 1);
+      refused = [];
+      given_are = refl;
+      refused_count = refl;
+      live = h.live;
+      put_out = λ f s. inl (h.put_out f s);
+      past_end = λ f s e. absurd cc;
+      deaf = λ e. (h.deaf e).1;
     }
 
 -- ---- readings
@@ -129,6 +142,8 @@ pub starts : (device : Device) (before : Option Traffic) (read : Option (List �
 starts device before read steps sent e s =
     subst (λ (l : List Step). IsUnderWay device before read 0 device None l sent before read) (sym e)
     (subst (λ (l : List Packet). IsUnderWay device before read 0 device None [] l before read) (sym s) (record {
+      received = [];
+      calls = refl;
       serving = record {
         shows = λ f h. h;
         deaf = λ h. (h, refl);
@@ -139,95 +154,134 @@ starts device before read steps sent e s =
       readings = [];
       count = refl;
       read = none_read read;
-      timed = record {
-        seconds = [];
-        passed = record { count = refl; each = λ k l. absurd (omega (arith, l)) };
-        counted_is = refl;
-        ticks_are = refl;
-      };
+      seconds = [];
+      timed = untimed;
+      given = refl;
     }))
+
+push_length : {A : Type 0} (xs : List A) (x : A) (n : ℕ) → length xs ≡ n → length (xs ++ x ∷ []) ≡ n + 1
+push_length xs x n h = omega (arith, h, length-append xs (x ∷ []))
 
 -- one turn more
 pub turned : (first : Device) (before : Option Traffic) (read_before : Option (List ℕ)) (turns : ℕ)
-    (device newer : Device) (counted later : Option ℕ) (steps more : List Step) (sent noted : List Packet)
-    (between after : Option Traffic) (read_between read_after : Option (List ℕ)) (now : ℕ)
-    → IsUnderWay first before read_before turns device counted steps sent between read_between
+    (device newer : Device) (counted later : Option ℕ) (steps between more : List Step) (sent noted : List Packet)
+    (told_between after : Option Traffic) (read_between read_after : Option (List ℕ)) (now : ℕ)
+    (h : IsUnderWay first before read_before turns device counted steps sent told_between read_between)
     → AreRead read_between read_after (now ∷ [])
-    → IsServing first before (heard_by more) (turns + 1) newer more noted after
-    → ((readings : List ℕ) → IsTimed readings counted (ticks_of steps)
-    → IsTimed (readings ++ now ∷ []) later (ticks_of more))
+    → between ≡ steps ++ tick_steps (passed_at counted now)
+    → ((heard : Option Packet) × IsServing first before (h.received ++ heard ∷ []) newer more noted after
+    × (more ≡ between ++ heard_steps heard))
+    → later ≡ Some (unwrap_or counted now + passed_at counted now)
     → IsUnderWay first before read_before (turns + 1) newer later more noted after read_after
-turned first before read_before turns device newer counted later steps more sent noted between after read_between
-    read_after now h read serving timed =
+turned first before read_before turns device newer counted later steps between more sent noted told_between after
+    read_between read_after now h read ticked (heard, serving, e) to =
     record {
+      received = h.received ++ heard ∷ [];
+      calls = push_length h.received heard turns h.calls;
       serving = serving;
       readings = h.readings ++ now ∷ [];
-      count = omega (arith, h.count, length-append h.readings (now ∷ []));
+      count = push_length h.readings now turns h.count;
       read = read_more read_before read_between read_after h.readings now h.read read;
-      timed = timed h.readings h.timed;
+      seconds = h.seconds ++ passed_at counted now ∷ [];
+      timed = timed_more h.readings h.seconds counted later now h.timed to;
+      given = e ∙ ap (λ l. l ++ heard_steps heard) (ticked
+          ∙ ap (λ l. l ++ tick_steps (passed_at counted now)) h.given)
+          ∙ sym (turns_more h.seconds h.received (passed_at counted now) heard
+          (h.calls ∙ sym (h.timed.passed.count ∙ h.count)));
     }
 
-count_at : (end : LiveEnd) (turns count : ℕ) → end ≢ Turns → count ≤ turns → IsCountAt end turns count
-count_at Turns turns count e h = absurd (e refl)
-count_at ReceiveFault turns count e h = h
-count_at SendFault turns count e h = h
-count_at Memory turns count e h = h
-count_at Spent turns count e h = h
+-- the calls of a turn that was broken off after the wire was asked
+asked_counts : (end : LiveEnd) (turns readings calls made : ℕ) → IsEarlyEnd end → readings ≡ made → calls ≡ made
+    → made ≤ turns → AreCountsAt end turns readings calls
+asked_counts Turns turns readings calls made h r c le = absurd h
+asked_counts ReceiveFault turns readings calls made h r c le = (omega (arith, r, le), c ∙ sym r)
+asked_counts SendFault turns readings calls made h r c le = (omega (arith, r, le), inl (c ∙ sym r))
+asked_counts Memory turns readings calls made h r c le = (omega (arith, r, le), inl (c ∙ sym r))
+asked_counts Spent turns readings calls made h r c le = (omega (arith, r, le), inl (c ∙ sym r))
 
-within : (end : LiveEnd) (turns count : ℕ) → end ≢ Turns → IsCountAt end turns count → count ≤ turns
-within Turns turns count e h = absurd (e refl)
-within ReceiveFault turns count e h = h
-within SendFault turns count e h = h
-within Memory turns count e h = h
-within Spent turns count e h = h
+-- and before that
+unasked_counts : (end : LiveEnd) (turns readings calls made : ℕ) → IsStepEnd end → readings ≡ made + 1 → calls ≡ made
+    → made + 1 ≤ turns → AreCountsAt end turns readings calls
+unasked_counts Turns turns readings calls made h r c le = absurd h
+unasked_counts ReceiveFault turns readings calls made h r c le = absurd h
+unasked_counts SendFault turns readings calls made h r c le =
+    (omega (arith, r, le), inr (omega (arith, r, c)))
+unasked_counts Memory turns readings calls made h r c le = (omega (arith, r, le), inr (omega (arith, r, c)))
+unasked_counts Spent turns readings calls made h r c le = (omega (arith, r, le), inr (omega (arith, r, c)))
 
--- the turn was cut short
-pub broken_off : (end : LiveEnd) (first : Device) (before : Option Traffic) (read_before : Option (List ℕ))
-    (turns asked : ℕ) (device : Device) (counted : Option ℕ) (steps more : List Step) (sent noted : List Packet)
+-- the session was broken off before the wire was asked
+pub off_unasked : (end : LiveEnd) (first : Device) (before : Option Traffic) (read_before : Option (List ℕ))
+    (turns most : ℕ) (device : Device) (counted later : Option ℕ) (steps more : List Step) (sent noted : List Packet)
     (between after : Option Traffic) (read_between read_after : Option (List ℕ)) (now : ℕ)
-    → IsUnderWay first before read_before turns device counted steps sent between read_between
-    → AreRead read_between read_after (now ∷ []) → IsBroken end first before asked more noted after
-    → asked ≤ turns + 1
-    → ((readings : List ℕ) → IsTimed readings counted (ticks_of steps)
-    → AreTickedAt end (ticks_of more) (readings ++ now ∷ []))
-    → (end ≢ Turns) × IsOver end first before read_before (turns + 1) more noted after read_after
-broken_off end first before read_before turns asked device counted steps more sent noted between after read_between
-    read_after now h read broken few timed = (
-      broken.early,
-      record {
-        handed = broken.handed;
-        asked = asked;
-        cut = broken.cut;
-        heard = broken.heard;
-        asked_count = count_at end (turns + 1) asked broken.early few;
-        readings = h.readings ++ now ∷ [];
-        read = read_more read_before read_between read_after h.readings now h.read read;
-        ticked = timed h.readings h.timed;
-        read_count = count_at end (turns + 1) (length (h.readings ++ now ∷ [])) broken.early
-            (omega (arith, h.count, length-append h.readings (now ∷ [])));
-        spent = broken.spent;
-      },
-    )
-
--- the session is over, of more turns than were made
-pub cut_off : (end : LiveEnd) (first : Device) (before : Option Traffic) (read_before : Option (List ℕ))
-    (made turns : ℕ) (steps : List Step) (sent : List Packet) (after : Option Traffic) (read_after : Option (List ℕ))
-    → end ≢ Turns → IsOver end first before read_before made steps sent after read_after → made ≤ turns
-    → IsOver end first before read_before turns steps sent after read_after
-cut_off end first before read_before made turns steps sent after read_after early h le =
-    let a = within end made h.asked early h.asked_count in
-    let r = within end made (length h.readings) early h.read_count in
+    (h : IsUnderWay first before read_before turns device counted steps sent between read_between)
+    → AreRead read_between read_after (now ∷ []) → IsStepEnd end
+    → IsBroken end first before h.received (steps ++ tick_steps (passed_at counted now)) more noted after
+    → later ≡ Some (unwrap_or counted now + passed_at counted now) → turns + 1 ≤ most
+    → IsSession (Shows first) first.spent most end more noted before after read_before read_after
+off_unasked end first before read_before turns most device counted later steps more sent noted between after
+    read_between read_after now h read at broken to le =
     record {
-      handed = h.handed;
-      asked = h.asked;
-      cut = h.cut;
-      heard = h.heard;
-      asked_count = count_at end turns h.asked early (omega (arith, a, le));
-      readings = h.readings;
-      read = h.read;
-      ticked = h.ticked;
-      read_count = count_at end turns (length h.readings) early (omega (arith, r, le));
-      spent = h.spent;
+      received = h.received;
+      refusals = broken.refusals;
+      few = broken.few;
+      told = broken.told;
+      readings = h.readings ++ now ∷ [];
+      read = read_more read_before read_between read_after h.readings now h.read read;
+      refused = broken.refused;
+      made = record {
+        seconds = h.seconds ++ passed_at counted now ∷ [];
+        passed = (timed_more h.readings h.seconds counted later now h.timed to).passed;
+        given = turns_tick h.seconds h.received (passed_at counted now)
+            (h.calls ∙ sym (h.timed.passed.count ∙ h.count))
+            ∙ ap (λ l. l ++ tick_steps (passed_at counted now)) (sym h.given) ∙ broken.given_are;
+        refused_count = broken.refused_count;
+        counts = unasked_counts end most (length (h.readings ++ now ∷ [])) (length h.received) turns at
+            (push_length h.readings now turns h.count) h.calls le;
+        live = broken.live;
+      };
+      put_out = broken.put_out;
+      past_end = broken.past_end;
+      deaf = broken.deaf;
+    }
+
+-- the session was broken off after the wire was asked
+pub off_asked : (end : LiveEnd) (first : Device) (before : Option Traffic) (read_before : Option (List ℕ))
+    (turns most : ℕ) (device : Device) (counted later : Option ℕ) (steps between more : List Step)
+    (sent noted : List Packet) (told_between after : Option Traffic) (read_between read_after : Option (List ℕ))
+    (now : ℕ)
+    (h : IsUnderWay first before read_before turns device counted steps sent told_between read_between)
+    → AreRead read_between read_after (now ∷ [])
+    → between ≡ steps ++ tick_steps (passed_at counted now)
+    → ((heard : Option Packet) × IsBroken end first before (h.received ++ heard ∷ [])
+    (between ++ heard_steps heard) more noted after)
+    → later ≡ Some (unwrap_or counted now + passed_at counted now) → turns + 1 ≤ most
+    → IsSession (Shows first) first.spent most end more noted before after read_before read_after
+off_asked end first before read_before turns most device counted later steps between more sent noted told_between
+    after read_between read_after now h read ticked (heard, broken) to le =
+    record {
+      received = h.received ++ heard ∷ [];
+      refusals = broken.refusals;
+      few = broken.few;
+      told = broken.told;
+      readings = h.readings ++ now ∷ [];
+      read = read_more read_before read_between read_after h.readings now h.read read;
+      refused = broken.refused;
+      made = record {
+        seconds = h.seconds ++ passed_at counted now ∷ [];
+        passed = (timed_more h.readings h.seconds counted later now h.timed to).passed;
+        given = turns_more h.seconds h.received (passed_at counted now) heard
+            (h.calls ∙ sym (h.timed.passed.count ∙ h.count))
+            ∙ ap (λ l. l ++ heard_steps heard) (ap (λ l. l ++ tick_steps (passed_at counted now)) (sym h.given)
+            ∙ sym ticked) ∙ broken.given_are;
+        refused_count = broken.refused_count;
+        counts = asked_counts end most (length (h.readings ++ now ∷ [])) (length (h.received ++ heard ∷ []))
+            (turns + 1) broken.early (push_length h.readings now turns h.count)
+            (push_length h.received heard turns h.calls) le;
+        live = broken.live;
+      };
+      put_out = broken.put_out;
+      past_end = broken.past_end;
+      deaf = broken.deaf;
     }
 
 -- all turns were made
@@ -235,29 +289,38 @@ pub all_turns : (first : Device) (before : Option Traffic) (read_before : Option
     (device : Device) (counted : Option ℕ) (steps : List Step) (sent : List Packet) (after : Option Traffic)
     (read_after : Option (List ℕ))
     → IsUnderWay first before read_before made device counted steps sent after read_after → made ≡ turns
-    → IsOver Turns first before read_before turns steps sent after read_after
+    → IsSession (Shows first) first.spent turns Turns steps sent before after read_before read_after
 all_turns first before read_before made turns device counted steps sent after read_after h e =
     record {
-      handed = heard_by steps;
-      asked = made;
-      cut = ends_there Turns first before (heard_by steps) made device steps steps sent sent after h.serving tt
-          refl refl;
-      heard = all_heard Turns (heard_by steps) (heard_by steps) refl;
-      asked_count = e;
+      received = h.received;
+      refusals = 0;
+      few = omega arith;
+      told = h.serving.told;
       readings = h.readings;
       read = h.read;
-      ticked = all_ticked Turns h.readings counted (ticks_of steps) h.timed;
-      read_count = h.count ∙ e;
-      spent = λ f s k. cc;
+      refused = [];
+      made = record {
+        seconds = h.seconds;
+        passed = h.timed.passed;
+        given = sym h.given ∙ sym (append-nil steps);
+        refused_count = refl;
+        counts = (h.count ∙ e, h.calls ∙ e);
+        live = h.serving.live;
+      };
+      put_out = h.serving.put_out;
+      past_end = λ f s k. absurd cc;
+      deaf = λ k. (h.serving.deaf k).1;
     }
 
 -- the same, as the session has it
 pub as_session : (end said : LiveEnd) (first : Device) (before : Option Traffic) (read_before : Option (List ℕ))
     (turns : ℕ) (steps kept : List Step) (sent noted : List Packet) (after : Option Traffic)
-    (read_after : Option (List ℕ)) → IsOver end first before read_before turns steps sent after read_after
+    (read_after : Option (List ℕ))
+    → IsSession (Shows first) first.spent turns end steps sent before after read_before read_after
     → said ≡ end → kept ≡ steps → noted ≡ sent
-    → IsOver said first before read_before turns kept noted after read_after
+    → IsSession (Shows first) first.spent turns said kept noted before after read_before read_after
 as_session end said first before read_before turns steps kept sent noted after read_after h e s n =
-    subst (λ (x : LiveEnd). IsOver x first before read_before turns kept noted after read_after) (sym e)
-    (subst (λ (x : List Step). IsOver end first before read_before turns x noted after read_after) (sym s)
-    (subst (λ (x : List Packet). IsOver end first before read_before turns steps x after read_after) (sym n) h))
+    subst (λ (x : LiveEnd). IsSession (Shows first) first.spent turns x kept noted before after read_before read_after)
+    (sym e) (subst (λ (x : List Step). IsSession (Shows first) first.spent turns end x noted before after read_before
+    read_after) (sym s) (subst (λ (x : List Packet). IsSession (Shows first) first.spent turns end steps x before after
+    read_before read_after) (sym n) h))

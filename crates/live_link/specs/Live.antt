@@ -1,7 +1,7 @@
 -- A session: the steps that a device took on a wire, what it sent, and how that ended.
-use Rattle.std.specs.Prelude.{◌≡◌, ℕ, ◌+◌, ◌-◌, ◌<◌, ◌≤◌, ⊤, min, nat_lt, true, List, [], ◌∷◌, ◌++◌}
-use Rattle.std.specs.Prelude.{length, take, filter, sum, slice_index, Option, None, Some}
-use Rattle.std.specs.List.{filter_map, flat_map}
+use Rattle.std.specs.Prelude.{◌≡◌, ℕ, zero, suc, ◌+◌, ◌-◌, ◌<◌, ◌≤◌, ◌⊎◌, ⊤, min, true, List, [], ◌∷◌, ◌++◌}
+use Rattle.std.specs.Prelude.{length, take, sum, slice_index, Option, None, Some}
+use Rattle.std.specs.List.{filter_map}
 use Rattle.device_machine.specs.declared.event.Event.TheVariants.{Recv, Put, Firmware, Tick}
 use Rattle.device_machine.specs.declared.fault.StepFault.{StepFault}
 use Rattle.device_machine.specs.declared.fault.StepFault.TheVariants as faults
@@ -16,33 +16,40 @@ use Rattle.live_link.specs.declared.packet.Packet.{Packet}
 use Rattle.live_link.specs.declared.session.LiveEnd.{LiveEnd}
 use Rattle.live_link.specs.declared.session.LiveEnd.TheVariants.{Turns, ReceiveFault, SendFault, Memory, Spent}
 
--- ---- the steps
+-- ---- turns
 
--- the datagram that a step receives
-abbrev pub heard_in : Step → Option Packet
-heard_in (Event (Recv server bytes)) = Some (record { server = server; bytes = bytes })
-heard_in (Event (Put path value)) = None
-heard_in (Event (Firmware code)) = None
-heard_in (Event (Tick seconds)) = None
-heard_in (Post group) = None
-heard_in (Need group count) = None
+-- the seconds that pass at a reading are a tick, where some pass
+abbrev pub tick_steps : ℕ → List Step
+tick_steps zero = []
+tick_steps (suc n) = Event (Tick (suc n)) ∷ []
 
--- the datagrams that steps receive, in order
-abbrev pub heard_by : List Step → List Packet
-heard_by steps = filter_map heard_in steps
+-- what a call of `receive` gave is received, where it gave a datagram
+abbrev pub heard_steps : Option Packet → List Step
+heard_steps None = []
+heard_steps (Some packet) = Event (Recv packet.server packet.bytes) ∷ []
 
--- the seconds that pass in a step that is a tick
-abbrev pub tick_in : Step → Option ℕ
-tick_in (Event (Recv server bytes)) = None
-tick_in (Event (Put path value)) = None
-tick_in (Event (Firmware code)) = None
-tick_in (Event (Tick seconds)) = Some seconds
-tick_in (Post group) = None
-tick_in (Need group count) = None
+-- the steps of turns: in each the seconds of its reading pass, and then what its call of `receive` gave is received. In
+-- the last one that call may not have been made
+abbrev pub turn_steps : List ℕ → List (Option Packet) → List Step
+turn_steps [] received = []
+turn_steps (s ∷ seconds) [] = tick_steps s ++ turn_steps seconds []
+turn_steps (s ∷ seconds) (r ∷ received) = tick_steps s ++ heard_steps r ++ turn_steps seconds received
 
--- the seconds of the ticks among steps, in order
-abbrev pub ticks_of : List Step → List ℕ
-ticks_of steps = filter_map tick_in steps
+-- n seconds pass at each reading: those from the first reading to this one, without those that have passed
+-- before, and at most a day. Where the clock stood or went back, none pass
+pub record ArePassed (readings seconds : List ℕ) : Type 0 where
+  pub count : length seconds ≡ length readings
+  pub each : (k : ℕ) → k < length readings → slice_index seconds k
+      ≡ min 86400 (slice_index readings k - (slice_index readings 0 + sum (take k seconds)))
+
+-- of n turns so many readings and calls of `receive` were made: all of them, or some, and in the last turn the reading
+-- may have been made alone
+abbrev pub AreCountsAt : LiveEnd → ℕ → ℕ → ℕ → Type 0
+AreCountsAt Turns turns readings calls = (readings ≡ turns) × (calls ≡ turns)
+AreCountsAt ReceiveFault turns readings calls = (readings ≤ turns) × (calls ≡ readings)
+AreCountsAt SendFault turns readings calls = (readings ≤ turns) × ((calls ≡ readings) ⊎ (calls + 1 ≡ readings))
+AreCountsAt Memory turns readings calls = (readings ≤ turns) × ((calls ≡ readings) ⊎ (calls + 1 ≡ readings))
+AreCountsAt Spent turns readings calls = (readings ≤ turns) × ((calls ≡ readings) ⊎ (calls + 1 ≡ readings))
 
 -- a datagram is received, or 1 to 86,400 seconds pass: a session has no other steps
 abbrev pub IsLiveStep : Step → Type 0
@@ -53,32 +60,7 @@ IsLiveStep (Event (Tick seconds)) = (1 ≤ seconds) × (seconds ≤ 86400)
 IsLiveStep (Post group) = ⊥
 IsLiveStep (Need group count) = ⊥
 
--- ---- turns
-
--- what a turn gave: the seconds that passed, if some did, and the datagram that was received, if one was
-pub record Turn : Type 0 where
-  pub seconds : Option ℕ
-  pub heard : Option Packet
-
-abbrev pub tick_steps : Option ℕ → List Step
-tick_steps None = []
-tick_steps (Some seconds) = Event (Tick seconds) ∷ []
-
-abbrev pub heard_steps : Option Packet → List Step
-heard_steps None = []
-heard_steps (Some packet) = Event (Recv packet.server packet.bytes) ∷ []
-
--- the steps of a turn: seconds pass before a datagram is received
-abbrev pub turn_steps : Turn → List Step
-turn_steps turn = tick_steps turn.seconds ++ heard_steps turn.heard
-
--- the steps are those of at most n turns, one after another
-pub record AreInTurns (turns : ℕ) (steps : List Step) : Type 0 where
-  pub made : List Turn
-  pub few : length made ≤ turns
-  pub steps_are : steps ≡ flat_map turn_steps made
-
--- ---- what they output
+-- ---- what steps output
 
 -- the datagram that an output sends
 abbrev pub packet_in : Output → Option Packet
@@ -94,52 +76,34 @@ abbrev pub sent_by : Machine → List Step → List Packet
 sent_by f [] = []
 sent_by f (step ∷ steps) = packets_in (step_outputs f step) ++ sent_by (step_after f step) steps
 
--- of what was output this was sent, where the session ended so: all, or all before the one that failed
-abbrev pub IsSentAt : LiveEnd → List Packet → List Packet → Type 0
-IsSentAt Turns sent all = sent ≡ all
-IsSentAt ReceiveFault sent all = sent ≡ all
-IsSentAt SendFault sent all = (failed : Packet) × (rest : List Packet) × (all ≡ sent ++ failed ∷ rest)
-IsSentAt Memory sent all = (rest : List Packet) × (all ≡ sent ++ rest)
-IsSentAt Spent sent all = sent ≡ all
+-- sending failed at a datagram of the last step: what was sent is all before that one
+pub record IsSendStopped (f : Machine) (steps : List Step) (sent : List Packet) : Type 0 where
+  pub before : List Step
+  pub last : Step
+  pub steps_are : steps ≡ before ++ last ∷ []
+  pub gone : List Packet
+  pub failed : Packet
+  pub rest : List Packet
+  pub output : packets_in (step_outputs (state_after f before) last) ≡ gone ++ failed ∷ rest
+  pub sent_is : sent ≡ sent_by f before ++ gone
 
--- ---- what they were made of
+-- of what the steps output this was sent, where the session ended so and no memory was left for the wire so often: all,
+-- or all before a datagram of the last step
+abbrev pub IsSentAt : LiveEnd → ℕ → Machine → List Step → List Packet → Type 0
+IsSentAt Turns refusals f steps sent = sent ≡ sent_by f steps
+IsSentAt ReceiveFault refusals f steps sent = sent ≡ sent_by f steps
+IsSentAt SendFault refusals f steps sent = IsSendStopped f steps sent
+IsSentAt Memory zero f steps sent = sent ≡ sent_by f steps
+IsSentAt Memory (suc n) f steps sent = (sent ≡ sent_by f steps) ⊎ IsSendStopped f steps sent
+IsSentAt Spent refusals f steps sent = sent ≡ sent_by f steps
 
--- how many steps the device did not take, of those that the wire and the clock gave
-abbrev pub most_refused : LiveEnd → ℕ
-most_refused Turns = 0
-most_refused ReceiveFault = 0
-most_refused SendFault = 0
-most_refused Memory = 1
-most_refused Spent = 1
-
--- what was handed out is what was heard, and at most so much more
-pub record IsHeardAt (end : LiveEnd) (heard handed : List Packet) : Type 0 where
-  pub unheard : List Packet
-  pub handed_is : handed ≡ heard ++ unheard
-  pub few : length unheard ≤ most_refused end
-
--- n seconds pass at each reading: those from the first reading to this one, without those that have passed
--- before, and at most a day. Where the clock stood or went back, none pass
-pub record ArePassed (readings seconds : List ℕ) : Type 0 where
-  pub count : length seconds ≡ length readings
-  pub each : (k : ℕ) → k < length readings → slice_index seconds k
-      ≡ min 86400 (slice_index readings k - (slice_index readings 0 + sum (take k seconds)))
-
--- the seconds that pass, where some do, are those of the ticks, and at most that many more
-pub record AreTickedAt (end : LiveEnd) (ticks readings : List ℕ) : Type 0 where
-  pub seconds : List ℕ
-  pub passed : ArePassed readings seconds
-  pub unticked : List ℕ
-  pub ticks_are : filter (nat_lt 0) seconds ≡ ticks ++ unticked
-  pub few : length unticked ≤ most_refused end
-
--- this many readings, or calls of `receive`, were made of n turns
-abbrev pub IsCountAt : LiveEnd → ℕ → ℕ → Type 0
-IsCountAt Turns turns count = count ≡ turns
-IsCountAt ReceiveFault turns count = count ≤ turns
-IsCountAt SendFault turns count = count ≤ turns
-IsCountAt Memory turns count = count ≤ turns
-IsCountAt Spent turns count = count ≤ turns
+-- of all that was output this was sent, where a session ended so: all, or all before one datagram, or a beginning
+abbrev pub IsSentOf : LiveEnd → List Packet → List Packet → Type 0
+IsSentOf Turns sent all = sent ≡ all
+IsSentOf ReceiveFault sent all = sent ≡ all
+IsSentOf SendFault sent all = (failed : Packet) × (rest : List Packet) × (all ≡ sent ++ failed ∷ rest)
+IsSentOf Memory sent all = (rest : List Packet) × (all ≡ sent ++ rest)
+IsSentOf Spent sent all = sent ≡ all
 
 -- ---- how it ended
 
@@ -159,13 +123,22 @@ most_refusals SendFault = 0
 most_refusals Memory = 1
 most_refusals Spent = 0
 
+-- how many steps were refused, where no memory was left for the wire so often: the step for which no memory was left,
+-- unless that was the wire's, and the tick that passes the last second
+abbrev pub refused_at : LiveEnd → ℕ → ℕ
+refused_at Turns refusals = 0
+refused_at ReceiveFault refusals = 0
+refused_at SendFault refusals = 0
+refused_at Memory refusals = 1 - refusals
+refused_at Spent refusals = 1
+
 -- what the device's refusal ends
 abbrev pub end_at : StepFault → LiveEnd
 end_at faults.Memory = Memory
 end_at faults.Spent = Spent
 
--- after the steps a tick would take the device's clock past its last second
-pub record IsAtLastSecond (f : Machine) (steps : List Step) : Type 0 where
+-- the refused step is a tick that would take the device's clock past its last second
+pub record IsPastEnd (f : Machine) (steps refused : List Step) : Type 0 where
   pub seconds : ℕ
-  pub within : seconds ≤ 86400
+  pub refused_is : refused ≡ Event (Tick seconds) ∷ []
   pub passes : passes_end (state_after f steps).kept.clock (Tick seconds) ≡ true

@@ -4,11 +4,10 @@ use Rattle.live_link.specs.declared.packet.Packet.{Packet}
 use Rattle.live_link.specs.declared.wire.WireFault.{WireFault}
 use Rattle.live_link.specs.declared.wire.WireFault.TheVariants.{Failed, Memory}
 
--- what went over a wire: what `receive` handed out and `send` took in, each in order; how often `receive` was called;
--- how often the wire failed, and how often no memory was left for it
+-- what went over a wire: what each call of `receive` gave, in order, none where nothing had arrived or the call failed;
+-- what `send` took in, in order; how often the wire failed, and how often no memory was left for it
 pub record Traffic : Type 0 where
-  pub handed : List Packet
-  pub asked : ℕ
+  pub received : List (Option Packet)
   pub taken : List Packet
   pub failures : ℕ
   pub refusals : ℕ
@@ -17,8 +16,7 @@ pub record Traffic : Type 0 where
 abbrev pub traffic_and : Traffic → Traffic → Traffic
 traffic_and a b =
     record {
-      handed = a.handed ++ b.handed;
-      asked = a.asked + b.asked;
+      received = a.received ++ b.received;
       taken = a.taken ++ b.taken;
       failures = a.failures + b.failures;
       refusals = a.refusals + b.refusals;
@@ -40,15 +38,12 @@ AreRead before after readings = WhereTold (λ old new. new ≡ old ++ readings) 
 
 -- what a call of `receive` adds
 abbrev pub traffic_of_receive : Result (Option Packet) WireFault → Traffic
-traffic_of_receive (Ok None) = record { handed = []; asked = 1; taken = []; failures = 0; refusals = 0 }
-traffic_of_receive (Ok (Some packet)) =
-    record { handed = packet ∷ []; asked = 1; taken = []; failures = 0; refusals = 0 }
-traffic_of_receive (Err Failed) = record { handed = []; asked = 1; taken = []; failures = 1; refusals = 0 }
-traffic_of_receive (Err Memory) = record { handed = []; asked = 1; taken = []; failures = 0; refusals = 1 }
+traffic_of_receive (Ok received) = record { received = received ∷ []; taken = []; failures = 0; refusals = 0 }
+traffic_of_receive (Err Failed) = record { received = None ∷ []; taken = []; failures = 1; refusals = 0 }
+traffic_of_receive (Err Memory) = record { received = None ∷ []; taken = []; failures = 0; refusals = 1 }
 
 -- what a call of `send` adds
 abbrev pub traffic_of_send : {A : Type 0} → Packet → Result A WireFault → Traffic
-traffic_of_send packet (Ok done) =
-    record { handed = []; asked = 0; taken = packet ∷ []; failures = 0; refusals = 0 }
-traffic_of_send packet (Err Failed) = record { handed = []; asked = 0; taken = []; failures = 1; refusals = 0 }
-traffic_of_send packet (Err Memory) = record { handed = []; asked = 0; taken = []; failures = 0; refusals = 1 }
+traffic_of_send packet (Ok done) = record { received = []; taken = packet ∷ []; failures = 0; refusals = 0 }
+traffic_of_send packet (Err Failed) = record { received = []; taken = []; failures = 1; refusals = 0 }
+traffic_of_send packet (Err Memory) = record { received = []; taken = []; failures = 0; refusals = 1 }

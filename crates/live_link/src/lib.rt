@@ -1,6 +1,7 @@
 //! One emulated device on a wire: it receives what arrives, what it outputs is sent, and a clock is its ticks.
 #![tactic(auto)]
 
+mod calls;
 mod end;
 mod laws;
 mod machine_clock;
@@ -14,7 +15,7 @@ mod starting;
 mod udp;
 mod wire;
 
-pub use laws::sessions_are_rows;
+pub use laws::{sessions_are_rows, steps_are_what_came};
 pub use machine_clock::MachineClock;
 pub use memory::{Receipt, ScriptedClock, ScriptedWire};
 pub use packet::Packet;

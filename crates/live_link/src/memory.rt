@@ -1,16 +1,20 @@
 //! A wire and a clock in memory, for tests: they do what a script says, and tell what they did.
-ghost use Rattle.std.specs.Prelude.{◌≡◌, ◌∷◌, [], IfOk, OnErr, OnOk, Some};
-ghost use Rattle.live_link.specs.Wire.{Carries};
-ghost use Rattle.live_link.specs.Memory.{read_by, traffic_by, traffic_beside_call, IsCounted};
+ghost use Rattle.std.specs.Prelude.{◌≡◌, ◌↔◌, ◌∷◌, ◌++◌, [], drop, Err, OnErr, OnOk, Some, true};
+ghost use Rattle.live_link.specs.Wire.{traffic_and, traffic_of_receive, traffic_of_send};
+ghost use Rattle.live_link.specs.Memory.{given_first, one_sooner, read_by, script_of, shown_by, shown_first};
+ghost use Rattle.live_link.specs.Memory.{traffic_by, traffic_of_fault};
 
+use crate::calls::{Calls, Readings};
 use crate::packet::Packet;
 use crate::seconds::Seconds;
 use crate::wire::{Wire, WireFault};
 use octets::Bytes;
 use std::alloc::{AllocError, Global};
+use std::snapshot::Snapshot;
+use std::vec::IntoIter;
 
 /// What a call of `receive` gives.
-#[derive(Clone, Drop)]
+#[derive(Drop)]
 pub enum Receipt {
     /// A datagram has arrived.
     Arrived(Packet),
@@ -24,122 +28,65 @@ pub enum Receipt {
 #[derive(Drop)]
 pub struct ScriptedWire {
     alloc: Global,
-    /// What the calls of `receive` give, one after another; after them, nothing has arrived.
-    receipts: Vec<Receipt>,
-    next: usize,
-    /// The wire fails at the call of `send` of this number, counted from 0.
+    /// What the next calls of `receive` give, one after another; after them, nothing has arrived.
+    receipts: IntoIter<Receipt, Global>,
+    /// After how many calls of `send` one fails, if one does.
     failing: Option<u64>,
-    sends: u64,
-    handed: Vec<Packet>,
     taken: Vec<Packet>,
-    asked: u64,
-    failures: u64,
-    refusals: u64,
-    /// A count was at its end, and nothing is told since.
-    silent: bool,
-}
-
-/// Counts one more, and is silent where the count is at its end.
-fn count_on(count: &mut u64, silent: &mut bool)
-    ensures { IsCounted count.old count.new silent.old silent.new }
-{
-    if *count == u64::MAX {
-        *silent = true;
-    } else {
-        *count += 1;
-    }
-}
-
-fn copy_of(packet: &Packet) -> Result<Packet, AllocError>
-    ensures { IfOk result (λ copy. copy ≡ packet.now) }
-{
-    packet.clone()
+    calls: Calls,
 }
 
 impl ScriptedWire {
-    /// A wire that receives what the script says, and fails at that call of `send`, if one is named.
+    /// A wire that receives what the script says, and fails at the call of `send` of that number, counted from 0, if
+    /// there is one.
     pub fn new(alloc: Global, receipts: Vec<Receipt>, failing: Option<u64>) -> ScriptedWire
-        ensures { traffic_by result
-            ≡ Some (record { handed = []; asked = 0; taken = []; failures = 0; refusals = 0 }) }
+        ensures told { traffic_by result
+            ≡ record { received = []; taken = []; failures = 0; refusals = 0 } }
+        ensures script { script_of result ≡ record { receipts = receipts.items; failing = failing } }
     {
         ScriptedWire {
             alloc,
-            receipts,
-            next: 0,
+            receipts: receipts.into_iter(),
             failing,
-            sends: 0,
-            handed: Vec::new(alloc),
             taken: Vec::new(alloc),
-            asked: 0,
-            failures: 0,
-            refusals: 0,
-            silent: false,
+            calls: Calls::Begun,
         }
     }
 
     /// What it took in, in order.
     pub fn taken(&self) -> &[Packet]
-        ensures { result.now ≡ self.now.taken.items }
+        ensures { result.now ≡ (traffic_by self.now).taken }
     {
         self.taken.as_slice()
     }
 
-    #[tactic(auto, using(crate::proofs::Scripted::asked))]
-    fn ask(&mut self)
-        ensures { Carries (traffic_by self.old) (traffic_by self.new)
-            (record { handed = []; asked = 1; taken = []; failures = 0; refusals = 0 }) }
+    /// Whether this call of `send` is the one that fails.
+    fn fails_now(&mut self) -> bool
+        ensures told { traffic_by self.new ≡ traffic_by self.old }
+        ensures fails { (result ≡ true) ↔ ((script_of self.old).failing ≡ Some 0) }
+        ensures script { script_of self.new ≡ record {
+          receipts = (script_of self.old).receipts;
+          failing = one_sooner (script_of self.old).failing;
+        } }
     {
-        count_on(&mut self.asked, &mut self.silent);
-    }
-
-    #[tactic(auto, using(crate::proofs::Scripted::failed))]
-    fn fail(&mut self)
-        ensures { Carries (traffic_by self.old) (traffic_by self.new)
-            (record { handed = []; asked = 0; taken = []; failures = 1; refusals = 0 }) }
-    {
-        count_on(&mut self.failures, &mut self.silent);
-    }
-
-    #[tactic(auto, using(crate::proofs::Scripted::refused))]
-    fn refuse(&mut self)
-        ensures { Carries (traffic_by self.old) (traffic_by self.new)
-            (record { handed = []; asked = 0; taken = []; failures = 0; refusals = 1 }) }
-    {
-        count_on(&mut self.refusals, &mut self.silent);
-    }
-}
-
-impl ScriptedWire {
-    /// What the script says next. It is told only where it is handed out.
-    fn next_receipt(&mut self) -> Result<Receipt, AllocError>
-        ensures { traffic_by self.new ≡ traffic_by self.old }
-    {
-        if self.next >= self.receipts.len() {
-            return Ok(Receipt::Nothing);
+        match self.failing {
+            None => false,
+            Some(0) => {
+                self.failing = None;
+                true
+            }
+            Some(calls) => {
+                self.failing = Some(calls - 1);
+                false
+            }
         }
-        let receipt = self.receipts[self.next].clone()?;
-        self.next += 1;
-        Ok(receipt)
-    }
-
-    /// Notes a datagram that is handed out, and gives it back.
-    #[tactic(auto, using(crate::proofs::Scripted::handed_one))]
-    fn note_handed(&mut self, packet: Packet) -> Result<Packet, AllocError>
-        ensures noted { IfOk result (λ handed. Carries (traffic_by self.old) (traffic_by self.new)
-            (record { handed = handed ∷ []; asked = 0; taken = []; failures = 0; refusals = 0 })) }
-        ensures unchanged { OnErr result (traffic_by self.new ≡ traffic_by self.old) }
-    {
-        let copy = copy_of(&packet)?;
-        self.handed.push(copy)?;
-        Ok(packet)
     }
 
     /// Notes a datagram that is taken in.
-    #[tactic(auto, using(crate::proofs::Scripted::taken_one))]
     fn note_taken(&mut self, server: u16, bytes: &[u8]) -> Result<(), AllocError>
-        ensures noted { OnOk result (Carries (traffic_by self.old) (traffic_by self.new) (record {
-          handed = [];
-          asked = 0;
+        ensures script { script_of self.new ≡ script_of self.old }
+        ensures noted { OnOk result (traffic_by self.new ≡ traffic_and (traffic_by self.old) (record {
+          received = [];
           taken = record { server = server; bytes = bytes.now } ∷ [];
           failures = 0;
           refusals = 0;
@@ -151,61 +98,55 @@ impl ScriptedWire {
         Ok(())
     }
 
-    #[tactic(auto, using(crate::proofs::Scripted::after_same))]
-    fn hand_out(&mut self, packet: Packet) -> Result<Option<Packet>, WireFault>
-        ensures { Carries (traffic_by self.old) (traffic_by self.new) (traffic_beside_call result) }
+    /// Notes that a datagram was not taken in, and why.
+    fn note_fault(&mut self, fault: WireFault) -> WireFault
+        ensures same { result ≡ fault }
+        ensures script { script_of self.new ≡ script_of self.old }
+        ensures told { traffic_by self.new ≡ traffic_and (traffic_by self.old) (traffic_of_fault fault) }
     {
-        match self.note_handed(packet) {
-            Ok(packet) => Ok(Some(packet)),
-            Err(_) => {
-                self.refuse();
-                Err(WireFault::Memory)
-            }
-        }
-    }
-
-    #[tactic(auto, using(crate::proofs::Scripted::after_same, crate::proofs::Scripted::still_same))]
-    fn answer(&mut self) -> Result<Option<Packet>, WireFault>
-        ensures { Carries (traffic_by self.old) (traffic_by self.new) (traffic_beside_call result) }
-    {
-        match self.next_receipt() {
-            Ok(Receipt::Nothing) => Ok(None),
-            Ok(Receipt::Arrived(packet)) => self.hand_out(packet),
-            Ok(Receipt::Failure) => {
-                self.fail();
-                Err(WireFault::Failed)
-            }
-            Err(_) => {
-                self.refuse();
-                Err(WireFault::Memory)
-            }
-        }
+        self.calls = Calls::Unsent(Snapshot::of(&self.calls), Snapshot::of(&fault));
+        fault
     }
 }
 
 impl Wire for ScriptedWire {
-    ghost told = { traffic_by };
+    ghost told = { λ wire. Some (traffic_by wire) };
 
-    #[tactic(auto, using(crate::proofs::Scripted::received))]
-    fn receive(&mut self) -> Result<Option<Packet>, WireFault> {
-        self.ask();
-        self.answer()
+    /// It gives the first receipt that is left of its script; after the last one, nothing has arrived. It takes no
+    /// memory.
+    fn receive(&mut self) -> Result<Option<Packet>, WireFault>
+        ensures told { traffic_by self.new ≡ traffic_and (traffic_by self.old) (traffic_of_receive result) }
+        ensures given { result ≡ given_first (script_of self.old).receipts }
+        ensures script { script_of self.new ≡ record {
+          receipts = drop 1 (script_of self.old).receipts;
+          failing = (script_of self.old).failing;
+        } }
+    {
+        let given = match self.receipts.next() {
+            Some(Receipt::Arrived(packet)) => Ok(Some(packet)),
+            Some(Receipt::Nothing) | None => Ok(None),
+            Some(Receipt::Failure) => Err(WireFault::Failed),
+        };
+        self.calls = Calls::Received(Snapshot::of(&self.calls), Snapshot::of(&given));
+        given
     }
 
-    #[tactic(auto, using(crate::proofs::Scripted::after_same))]
-    fn send(&mut self, server: u16, bytes: &[u8]) -> Result<(), WireFault> {
-        let place = self.sends;
-        self.sends = place.saturating_add(1);
-        if self.failing == Some(place) {
-            self.fail();
-            return Err(WireFault::Failed);
+    /// It fails at the call that its script names, and takes the datagram in at each other one, if memory is left.
+    fn send(&mut self, server: u16, bytes: &[u8]) -> Result<(), WireFault>
+        ensures told { traffic_by self.new ≡ traffic_and (traffic_by self.old)
+            (traffic_of_send (record { server = server; bytes = bytes.now }) result) }
+        ensures fails { (result ≡ Err WireFault.Failed) ↔ ((script_of self.old).failing ≡ Some 0) }
+        ensures script { script_of self.new ≡ record {
+          receipts = (script_of self.old).receipts;
+          failing = one_sooner (script_of self.old).failing;
+        } }
+    {
+        if self.fails_now() {
+            return Err(self.note_fault(WireFault::Failed));
         }
         match self.note_taken(server, bytes) {
             Ok(()) => Ok(()),
-            Err(_) => {
-                self.refuse();
-                Err(WireFault::Memory)
-            }
+            Err(_) => Err(self.note_fault(WireFault::Memory)),
         }
     }
 }
@@ -213,37 +154,35 @@ impl Wire for ScriptedWire {
 /// A clock in memory.
 #[derive(Drop)]
 pub struct ScriptedClock {
-    /// What it shows, one reading after another; after them, 0.
-    readings: Vec<u64>,
-    next: usize,
-    /// The script was at its end, and nothing is told since.
-    silent: bool,
+    /// What it shows next, one reading after another; after them, 0.
+    shown: IntoIter<u64, Global>,
+    read: Readings,
 }
 
 impl ScriptedClock {
     /// A clock that shows these seconds.
-    pub fn new(readings: Vec<u64>) -> ScriptedClock
-        ensures { read_by result ≡ Some [] }
+    pub fn new(shown: Vec<u64>) -> ScriptedClock
+        ensures read { read_by result ≡ [] }
+        ensures shown { shown_by result ≡ shown.items }
     {
         ScriptedClock {
-            readings,
-            next: 0,
-            silent: false,
+            shown: shown.into_iter(),
+            read: Readings::Unread,
         }
     }
 }
 
 impl Seconds for ScriptedClock {
-    ghost read = { read_by };
+    ghost read = { λ clock. Some (read_by clock) };
 
-    #[tactic(auto, using(crate::proofs::Scripted::read_one))]
-    fn now(&mut self) -> u64 {
-        if self.next >= self.readings.len() {
-            self.silent = true;
-            return 0;
-        }
-        let reading = self.readings[self.next];
-        self.next += 1;
-        reading
+    /// It shows the first second that is left of its script; after the last one, 0.
+    fn now(&mut self) -> u64
+        ensures read { read_by self.new ≡ read_by self.old ++ result ∷ [] }
+        ensures shown { result ≡ shown_first (shown_by self.old) }
+        ensures script { shown_by self.new ≡ drop 1 (shown_by self.old) }
+    {
+        let second = self.shown.next().unwrap_or(0);
+        self.read = Readings::Read(Snapshot::of(&self.read), Snapshot::of(&second));
+        second
     }
 }

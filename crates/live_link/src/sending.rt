@@ -1,5 +1,5 @@
 //! What a device outputs goes over the wire.
-ghost use Rattle.std.specs.Prelude.{◌∷◌, [], IfErr, OnOk};
+ghost use Rattle.std.specs.Prelude.{◌∷◌, [], ◌++◌, ◌+◌, ◌≤◌, ◌<◌, ◌≡◌, IfErr, IfOk, OnOk, vec_capacity, vec_len};
 ghost use Rattle.live_link.specs.Live.{packets_in};
 ghost use Rattle.live_link.specs.Serving.{AreCutShort, AreSent};
 
@@ -7,27 +7,49 @@ use crate::packet::Packet;
 use crate::session::LiveEnd;
 use crate::wire::{Wire, WireFault};
 use device_machine::Output;
-use octets::Bytes;
+use std::alloc::{AllocError, Global};
 
-/// Sends a datagram. Room for its note is made before, so that what the wire took in is always noted.
-#[tactic(auto, using(crate::proofs::Sent::none_for_memory, crate::proofs::Sent::one_sent, crate::proofs::Sent::one_failed, crate::proofs::Sent::one_refused))]
-fn send_one<W: Wire>(
-    wire: &mut W,
-    sent: &mut Vec<Packet>,
-    server: u16,
-    bytes: &Bytes,
-) -> Result<(), LiveEnd>
-    ensures sent { OnOk result (AreSent (record { server = server; bytes = bytes.now } ∷ []) 0 0
-        sent.old.items sent.new.items (W.told wire.old) (W.told wire.new)) }
-    ensures cut { IfErr result (λ end. AreCutShort end (record { server = server; bytes = bytes.now } ∷ [])
-        sent.old.items sent.new.items (W.told wire.old) (W.told wire.new)) }
+/// Adds a copy of the datagram that an output sends. What a device does beside sending goes over no wire.
+fn push_packet(packets: &mut Vec<Packet>, output: &Output) -> Result<(), AllocError>
+    ensures { OnOk result (packets.new.items ≡ packets.old.items ++ packets_in (output.now ∷ [])) }
 {
-    let packet = Packet {
-        server,
-        bytes: bytes.clone()?,
-    };
-    sent.reserve(1)?;
-    match wire.send(server, bytes.as_slice()) {
+    match output {
+        Output::Send { server, bytes } => {
+            let bytes = bytes.clone()?;
+            packets.push(Packet {
+                server: *server,
+                bytes,
+            })?;
+            Ok(())
+        }
+        Output::Act(_) => Ok(()),
+    }
+}
+
+/// Copies of the datagrams among the outputs, in order.
+#[tactic(auto, using(crate::proofs::Sent::packets_more))]
+pub(crate) fn packets_of(alloc: Global, outputs: &[Output]) -> Result<Vec<Packet>, AllocError>
+    ensures { IfOk result (λ packets. packets.items ≡ packets_in outputs.now) }
+{
+    let mut packets = Vec::new(alloc);
+    for output in outputs {
+        push_packet(&mut packets, output)?;
+    }
+    Ok(packets)
+}
+
+/// Sends a datagram, and notes it where the wire took it in.
+#[tactic(auto, using(crate::proofs::Sent::one_sent, crate::proofs::Sent::one_failed, crate::proofs::Sent::one_refused))]
+fn send_one<W: Wire>(wire: &mut W, sent: &mut Vec<Packet>, packet: Packet) -> Result<(), LiveEnd>
+    requires room { vec_len sent.old < vec_capacity sent.old }
+    ensures sent { OnOk result (AreSent (packet ∷ []) 0 0 sent.old.items sent.new.items
+        (W.told wire.old) (W.told wire.new)) }
+    ensures cut { IfErr result (λ end. AreCutShort end (packet ∷ []) sent.old.items sent.new.items
+        (W.told wire.old) (W.told wire.new)) }
+    ensures len { OnOk result (vec_len sent.new ≡ vec_len sent.old + 1) }
+    ensures capacity { vec_capacity sent.new ≡ vec_capacity sent.old }
+{
+    match wire.send(packet.server, packet.bytes.as_slice()) {
         Ok(()) => {
             sent.push_reserved(packet);
             Ok(())
@@ -37,37 +59,20 @@ fn send_one<W: Wire>(
     }
 }
 
-/// Sends the datagrams among the outputs, in order, and notes each that the wire took in. What a device does beside
-/// sending goes over no wire.
+/// Sends datagrams, in order, and notes each that the wire took in, for which there is room.
 pub(crate) fn send_all<W: Wire>(
     wire: &mut W,
     sent: &mut Vec<Packet>,
-    outputs: &[Output],
+    packets: Vec<Packet>,
 ) -> Result<(), LiveEnd>
-    ensures sent { OnOk result (AreSent (packets_in outputs.now) 0 0
-        sent.old.items sent.new.items (W.told wire.old) (W.told wire.new)) }
-    ensures cut { IfErr result (λ end. AreCutShort end (packets_in outputs.now)
-        sent.old.items sent.new.items (W.told wire.old) (W.told wire.new)) }
+    requires room { vec_len sent.old + vec_len packets ≤ vec_capacity sent.old }
+    ensures sent { OnOk result (AreSent packets.items 0 0 sent.old.items sent.new.items
+        (W.told wire.old) (W.told wire.new)) }
+    ensures cut { IfErr result (λ end. AreCutShort end packets.items sent.old.items sent.new.items
+        (W.told wire.old) (W.told wire.new)) }
 {
-    for output in outputs {
-        send_output(wire, sent, output)?;
+    for packet in packets {
+        send_one(wire, sent, packet)?;
     }
     Ok(())
-}
-
-#[tactic(auto, using(crate::proofs::Sent::none_sent))]
-fn send_output<W: Wire>(
-    wire: &mut W,
-    sent: &mut Vec<Packet>,
-    output: &Output,
-) -> Result<(), LiveEnd>
-    ensures sent { OnOk result (AreSent (packets_in (output.now ∷ [])) 0 0
-        sent.old.items sent.new.items (W.told wire.old) (W.told wire.new)) }
-    ensures cut { IfErr result (λ end. AreCutShort end (packets_in (output.now ∷ []))
-        sent.old.items sent.new.items (W.told wire.old) (W.told wire.new)) }
-{
-    match output {
-        Output::Send { server, bytes } => send_one(wire, sent, *server, bytes),
-        Output::Act(_) => Ok(()),
-    }
 }

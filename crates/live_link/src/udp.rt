@@ -13,6 +13,17 @@ use std::time::Duration;
 /// The most bytes of a datagram that is received.
 const MOST_BYTES: usize = 1500;
 
+/// After so many datagrams that were dropped, one after another, nothing has arrived.
+const MOST_DROPPED: u32 = 1000;
+
+/// What came of asking a socket.
+#[derive(Drop)]
+enum Came {
+    Arrived(Packet),
+    Dropped,
+    Nothing,
+}
+
 impl From<AllocError> for WireFault {
     fn from(_e: AllocError) -> WireFault {
         WireFault::Memory
@@ -84,25 +95,46 @@ impl UdpWire {
         Ok(self.accounts.get(place).copied())
     }
 
-    /// The datagram of n bytes in the buffer; none where it is too long, or its sender has no account.
-    fn take_datagram(
-        &mut self,
-        count: usize,
-        peer: SocketAddr,
-    ) -> Result<Option<Packet>, WireFault> {
+    /// The datagram of n bytes in the buffer. It is dropped where it is too long, or its sender has no account.
+    fn take_datagram(&mut self, count: usize, peer: SocketAddr) -> Result<Came, WireFault> {
         if count > MOST_BYTES {
-            return Ok(None);
+            return Ok(Came::Dropped);
         }
         let Some(server) = self.account_of(peer)? else {
-            return Ok(None);
+            return Ok(Came::Dropped);
         };
         match self.buffer.get(..count) {
-            None => Ok(None),
-            Some(bytes) => Ok(Some(Packet {
+            None => Ok(Came::Dropped),
+            Some(bytes) => Ok(Came::Arrived(Packet {
                 server,
                 bytes: Bytes::from_slice(self.alloc, bytes)?,
             })),
         }
+    }
+
+    /// Asks the socket once.
+    fn ask(&mut self) -> Result<Came, WireFault> {
+        match self.socket.recv_from(self.buffer.as_mut_slice()) {
+            Ok((count, peer)) => self.take_datagram(count, peer),
+            Err(error) => match error.kind() {
+                ErrorKind::WouldBlock | ErrorKind::TimedOut | ErrorKind::Interrupted => {
+                    Ok(Came::Nothing)
+                }
+                _ => Err(WireFault::from(error)),
+            },
+        }
+    }
+
+    /// What has arrived after one that was dropped, and was not dropped itself.
+    fn ask_after_dropped(&mut self) -> Result<Option<Packet>, WireFault> {
+        for _ in 0..MOST_DROPPED {
+            match self.ask()? {
+                Came::Arrived(packet) => return Ok(Some(packet)),
+                Came::Nothing => return Ok(None),
+                Came::Dropped => {}
+            }
+        }
+        Ok(None)
     }
 
     /// The address of an account, where one is known.
@@ -115,20 +147,28 @@ impl UdpWire {
 impl Wire for UdpWire {
     ghost told = { λ _. None };
 
+    /// What has arrived; a datagram that is dropped is none. It waits once, and not again after one that was dropped.
     fn receive(&mut self) -> Result<Option<Packet>, WireFault> {
-        match self.socket.recv_from(self.buffer.as_mut_slice()) {
-            Ok((count, peer)) => self.take_datagram(count, peer),
-            Err(error) => match error.kind() {
-                ErrorKind::WouldBlock | ErrorKind::TimedOut | ErrorKind::Interrupted => Ok(None),
-                _ => Err(WireFault::from(error)),
-            },
+        match self.ask()? {
+            Came::Arrived(packet) => Ok(Some(packet)),
+            Came::Nothing => Ok(None),
+            Came::Dropped => {
+                self.socket.set_nonblocking(true)?;
+                let after = self.ask_after_dropped();
+                self.socket.set_nonblocking(false)?;
+                after
+            }
         }
     }
 
+    /// It fails where no address of the account is known: nothing can be sent.
     fn send(&mut self, server: u16, bytes: &[u8]) -> Result<(), WireFault> {
-        if let Some(peer) = self.address_of(server) {
-            self.socket.send_to(bytes, peer)?;
+        match self.address_of(server) {
+            None => Err(WireFault::Failed),
+            Some(peer) => {
+                self.socket.send_to(bytes, peer)?;
+                Ok(())
+            }
         }
-        Ok(())
     }
 }

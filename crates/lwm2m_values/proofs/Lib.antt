@@ -13,3 +13,5 @@ pub mod GoodValue
 pub mod TextReading
 pub mod BytesReading
 pub mod TlvReading
+pub mod EarlyFault
+pub mod EitherTlv

@@ -1,11 +1,12 @@
 -- A plain text has one valid value of each kind, and the shortest text of a value is a text of it.
 use Rattle.std.proofs.Common.{◌≡◌, ℕ, ◌<◌, ◌^◌, List, [], ◌∷◌, ◌++◌, get_or, ℤ, pos, negsuc, neg_ℤ, inl, inr, Bool}
 use Rattle.std.proofs.Common.{true, false, refl, sym, ap, subst, ◌∙◌, Option, Some, None, unwrap_or, suc, FitsSigned}
-use Rattle.std.proofs.Common.{w64, arith}
+use Rattle.std.proofs.Common.{w64, arith, ◌≤◌, length, length-append, zero}
 use Rattle.std.specs.Fmt.{decimal, signed_decimal}
 use Rattle.std.specs.Str.Parse.{AllDigits}
 use Rattle.std.proofs.lemmas.Str.Parse.{digit_from_value}
-use Rattle.std.proofs.lemmas.Fmt.{decimal_is_IsNumeral}
+use Rattle.std.proofs.lemmas.Fmt.{decimal_is_IsNumeral, length-decimal-le}
+use Rattle.std.proofs.lemmas.Int.Digits.{digits_value-lt}
 use Rattle.base64.specs.GeneralPurpose.{encode_of, decode_of, IsBytes}
 use Rattle.base64.specs.Engines.{standard}
 use Rattle.base64.proofs.EngineFacts.{decode_of-encode_of}
@@ -33,6 +34,44 @@ text_written (Opaque b) good = refl
 text_written (Moment z) good = signed_written z good
 text_written (Link o i) good =
     (decimal o, decimal i, refl, decimal_written o (omega (arith, good.0)), decimal_written i (omega (arith, good.1)))
+
+-- none shorter
+
+no_shorter_decimal : (n : ℕ) (t : List ℕ) → n < 2 ^ 64 → IsDecimal n t → length (decimal n) ≤ length t
+no_shorter_decimal n t small h =
+    length-decimal-le (length t) n h.0.0 (omega (arith, h.1, digits_value-lt 10 t h.0.1)) small
+
+zero_from_negated : (n m : ℕ) → pos n ≡ neg_ℤ (pos m) → n ≡ 0
+zero_from_negated n zero e = cc e
+zero_from_negated n (suc m) e = absurd (cc e)
+
+from_negated : (n m : ℕ) → negsuc n ≡ neg_ℤ (pos m) → m ≡ suc n
+from_negated n zero e = absurd (cc e)
+from_negated n (suc m) e = ap suc (cc e)
+
+no_shorter_signed : (z : ℤ) (t : List ℕ) → FitsSigned w64 z → IsSigned z t → length (signed_decimal z) ≤ length t
+no_shorter_signed (pos n) t fits (inl h) =
+    let same : n ≡ h.0 = cc (h.2) in
+    no_shorter_decimal n t (omega (arith, fits.sfits)) (subst (λ m. IsDecimal m t) (sym same) h.1)
+no_shorter_signed (negsuc n) t fits (inl h) = absurd (cc (h.2))
+no_shorter_signed (pos n) t fits (inr h) =
+    let none : n ≡ 0 = zero_from_negated n h.0 h.4 in
+    omega (arith, length-decimal-le 1 n (omega arith) (omega arith) (omega arith), ap length h.2)
+no_shorter_signed (negsuc n) t fits (inr h) =
+    let same : h.0 ≡ suc n = from_negated n h.0 h.4 in
+    let fewer = no_shorter_decimal (suc n) h.1 (omega (arith, fits.sfits)) (subst (λ m. IsDecimal m h.1) same h.3) in
+    omega (arith, fewer, ap length h.2)
+
+pub no_shorter_text : (v : Value) (t : List ℕ) → IsGood v → IsText v t → length (text_of v) ≤ length t
+no_shorter_text (Text b) t good is = omega (arith, ap length is)
+no_shorter_text (Whole z) t good is = no_shorter_signed z t good is
+no_shorter_text (Flag b) t good is = omega (arith, ap length is)
+no_shorter_text (Opaque b) t good is = omega (arith, ap length is)
+no_shorter_text (Moment z) t good is = no_shorter_signed z t good is
+no_shorter_text (Link o i) t good is =
+    let first = no_shorter_decimal o is.0 (omega (arith, good.0)) is.3 in
+    let second = no_shorter_decimal i is.1 (omega (arith, good.1)) is.4 in
+    omega (arith, ap length is.2, length-append is.0 (58 ∷ is.1), length-append (decimal o) (58 ∷ decimal i))
 
 -- one value for a text
 

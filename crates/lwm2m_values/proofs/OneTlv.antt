@@ -33,7 +33,7 @@ end_nesting level kind id head content rest is_head allowed = λ tree k i h c r 
     let both : false ≡ true = sym allowed ∙ ap (is_allowed level) same.kind ∙ a in
     cc
 
-inner_nodes : (tree : Tree) (kind : RecordType) (id : ℕ) (content : List ℕ) (inner : Around)
+pub inner_nodes : (tree : Tree) (kind : RecordType) (id : ℕ) (content : List ℕ) (inner : Around)
     → Holds tree kind id content
     → inside kind ≡ Some inner → (nodes : Trees) × IsNodes nodes inner content
 inner_nodes (instance i nodes) kind id content inner p e =

@@ -47,7 +47,7 @@ type_to Single = refl
 
 -- a record
 
-abbrev IsRecordOf : List ℕ → Record → Type 0
+abbrev pub IsRecordOf : List ℕ → Record → Type 0
 IsRecordOf bytes r =
     (head : List ℕ) × IsHead head r.kind r.id (length r.content) × (bytes ≡ head ++ (r.content ++ r.rest))
 
@@ -83,14 +83,14 @@ whole_from first rest kind whole is_kind =
       ap (λ x. first ∷ x) parts,
     )
 
-record_from : (bytes : List ℕ) (r : Record) → record_at bytes ≡ Some r → IsRecordOf bytes r
+pub record_from : (bytes : List ℕ) (r : Record) → record_at bytes ≡ Some r → IsRecordOf bytes r
 record_from [] r e = cc e
 record_from (first ∷ rest) r e =
     let h = kept_if (is_whole first rest) (option_map (record_of first rest) (type_of_bits (first / 64))) r e in
     let m = mapped (record_of first rest) (type_of_bits (first / 64)) r h.1 in
     subst (IsRecordOf (first ∷ rest)) m.2 (whole_from first rest m.0 h.0 (type_from (first / 64) m.0 m.1))
 
-record_to : (bytes head content rest : List ℕ) (kind : RecordType) (id : ℕ) → IsHead head kind id (length content)
+pub record_to : (bytes head content rest : List ℕ) (kind : RecordType) (id : ℕ) → IsHead head kind id (length content)
     → bytes ≡ head ++ (content ++ rest)
     → record_at bytes ≡ Some (record { kind = kind; id = id; content = content; rest = rest })
 record_to bytes head content rest kind id h e =
@@ -214,7 +214,7 @@ unfolding read_nodes
 read_step steps level [] long = absurd (omega arith)
 read_step steps level (b ∷ bytes) long = refl
 
-head_long : (head : List ℕ) (kind : RecordType) (id size : ℕ) → IsHead head kind id size → 0 < length head
+pub head_long : (head : List ℕ) (kind : RecordType) (id size : ℕ) → IsHead head kind id size → 0 < length head
 head_long head kind id size h = subst (λ (x : List ℕ). 0 < length x) (sym h.parts) (omega arith)
 
 nodes_complete : (steps : ℕ) (level : Around) (bytes : List ℕ) (f : Trees) → length bytes ≤ steps

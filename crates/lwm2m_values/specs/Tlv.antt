@@ -94,6 +94,17 @@ pub data HasFault : Around → List ℕ → TlvFault → Type 0 where
       → IsHead head kind id (length content) → is_allowed level kind ≡ true → inside kind ≡ Some inner
       → HasFault inner content fault → HasFault level bytes fault
 
+-- The first record is at fault: it is cut, or may not stand there, or so is the first record of its content.
+pub data HasEarlyFault : Around → List ℕ → TlvFault → Type 0 where
+  early_cut : (level : Around) (bytes : List ℕ) → 0 < length bytes → IsCut bytes → HasEarlyFault level bytes Cut
+  early_nesting : (level : Around) (bytes : List ℕ) (kind : RecordType) (id : ℕ) (head content rest : List ℕ)
+      → IsHead head kind id (length content) → bytes ≡ head ++ (content ++ rest) → is_allowed level kind ≡ false
+      → HasEarlyFault level bytes Nesting
+  early_within : (level inner : Around) (bytes : List ℕ) (kind : RecordType) (id : ℕ) (head content rest : List ℕ)
+      (fault : TlvFault) → IsHead head kind id (length content) → bytes ≡ head ++ (content ++ rest)
+      → is_allowed level kind ≡ true → inside kind ≡ Some inner → HasEarlyFault inner content fault
+      → HasEarlyFault level bytes fault
+
 -- two bytes of a number, the high one first
 abbrev pub two_bytes : ℕ → List ℕ
 two_bytes n = n / 256 ∷ n % 256 ∷ []

@@ -1,4 +1,4 @@
-ghost use Rattle.std.specs.Prelude.{◌≡◌, ℕ, ℤ, FitsSigned, Some, IfSome, IfOk};
+ghost use Rattle.std.specs.Prelude.{◌≡◌, ℕ, ℤ, FitsSigned, Some, IfSome, IfOk, IsOk};
 ghost use Rattle.std.specs.Int.{w8, w16, w32, w64};
 ghost use Rattle.lwm2m_values.specs.Value.{IsIntegerOf, IsInteger, shortest_integer};
 
@@ -56,7 +56,8 @@ pub(crate) fn integer_of(bytes: &[u8]) -> Option<i64>
 
 /// The bytes of a number in the fewest of 8, 16, 32 and 64 bits.
 pub(crate) fn integer_bytes(alloc: Global, number: i64) -> Result<Bytes, AllocError>
-    ensures { IfOk result (λ b. b ≡ shortest_integer number) }
+    ensures shortest { IfOk result (λ b. b ≡ shortest_integer number) }
+    ensures succeeds { IsOk result }
 {
     if let Ok(number) = i8::try_from(number) {
         return Bytes::from_slice(alloc, &number.to_be_bytes());

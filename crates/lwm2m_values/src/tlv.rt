@@ -1,10 +1,11 @@
-ghost use Rattle.std.specs.Prelude.{◌≡◌, ◌≢◌, List, ℕ, length, Some, None, IfOk, IfErr, IsErrAnd, MatchResult};
+ghost use Rattle.std.specs.Prelude.{◌≡◌, ◌≢◌, List, ℕ, length, Some, None, Err, IfOk, IsOk, IfErr, IsErrAnd};
+ghost use Rattle.std.specs.Prelude.{MatchResult};
 ghost use Rattle.lwm2m_values.specs.declared.fault.TlvFault.{TlvFault};
 ghost use Rattle.lwm2m_values.specs.declared.fault.TlvFault.TheVariants.{Memory};
 ghost use Rattle.lwm2m_values.specs.declared.level.Around.{Around};
 ghost use Rattle.lwm2m_values.specs.declared.level.Around.TheVariants.{Top};
 ghost use Rattle.lwm2m_values.specs.Tree.{Trees, tree_of, trees_of};
-ghost use Rattle.lwm2m_values.specs.Tlv.{IsNodes, IsTlv, Holds, HasFault, inside};
+ghost use Rattle.lwm2m_values.specs.Tlv.{IsNodes, IsTlv, Holds, HasFault, HasEarlyFault, inside};
 ghost use Rattle.lwm2m_values.specs.Reading.{nodes_of_bytes};
 
 use crate::fault::TlvFault;
@@ -21,6 +22,8 @@ use std::alloc::Global;
 fn nodes_of(alloc: Global, level: Around, bytes: &[u8]) -> Result<Vec<Node>, TlvFault>
     ensures found { IfOk result (λ v. IsNodes (trees_of v.items) level bytes.now) }
     ensures fault { IfErr result (λ f. f ≢ Memory → HasFault level bytes.now f) }
+    ensures early { (f : TlvFault) → HasEarlyFault level bytes.now f → result ≡ Err f }
+    ensures none { length bytes.now ≡ 0 → IsOk result }
 {
     let mut nodes = Vec::new(alloc);
     let mut rest = bytes;
@@ -44,6 +47,8 @@ fn node_of(alloc: Global, kind: RecordType, id: u16, content: &[u8]) -> Result<N
     ensures found { IfOk result (λ n. Holds (tree_of n) kind id content.now) }
     ensures fault { IfErr result (λ f. f ≢ Memory → (inner : Around) × (inside kind ≡ Some inner)
         × HasFault inner content.now f) }
+    ensures early { (inner : Around) (f : TlvFault) → inside kind ≡ Some inner → HasEarlyFault inner content.now f
+        → result ≡ Err f }
 {
     match kind {
         RecordType::Instance => {
@@ -69,6 +74,9 @@ pub fn read_tlv(alloc: Global, bytes: &[u8]) -> Result<Vec<Node>, TlvFault>
     ensures refused { (f : TlvFault) → HasFault Top bytes.now f → IsErrAnd result (λ g. g ≢ Memory → g ≡ f) }
     ensures reading { MatchResult result (λ v. nodes_of_bytes bytes.now ≡ Some (trees_of v.items))
         (λ f. f ≢ Memory → nodes_of_bytes bytes.now ≡ None) }
+    // A fault of the first record is found before memory is taken; no bytes take none.
+    ensures early { (f : TlvFault) → HasEarlyFault Top bytes.now f → result ≡ Err f }
+    ensures none { length bytes.now ≡ 0 → IsOk result }
 {
     nodes_of(alloc, Around::Top, bytes)
 }

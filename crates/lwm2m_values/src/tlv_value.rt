@@ -1,5 +1,5 @@
 ghost use Rattle.std.specs.Prelude.{◌≡◌, ◌≢◌, ℕ, ◌≤◌, ◌<◌, List, [], ◌∷◌, ◌++◌, length, Some, None, IfSome, IfOk};
-ghost use Rattle.std.specs.Prelude.{IfErr, MatchResult, Bool, false, Err, if◌then◌else◌};
+ghost use Rattle.std.specs.Prelude.{IfErr, MatchResult, OnErr, Bool, false, true, Err, if◌then◌else◌};
 ghost use Rattle.std.specs.Int.{w16, to_be_bytes};
 ghost use Rattle.lwm2m_values.specs.declared.fault.ValueFault.TheVariants.{BadValue, Memory};
 ghost use Rattle.std.specs.Str.{IsUtf8};
@@ -91,7 +91,9 @@ pub fn value_of(alloc: Global, kind: ValueKind, bytes: &[u8]) -> Result<Value, V
 }
 
 fn shortest_bytes(alloc: Global, value: &Value) -> Result<Bytes, AllocError>
-    ensures { IfOk result (λ b. b ≡ shortest_bytes_of value.now) }
+    ensures shortest { IfOk result (λ b. b ≡ shortest_bytes_of value.now) }
+    ensures grows { OnErr result (holds_bytes (kind_of value.now) ≡ true) }
+    ensures long { OnErr result (16 < length (shortest_bytes_of value.now)) }
 {
     match value {
         Value::Text(text) => Bytes::from_slice(alloc, text.as_str().as_bytes()),
@@ -106,11 +108,14 @@ fn shortest_bytes(alloc: Global, value: &Value) -> Result<Bytes, AllocError>
     }
 }
 
-/// The shortest bytes of a value, as TLV has them. Of a valid value they are read again.
+/// The shortest bytes of a value, as TLV has them. Of a valid value they are read again. They take memory for a Text or
+/// an Opaque of more than 16 bytes.
 #[tactic(auto, using(crate::proofs::OneBytes::bytes_written))]
 pub fn bytes_of(alloc: Global, value: &Value) -> Result<Bytes, AllocError>
     ensures shortest { IfOk result (λ b. b ≡ shortest_bytes_of value.now) }
     ensures read_again { IsGood value.now → IfOk result (λ b. IsBytesOf value.now b) }
+    ensures grows { OnErr result (holds_bytes (kind_of value.now) ≡ true) }
+    ensures long { OnErr result (16 < length (shortest_bytes_of value.now)) }
 {
     shortest_bytes(alloc, value)
 }

@@ -1,5 +1,5 @@
-ghost use Rattle.std.specs.Prelude.{◌≡◌, ◌↔◌, IfOk, IsTrue};
-ghost use Rattle.lwm2m_values.specs.Value.{has_good_length, kind_of, IsGood};
+ghost use Rattle.std.specs.Prelude.{◌≡◌, ◌≤◌, ◌↔◌, ℕ, List, length, true, IfOk, IsOk, IsTrue, OnErr};
+ghost use Rattle.lwm2m_values.specs.Value.{has_good_length, holds_bytes, kind_of, IsGood};
 
 use crate::kind::ValueKind;
 use crate::text::Text;
@@ -62,10 +62,19 @@ impl Value {
         }
     }
 
-    /// A copy, which equals its source.
+    /// A copy, which equals its source. It takes memory for a Text, and for an Opaque of more than 16 bytes.
     pub fn copy(&self) -> Result<Value, AllocError>
-        ensures { IfOk result (λ v. v ≡ self.now) }
+        ensures copy { IfOk result (λ v. v ≡ self.now) }
+        ensures grows { OnErr result (holds_bytes (kind_of self.now) ≡ true) }
+        ensures short { (bytes : List ℕ) → self.now ≡ Value.Opaque bytes → length bytes ≤ 16 → IsOk result }
     {
-        self.clone()
+        match self {
+            Value::Text(text) => Ok(Value::Text(text.clone()?)),
+            Value::Whole(number) => Ok(Value::Whole(*number)),
+            Value::Flag(flag) => Ok(Value::Flag(*flag)),
+            Value::Opaque(bytes) => Ok(Value::Opaque(bytes.clone()?)),
+            Value::Moment(number) => Ok(Value::Moment(*number)),
+            Value::Link(object, instance) => Ok(Value::Link(*object, *instance)),
+        }
     }
 }

@@ -3,7 +3,7 @@ use Rattle.std.proofs.Common.{◌≡◌, ℕ, zero, suc, ◌+◌, ◌∙◌, Boo
 use Rattle.std.proofs.Common.{Option, None, Some, ap, arith, refl, sym}
 use Rattle.notifier.specs.Due.{IsFirst, acts_at, is_one_due}
 use Rattle.notifier.specs.declared.observation.Observation.{Observation}
-use Rattle.notifier.specs.declared.pending.Pending.{Pending}
+use Rattle.notifier.specs.declared.pending.Outlook.{Outlook}
 
 pub same_first : (p q : ℕ → Bool) (now : ℕ) (result : Option ℕ) → ((clock : ℕ) → p clock ≡ q clock)
     → IsFirst p now result → IsFirst q now result
@@ -24,7 +24,7 @@ or_in_turn : (a b c : Bool) → (a || (b || c)) ≡ ((a || b) || c)
 or_in_turn true b c = refl
 or_in_turn false b c = refl
 
-takes_due : (os : List Observation) (ps : List Pending) (i : ℕ) (o : Observation) (p : Pending) (clock : ℕ)
+takes_due : (os : List Observation) (ps : List Outlook) (i : ℕ) (o : Observation) (p : Outlook) (clock : ℕ)
     → slice_get os i ≡ Some o → slice_get ps i ≡ Some p
     → is_one_due (take (suc i) os) (take (suc i) ps) clock
     ≡ (is_one_due (take i os) (take i ps) clock || acts_at o p clock)
@@ -39,7 +39,7 @@ takes_due (x ∷ os) (y ∷ ps) (suc i) o p clock at is =
     ∙ or_in_turn (acts_at x y clock) (is_one_due (take i os) (take i ps) clock) (acts_at o p clock)
 
 -- with one observation more, one is due where one of those before it is, or it is
-pub one_more_due : (os : List Observation) (ps : List Pending) (i : ℕ) (o : Observation) (p : Pending) (clock : ℕ)
+pub one_more_due : (os : List Observation) (ps : List Outlook) (i : ℕ) (o : Observation) (p : Outlook) (clock : ℕ)
     → slice_get os i ≡ Some o → slice_get ps i ≡ Some p
     → (is_one_due (take i os) (take i ps) clock || acts_at o p clock)
     ≡ is_one_due (take (i + 1) os) (take (i + 1) ps) clock

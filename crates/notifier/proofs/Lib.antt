@@ -8,4 +8,5 @@ pub mod ObservedLaws
 pub mod Places
 pub mod QueryLaws
 pub mod Retained
+pub mod SaidLaws
 pub mod Timeouts

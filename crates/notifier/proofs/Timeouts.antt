@@ -5,7 +5,7 @@ use Rattle.std.proofs.lemmas.Bool.{eqb-true, eq-eqb, le-leb, leb-true}
 use Rattle.std.proofs.lemmas.Bool.Decides.{nat_tests}
 use Rattle.notifier.specs.Due.{acts_in}
 use Rattle.notifier.specs.Resending.{after_timeouts, is_timed_out, resending}
-use Rattle.notifier.specs.declared.pending.Pending.{Pending}
+use Rattle.notifier.specs.declared.pending.Outlook.{Outlook}
 use Rattle.notifier.specs.declared.turn.Turn.{Turn}
 use Rattle.notifier.specs.declared.turn.Turn.TheVariants.{Evaluate, Wait, Resend, Expire}
 
@@ -28,7 +28,7 @@ all_passed s t =
 abbrev chosen : Bool → Bool → Bool → Bool → Bool → Turn
 chosen a b c d e = if e then Expire else (if (((false || a) || b) || c) || d then Resend else Wait)
 
-chosen_acts : (a b c d e : Bool) (s : ℕ) (p : Pending) (clock : ℕ)
+chosen_acts : (a b c d e : Bool) (s : ℕ) (p : Outlook) (clock : ℕ)
     → (a || (b || (c || (d || e)))) ≡ acts_in (chosen a b c d e) s p clock
 chosen_acts true b c d true s p clock = refl
 chosen_acts true b c d false s p clock = refl
@@ -45,7 +45,7 @@ chosen_acts false false false false false s p clock = refl
 abbrev is_at : ℕ → ℕ → ℕ → ℕ → Bool
 is_at s t clock k = clock == after_timeouts s t k
 
-pub acts_by_sums : (s t clock : ℕ) (p : Pending)
+pub acts_by_sums : (s t clock : ℕ) (p : Outlook)
     → (clock == s + t || (clock == s + 3 * t || (clock == s + 7 * t
     || (clock == s + 15 * t || nat_le (s + 31 * t) clock)))) ≡ acts_in (resending s t clock) s p clock
 acts_by_sums s t clock p =

@@ -6,7 +6,7 @@ use Rattle.notifier.specs.Observed.{is_awaited, was_sent}
 use Rattle.notifier.specs.Resending.{turn_at}
 use Rattle.notifier.specs.declared.observation.Observation.{Observation}
 use Rattle.notifier.specs.declared.observation.Timer.{Timer}
-use Rattle.notifier.specs.declared.pending.Pending.{Pending}
+use Rattle.notifier.specs.declared.pending.Outlook.{Outlook}
 use Rattle.notifier.specs.declared.turn.Turn.TheVariants.{Evaluate, Resend, Expire}
 
 -- with a first timeout of T seconds, above 0, a notification is sent again T, 3T, 7T and 15T seconds after its first
@@ -33,7 +33,7 @@ IsNotEvaluated =
 -- acknowledgement, and is removed by a Reset only where its last message was a NON
 pub record IsAsWithNons (o : Observation) : Type 0 where
   pub turn : (clock : ℕ) → turn_at o clock ≡ Evaluate
-  pub acts : (p : Pending) (clock : ℕ) → acts_at o p clock ≡ is_due_at o.second p clock
+  pub acts : (s : Outlook) (clock : ℕ) → acts_at o s clock ≡ is_due_at o.second s clock
   pub awaits : (server mid : ℕ) → is_awaited server mid o ≡ false
   pub rejected : (server mid : ℕ) → was_sent server mid o ≡ (server == o.server && (o.non && o.mid == mid))
 

@@ -1,4 +1,5 @@
 pub mod Observed
+pub mod Said
 pub mod Trigger
 pub mod Resending
 pub mod Due

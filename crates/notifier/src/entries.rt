@@ -57,6 +57,17 @@ pub(crate) fn place_of(
     entries.values().position(|o| is_named(o, server, token))
 }
 
+/// The place of the first observation whose last message a Reset of this server with this message ID rejects.
+pub(crate) fn place_sent(
+    entries: &IndexMap<Key, Observation>,
+    server: u16,
+    mid: u16,
+) -> Option<usize>
+    ensures { result ≡ position (was_sent server mid) (values entries.now) }
+{
+    entries.values().position(|o| was_sent(o, server, mid))
+}
+
 /// Adds an observation of a new name at the end.
 pub(crate) fn add(
     alloc: Global,
@@ -129,35 +140,6 @@ pub(crate) fn notify(
     number
 }
 
-/// Keeps the observations of other names.
-pub(crate) fn keep_others(entries: &mut IndexMap<Key, Observation>, server: u16, token: &[u8])
-    ensures { entries.new.entries ≡ filter (λ e. not (is_named server token.now e.1)) entries.old.entries }
-{
-    entries.retain(
-        |_key: &Key, o: &mut Observation| -> bool
-            ensures { (result ≡ not (is_named server token.entry.now o.old)) × (o.new ≡ o.old) }
-        { !is_named(o, server, token) },
-    );
-}
-
-/// Keeps the observations whose last message a Reset of this server with this message ID does not reject.
-pub(crate) fn keep_unsent(entries: &mut IndexMap<Key, Observation>, server: u16, mid: u16)
-    ensures { entries.new.entries ≡ filter (λ e. not (was_sent server mid e.1)) entries.old.entries }
-{
-    entries.retain(
-        |_key: &Key, o: &mut Observation| -> bool
-            ensures { (result ≡ not (was_sent server mid o.old)) × (o.new ≡ o.old) }
-        { !was_sent(o, server, mid) },
-    );
-}
-
-/// Whether there is an observation of this name.
-pub(crate) fn holds(entries: &IndexMap<Key, Observation>, server: u16, token: &[u8]) -> bool
-    ensures { result ≡ has_name (values entries.now) server token.now }
-{
-    entries.values().any(|o| is_named(o, server, token))
-}
-
 /// Closes the observations whose open notification an acknowledgement of this server with this message ID
 /// answers.
 pub(crate) fn close_awaited(entries: &mut IndexMap<Key, Observation>, server: u16, mid: u16)
@@ -197,10 +179,11 @@ pub(crate) fn count_sent(entries: &IndexMap<Key, Observation>, server: u16, mid:
 
 /// Removes the observation at a place.
 pub(crate) fn remove_at(entries: &mut IndexMap<Key, Observation>, place: usize)
-    requires { AllByRecursion IsKeyed entries.old.entries }
+    requires keyed { AllByRecursion IsKeyed entries.old.entries }
+    requires within { place < index_map_len entries.old }
     ensures values { values entries.new ≡ remove (values entries.old) place }
     ensures keyed { AllByRecursion IsKeyed entries.new.entries }
-    ensures len { length entries.new.entries ≤ length entries.old.entries }
+    ensures len { length entries.new.entries + 1 ≡ length entries.old.entries }
 {
     entries.shift_remove_index(place);
 }

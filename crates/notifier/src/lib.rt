@@ -21,7 +21,7 @@ pub use fault::{ObserveFault, QueryFault, WriteFault};
 pub use laws::{closed_is_evaluated, resends_at_doubled_timeouts};
 pub use observation::{Observation, Report, Timer};
 pub use observations::Observations;
-pub use pending::Pending;
+pub use pending::{Outlook, Pending};
 pub use query::{Changes, parse_query};
 pub use trigger::{is_due, triggers};
 pub use turn::Turn;

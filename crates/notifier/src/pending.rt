@@ -1,41 +1,58 @@
-//! The first second at which an observation sends or is removed, while its present answer stays as it is.
+//! The first second at which an observation sends or is removed, by what was last said of its present answer.
 
 ghost use Rattle.std.specs.Prelude.{◌≡◌, ℕ, ◌-◌, ◌||◌, Bool, nat_le, false};
 ghost use Rattle.std.specs.Option.{option_map_or};
 ghost use Rattle.notifier.specs.Trigger.{is_due};
 ghost use Rattle.notifier.specs.Due.{IsFirst, is_due_at};
+ghost use Rattle.notifier.specs.Said.{unsaid};
 
 use crate::trigger::is_due;
 
-/// What the present answer of an observation is: that of a GET of its path by its server.
+/// What the present answer of an observation is, that of a GET of its path by its server, beside what the
+/// observation last reported.
 #[derive(Clone, Copy, Debug, PartialEq, Eq)]
 pub enum Pending {
-    /// It is no content, which is sent at once, and the observation is removed.
-    Gone,
-    /// It is content.
-    Content {
-        /// Whether it triggers, compared with what the observation last reported.
-        triggered: bool,
-        /// The minimum period, in seconds.
-        pmin: u64,
-        /// The maximum period, in seconds, if there is one.
-        pmax: Option<u64>,
-    },
+    /// It is content that does not trigger.
+    Idle,
+    /// It is content that triggers.
+    Changed,
+    /// It is no content, but an answer of this code: it is sent at once, and the observation is removed.
+    Gone(u8),
 }
 
-impl Pending {
-    /// Whether an observation whose last message is of `second` sends, or is removed, at the second that
-    /// the clock shows.
+/// What was last said of an observation.
+#[derive(Clone, Copy, Debug, PartialEq, Eq)]
+pub struct Outlook {
+    /// What its present answer is.
+    pub pending: Pending,
+    /// The minimum period, in seconds.
+    pub pmin: u64,
+    /// The maximum period, in seconds, if there is one.
+    pub pmax: Option<u64>,
+}
+
+impl Outlook {
+    /// What is said of an observation whose reply has just registered it: nothing is pending, and there is no period.
+    pub(crate) fn unsaid() -> Outlook
+        ensures { result ≡ unsaid }
+    {
+        Outlook {
+            pending: Pending::Idle,
+            pmin: 0,
+            pmax: None,
+        }
+    }
+
+    /// Whether an observation whose last message is of `second`, and which is not open, sends, or is removed, at the
+    /// second that the clock shows.
     pub fn is_due(&self, second: u64, clock: u64) -> bool
         ensures { result ≡ is_due_at second self.now clock }
     {
-        match self {
-            Pending::Gone => true,
-            Pending::Content {
-                triggered,
-                pmin,
-                pmax,
-            } => is_due(clock.saturating_sub(second), *pmin, *pmax, *triggered),
+        let age = clock.saturating_sub(second);
+        match self.pending {
+            Pending::Idle => is_due(age, self.pmin, self.pmax, false),
+            Pending::Changed => is_due(age, self.pmin, self.pmax, true),
+            Pending::Gone(_) => true,
         }
     }
 }
@@ -67,21 +84,24 @@ fn first_at(now: u64, second: u64, wait: u64) -> Option<u64>
     Some(next.max(reached))
 }
 
-/// The first second after `now` at which an observation sends, or is removed, whose last message is of
+/// The first second after `now` at which content is sent, triggered or not, of an observation whose last message is of
 /// `second`.
-pub(crate) fn due_of(now: u64, second: u64, pending: &Pending) -> Option<u64>
-    ensures { IsFirst (is_due_at second pending.now) now result }
+fn content_due(now: u64, second: u64, pmin: u64, pmax: Option<u64>, triggered: bool) -> Option<u64>
+    ensures { IsFirst (λ clock. is_due (clock - second) pmin pmax triggered) now result }
 {
-    match pending {
-        Pending::Gone => now.checked_add(1),
-        Pending::Content {
-            triggered,
-            pmin,
-            pmax,
-        } => {
-            let wait = wait_of(*pmin, *pmax, *triggered)?;
-            first_at(now, second, wait)
-        }
+    let wait = wait_of(pmin, pmax, triggered)?;
+    first_at(now, second, wait)
+}
+
+/// The first second after `now` at which an observation sends, or is removed, whose last message is of `second`, and
+/// which is not open.
+pub(crate) fn due_of(now: u64, second: u64, outlook: &Outlook) -> Option<u64>
+    ensures { IsFirst (is_due_at second outlook.now) now result }
+{
+    match outlook.pending {
+        Pending::Idle => content_due(now, second, outlook.pmin, outlook.pmax, false),
+        Pending::Changed => content_due(now, second, outlook.pmin, outlook.pmax, true),
+        Pending::Gone(_) => now.checked_add(1),
     }
 }
 

@@ -3,10 +3,10 @@
 ghost use Rattle.std.specs.Prelude.{◌≡◌, ◌+◌, ◌==◌, nat_le};
 ghost use Rattle.notifier.specs.Due.{IsFirst, acts_at, acts_in};
 ghost use Rattle.notifier.specs.Resending.{max_retransmit, resending, turn_at};
-ghost use Rattle.notifier.specs.declared.pending.Pending.{Pending};
+ghost use Rattle.notifier.specs.declared.pending.Outlook.{Outlook};
 
 use crate::observation::Observation;
-use crate::pending::{Pending, due_of, earlier};
+use crate::pending::{Outlook, due_of, earlier};
 
 /// What an observation does in a second.
 #[derive(Clone, Copy, Debug, PartialEq, Eq)]
@@ -59,7 +59,7 @@ fn first_from(now: u64, second: u64, wait: u64) -> Option<u64>
 /// The first second after `now` at which a notification that was first sent at `second` is sent again, or
 /// its observation removed.
 pub(crate) fn next_resending(now: u64, second: u64, first: u8) -> Option<u64>
-    ensures { (p : Pending) → IsFirst (λ clock. acts_in (resending second first clock) second p clock) now result }
+    ensures { (s : Outlook) → IsFirst (λ clock. acts_in (resending second first clock) second s clock) now result }
 {
     let timeout = u64::from(first);
     let end = first_from(now, second, 31 * timeout);
@@ -69,13 +69,13 @@ pub(crate) fn next_resending(now: u64, second: u64, first: u8) -> Option<u64>
     earlier(only_at(now, second, timeout), from_second)
 }
 
-/// The first second after `now` at which an observation sends, or is removed.
-pub(crate) fn next_of(now: u64, observation: &Observation, pending: &Pending) -> Option<u64>
-    ensures { IsFirst (acts_at observation.now pending.now) now result }
+/// The first second after `now` at which an observation sends, or is removed, by what was last said of it.
+pub(crate) fn next_of(now: u64, observation: &Observation, outlook: &Outlook) -> Option<u64>
+    ensures { IsFirst (acts_at observation.now outlook.now) now result }
 {
     match &observation.timer {
         Some(timer) => next_resending(now, observation.second, timer.first),
-        None => due_of(now, observation.second, pending),
+        None => due_of(now, observation.second, outlook),
     }
 }
 

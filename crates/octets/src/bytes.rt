@@ -81,10 +81,13 @@ impl Drop for Bytes {
     }
 }
 
+/// A copy of up to 16 bytes takes no memory.
 impl Clone for Bytes {
-    ghost use Rattle.std.specs.Prelude.{◌≡◌};
+    ghost use Rattle.std.specs.Prelude.{◌≡◌, ◌≤◌, length};
 
     ghost is_clone = { λ bytes copy. copy ≡ bytes };
+
+    ghost is_infallible = { λ bytes. length bytes ≤ 16 };
 
     fn clone(&self) -> Result<Bytes, AllocError> {
         Bytes::from_slice(*self.items.allocator(), self.as_slice())

@@ -5,8 +5,8 @@ use crate::given::Given;
 use crate::line::Line;
 use crate::marks::Marks;
 use crate::{
-    building, classes, devices, fleets, images, jobs, lives, locks, puts, sessions, shared, traces,
-    workers,
+    building, classes, devices, fleets, gathering, images, jobs, lives, locks, puts, sessions,
+    shared, traces, workers,
 };
 use std::sync::Wait;
 use std::thread::Threads;
@@ -27,6 +27,7 @@ pub fn ask<R: Threads + Wait + Sync>(
         "commit" => fleets::commit(given, marks, line),
         "advance" => jobs::advance(rt, given, marks, line),
         "put" => puts::put(rt, given, marks, line),
+        "into_entries" => gathering::gather(rt, given, marks, line),
         "fleet" => workers::fleet(rt, given, marks, line),
         "class" => classes::state(given, marks, line),
         "add_class" => building::add_class(given, marks, line),

@@ -4,6 +4,7 @@ ghost use Rattle.std.specs.Prelude.{◌≡◌, Some, IfSome, IfOk, IfErr, false}
 ghost use Rattle.ticket_lock.specs.Names.{lock_id, pass_view, IsPass};
 ghost use Rattle.fleet_workers.specs.Knowing.{Knows};
 
+use crate::gathering::gathered;
 use crate::given::Given;
 use crate::line::Line;
 use crate::marks::Marks;
@@ -129,7 +130,10 @@ fn add_trace(trace: Trace, device: u16, line: &mut Line) {
     } else {
         "finished,"
     });
-    line.add_count("entries", trace.entries().len() as u64)
+    match gathered(trace) {
+        Ok(entries) => line.add_count("entries", entries.len() as u64),
+        Err(_) => line.cut(),
+    }
 }
 
 /// Claims a device of a new trace, lets it make its steps and puts them.

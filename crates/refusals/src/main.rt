@@ -8,6 +8,7 @@ mod building;
 mod classes;
 mod devices;
 mod fleets;
+mod gathering;
 mod given;
 mod images;
 mod jobs;

@@ -7,11 +7,11 @@ ghost use Rattle.shared_trace.specs.Trace.{IsShared, trace_log};
 ghost use Rattle.shared_trace.specs.Job.{MayPut};
 ghost use Rattle.fleet_workers.specs.Knowing.{Knows};
 
+use crate::gathering::{add_gathered, count_of, ended};
 use crate::given::Given;
 use crate::jobs::{advanced, claimed, locked};
 use crate::line::Line;
 use crate::marks::{Marks, Mode};
-use crate::shared::{add_run, ended};
 use fleet_workers::{put_job, stop_trace};
 use scenario_image::Scenario;
 use shared_trace::{Job, Trace};
@@ -32,7 +32,7 @@ fn put_again(trace: &mut Trace, worker: u16, job: Job) -> Came
     ensures adds { Adds trace_log worker trace.old trace.new }
     ensures shared { IsShared trace.new }
 {
-    let left = trace.entries().len();
+    let left = count_of(trace);
     match trace.put(worker, job) {
         Ok(()) => Came {
             left: Some(left),
@@ -199,7 +199,7 @@ pub fn put<R: Wait>(rt: &R, given: &Given, marks: &mut Marks, line: &mut Line) {
     let (pass, came) = put_last(rt, &lock, pass, given.scenario, &mut none, marks);
     add_came(came, line);
     match ended(rt, lock, pass, given.scenario) {
-        Some(trace) => add_run(given, trace, line),
+        Some(trace) => add_gathered(given, trace, line),
         None => line.add("a pass is out"),
     }
 }

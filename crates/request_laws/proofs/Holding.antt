@@ -365,7 +365,7 @@ parts_shown client o i r d defined_as several readable q lies =
     ∙ ap (is_shown_as q.part) (sym (is_defined_in client o r) ∙ defined_as)
     ∙ shown_as d q.part several readable
 
-is_eleven : (accept : Option ℕ) → is_tlv accept ≡ true → format_for many accept ≡ Some Tlv
+pub is_eleven : (accept : Option ℕ) → is_tlv accept ≡ true → format_for many accept ≡ Some Tlv
 is_eleven None h = refl
 is_eleven (Some n) h = ap (λ (b : Bool). if b then Some Tlv else (if n == 0 then None else (if n == 42 then None
     else None))) h

@@ -1,3 +1,4 @@
+mod Among
 mod Annotating
 mod Asking
 mod Changing
@@ -7,14 +8,23 @@ mod Deleting
 mod Differing
 mod Doing
 mod Executing
+mod FirstOptions
+mod Giving
 mod Holding
 mod InstanceBack
 mod InstanceReading
+mod LeavingOut
 mod MultipleBack
+mod ObjectReading
 mod PartBack
+mod PartGiving
 mod PartReading
 mod PartWriting
+mod Records
+mod Serving
 pub mod Taking
+mod Targeting
 mod Timing
+mod Understanding
 mod Unread
 mod Writing

@@ -4,11 +4,16 @@ pub mod Creations
 pub mod Deletions
 pub mod Done
 pub mod Executions
+pub mod Existing
 pub mod Good
 pub mod Instances
 pub mod Multiples
+pub mod ObjectReads
+pub mod Payloads
 pub mod Readings
+pub mod ServedFormats
 pub mod Taken
+pub mod Understood
 pub mod Unread
 pub mod Untimely
 pub mod Writes

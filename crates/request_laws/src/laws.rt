@@ -6,10 +6,17 @@ ghost use Rattle.request_laws.specs.Creations.{CreatesAdd};
 ghost use Rattle.request_laws.specs.Deletions.{DeletesTake};
 ghost use Rattle.request_laws.specs.Done.{DoneIsChanged};
 ghost use Rattle.request_laws.specs.Executions.{ErrorsAreReset, ExecutesKeep, UpdatesBegin};
+ghost use Rattle.request_laws.specs.Existing.{ExistsWithin, WhatExists, WhatIsToWrite};
 ghost use Rattle.request_laws.specs.Good.{GoodIsDone, LimitsComeLast};
 ghost use Rattle.request_laws.specs.Instances.{InstancesAreReadBack, InstancesHoldGiven};
 ghost use Rattle.request_laws.specs.Multiples.{MultipleIsRead, MultipleIsReadBack, PartIsReadAmong};
+ghost use Rattle.request_laws.specs.ObjectReads.{InstanceIsShown, ObjectIsHidden, ObjectIsShown};
+ghost use Rattle.request_laws.specs.Payloads.{CreationsAreGiven, InstancesAreGiven, OtherInstanceGivesNothing};
+ghost use Rattle.request_laws.specs.Payloads.{PartsAreGiven, ResourcesAreGiven};
 ghost use Rattle.request_laws.specs.Readings.{PartIsRead};
+ghost use Rattle.request_laws.specs.ServedFormats.{DefaultIsServed, FormatsAreServed, NamedIsGiven, OthersTakeOne};
+ghost use Rattle.request_laws.specs.Understood.{CriticalIsUnderstood, FirstNames, OthersSayNothing, SegmentsName};
+ghost use Rattle.request_laws.specs.Understood.{ValuesInOrder};
 ghost use Rattle.request_laws.specs.Unread.{AnswersHideUnread, ReadsHideUnread};
 ghost use Rattle.request_laws.specs.Untimely.{StatesDecide, StatesPrecedeLimits};
 ghost use Rattle.request_laws.specs.Writes.{InstancesAreWritten, PartsAreWritten, ResourcesAreWritten};
@@ -104,4 +111,48 @@ pub fn instances_hold_what_was_given()
 pub fn answers_hide_the_unreadable()
     ensures read { ReadsHideUnread }
     ensures all { AnswersHideUnread }
+{}
+
+/// A Read of an object answers exactly the instances that the server may read, a Read of an instance exactly its values
+/// that can be read, by ascending number; where the object has instances, and the server may read none, it is 4.01.
+pub fn reads_show_what_is_held()
+    ensures instance { InstanceIsShown }
+    ensures object { ObjectIsShown }
+    ensures hidden { ObjectIsHidden }
+{}
+
+/// What a payload gives is what the grammar of its records says: to the resources of an instance, to a resource, to a
+/// part, and to a new instance. An Object Instance of another number gives nothing.
+pub fn payloads_give_what_they_say()
+    ensures instances { InstancesAreGiven }
+    ensures other { OtherInstanceGivesNothing }
+    ensures resources { ResourcesAreGiven }
+    ensures parts { PartsAreGiven }
+    ensures creations { CreationsAreGiven }
+{}
+
+/// What exists, what a Write may go to besides, and that what exists lies in what exists.
+pub fn targets_exist()
+    ensures exist { WhatExists }
+    ensures write { WhatIsToWrite }
+    ensures within { ExistsWithin }
+{}
+
+/// Which formats a path serves, and by default; a format that is named is the one that is given. A Create takes TLV
+/// alone, an Execute plain text alone.
+pub fn formats_are_served()
+    ensures served { FormatsAreServed }
+    ensures named { NamedIsGiven }
+    ensures default { DefaultIsServed }
+    ensures others { OthersTakeOne }
+{}
+
+/// What the options of a request say: which must be understood and are not, the numbers of the first Accept,
+/// Content-Format and Observe, the segments, the path and the queries; all others can be left out.
+pub fn options_are_understood()
+    ensures critical { CriticalIsUnderstood }
+    ensures first { FirstNames }
+    ensures values { ValuesInOrder }
+    ensures path { SegmentsName }
+    ensures others { OthersSayNothing }
 {}

@@ -57,7 +57,7 @@ unfolding image front
 image_off bytes b e =
     headed_off (λ v. at_most 256 (number w16)) lists bytes b (λ v rest h. lists_off v rest b h) e
 
-front_exact : IsExact front
+pub front_exact : IsExact front
 unfolding front
 front_exact =
     headed_exact (λ v. at_most 256 (number w16)) (λ v. at_most_exact 256 (number w16) short_exact)

@@ -8,3 +8,4 @@ mod Fronts
 pub mod Imaged
 pub mod Versions
 pub mod Saving
+mod NoClass

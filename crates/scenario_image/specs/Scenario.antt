@@ -26,6 +26,10 @@ pub record Scenario : Type 0 where
   pub classes : List Template
   pub rows : List Row
 
+-- the scenario without a class, and so without a row
+abbrev pub no_class : Scenario
+no_class = record { classes = []; rows = [] }
+
 -- ---- a step by itself
 
 -- 1 to 86,400 seconds pass; 1 to 1,000,000 posts are needed; a code of the firmware is 0 to 9; a value is put at a path

@@ -1,6 +1,7 @@
 //! Scenarios, read from this profile's images of them, of version 1 or 2, and written as that of version 2.
 
-ghost use Rattle.std.specs.Prelude.{◌≡◌, ◌≢◌, ◌≤◌, ◌++◌, [], length, Ok, Err, OnOk, IfOk, IfErr, IsErrAnd, MatchResult};
+ghost use Rattle.std.specs.Prelude.{◌≡◌, ◌≢◌, ◌≤◌, ◌++◌, ◌∷◌, [], length, Ok, Err, OnOk, IfOk, IsOk, IfErr};
+ghost use Rattle.std.specs.Prelude.{IsErrAnd, IsTrue, MatchResult};
 ghost use Rattle.byte_layout.specs.declared.fault.Break.{Break};
 ghost use Rattle.byte_layout.specs.declared.fault.LayoutFault.{LayoutFault};
 ghost use Rattle.byte_layout.specs.declared.fault.LayoutFault.TheVariants.{Memory};
@@ -9,7 +10,7 @@ ghost use Rattle.byte_layout.specs.Outcome.{Gives};
 ghost use Rattle.byte_layout.specs.Layout.{each};
 ghost use Rattle.byte_layout.specs.Whole.{placed, read_all};
 ghost use Rattle.scenario_layout.specs.Class.{class};
-ghost use Rattle.scenario_image.specs.Scenario.{Scenario};
+ghost use Rattle.scenario_image.specs.Scenario.{Scenario, no_class};
 ghost use Rattle.scenario_image.specs.Image.{classes, lists, header, image, front, IsImage, IsImageIn, HasImageFault};
 
 use crate::rows::{put_rows, rows_at};
@@ -115,6 +116,17 @@ impl Format for Image {
     }
 }
 
+/// Whether there is no class, and after that stands a count of no rows, and no more.
+fn is_no_class(count: u16, rest: &[u8]) -> bool
+    ensures found { IsTrue result → (count ≡ 0) × (rest.now ≡ 0 ∷ 0 ∷ []) }
+    ensures only { count ≡ 0 → rest.now ≡ 0 ∷ 0 ∷ [] → IsTrue result }
+{
+    match (count, rest) {
+        (0, [0, 0]) => true,
+        _ => false,
+    }
+}
+
 /// The scenario whose image these bytes are, all of them, in version 1 or 2; else their first fault from the left. The
 /// classes of version 1 send Non-confirmable notifications.
 ///
@@ -127,14 +139,20 @@ pub fn load(alloc: Global, bytes: &[u8]) -> Result<Scenario, LayoutFault>
     ensures fault { IfErr result (λ f. f ≢ Memory → HasImageFault bytes.now f) }
     ensures refused { (f : LayoutFault) → HasImageFault bytes.now f → IsErrAnd result (λ g. g ≢ Memory → g ≡ f) }
     ensures front { (b : Break) → front.Breaks bytes.now b → result ≡ Err (placed (length bytes.now) b) }
+    ensures empty { IsImage bytes.now no_class → IsOk result }
 {
-    // Another file than an image is refused by its front, before memory is taken.
+    // Another file than an image is refused by its front, and a scenario of nothing is made of it: no memory is taken.
     match front_at(bytes) {
         Err(error) => Err(fault_at(bytes.len(), error)),
-        Ok(_) => match load_all::<Image>(alloc, bytes) {
-            Err(fault) => Err(fault),
-            Ok((_, scenario)) => Ok(scenario),
-        },
+        Ok(((_, count), rest)) => {
+            if is_no_class(count, rest) {
+                return Ok(Scenario::empty(alloc));
+            }
+            match load_all::<Image>(alloc, bytes) {
+                Err(fault) => Err(fault),
+                Ok((_, scenario)) => Ok(scenario),
+            }
+        }
     }
 }
 

@@ -1,21 +1,19 @@
 -- A device that is handed out.
 use Rattle.std.proofs.Common.{◌≡◌, ℕ, ◌+◌, ◌<◌, ◌⊎◌, inl, inr, Bool, true, false, List, [], length, set, get_or, Some}
-use Rattle.std.proofs.Common.{Option, None, slice_get, slice_index, refl, sym, ap, subst, ◌∙◌, arith}
+use Rattle.std.proofs.Common.{slice_get, slice_index, refl, sym, ap, subst, ◌∙◌, arith}
 use Rattle.std.specs.Prelude.{◌==◌, count_by, Contains}
 use Rattle.std.specs.List.{AllByRecursion}
 use Rattle.std.proofs.lemmas.List.{length-set, append-nil}
 use Rattle.std.proofs.lemmas.Option.{slice_get_read, slice_get_within}
 use Rattle.std.proofs.lemmas.Bool.{cases_eq, ne_eqb, false≢true}
-use Rattle.device_machine.specs.State.{Device}
 use Rattle.scenario_image.specs.Scenario.{Scenario}
 use Rattle.trace_file.specs.declared.entry.Entry.{Entry}
-use Rattle.fleet_core.specs.Run.{made_by, posts_of, may_pass, is_enabled, IsRun}
-use Rattle.fleet_core.specs.Board.{HoldsAfter}
+use Rattle.fleet_core.specs.Run.{made_by, is_enabled, IsRun}
+use Rattle.fleet_core.specs.Board.{HoldsAfter, Holding, ShowsAfter}
 use Rattle.ticket_lock.specs.Log.{Adds}
 use Rattle.shared_trace.specs.declared.station.Place.TheVariants.{Parked, Out}
 use Rattle.shared_trace.specs.declared.station.Station.{Station}
 use Rattle.shared_trace.specs.Trace.{Traced, IsPlaced, IsReady, with_out, open_by, trace_log}
-use Rattle.shared_trace.specs.Claims.{IsFresh}
 use Rattle.shared_trace.specs.Kept.{IsTrace, IsStation, AreEnded, IsOnWay, IsJob, is_parked, places_of}
 use Rattle.shared_trace.specs.Kept.{table_length}
 use Rattle.shared_trace.proofs.Lists.{set_gives, get-set_same, get-set_other, at_map, from_map, map-set, same_some}
@@ -26,7 +24,7 @@ use Rattle.shared_trace.proofs.Ended.{ended_set}
 
 -- the station of a device that is ready
 pub record IsHanded (s : Scenario) (es : List Entry) (stations : List Station) (counts : List ℕ) (d : ℕ) (x : Station)
-    (shown : Option Device) : Type 0 where
+    (shown : Holding) : Type 0 where
   pub trace : IsTrace s es stations counts
   pub at : slice_get stations d ≡ Some x
   pub parked : x.place ≡ Parked shown
@@ -35,10 +33,10 @@ pub record IsHanded (s : Scenario) (es : List Entry) (stations : List Station) (
 pub handed : (v : Traced) (s : Scenario) (es : List Entry) (stations : List Station) (counts : List ℕ) (stopped : Bool)
     (d i : ℕ) (x : Station) → traced s es stations stopped ≡ v
     → IsTrace s es stations counts → (r : IsReady v d) → i ≡ d → x ≡ get_or stations i x
-    → IsHanded s es stations counts d x r.shown
+    → IsHanded s es stations counts d x r.held
 handed v s es stations counts stopped d i x view t r from read =
-    let found = from_map (λ y. y.place) stations d (Parked r.shown)
-    (subst (λ w. slice_get w.places d ≡ Some (Parked r.shown)) (sym view) r.parked) in
+    let found = from_map (λ y. y.place) stations d (Parked r.held)
+    (subst (λ w. slice_get w.places d ≡ Some (Parked r.held)) (sym view) r.parked) in
     let here : slice_get stations d ≡ Some x =
     slice_get_read stations (length stations) d x refl (slice_get_within stations d found.0 found.1)
     (read ∙ ap (λ j. get_or stations j x) from) in
@@ -50,14 +48,14 @@ handed v s es stations counts stopped d i x view t r from read =
     }
 
 pub table_is : (s : Scenario) (es : List Entry) (stations : List Station) (counts : List ℕ) (d : ℕ) (x : Station)
-    (shown : Option Device) → IsHanded s es stations counts d x shown
+    (shown : Holding) → IsHanded s es stations counts d x shown
     → length x.known.items ≡ length counts
 table_is s es stations counts d x shown h = (h.trace.each d x h.at).known (ap is_parked h.parked) ∙ sym h.trace.table
 
 -- ---- the trace
 
 out_station : (s : Scenario) (es : List Entry) (stations : List Station) (counts : List ℕ) (d w i : ℕ) (x y z : Station)
-    (shown : Option Device) → IsHanded s es stations counts d x shown
+    (shown : Holding) → IsHanded s es stations counts d x shown
     → y.place ≡ Out w → y.made ≡ x.made → y.next ≡ x.next → slice_get (set stations d y) i ≡ Some z → (d ≡ i)
     ⊎ (d ≡ i → ⊥) → IsStation s es i z
 out_station s es stations counts d w i x y z shown h out made next at (inl own) =
@@ -73,7 +71,7 @@ out_station s es stations counts d w i x y z shown h out made next at (inr other
     h.trace.each i z (sym (get-set_other stations d i y other) ∙ at)
 
 pub out_trace : (s : Scenario) (es : List Entry) (stations : List Station) (counts : List ℕ) (d w i : ℕ) (x y : Station)
-    (shown : Option Device) → IsHanded s es stations counts d x shown
+    (shown : Holding) → IsHanded s es stations counts d x shown
     → i ≡ d → y.place ≡ Out w → y.made ≡ x.made → y.next ≡ x.next → IsTrace s es (set stations i y) counts
 out_trace s es stations counts d w i x y shown h from out made next =
     subst (λ j. IsTrace s es (set stations j y) counts) (sym from) (record {
@@ -87,7 +85,7 @@ out_trace s es stations counts d w i x y shown h from out made next =
 
 pub out_ended : (s : Scenario) (es : List Entry) (stations : List Station) (counts : List ℕ) (low d i : ℕ)
     (x y : Station)
-    (shown : Option Device) → IsHanded s es stations counts d x shown
+    (shown : Holding) → IsHanded s es stations counts d x shown
     → i ≡ d → AreEnded stations low → AreEnded (set stations i y) low
 out_ended s es stations counts low d i x y shown h from ended =
     ended_set s es stations counts low d i x y h.trace h.at (enabled_waits s es d h.enabled) from ended
@@ -101,7 +99,7 @@ out_view v s es stations stopped d w i y view from out =
     ∙ ap (λ p. set (places_of stations) d p) out))
     ∙ ap (λ u. with_out u d w) view
 
-pub out_adds : (v new : Traced) (d w : ℕ) (x : Option Device) → slice_get v.places d ≡ Some (Parked x)
+pub out_adds : (v new : Traced) (d w : ℕ) (x : Holding) → slice_get v.places d ≡ Some (Parked x)
     → new ≡ with_out v d w
     → Adds trace_log w v new
 out_adds v new d w x at is =
@@ -114,7 +112,7 @@ out_adds v new d w x at is =
           (ne_eqb w n (λ e. ne (sym e))) (λ j h. refl);
     })
 
-pub out_stands : (v new claimed : Traced) (d w : ℕ) (x : Option Device) → slice_get v.places d ≡ Some (Parked x)
+pub out_stands : (v new claimed : Traced) (d w : ℕ) (x : Holding) → slice_get v.places d ≡ Some (Parked x)
     → new ≡ with_out v d w → claimed ≡ v
     → Contains (open_by new w) (d, made_by d claimed.entries)
 out_stands v new claimed d w x at is same =
@@ -128,7 +126,7 @@ out_stands v new claimed d w x at is same =
 -- ---- the job
 
 fresh_way : (s : Scenario) (es : List Entry) (stations : List Station) (counts known posted : List ℕ) (d : ℕ)
-    (x : Station) (shown machine : Option Device) → IsHanded s es stations counts d x shown
+    (x : Station) (shown machine : Holding) → IsHanded s es stations counts d x shown
     → x.place ≡ Parked machine → known ≡ counts → posted ≡ [] → IsOnWay s d es [] machine known posted x.made x.next
 fresh_way s es stations counts known posted d x shown machine h device table none = record {
   holds = subst (IsPlaced s es d) device (h.trace.each d x h.at).placed;
@@ -141,7 +139,7 @@ fresh_way s es stations counts known posted d x shown machine h device table non
 }
 
 fresh_here : (s : Scenario) (es : List Entry) (stations : List Station) (counts known posted : List ℕ) (d w : ℕ)
-    (x : Station) (shown machine : Option Device) → IsHanded s es stations counts d x shown
+    (x : Station) (shown machine : Holding) → IsHanded s es stations counts d x shown
     → x.place ≡ Parked machine → known ≡ counts → posted ≡ []
     → IsJob s w d es [] machine false known posted x.made x.next
 fresh_here s es stations counts known posted d w x shown machine h device table none = record {
@@ -157,7 +155,7 @@ fresh_here s es stations counts known posted d w x shown machine h device table 
 }
 
 pub fresh_job : (v claimed : Traced) (s : Scenario) (es entries : List Entry) (stations : List Station)
-    (counts known posted : List ℕ) (stopped : Bool) (d w : ℕ) (x : Station) (shown machine : Option Device)
+    (counts known posted : List ℕ) (stopped : Bool) (d w : ℕ) (x : Station) (shown machine : Holding)
     → traced s es stations stopped ≡ v → claimed ≡ v → IsHanded s es stations counts d x shown
     → x.place ≡ Parked machine → known ≡ counts → posted ≡ [] → entries ≡ []
     → IsJob claimed.subject w d claimed.entries entries machine false known posted x.made x.next
@@ -168,25 +166,17 @@ fresh_job v claimed s es entries stations counts known posted stopped d w x show
     (fresh_here s es stations counts known posted d w x shown machine h device table none))
 
 pub parked_now : (v : Traced) (s : Scenario) (es : List Entry) (stations : List Station) (counts : List ℕ)
-    (stopped : Bool) (d : ℕ) (x : Station) (shown machine : Option Device)
+    (stopped : Bool) (d : ℕ) (x : Station) (shown machine : Holding)
     → traced s es stations stopped ≡ v → IsHanded s es stations counts d x shown → x.place ≡ Parked machine
     → slice_get v.places d ≡ Some (Parked machine)
 parked_now v s es stations counts stopped d x shown machine view h device =
     subst (λ u. slice_get u.places d ≡ Some (Parked machine)) view
     (at_map (λ y. y.place) stations d x h.at ∙ ap Some device)
 
--- a device that can step isn't at the end of its row
-fresh_of : (s : Scenario) (es : List Entry) (d : ℕ) (x : Option Device) → HoldsAfter s d (made_by d es) x
-    → is_enabled s es d ≡ true → IsFresh s d (made_by d es) x
-fresh_of s es d (Some x) h go = h
-fresh_of s es d None (inl start) go = start
-fresh_of s es d None (inr none) go =
-    absurd (false≢true (sym (ap (may_pass (λ g. posts_of s g es)) none) ∙ go))
-
 pub shows_now : (v : Traced) (s : Scenario) (es : List Entry) (stations : List Station) (counts : List ℕ)
-    (stopped : Bool) (d : ℕ) (x : Station) (shown machine : Option Device)
+    (stopped : Bool) (d : ℕ) (x : Station) (shown machine : Holding)
     → traced s es stations stopped ≡ v → IsHanded s es stations counts d x shown → x.place ≡ Parked machine
-    → IsFresh v.subject d (made_by d v.entries) machine
+    → ShowsAfter v.subject d (made_by d v.entries) machine.shown
 shows_now v s es stations counts stopped d x shown machine view h device =
-    subst (λ u. IsFresh u.subject d (made_by d u.entries) machine) view
-    (fresh_of s es d machine (subst (IsPlaced s es d) device (h.trace.each d x h.at).placed) h.enabled)
+    let here : HoldsAfter s d (made_by d es) machine = subst (IsPlaced s es d) device (h.trace.each d x h.at).placed in
+    subst (λ u. ShowsAfter u.subject d (made_by d u.entries) machine.shown) view here.shows

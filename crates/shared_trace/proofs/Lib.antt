@@ -1,4 +1,5 @@
 pub mod Lists
+pub mod Paging
 pub mod Nexts
 pub mod Open
 pub mod Stations

@@ -1,16 +1,15 @@
 -- A job that is put into its trace again.
 use Rattle.std.proofs.Common.{◌≡◌, ℕ, ◌+◌, ◌<◌, ◌≤◌, nat_lt, ◌⊎◌, inl, inr, Bool, true, false, List, ◌++◌, length, set}
-use Rattle.std.proofs.Common.{Option, Some, slice_get, slice_index, refl, sym, ap, subst, ◌∙◌, arith}
+use Rattle.std.proofs.Common.{Some, slice_get, slice_index, refl, sym, ap, subst, ◌∙◌, arith}
 use Rattle.std.specs.Prelude.{◌==◌, count_by}
 use Rattle.std.specs.List.{AllByRecursion}
 use Rattle.std.proofs.lemmas.List.{length-set}
 use Rattle.std.proofs.lemmas.Option.{slice_get_within}
 use Rattle.std.proofs.lemmas.Bool.{cases_eq, ne_eqb}
-use Rattle.device_machine.specs.State.{Device}
 use Rattle.scenario_image.specs.Scenario.{Scenario}
 use Rattle.trace_file.specs.declared.entry.Entry.{Entry}
 use Rattle.fleet_core.specs.Run.{steps_in, made_by, posts_of, step_at, IsRun}
-use Rattle.fleet_core.specs.Board.{HoldsAfter}
+use Rattle.fleet_core.specs.Board.{HoldsAfter, Holding}
 use Rattle.fleet_core.specs.Blocks.{AreOf}
 use Rattle.fleet_core.proofs.Sums.{made-append, posts-append}
 use Rattle.fleet_core.proofs.Valid.{posts_within}
@@ -32,7 +31,7 @@ use Rattle.shared_trace.proofs.Stepping.{tasked}
 
 -- a job that may be put into a trace
 pub record IsFitting (s : Scenario) (es : List Entry) (stations : List Station) (counts : List ℕ) (w d : ℕ)
-    (front block : List Entry) (x : Option Device) (known groups : List ℕ) (k : ℕ) (n : Next) : Type 0 where
+    (front block : List Entry) (x : Holding) (known groups : List ℕ) (k : ℕ) (n : Next) : Type 0 where
   pub trace : IsTrace s es stations counts
   pub task : IsTask s w d front block
   pub way : IsOnWay s d (front ++ block) block x known groups k n
@@ -41,7 +40,7 @@ pub record IsFitting (s : Scenario) (es : List Entry) (stations : List Station) 
   pub posts : (g : ℕ) → posts_of s g front ≤ posts_of s g es
 
 fits_here : (v : Traced) (job : Task) (es : List Entry) (stations : List Station) (counts : List ℕ) (stopped : Bool)
-    (s : Scenario) (w d : ℕ) (front block : List Entry) (x : Option Device)
+    (s : Scenario) (w d : ℕ) (front block : List Entry) (x : Holding)
     (known groups : List ℕ) (k : ℕ) (n : Next) → traced s es stations stopped ≡ v
     → tasked s w d front block x false ≡ job → IsTrace s es stations counts
     → IsTask s w d front block → IsOnWay s d (front ++ block) block x known groups k n → MayPut v w job
@@ -62,7 +61,7 @@ fits_here v job es stations counts stopped s w d front block x known groups k n 
     }
 
 pub fitting : (v : Traced) (job : Task) (t : Scenario) (es : List Entry) (stations : List Station) (counts : List ℕ)
-    (stopped : Bool) (s : Scenario) (u w d : ℕ) (front block : List Entry) (x : Option Device)
+    (stopped : Bool) (s : Scenario) (u w d : ℕ) (front block : List Entry) (x : Holding)
     (spent : Bool) (known groups : List ℕ) (k : ℕ) (n : Next) → traced t es stations stopped ≡ v
     → tasked s u d front block x spent ≡ job → IsTrace t es stations counts
     → IsJob s u d front block x spent known groups k n → MayPut v w job
@@ -80,7 +79,7 @@ fitting v job t es stations counts stopped s u w d front block x spent known gro
     (subst (λ i. IsOnWay i d (front ++ block) block x known groups k n) subject (inside.ready ready)) may
 
 module _ {s : Scenario} {es : List Entry} {stations : List Station} {counts : List ℕ} {w d : ℕ}
-    {front block : List Entry} {x : Option Device} {known groups : List ℕ} {k : ℕ} {n : Next}
+    {front block : List Entry} {x : Holding} {known groups : List ℕ} {k : ℕ} {n : Next}
     (f : IsFitting s es stations counts w d front block x known groups k n) where
   pub own_block : AreOf d block
   own_block = all_weaker (IsOf w d) (λ e. e.device ≡ d) block (λ e h. h.1) f.task.each

@@ -1,10 +1,10 @@
 -- What a trace keeps, and what contracts see of it.
 use Rattle.std.proofs.Common.{◌≡◌, ℕ, ◌<◌, ◌≤◌, ◌⊎◌, inl, inr, Bool, true, false, not, List, length, get_or, Some}
-use Rattle.std.proofs.Common.{Option, slice_get, slice_index, refl, sym, ap, subst, ◌∙◌, arith}
+use Rattle.std.proofs.Common.{slice_get, slice_index, refl, sym, ap, subst, ◌∙◌, arith}
 use Rattle.std.proofs.lemmas.List.{length-map}
 use Rattle.std.proofs.lemmas.Option.{slice_get_read}
 use Rattle.std.proofs.lemmas.Bool.{cases_lt, false≢true, false_from_ne_true}
-use Rattle.device_machine.specs.State.{Device}
+use Rattle.fleet_core.specs.Board.{Holding}
 use Rattle.scenario_image.specs.Scenario.{Scenario}
 use Rattle.trace_file.specs.declared.entry.Entry.{Entry}
 use Rattle.fleet_core.specs.Run.{is_enabled, IsComplete}
@@ -42,7 +42,7 @@ shared_of v s es stations counts stopped view t = subst IsShared view (shared_is
 
 -- ---- ready devices
 
-ready_parked : (posts : ℕ → ℕ) (p : Place) (n : Next) → is_ready_in posts p n ≡ true → (x : Option Device)
+ready_parked : (posts : ℕ → ℕ) (p : Place) (n : Next) → is_ready_in posts p n ≡ true → (x : Holding)
     × (p ≡ Parked x)
     × (can_go posts n ≡ true)
 ready_parked posts (Parked x) n h = (x, refl, h)
@@ -55,7 +55,7 @@ ready_is : (s : Scenario) (es : List Entry) (stations : List Station) (counts : 
 ready_is s es stations counts stopped d x t at ready =
     let found = ready_parked (λ g. slice_index counts g) x.place x.next ready in
     record {
-      shown = found.0;
+      held = found.0;
       parked = at_map (λ y. y.place) stations d x at ∙ ap Some found.1;
       enabled = sym (go_enabled s es d (λ g. slice_index counts g) x.next t.posts (t.each d x at).next) ∙ found.2;
     }
@@ -65,7 +65,7 @@ ready_at : (s : Scenario) (es : List Entry) (stations : List Station) (counts : 
     → IsReady (traced s es stations stopped) d → (x : Station) × (slice_get stations d ≡ Some x)
     × (is_ready (λ g. slice_index counts g) x ≡ true)
 ready_at s es stations counts stopped d t r =
-    let found = from_map (λ y. y.place) stations d (Parked r.shown) r.parked in (
+    let found = from_map (λ y. y.place) stations d (Parked r.held) r.parked in (
       found.0,
       found.1,
       ap (λ p. is_ready_in (λ g. slice_index counts g) p found.0.next) found.2
@@ -142,7 +142,7 @@ blocked_at : (v : Traced) (d : ℕ) (p : Place) → slice_get v.places d ≡ Som
     → ((i : ℕ) → IsReady v i → ⊥) → is_enabled v.subject v.entries d ≡ false
 blocked_at v d (Parked x) at parked none =
     false_from_ne_true (is_enabled v.subject v.entries d)
-    (λ go. none d (record { shown = x; parked = at; enabled = go }))
+    (λ go. none d (record { held = x; parked = at; enabled = go }))
 blocked_at v d (Out w) at parked none = absurd (false≢true parked)
 
 blocked_by : (v : Traced) (d : ℕ) → IsShared v → ((i : ℕ) → IsReady v i → ⊥)

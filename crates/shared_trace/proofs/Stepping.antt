@@ -1,19 +1,18 @@
 -- One step of a job.
 use Rattle.std.proofs.Common.{◌≡◌, ℕ, zero, suc, ◌+◌, ◌<◌, ◌≤◌, eqb, Bool, true, false, ◌⊎◌, inl, inr, List, [], ◌∷◌}
-use Rattle.std.proofs.Common.{◌++◌, length, set, Option, Some, slice_index, refl, sym, ap, subst, ◌∙◌, arith, add-one}
+use Rattle.std.proofs.Common.{◌++◌, length, set, Some, slice_index, refl, sym, ap, subst, ◌∙◌, arith, add-one}
 use Rattle.std.proofs.Common.{get_or-set_same, get_or-set_other}
 use Rattle.std.specs.Prelude.{◌==◌, count_by}
 use Rattle.std.specs.List.{AllByRecursion}
 use Rattle.std.proofs.lemmas.List.{length-set, length-append, append-nil, append_assoc}
 use Rattle.std.proofs.lemmas.List.Sums.{sum_by_push}
 use Rattle.std.proofs.lemmas.Bool.{cases_eq, eq-eqb, ne_eqb, false≢true}
-use Rattle.device_machine.specs.State.{Device}
 use Rattle.scenario_image.specs.declared.step.Step.{Step}
 use Rattle.scenario_image.specs.declared.step.Step.TheVariants.{Event, Post, Need}
 use Rattle.scenario_image.specs.Scenario.{Scenario}
 use Rattle.trace_file.specs.declared.entry.Entry.{Entry}
 use Rattle.fleet_core.specs.Run.{made_by, posts_of, posts_to, is_post, step_at, out_at, is_enabled, entry_of, IsRun}
-use Rattle.fleet_core.specs.Board.{HoldsAfter, posts_after}
+use Rattle.fleet_core.specs.Board.{HoldsAfter, posts_after, Holding}
 use Rattle.fleet_core.proofs.Posts.{one, run_push, enabled_fits, made_same, posts-push}
 use Rattle.fleet_core.proofs.Valid.{posts_within}
 use Rattle.fleet_core.proofs.Taken.{place_below}
@@ -25,31 +24,31 @@ use Rattle.shared_trace.proofs.Lists.{all-push}
 use Rattle.shared_trace.proofs.Nexts.{go_enabled}
 use Rattle.shared_trace.proofs.Lengths.{post_has_place}
 
-abbrev pub tasked : Scenario → ℕ → ℕ → List Entry → List Entry → Option Device → Bool → Task
+abbrev pub tasked : Scenario → ℕ → ℕ → List Entry → List Entry → Holding → Bool → Task
 tasked s w d front es x spent =
-    record { subject = s; worker = w; device = d; front = front; entries = es; shown = x; spent = spent }
+    record { subject = s; worker = w; device = d; front = front; entries = es; held = x; spent = spent }
 
 -- a job that may go on
-pub record IsGoing (s : Scenario) (w d : ℕ) (front es : List Entry) (x : Option Device) (counts groups : List ℕ) (k : ℕ)
+pub record IsGoing (s : Scenario) (w d : ℕ) (front es : List Entry) (x : Holding) (counts groups : List ℕ) (k : ℕ)
     (n : Next) : Type 0 where
   pub task : IsTask s w d front es
   pub way : IsOnWay s d (front ++ es) es x counts groups k n
 
-pub going : (v : Task) (s : Scenario) (w d : ℕ) (front es : List Entry) (x : Option Device) (spent : Bool)
+pub going : (v : Task) (s : Scenario) (w d : ℕ) (front es : List Entry) (x : Holding) (spent : Bool)
     (counts groups : List ℕ) (k : ℕ) (n : Next) → tasked s w d front es x spent ≡ v
     → IsJob s w d front es x spent counts groups k n → v.spent ≡ false → IsGoing s w d front es x counts groups k n
 going v s w d front es x spent counts groups k n view job ready =
     record { task = job.task; way = job.ready (ap (λ t. t.spent) view ∙ ready) }
 
 -- whether it can step
-pub goes : (v : Task) (s : Scenario) (w d : ℕ) (front es : List Entry) (x : Option Device) (spent : Bool)
+pub goes : (v : Task) (s : Scenario) (w d : ℕ) (front es : List Entry) (x : Holding) (spent : Bool)
     (counts groups l : List ℕ) (k : ℕ) (n : Next) (b : Bool) → tasked s w d front es x spent ≡ v
     → IsGoing s w d front es x counts groups k n → l ≡ counts → b ≡ can_go (λ g. slice_index l g) n → can_step v ≡ b
 goes v s w d front es x spent counts groups l k n b view g same is =
     sym (is ∙ (ap (λ m. can_go (λ i. slice_index m i) n) same
     ∙ (go_enabled s (front ++ es) d (λ i. slice_index counts i) n g.way.known g.way.next ∙ ap can_step view)))
 
-pub able_here : (s : Scenario) (w d : ℕ) (front es : List Entry) (x : Option Device) (counts groups l : List ℕ) (k : ℕ)
+pub able_here : (s : Scenario) (w d : ℕ) (front es : List Entry) (x : Holding) (counts groups l : List ℕ) (k : ℕ)
     (n : Next) (b : Bool)
     → IsGoing s w d front es x counts groups k n → l ≡ counts → b ≡ can_go (λ g. slice_index l g) n
     → is_enabled s (front ++ es) d ≡ b
@@ -57,7 +56,7 @@ able_here s w d front es x counts groups l k n b g same is =
     sym (is ∙ (ap (λ m. can_go (λ i. slice_index m i) n) same
     ∙ go_enabled s (front ++ es) d (λ i. slice_index counts i) n g.way.known g.way.next))
 
-pub holds_here : (v : Task) (s : Scenario) (w d : ℕ) (front es : List Entry) (x : Option Device) (spent : Bool)
+pub holds_here : (v : Task) (s : Scenario) (w d : ℕ) (front es : List Entry) (x : Holding) (spent : Bool)
     (counts groups : List ℕ) (k : ℕ) (n : Next) (scenario : Scenario) → tasked s w d front es x spent ≡ v
     → IsGoing s w d front es x counts groups k n → scenario ≡ v.subject → HoldsAfter scenario d k x
 holds_here v s w d front es x spent counts groups k n scenario view g same =
@@ -65,25 +64,25 @@ holds_here v s w d front es x spent counts groups k n scenario view g same =
     (subst (λ m. HoldsAfter s d m x) (sym g.way.place) g.way.holds)
 
 -- the step that comes next
-pub step_here : (v : Task) (s : Scenario) (w d : ℕ) (front es : List Entry) (x : Option Device) (spent : Bool)
+pub step_here : (v : Task) (s : Scenario) (w d : ℕ) (front es : List Entry) (x : Holding) (spent : Bool)
     (scenario : Scenario) (k : ℕ) (step : Step) → tasked s w d front es x spent ≡ v
     → scenario ≡ v.subject → Some step ≡ step_at scenario d k → step_at s d k ≡ Some step
 step_here v s w d front es x spent scenario k step view same at =
     subst (λ t. step_at t d k ≡ Some step) (same ∙ sym (ap (λ t. t.subject) view)) (sym at)
 
-pub post_within : (s : Scenario) (w d : ℕ) (front es : List Entry) (x : Option Device) (counts groups : List ℕ) (k : ℕ)
+pub post_within : (s : Scenario) (w d : ℕ) (front es : List Entry) (x : Holding) (counts groups : List ℕ) (k : ℕ)
     (n : Next) (step : Step) → IsGoing s w d front es x counts groups k n
     → step_at s d k ≡ Some step → (group : ℕ) → step ≡ Post group → group < length counts
 post_within s w d front es x counts groups k n step g at group is =
     omega (arith, post_has_place s d k group (at ∙ ap Some is), g.way.table)
 
-pub table_room : (s : Scenario) (w d : ℕ) (front es : List Entry) (x : Option Device) (counts groups : List ℕ) (k : ℕ)
+pub table_room : (s : Scenario) (w d : ℕ) (front es : List Entry) (x : Holding) (counts groups : List ℕ) (k : ℕ)
     (n : Next) → IsGoing s w d front es x counts groups k n
     → (g : ℕ) → slice_index counts g + 1 < 4294967296
 table_room s w d front es x counts groups k n job g =
     omega (arith, job.way.known g, posts_within s g (front ++ es) job.task.valid job.task.run)
 
-pub place_room : (s : Scenario) (w d : ℕ) (front es : List Entry) (x : Option Device) (counts groups : List ℕ) (k : ℕ)
+pub place_room : (s : Scenario) (w d : ℕ) (front es : List Entry) (x : Holding) (counts groups : List ℕ) (k : ℕ)
     (n : Next) (step : Step) → IsGoing s w d front es x counts groups k n
     → step_at s d k ≡ Some step → k + 1 < 4294967296
 place_room s w d front es x counts groups k n step g at = omega (arith, place_below s d k step g.task.valid at)
@@ -130,7 +129,7 @@ grouped_within groups (Need group count) n all within =
 
 -- a step of a job, and what came of it
 pub record IsMade (s : Scenario) (w d : ℕ) (front es : List Entry) (counts groups : List ℕ) (k : ℕ) (step : Step)
-    (e : Entry) (y : Option Device) (after more : List ℕ) (m : Next) : Type 0 where
+    (e : Entry) (y : Holding) (after more : List ℕ) (m : Next) : Type 0 where
   pub at : step_at s d k ≡ Some step
   pub able : is_enabled s (front ++ es) d ≡ true
   pub entry : e ≡ record { worker = w; device = d; step = k; outputs = out_at s d k }
@@ -139,7 +138,7 @@ pub record IsMade (s : Scenario) (w d : ℕ) (front es : List Entry) (counts gro
   pub posted : more ≡ groups ++ groups_in step
   pub next : m ≡ next_of (step_at s d (k + 1))
 
-made_entry : (s : Scenario) (w d : ℕ) (front es : List Entry) (x y : Option Device) (counts groups after more : List ℕ)
+made_entry : (s : Scenario) (w d : ℕ) (front es : List Entry) (x y : Holding) (counts groups after more : List ℕ)
     (k : ℕ)
     (n m : Next) (step : Step) (e : Entry)
     → IsGoing s w d front es x counts groups k n → IsMade s w d front es counts groups k step e y after more m
@@ -159,7 +158,7 @@ made_task s w d front es e task able is =
       began = task.began;
     })
 
-made_way : (s : Scenario) (w d : ℕ) (seen es : List Entry) (x y : Option Device) (counts groups after more : List ℕ)
+made_way : (s : Scenario) (w d : ℕ) (seen es : List Entry) (x y : Holding) (counts groups after more : List ℕ)
     (k : ℕ)
     (n m : Next) (step : Step) → IsOnWay s d seen es x counts groups k n
     → step_at s d k ≡ Some step → ((group : ℕ) → step ≡ Post group → group < table_length s) → HoldsAfter s d (k + 1) y
@@ -189,7 +188,7 @@ made_way s w d seen es x y counts groups after more k n m step way at within hol
       next = next ∙ ap (λ i. next_of (step_at s d i)) count;
     }
 
-pub made_job : (s : Scenario) (w d : ℕ) (front es new : List Entry) (x y : Option Device)
+pub made_job : (s : Scenario) (w d : ℕ) (front es new : List Entry) (x y : Holding)
     (counts groups after more : List ℕ)
     (k : ℕ) (n m : Next) (step : Step) (e : Entry)
     → IsGoing s w d front es x counts groups k n → IsMade s w d front es counts groups k step e y after more m
@@ -207,7 +206,7 @@ made_job s w d front es new x y counts groups after more k n m step e g made is 
           made.next);
     })
 
-pub made_step : (v : Task) (s : Scenario) (w d : ℕ) (front es new : List Entry) (x y : Option Device) (spent : Bool)
+pub made_step : (v : Task) (s : Scenario) (w d : ℕ) (front es new : List Entry) (x y : Holding) (spent : Bool)
     (counts groups after more : List ℕ) (k : ℕ) (n m : Next) (step : Step) (e : Entry)
     → tasked s w d front es x spent ≡ v → IsGoing s w d front es x counts groups k n
     → IsMade s w d front es counts groups k step e y after more m → new ≡ es ++ e ∷ []

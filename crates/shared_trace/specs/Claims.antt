@@ -1,7 +1,5 @@
 -- What a claim answers.
-use Rattle.std.specs.Prelude.{◌≡◌, ℕ, ◌≤◌, true, false, [], Option, None, Some, slice_get}
-use Rattle.device_machine.specs.State.{Device}
-use Rattle.scenario_image.specs.Scenario.{Scenario}
+use Rattle.std.specs.Prelude.{◌≡◌, ℕ, ◌≤◌, true, false, [], Some, slice_get}
 use Rattle.fleet_core.specs.Run.{made_by, is_enabled, IsComplete}
 use Rattle.fleet_core.specs.Waiting.{is_waiting}
 use Rattle.fleet_core.specs.Board.{ShowsAfter}
@@ -11,21 +9,17 @@ use Rattle.shared_trace.specs.declared.claims.Claim.TheVariants.{Got, Busy, Done
 use Rattle.shared_trace.specs.Trace.{Traced, IsReady, with_out, open_by}
 use Rattle.shared_trace.specs.Job.{Task, StandsIn}
 
--- the device shows the state after the first k steps of row d; or it is none, which is yet to be started there
-abbrev pub IsFresh : Scenario → ℕ → ℕ → Option Device → Type 0
-IsFresh s d k (Some x) = ShowsAfter s d k x
-IsFresh s d k None = k ≡ 0
-
--- the device that was parked, and can step, is out under the worker, and the job has it, at its next step
+-- the device that was parked, and can step, is out under the worker, and the job has it, which shows the state at its
+-- next step
 pub record IsTaken (old new : Traced) (w : ℕ) (job : Task) : Type 0 where
-  pub parked : slice_get old.places job.device ≡ Some (Parked job.shown)
+  pub parked : slice_get old.places job.device ≡ Some (Parked job.held)
   pub enabled : is_enabled old.subject old.entries job.device ≡ true
   pub subject : job.subject ≡ old.subject
   pub worker : job.worker ≡ w
   pub front : job.front ≡ old.entries
   pub entries : job.entries ≡ []
   pub ready : job.spent ≡ false
-  pub shows : IsFresh old.subject job.device (made_by job.device old.entries) job.shown
+  pub shows : ShowsAfter old.subject job.device (made_by job.device old.entries) job.held.shown
   pub left : new ≡ with_out old job.device w
 
 -- it is the lowest such device

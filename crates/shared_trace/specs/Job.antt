@@ -1,20 +1,20 @@
 -- What contracts see of a job, and what may be done with it.
-use Rattle.std.specs.Prelude.{◌≡◌, ℕ, ◌<◌, ◌≤◌, Bool, true, false, Option, List, ◌∷◌, ◌++◌, [], length, Contains}
-use Rattle.device_machine.specs.State.{Device}
+use Rattle.std.specs.Prelude.{◌≡◌, ℕ, ◌<◌, ◌≤◌, Bool, true, false, List, ◌∷◌, ◌++◌, [], length, Contains}
 use Rattle.scenario_image.specs.Scenario.{Scenario}
 use Rattle.trace_file.specs.declared.entry.Entry.{Entry}
 use Rattle.fleet_core.specs.Run.{made_by, posts_of, is_enabled, entry_of}
+use Rattle.fleet_core.specs.Board.{Holding}
 use Rattle.shared_trace.specs.Trace.{Traced, open_by}
 
 -- what contracts see of a job: the scenario, the worker, the device, the trace's entries at the claim, the entries made
--- since, the device, which may be none before its first step and after its last, and whether memory ran out in a step
+-- since, what is held of the device, and whether memory ran out in a step
 pub record Task : Type 0 where
   pub subject : Scenario
   pub worker : ℕ
   pub device : ℕ
   pub front : List Entry
   pub entries : List Entry
-  pub shown : Option Device
+  pub held : Holding
   pub spent : Bool
 
 -- the entry is the worker's, of the device

@@ -1,16 +1,15 @@
 -- What a trace and a job keep beside what contracts see.
-use Rattle.std.specs.Prelude.{◌≡◌, ℕ, ◌+◌, ◌<◌, ◌≤◌, ◌==◌, ◌⊎◌, max, Bool, true, false, Option, List, [], ◌∷◌, ◌++◌}
+use Rattle.std.specs.Prelude.{◌≡◌, ℕ, ◌+◌, ◌<◌, ◌≤◌, ◌==◌, ◌⊎◌, max, Bool, true, false, List, [], ◌∷◌, ◌++◌}
 use Rattle.std.specs.Prelude.{length, map}
 use Rattle.std.specs.Prelude.{count_by, Some}
 use Rattle.std.specs.Prelude.{slice_get, slice_index}
 use Rattle.std.specs.List.{AllByRecursion, fold}
-use Rattle.device_machine.specs.State.{Device}
 use Rattle.scenario_image.specs.declared.step.Step.{Step}
 use Rattle.scenario_image.specs.declared.step.Step.TheVariants.{Event, Post, Need}
 use Rattle.scenario_image.specs.Scenario.{Row, Scenario, IsValid}
 use Rattle.trace_file.specs.declared.entry.Entry.{Entry}
 use Rattle.fleet_core.specs.Run.{made_by, posts_of, step_at, is_enabled, IsRun}
-use Rattle.fleet_core.specs.Board.{HoldsAfter}
+use Rattle.fleet_core.specs.Board.{HoldsAfter, Holding}
 use Rattle.shared_trace.specs.declared.next.Next.{Next}
 use Rattle.shared_trace.specs.declared.station.Place.{Place}
 use Rattle.shared_trace.specs.declared.station.Place.TheVariants.{Parked, Out}
@@ -102,10 +101,10 @@ pub record IsTask (s : Scenario) (worker d : ℕ) (front es : List Entry) : Type
   pub each : AllByRecursion (IsOf worker d) es
   pub began : is_enabled s front d ≡ true
 
--- what a job keeps until memory runs out, by the entries that it knows, those at its claim and its own: the device is
--- what is held after its steps; the table counts the posts; and the job has the groups of its own posts, the
+-- what a job keeps until memory runs out, by the entries that it knows, those at its claim and its own: the device
+-- shows the state after its steps; the table counts the posts; and the job has the groups of its own posts, the
 -- device's place in its row, and what the next step asks for
-pub record IsOnWay (s : Scenario) (d : ℕ) (seen es : List Entry) (x : Option Device) (counts groups : List ℕ) (k : ℕ)
+pub record IsOnWay (s : Scenario) (d : ℕ) (seen es : List Entry) (x : Holding) (counts groups : List ℕ) (k : ℕ)
     (n : Next)
     : Type 0 where
   pub holds : HoldsAfter s d (made_by d seen) x
@@ -116,7 +115,7 @@ pub record IsOnWay (s : Scenario) (d : ℕ) (seen es : List Entry) (x : Option D
   pub place : k ≡ made_by d seen
   pub next : n ≡ next_of (step_at s d (made_by d seen))
 
-pub record IsJob (s : Scenario) (worker d : ℕ) (front es : List Entry) (x : Option Device) (spent : Bool)
+pub record IsJob (s : Scenario) (worker d : ℕ) (front es : List Entry) (x : Holding) (spent : Bool)
     (known posted : List ℕ)
     (place : ℕ) (next : Next) : Type 0 where
   pub task : IsTask s worker d front es

@@ -1,4 +1,5 @@
 pub mod Next
+pub mod Pages
 pub mod Trace
 pub mod Job
 pub mod Claims

@@ -1,12 +1,11 @@
 -- What contracts see of a trace, and how a lock reads it.
-use Rattle.std.specs.Prelude.{◌≡◌, ℕ, ◌+◌, ◌==◌, ◌⊎◌, Bool, true, false, if◌then◌else◌, List, [], ◌∷◌, ◌++◌, length}
-use Rattle.std.specs.Prelude.{Option, None, Some, slice_get, slice_set}
-use Rattle.device_machine.specs.State.{Device}
+use Rattle.std.specs.Prelude.{◌≡◌, ℕ, ◌+◌, ◌==◌, Bool, true, false, if◌then◌else◌, List, [], ◌∷◌, ◌++◌, length}
+use Rattle.std.specs.Prelude.{Some, slice_get, slice_set}
 use Rattle.scenario_image.specs.Scenario.{Scenario, IsValid}
 use Rattle.trace_file.specs.declared.entry.Entry.{Entry}
-use Rattle.fleet_core.specs.Run.{made_by, step_at, is_enabled, IsRun}
+use Rattle.fleet_core.specs.Run.{made_by, is_enabled, IsRun}
 use Rattle.fleet_core.specs.Waiting.{is_waiting}
-use Rattle.fleet_core.specs.Board.{HoldsAfter}
+use Rattle.fleet_core.specs.Board.{HoldsAfter, Holding}
 use Rattle.ticket_lock.specs.Log.{Reading}
 use Rattle.shared_trace.specs.declared.station.Place.{Place}
 use Rattle.shared_trace.specs.declared.station.Place.TheVariants.{Parked, Out}
@@ -18,7 +17,8 @@ pub record Traced : Type 0 where
   pub places : List Place
   pub stopped : Bool
 
--- of a parked device there is what is held after the steps that it has made; one that is out has a step left
+-- a parked device shows the state after the steps that it has made, also where it is yet to be started, or its memory
+-- was let go of (`HoldsAfter`); one that is out has a step left
 abbrev pub IsPlaced : Scenario → List Entry → ℕ → Place → Type 0
 IsPlaced s es d (Parked x) = HoldsAfter s d (made_by d es) x
 IsPlaced s es d (Out worker) = is_waiting s es d ≡ true
@@ -32,8 +32,8 @@ pub record IsShared (t : Traced) : Type 0 where
 
 -- the device is parked, and an entry of it may come next
 pub record IsReady (t : Traced) (d : ℕ) : Type 0 where
-  pub shown : Option Device
-  pub parked : slice_get t.places d ≡ Some (Parked shown)
+  pub held : Holding
+  pub parked : slice_get t.places d ≡ Some (Parked held)
   pub enabled : is_enabled t.subject t.entries d ≡ true
 
 -- ---- changes
@@ -44,7 +44,7 @@ with_out t d worker =
     record { subject = t.subject; entries = t.entries; places = slice_set t.places d (Out worker); stopped = t.stopped }
 
 -- the device is parked, after these entries more
-abbrev pub with_block : Traced → ℕ → Option Device → List Entry → Traced
+abbrev pub with_block : Traced → ℕ → Holding → List Entry → Traced
 with_block t d x block = record {
   subject = t.subject;
   entries = t.entries ++ block;

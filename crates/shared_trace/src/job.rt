@@ -9,19 +9,16 @@ ghost use Rattle.shared_trace.specs.Job.{Task, IsOf, StandsIn, IsSameJob, Advanc
 ghost use Rattle.shared_trace.specs.Kept.{IsJob, table_length};
 
 use crate::next::{Next, can_go, next_of};
+use crate::pages::PAGE;
 use crate::tables::note;
 use crate::trace::Trace;
-use device_machine::Device;
-use fleet_core::{let_go_at_end, step_held, step_of};
+use fleet_core::{Held, let_go_at_end, step_held, step_of};
 use scenario_image::Scenario;
 use std::alloc::{AllocError, Global};
 use std::marker::Model;
 use std::snapshot::Snapshot;
 use ticket_lock::Pass;
 use trace_file::Entry;
-
-/// The most entries that room is made for at once, whatever the batch: a row may end long before a large one.
-const ROOM: u32 = 64;
 
 /// A device that is out with a worker, and the entries that it has made since. It has to be put into its trace again,
 /// or given up. Contracts see the scenario, the worker, the device, the trace's entries at the claim, the job's own,
@@ -35,7 +32,7 @@ pub struct Job {
     pub(crate) known: Vec<u32>,
     pub(crate) posted: Vec<u8>,
     pub(crate) entries: Vec<Entry>,
-    pub(crate) held: Option<Device>,
+    pub(crate) held: Held,
     pub(crate) next: Next,
     pub(crate) spent: bool,
 }
@@ -57,7 +54,7 @@ impl Model for Job {
       device = j.device;
       front = j.claimed.value.entries;
       entries = j.entries.items;
-      shown = j.held;
+      held = j.held;
       spent = j.spent;
     } };
 
@@ -151,15 +148,17 @@ impl Job {
         Ok(true)
     }
 
-    /// Makes room for the entries of this many steps, or for `ROOM`. Without memory the job is spent.
-    fn make_room(&mut self, steps: u32) -> Result<(), AllocError>
+    /// Makes the room of a page for the job's entries, so that their list can become one. Without memory the job is
+    /// spent.
+    fn make_room(&mut self) -> Result<(), AllocError>
         requires ready { self.old.spent ≡ false }
         ensures room { OnOk result (self.new ≡ self.old) }
         ensures same { IsSameJob self.old self.new }
         ensures memory { OnErr result (IsTrue self.new.spent) }
     {
         self.spent = true;
-        self.entries.reserve(steps.min(ROOM) as usize)?;
+        let room = PAGE.saturating_sub(self.entries.len());
+        self.entries.reserve(room)?;
         self.spent = false;
         Ok(())
     }
@@ -177,6 +176,7 @@ impl Job {
         batch: u32,
     ) -> Result<(), AdvanceFault>
         requires stands { StandsIn (lowest_work (pass_view pass.now) []) self.old }
+        requires subject { (pass_view pass.now).subject ≡ Some self.old.subject }
         requires scenario { scenario.now ≡ self.old.subject }
         requires batch { 1 ≤ batch }
         ensures advances { OnOk result (Advances self.old self.new batch) }
@@ -189,7 +189,7 @@ impl Job {
         if self.spent {
             return Err(AdvanceFault::Spent);
         }
-        match self.make_room(batch) {
+        match self.make_room() {
             Ok(()) => {}
             Err(AllocError) => return Err(AdvanceFault::Memory),
         }

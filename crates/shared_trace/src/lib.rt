@@ -4,14 +4,17 @@
 #![tactic(auto)]
 
 mod claims;
+mod entries;
 mod job;
 mod next;
+mod pages;
 mod start;
 mod station;
 mod tables;
 mod trace;
 
 pub use claims::Claim;
+pub use entries::EntryIter;
 pub use job::{AdvanceFault, Job};
 pub use station::Place;
 pub use trace::Trace;

@@ -5,7 +5,7 @@ ghost use Rattle.shared_trace.specs.Kept.{IsStation, AreParked, table_length, is
 
 use crate::next::next_of;
 use crate::station::{Place, Station};
-use fleet_core::step_of;
+use fleet_core::{Held, step_of};
 use scenario_image::Scenario;
 use std::alloc::{AllocError, Global};
 
@@ -16,14 +16,15 @@ fn start_station(
     device: u16,
     places: usize,
 ) -> Result<Station, AllocError>
-    requires { places ≡ table_length scenario.now }
+    requires row { device < length scenario.now.rows }
+    requires places { places ≡ table_length scenario.now }
     ensures station { IfOk result (λ x. IsStation scenario.now [] device x) }
     ensures parked { IfOk result (λ x. is_parked x.place ≡ true) }
 {
     let known = vec![in alloc; 0u32; places]?;
     let next = next_of(step_of(scenario, device, 0));
     Ok(Station {
-        place: Place::Parked(None),
+        place: Place::Parked(Held::new(scenario, device)),
         made: 0,
         next,
         known,

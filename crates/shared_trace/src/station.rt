@@ -7,15 +7,15 @@ ghost use Rattle.shared_trace.specs.Next.{is_end};
 ghost use Rattle.shared_trace.specs.Kept.{AreEnded, AreIdle, LooksFrom, is_parked, is_ready};
 
 use crate::next::{Next, can_go};
-use device_machine::Device;
+use fleet_core::Held;
 use std::alloc::Global;
 use std::mem;
 
 /// Where a device is.
 #[derive(Drop)]
 pub enum Place {
-    /// In the trace, until a worker claims it. A device that has made no step, or each of its row, may be none.
-    Parked(Option<Device>),
+    /// In the trace, until a worker claims it.
+    Parked(Held),
     /// With the worker of this number.
     Out(u16),
 }
@@ -65,7 +65,7 @@ impl Station {
     }
 
     /// Hands out the device and the table. The device is then out under the worker.
-    pub(crate) fn hand_out(&mut self, alloc: Global, worker: u16) -> (Option<Device>, Vec<u32>)
+    pub(crate) fn hand_out(&mut self, alloc: Global, worker: u16) -> (Held, Vec<u32>)
         requires { is_parked self.old.place ≡ true }
         ensures device { self.old.place ≡ Parked result.0 }
         ensures table { result.1.items ≡ self.old.known.items }
@@ -74,7 +74,7 @@ impl Station {
     {
         let known = mem::replace(&mut self.known, Vec::new(alloc));
         match mem::replace(&mut self.place, Place::Out(worker)) {
-            Place::Parked(device) => (device, known),
+            Place::Parked(held) => (held, known),
             Place::Out(_) => unreachable!(),
         }
     }

@@ -14,7 +14,9 @@ ghost use Rattle.shared_trace.specs.Kept.{IsTrace, IsStation, table_length, is_p
 ghost use Rattle.shared_trace.specs.declared.station.Place.{Place};
 
 use crate::claims::Claim;
+use crate::entries::EntryIter;
 use crate::job::Job;
+use crate::pages::Pages;
 use crate::start::start_stations;
 use crate::station::{Place, Station, any_out, count_ended, first_left, look_from, lowest_ready};
 use crate::tables::{add_posts, table_length};
@@ -32,7 +34,7 @@ use trace_file::{Entries, Entry};
 pub struct Trace {
     alloc: Global,
     subject: Snapshot<Scenario>,
-    entries: Vec<Entry>,
+    entries: Pages,
     stations: Vec<Station>,
     posts: Vec<u32>,
     /// Each device before this one is at the end of its row.
@@ -58,12 +60,12 @@ impl Model for Trace {
 
     ghost view = { λ t. record {
       subject = t.subject.value;
-      entries = t.entries.items;
+      entries = t.entries.held;
       places = places_of t.stations.items;
       stopped = t.stopped;
     } };
 
-    ghost invariant = { λ t. IsTrace t.subject.value t.entries.items t.stations.items t.posts.items
+    ghost invariant = { λ t. IsTrace t.subject.value t.entries.held t.stations.items t.posts.items
         × AreEnded t.stations.items t.low × AreIdle (λ g. slice_index t.posts.items g) t.stations.items t.first };
 }
 
@@ -81,8 +83,7 @@ impl Logged for Trace {
 
 impl Trace {
     /// The trace of a scenario: no entries, and each device parked at the start of its row. A device is started by the
-    /// job that makes its first step. The memory for the entries of all steps is allocated here, so that no put moves
-    /// those that stand.
+    /// job that makes its first step.
     pub fn new(alloc: Global, scenario: &Scenario) -> Result<Trace, AllocError>
         ensures subject { IfOk result (λ t. t.subject ≡ scenario.now) }
         ensures entries { IfOk result (λ t. t.entries ≡ []) }
@@ -94,7 +95,7 @@ impl Trace {
         let places = table_length(scenario);
         let stations = start_stations(alloc, scenario, places)?;
         let posts = vec![in alloc; 0u32; places]?;
-        let entries = Vec::with_capacity(alloc, scenario.steps())?;
+        let entries = Pages::new(alloc)?;
         Ok(Trace {
             alloc,
             subject: Snapshot::of(scenario),
@@ -119,19 +120,46 @@ impl Trace {
     }
 
     /// The entries so far, in order.
-    pub fn entries(&self) -> &[Entry]
-        ensures entries { result.now ≡ self.now.entries }
+    pub fn entries(&self) -> EntryIter<'_>
+        ensures entries { result ≡ self.now.entries }
         ensures shared { IsShared self.now }
     {
-        self.entries.as_slice()
+        self.entries.iter()
     }
 
-    /// The entries, in order.
-    pub fn into_entries(self) -> Entries
-        ensures { result ≡ self.entries }
+    /// The entries, in one list. Without memory for it the trace comes back.
+    pub fn into_entries(self) -> Result<Entries, (Trace, AllocError)>
+        ensures ok { IfOk result (λ r. r ≡ self.entries) }
+        ensures back { IfErr result (λ e. e.0 ≡ self) }
     {
-        let Trace { entries, .. } = self;
-        Entries::from_vec(entries)
+        let Trace {
+            alloc,
+            subject,
+            entries,
+            stations,
+            posts,
+            low,
+            first,
+            last,
+            stopped,
+        } = self;
+        match entries.into_vec() {
+            Ok(entries) => Ok(Entries::from_vec(entries)),
+            Err((entries, fault)) => {
+                let trace = Trace {
+                    alloc,
+                    subject,
+                    entries,
+                    stations,
+                    posts,
+                    low,
+                    first,
+                    last,
+                    stopped,
+                };
+                Err((trace, fault))
+            }
+        }
     }
 
     /// Stops the trace: each later claim answers so.
@@ -180,9 +208,18 @@ impl Trace {
         }
     }
 
-    /// Hands out a device that is ready.
-    fn hand_out(&mut self, worker: u16, device: u16) -> Job
+    /// An empty list for the entries of a job.
+    fn list_for_job(&mut self) -> Vec<Entry>
+        ensures same { self.new ≡ self.old }
+        ensures empty { result.items ≡ [] }
+    {
+        self.entries.list_for_job()
+    }
+
+    /// Hands out a device that is ready. The list is for the entries of its job.
+    fn hand_out(&mut self, worker: u16, device: u16, list: Vec<Entry>) -> Job
         requires ready { IsReady self.old device }
+        requires empty { list.items ≡ [] }
         ensures taken { IsTaken self.old self.new worker result }
         ensures device { result.device ≡ device }
         ensures shared { IsShared self.new }
@@ -204,7 +241,7 @@ impl Trace {
             place,
             known,
             posted: Vec::new(alloc),
-            entries: Vec::new(alloc),
+            entries: list,
             held,
             next,
             spent: false,
@@ -222,7 +259,10 @@ impl Trace {
             return Claim::Stopped;
         }
         match self.lowest() {
-            Some(device) => Claim::Got(self.hand_out(worker, device)),
+            Some(device) => {
+                let list = self.list_for_job();
+                Claim::Got(self.hand_out(worker, device, list))
+            }
             None => self.idle(),
         }
     }
@@ -230,7 +270,7 @@ impl Trace {
     /// Appends the job's entries, and parks its device. Without memory the job comes back, and nothing changed.
     pub fn put(&mut self, worker: u16, job: Job) -> Result<(), (Job, AllocError)>
         requires { MayPut self.old worker job }
-        ensures put { OnOk result (self.new ≡ with_block self.old job.device job.shown job.entries) }
+        ensures put { OnOk result (self.new ≡ with_block self.old job.device job.held job.entries) }
         ensures adds { OnOk result (Adds trace_log worker self.old self.new) }
         ensures back { IfErr result (λ e. e.0 ≡ job) }
         ensures unchanged { OnErr result (self.new ≡ self.old) }
@@ -244,14 +284,14 @@ impl Trace {
             place,
             known,
             posted,
-            mut entries,
+            entries,
             held,
             next,
             spent,
         } = job;
-        match self.entries.append(&mut entries) {
+        match self.entries.append(entries) {
             Ok(()) => {}
-            Err(fault) => {
+            Err((entries, fault)) => {
                 let job = Job {
                     alloc,
                     claimed,

@@ -3,12 +3,14 @@
 ghost use Rattle.std.specs.Prelude.{◌≡◌, ◌≤◌, true, false, is_some, length, IfOk, OnErr, OnOk};
 ghost use Rattle.device_machine.specs.Observing.{Notes, begun, entered, lacks_place, noted_by, noted_read, replies_non};
 ghost use Rattle.device_machine.specs.Observing.{reply_mid};
+ghost use Rattle.device_machine.specs.Held.{IsUpToDate};
+ghost use Rattle.device_machine.specs.Memory.{KeepsRecords};
 ghost use Rattle.device_requests.specs.Answer.{is_content};
 ghost use Rattle.notifier.specs.Observed.{has_name};
 
 use crate::machine::Machine;
 use coap_codec::{Kind, Message};
-use device_notifications::report_of;
+use device_notifications::{report_of, say_all};
 use device_requests::{Answer, Interest};
 use notifier::{Observations, ObserveFault, Report};
 use object_defs::Path;
@@ -59,7 +61,7 @@ fn enter(
     non: bool,
 ) -> Result<Option<u32>, AllocError>
     requires { length token ≤ 8 }
-    ensures number { IfOk result (λ n. n ≡ (entered observations.old
+    ensures number { IfOk result (λ n. n ≡ (entered observations.old.list
         (record {
           server = server;
           token = token;
@@ -73,8 +75,8 @@ fn enter(
           mid = mid;
           timer = None;
         })).number) }
-    ensures left { OnOk result (observations.new
-        ≡ (entered observations.old (record {
+    ensures left { OnOk result (observations.new.list
+        ≡ (entered observations.old.list (record {
           server = server;
           token = token;
           path = path;
@@ -89,8 +91,8 @@ fn enter(
         })).left) }
 
     // Only a new name takes memory, where there is a place for it.
-    ensures grows { OnErr result (has_name observations.old server token ≡ false) }
-    ensures place { OnErr result (lacks_place observations.old server token ≡ false) }
+    ensures grows { OnErr result (has_name observations.old.list server token ≡ false) }
+    ensures place { OnErr result (lacks_place observations.old.list server token ≡ false) }
     ensures unchanged { OnErr result (observations.new ≡ observations.old) }
 {
     let number = match observations.register(
@@ -113,10 +115,11 @@ impl Machine {
         accept: Option<u16>,
         payload: Bytes,
     ) -> Result<Option<u32>, AllocError>
-        ensures kept { IfOk result (λ n. Notes n self.old.kept self.new.kept
-            (entered self.old.kept.observations (begun self.old.kept server message.now path accept payload))) }
-        ensures recorded { OnOk result (self.new.recorded ≡ self.old.recorded) }
-        ensures unchanged { OnErr result (self.new ≡ self.old) }
+        ensures kept { IfOk result (λ n. Notes n self.old.flat.kept self.new.flat.kept
+            (entered self.old.flat.kept.observations (begun self.old.flat.kept server message.now path accept payload))) }
+        ensures recorded { OnOk result (self.new.flat.recorded ≡ self.old.flat.recorded) }
+        ensures up_to_date { OnOk result (IsUpToDate self.new) }
+        ensures left { OnErr result (KeepsRecords self.old.flat self.new.flat) }
     {
         let token = token_of(message)?;
         let report = report_of(&self.client, path, payload);
@@ -124,7 +127,7 @@ impl Machine {
         let non = replies_non(message.kind());
         let now = self.clock;
         let observations = &mut self.observations;
-        enter(
+        let number = enter(
             observations,
             server,
             token,
@@ -134,7 +137,9 @@ impl Machine {
             now,
             mid,
             non,
-        )
+        )?;
+        say_all(&self.client, &mut self.observations)?;
+        Ok(number)
     }
 
     /// Notes a Read that registers.
@@ -146,11 +151,13 @@ impl Machine {
         accept: Option<u16>,
         answer: &Answer,
     ) -> Result<Option<u32>, AllocError>
-        ensures kept { IfOk result (λ n. Notes n self.old.kept self.new.kept
-            (noted_read self.old.kept server message.now path accept answer.now)) }
-        ensures recorded { OnOk result (self.new.recorded ≡ self.old.recorded) }
+        requires { IsUpToDate self.old }
+        ensures kept { IfOk result (λ n. Notes n self.old.flat.kept self.new.flat.kept
+            (noted_read self.old.flat.kept server message.now path accept answer.now)) }
+        ensures recorded { OnOk result (self.new.flat.recorded ≡ self.old.flat.recorded) }
+        ensures up_to_date { OnOk result (IsUpToDate self.new) }
         ensures grows { OnErr result (is_content answer.now ≡ true) }
-        ensures unchanged { OnErr result (self.new ≡ self.old) }
+        ensures left { OnErr result (KeepsRecords self.old.flat self.new.flat) }
     {
         if answer.is_content() {
             let payload = answer.payload.clone()?;
@@ -168,14 +175,16 @@ impl Machine {
         interest: Option<Interest>,
         answer: &Answer,
     ) -> Result<Option<u32>, AllocError>
-        ensures kept { IfOk result (λ n. Notes n self.old.kept self.new.kept
-            (noted_by self.old.kept server message.now answer.now interest)) }
-        ensures recorded { OnOk result (self.new.recorded ≡ self.old.recorded) }
+        requires { IsUpToDate self.old }
+        ensures kept { IfOk result (λ n. Notes n self.old.flat.kept self.new.flat.kept
+            (noted_by self.old.flat.kept server message.now answer.now interest)) }
+        ensures recorded { OnOk result (self.new.flat.recorded ≡ self.old.flat.recorded) }
+        ensures up_to_date { OnOk result (IsUpToDate self.new) }
 
         // Only the content of a Read that registers takes memory.
         ensures content { OnErr result (is_content answer.now ≡ true) }
         ensures grows { OnErr result (is_some interest ≡ true) }
-        ensures unchanged { OnErr result (self.new ≡ self.old) }
+        ensures left { OnErr result (KeepsRecords self.old.flat self.new.flat) }
     {
         match interest {
             None => Ok(None),

@@ -1,11 +1,14 @@
 //! What a device does with a datagram.
 
-ghost use Rattle.std.specs.Prelude.{◌≡◌, ◌<◌, None, true, is_some, IfOk, OnErr};
+ghost use Rattle.std.specs.Prelude.{◌≡◌, ◌<◌, None, true, false, is_some, IfOk, OnErr, OnOk};
+ghost use Rattle.device_notifications.specs.Outlooks.{IsKnown};
 ghost use Rattle.coap_codec.specs.Fault.{is_empty_message};
 ghost use Rattle.device_machine.specs.declared.event.Event.TheVariants.{Recv};
 ghost use Rattle.device_machine.specs.Reactions.{Gives, claims_confirmable, is_request, on_fresh, on_message, on_noise};
 ghost use Rattle.device_machine.specs.Reactions.{on_outcome, on_request, reaction_to, repeat_of, reply_to};
 ghost use Rattle.device_machine.specs.Memory.{KeepsRecords, event_grows, is_ignored, message_grows, request_grows};
+ghost use Rattle.device_machine.specs.Held.{IsUpToDate};
+ghost use Rattle.device_requests.specs.Answer.{is_change};
 ghost use Rattle.device_machine.specs.State.{lifetime};
 ghost use Rattle.device_requests.specs.Options.{has_unrecognized_critical};
 ghost use Rattle.device_requests.specs.Request.{outcome_of};
@@ -16,7 +19,9 @@ use crate::output::Outputs;
 use crate::recorded::Recorded;
 use crate::reply::{datagram_of, reset, response, sent, sent_to};
 use coap_codec::{CoapFault, Kind, Message, decode_in, header};
-use device_requests::{Act, Answer};
+use device_notifications::say_all;
+use device_requests::{Act, Answer, Client, Code};
+use notifier::Observations;
 use std::alloc::AllocError;
 use std::mem;
 
@@ -49,6 +54,18 @@ fn is_ignored(bytes: &[u8]) -> bool
     }
 }
 
+/// Says of each observation anew what its present answer is, where an answer of this code has changed something.
+fn say_after(client: &Client, observations: &mut Observations, code: Code) -> Result<(), AllocError>
+    ensures list { observations.new.list ≡ observations.old.list }
+    ensures known { OnOk result (is_change code ≡ true → IsKnown client.now observations.new) }
+    ensures same { is_change code ≡ false → observations.new ≡ observations.old }
+{
+    if code.is_change() {
+        return say_all(client, observations);
+    }
+    Ok(())
+}
+
 impl Machine {
     /// The message that replies to a request with this answer and this Observe number, or none to a NON that is
     /// rejected.
@@ -61,9 +78,9 @@ impl Machine {
     ) -> Result<Option<Message>, AllocError>
         requires { is_rejected ≡ has_unrecognized_critical message.now.options }
         ensures reply { IfOk result (λ r.
-            r ≡ reply_to self.now.kept.next_id message.now message.now.kind number answer) }
+            r ≡ reply_to self.now.flat.kept.next_id message.now message.now.kind number answer) }
         ensures grows { OnErr result
-            (is_some (reply_to self.now.kept.next_id message.now message.now.kind number answer) ≡ true) }
+            (is_some (reply_to self.now.flat.kept.next_id message.now message.now.kind number answer) ≡ true) }
     {
         // A message whose options are borrowed is known to be well formed.
         let _options = message.options();
@@ -89,10 +106,12 @@ impl Machine {
         reply: Option<Message>,
         act: Option<Act>,
     ) -> Result<Outputs, AllocError>
-        requires fresh { repeat_of self.old server message.now ≡ None }
+        requires fresh { repeat_of self.old.flat server message.now ≡ None }
         requires lives { 0 < lifetime message.now.kind }
-        ensures gives { IfOk result (λ o. Gives o self.new
-            (on_fresh self.old server message.now self.old.kept reply act)) }
+        requires up_to_date { IsUpToDate self.old }
+        ensures gives { IfOk result (λ o. Gives o self.new.flat
+            (on_fresh self.old.flat server message.now self.old.flat.kept reply act)) }
+        ensures up_to_date { OnOk result (IsUpToDate self.new) }
         ensures unchanged { OnErr result (self.new ≡ self.old) }
     {
         let kind = message.kind();
@@ -117,14 +136,17 @@ impl Machine {
 
     /// Does what a request asks for that is no repeat, answers and records it.
     fn take_fresh(&mut self, server: u16, message: &Message) -> Result<Outputs, AllocError>
-        requires fresh { repeat_of self.old server message.now ≡ None }
+        requires fresh { repeat_of self.old.flat server message.now ≡ None }
         requires lives { 0 < lifetime message.now.kind }
+        requires up_to_date { IsUpToDate self.old }
         ensures gives { IfOk result
-            (λ o. Gives o self.new (on_outcome self.old server message.now
-            (outcome_of self.old.kept.client server message.now))) }
-        ensures left { OnErr result (KeepsRecords self.old self.new) }
+            (λ o. Gives o self.new.flat (on_outcome self.old.flat server message.now
+            (outcome_of self.old.flat.kept.client server message.now))) }
+        ensures up_to_date { OnOk result (IsUpToDate self.new) }
+        ensures left { OnErr result (KeepsRecords self.old.flat self.new.flat) }
     {
         let handled = self.client.answer(server, message)?;
+        say_after(&self.client, &mut self.observations, handled.answer.code)?;
         let number = self.note(server, message, handled.interest, &handled.answer)?;
         let act = handled.answer.act;
         let reply = self.reply_to(message, handled.is_rejected, number, handled.answer)?;
@@ -133,11 +155,15 @@ impl Machine {
 
     /// Takes a request.
     fn take_request(&mut self, server: u16, message: &Message) -> Result<Outputs, AllocError>
-        requires { 0 < lifetime message.now.kind }
+        requires lives { 0 < lifetime message.now.kind }
+        requires up_to_date { IsUpToDate self.old }
         ensures gives { IfOk result
-            (λ o. Gives o self.new (on_request self.old server message.now (repeat_of self.old server message.now))) }
-        ensures grows { OnErr result (request_grows message.now.kind (repeat_of self.old server message.now) ≡ true) }
-        ensures left { OnErr result (KeepsRecords self.old self.new) }
+            (λ o. Gives o self.new.flat (on_request self.old.flat server message.now
+            (repeat_of self.old.flat server message.now))) }
+        ensures grows { OnErr result (request_grows message.now.kind (repeat_of self.old.flat server message.now)
+            ≡ true) }
+        ensures up_to_date { OnOk result (IsUpToDate self.new) }
+        ensures left { OnErr result (KeepsRecords self.old.flat self.new.flat) }
     {
         match self.repeat_of(server, message) {
             Some(first) => again(self.alloc, server, message.kind(), &first.reply),
@@ -147,9 +173,12 @@ impl Machine {
 
     /// Takes a message.
     fn take(&mut self, server: u16, message: &Message) -> Result<Outputs, AllocError>
-        ensures gives { IfOk result (λ o. Gives o self.new (on_message self.old server message.now message.now.kind)) }
-        ensures grows { OnErr result (message_grows self.old server message.now message.now.kind ≡ true) }
-        ensures left { OnErr result (KeepsRecords self.old self.new) }
+        requires { IsUpToDate self.old }
+        ensures gives { IfOk result (λ o. Gives o self.new.flat
+            (on_message self.old.flat server message.now message.now.kind)) }
+        ensures grows { OnErr result (message_grows self.old.flat server message.now message.now.kind ≡ true) }
+        ensures up_to_date { OnOk result (IsUpToDate self.new) }
+        ensures left { OnErr result (KeepsRecords self.old.flat self.new.flat) }
     {
         match message.kind() {
             Kind::Con => {
@@ -167,15 +196,17 @@ impl Machine {
                 }
             }
             Kind::Ack => {
-                if message.code() == 0 {
-                    self.observations.acknowledge(server, message.mid());
+                if message.code() != 0 {
+                    return Ok(Outputs::none(self.alloc));
                 }
+                self.observations.acknowledge(server, message.mid());
                 Ok(Outputs::none(self.alloc))
             }
             Kind::Rst => {
-                if message.code() == 0 {
-                    self.observations.reset(server, message.mid());
+                if message.code() != 0 {
+                    return Ok(Outputs::none(self.alloc));
                 }
+                self.observations.reset(server, message.mid());
                 Ok(Outputs::none(self.alloc))
             }
         }
@@ -183,9 +214,11 @@ impl Machine {
 
     /// Takes a message, and keeps the memory of its options.
     fn take_owned(&mut self, server: u16, message: Message) -> Result<Outputs, AllocError>
-        ensures gives { IfOk result (λ o. Gives o self.new (on_message self.old server message message.kind)) }
-        ensures grows { OnErr result (message_grows self.old server message message.kind ≡ true) }
-        ensures left { OnErr result (KeepsRecords self.old self.new) }
+        requires { IsUpToDate self.old }
+        ensures gives { IfOk result (λ o. Gives o self.new.flat (on_message self.old.flat server message message.kind)) }
+        ensures grows { OnErr result (message_grows self.old.flat server message message.kind ≡ true) }
+        ensures up_to_date { OnOk result (IsUpToDate self.new) }
+        ensures left { OnErr result (KeepsRecords self.old.flat self.new.flat) }
     {
         let outputs = self.take(server, &message)?;
         self.spare = message.into_spare();
@@ -194,7 +227,7 @@ impl Machine {
 
     /// Takes bytes that are no message.
     fn take_noise(&self, server: u16, bytes: &[u8]) -> Result<Outputs, AllocError>
-        ensures gives { IfOk result (λ o. Gives o self.now (on_noise self.now server bytes.now)) }
+        ensures gives { IfOk result (λ o. Gives o self.now.flat (on_noise self.now.flat server bytes.now)) }
 
         // Only a Reset takes memory.
         ensures grows { OnErr result (claims_confirmable bytes.now ≡ true) }
@@ -210,11 +243,13 @@ impl Machine {
 
     /// Takes a datagram.
     pub(super) fn receive(&mut self, server: u16, bytes: &[u8]) -> Result<Outputs, AllocError>
-        ensures gives { IfOk result (λ o. Gives o self.new (reaction_to self.old (Recv server bytes.now))) }
+        requires { IsUpToDate self.old }
+        ensures gives { IfOk result (λ o. Gives o self.new.flat (reaction_to self.old.flat (Recv server bytes.now))) }
 
         // Only a CON, or a NON that is copied, of a server with an account takes memory.
-        ensures grows { OnErr result (event_grows self.old.kept (Recv server bytes.now) ≡ true) }
-        ensures left { OnErr result (KeepsRecords self.old self.new) }
+        ensures grows { OnErr result (event_grows self.old.flat.kept (Recv server bytes.now) ≡ true) }
+        ensures up_to_date { OnOk result (IsUpToDate self.new) }
+        ensures left { OnErr result (KeepsRecords self.old.flat self.new.flat) }
     {
         if !self.client.has_account(server) {
             return Ok(Outputs::none(self.alloc));

@@ -6,4 +6,5 @@ use Rattle.debug_answers.proofs.shown.observation_lines.Given as goal
 
 abbrev pub invariant-loop-place : goal.invariant-loop-place
 invariant-loop-place l =
-    string_bytes l.text ≡ count_line (length l.observations) ++ flat_map observation_line (take l.place l.observations)
+    string_bytes l.text ≡ count_line (length l.observations.list)
+    ++ flat_map observation_line (take l.place l.observations.list)

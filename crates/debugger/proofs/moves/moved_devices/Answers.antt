@@ -1,6 +1,6 @@
-use Rattle.std.proofs.Common.{◌≡◌, ◌<◌, ◌≤◌, length, slice_index, sym, subst, arith}
+use Rattle.std.proofs.Common.{◌<◌, ◌≤◌, length, slice_index, sym, subst, arith}
 use Rattle.debugger.specs.Copies.{HasCopies}
-use Rattle.debugger.specs.Replayed.{steps_between}
+use Rattle.debugger.specs.Moves.{steps_between}
 use Rattle.debugger.proofs.Copying.{sources_at}
 use Rattle.debugger.proofs.Moving.{device_at, moved_same, moved_more}
 use Rattle.debugger.proofs.Replaying.{few_between, steps_more, steps_same}
@@ -28,7 +28,7 @@ loop-device-preserved-then-from-to c = record {
   moved = moved_same c.args.scenario.now c.args.made.now c.args.counts.now c.args.devices.now
       c.loop-device.moved.items c.loop-device.device c.loop-device.invariant.moved c.requires.shown
       c.if-from-to.true;
-  steps = steps_same c.args.made.now c.args.counts.now c.loop-device.device c.loop-device.steps
+  steps = steps_same c.args.scenario.now c.args.made.now c.args.counts.now c.loop-device.device c.loop-device.steps
       c.loop-device.invariant.steps c.if-from-to.true;
   room = omega (arith, c.loop-device.invariant.room);
 }
@@ -37,7 +37,7 @@ pub overflow_add-steps : goal.overflow_add-steps
 overflow_add-steps c =
     let less : c.loop-device.device < length c.args.scenario.now.rows =
     omega (arith, c.loop-device-test.true, c.rows-rows.ensures.count) in
-    let few : steps_between (slice_index c.args.made.now c.loop-device.device)
+    let few : steps_between c.args.scenario.now c.loop-device.device (slice_index c.args.made.now c.loop-device.device)
     (slice_index c.args.counts.now c.loop-device.device) ≤ 4096 =
     few_between c.args.scenario.now c.loop-device.device (slice_index c.args.made.now c.loop-device.device)
     (slice_index c.args.counts.now c.loop-device.device) c.rows-rows.ensures.valid
@@ -48,7 +48,7 @@ pub loop-device-preserved : goal.loop-device-preserved
 loop-device-preserved c =
     let less : c.loop-device.device < length c.args.scenario.now.rows =
     omega (arith, c.loop-device-test.true, c.rows-rows.ensures.count) in
-    let few : steps_between (slice_index c.args.made.now c.loop-device.device)
+    let few : steps_between c.args.scenario.now c.loop-device.device (slice_index c.args.made.now c.loop-device.device)
     (slice_index c.args.counts.now c.loop-device.device) ≤ 4096 =
     few_between c.args.scenario.now c.loop-device.device (slice_index c.args.made.now c.loop-device.device)
     (slice_index c.args.counts.now c.loop-device.device) c.rows-rows.ensures.valid
@@ -56,10 +56,10 @@ loop-device-preserved c =
     record {
       moved = moved_more c.args.scenario.now c.args.counts.now c.args.devices.now c.loop-device.moved.items
           c.push.new.self.items c.loop-device.device
-          (steps_between (slice_index c.args.made.now c.loop-device.device)
+          (steps_between c.args.scenario.now c.loop-device.device (slice_index c.args.made.now c.loop-device.device)
           (slice_index c.args.counts.now c.loop-device.device)) c.in_ok-next.next c.loop-device.invariant.moved
           (omega (arith, less, c.requires.rows)) c.in_ok-next.ensures c.in_ok-push.ensures.items;
-      steps = steps_more c.args.made.now c.args.counts.now c.loop-device.device c.loop-device.steps
+      steps = steps_more c.args.scenario.now c.args.made.now c.args.counts.now c.loop-device.device c.loop-device.steps
           c.in_ok-next.next.steps c.loop-device.invariant.steps c.in_ok-next.ensures.steps;
       room = omega (arith, few, c.in_ok-next.ensures.steps, c.loop-device.invariant.room);
     }

@@ -1,5 +1,6 @@
-use Rattle.std.proofs.Common.{◌≡◌, subst, arith}
+use Rattle.std.proofs.Common.{◌≡◌, ap, subst, arith, ◌∙◌}
 use Rattle.fleet_core.specs.Board.{ShowsAfter}
+use Rattle.debugger.specs.Replayed.{events_by}
 use Rattle.debugger.proofs.steps.advance.Goals as goal
 
 pub returns-clause-shows : goal.returns-clause-shows
@@ -12,4 +13,4 @@ pub returns-clause-count : goal.returns-clause-count
 returns-clause-count c =
     let same : c.loop-place.place ≡ c.args.to = omega
     (arith, c.loop-place-test.false, c.loop-place.auto.place-end c.requires.order) in
-    omega (arith, same, c.loop-place.invariant.count)
+    c.loop-place.invariant.count ∙ ap (events_by c.args.scenario.now c.args.device) same

@@ -1,8 +1,9 @@
-use Rattle.fleet_core.proofs.Holding.{shows_same}
+use Rattle.std.proofs.Common.{sym, ap, subst, ◌∙◌}
+use Rattle.fleet_core.specs.Board.{ShowsAfter}
+use Rattle.fleet_core.specs.Held.{holding_of}
 use Rattle.fleet_core.proofs.held.step_held.Goals as goal
 
 pub make_step-requires-clause-shows : goal.make_step-requires-clause-shows
 make_step-requires-clause-shows c =
-    let there = c.in_ok-start_held.ensures in
-    shows_same c.args.scenario.now c.args.device c.args.place c.start_held.new.held there.0 c.in-Some.machine there.1
-    c.in-Some.is there.2
+    subst (ShowsAfter c.args.scenario.now c.args.device c.args.place)
+    (sym (ap (λ h. h.shown) c.held.view_is) ∙ ap (λ s. (holding_of s).shown) c.in-Here.is) c.in_ok-start.ensures.shows

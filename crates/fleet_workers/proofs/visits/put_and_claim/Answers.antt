@@ -45,7 +45,7 @@ returns-in-Some-clause-put g c _ =
     is_put v c.give-pass.result.seat.me.0 h.seat.me.0 c.in-Ok.ensures.view.0 h.value new job c.in-Ok.ensures.value
     c.in-Ok.ensures.view.1 c.give-pass.ensures.given
     (c.in-Ok.ensures.own v.low (omega arith, omega (arith, c.args.pass.within.0, c.args.pass.numbers.1)))
-    (claim_leaves (with_block c.value_mut.result.now job.device job.shown job.entries) new _ c.in-Some.claim
+    (claim_leaves (with_block c.value_mut.result.now job.device job.held job.entries) new _ c.in-Some.claim
     c.in-Some.ensures.claims
     ∙ ap (λ x. x.entries ++ job.entries) c.value_mut.ensures.value)
 
@@ -58,7 +58,7 @@ returns-in-Some-clause-own g c is =
     (subst (λ x. Adds trace_log v.low x new) c.value_mut.ensures.value
     (subst (λ n. Adds trace_log n c.value_mut.result.now new) c.number-worker.ensures
     c.put_then_claim-claim.ensures.adds))
-    (claim_leaves (with_block c.value_mut.result.now job.device job.shown job.entries) new _ c.in-Some.claim
+    (claim_leaves (with_block c.value_mut.result.now job.device job.held job.entries) new _ c.in-Some.claim
     c.in-Some.ensures.claims
     ∙ ap (λ x. x.entries ++ job.entries) c.value_mut.ensures.value))
 
@@ -70,8 +70,8 @@ returns-in-Some-clause-claimed g c =
     claimed_after v c.give-pass.result.seat.me.0 h.seat.me.0 c.in-Ok.ensures.view.0 h.value new job claim
     c.in-Ok.ensures.value c.in-Ok.ensures.view.1 c.give-pass.ensures.given
     (c.give-pass.ensures.work [] ∙ ap (λ u. open_by new u.low) c.in-Ok.ensures.view.1)
-    (subst (λ x. Claims (with_block x job.device job.shown job.entries) new v.low claim) c.value_mut.ensures.value
-    (subst (λ n. Claims (with_block c.value_mut.result.now job.device job.shown job.entries) new n claim)
+    (subst (λ x. Claims (with_block x job.device job.held job.entries) new v.low claim) c.value_mut.ensures.value
+    (subst (λ n. Claims (with_block c.value_mut.result.now job.device job.held job.entries) new n claim)
     c.number-worker.ensures c.in-Some.ensures.claims))
     (subst (λ n. ClaimStands new n claim) c.number-worker.ensures c.in-Some.ensures.stands)
 

@@ -35,7 +35,7 @@ returns-after-put-clause-put g c made =
           c.in-Ok.ensures.view.1 c.give.ensures.given
           (c.in-Ok.ensures.own v.low (omega arith, omega (arith, c.args.pass.within.0, c.args.pass.numbers.1)))
           (ap (λ t. t.entries) (c.put_or_stop-put.ensures.put w.if-put.true
-          ∙ ap (λ x. with_block x job.device job.shown job.entries) c.value_mut.ensures.value))
+          ∙ ap (λ x. with_block x job.device job.held job.entries) c.value_mut.ensures.value))
       | else-put w ↦ (let e = sym made ∙ w.result-is in absurd cc)
     ]
 
@@ -51,7 +51,7 @@ returns-after-put-clause-own g c made =
           (subst (λ n. Adds trace_log n c.value_mut.result.now new) c.number-worker.ensures
           c.put_or_stop-put.ensures.adds))
           (ap (λ t. t.entries) (c.put_or_stop-put.ensures.put w.if-put.true
-          ∙ ap (λ x. with_block x job.device job.shown job.entries) c.value_mut.ensures.value)))
+          ∙ ap (λ x. with_block x job.device job.held job.entries) c.value_mut.ensures.value)))
       | else-put w ↦ (let e = sym made ∙ w.result-is in absurd cc)
     ]
 

@@ -1,22 +1,19 @@
-use Rattle.std.proofs.Common.{◌+◌, ◌∷◌, [], take, drop, rules}
-use Rattle.live_link.specs.Live.{packets_in}
+use Rattle.std.proofs.Common.{◌≡◌, ◌∷◌, [], ◌++◌, ap, sym, ◌∙◌, append_assoc, rules}
+use Rattle.std.specs.Vec.Iter.{into_iter_items}
 use Rattle.live_link.specs.Serving.{AreCutShort}
-use Rattle.live_link.proofs.Sent.{sent_more, cut_behind, packets_more, packets_split}
+use Rattle.live_link.proofs.Sent.{cut_behind}
 use Rattle.live_link.proofs.sending.send_all.Goals as goal
 
-pub returns-in_err-send_output-clause-cut : goal.returns-in_err-send_output-clause-cut
-returns-in_err-send_output-clause-cut g c =
-    let cut : AreCutShort c.in_err-send_output.field-0.0 (packets_in c.args.outputs.now) c.args.sent.now.items
-    c.send_output.new.sent.items (g.W.Wire.told c.args.wire.now) (g.W.Wire.told c.send_output.new.wire) =
-    cut_behind c.in_err-send_output.field-0.0 (packets_in (take c.loop-output.output-index c.args.outputs.now))
-    (packets_in (c.output-item.result ∷ []))
-    (packets_in (drop (c.loop-output.output-index + 1) c.args.outputs.now)) (packets_in c.args.outputs.now)
-    _ _ _ _ _ _ c.loop-output.invariant c.in_err-send_output.ensures.cut
-    (packets_split c.args.outputs.now c.loop-output.output-index c.output-item.result c.loop-output-test.true
-    c.output-item.is) in
+pub returns-in_err-send_one-clause-cut : goal.returns-in_err-send_one-clause-cut
+returns-in_err-send_one-clause-cut g c =
+    let at = c.loop-packet in
+    let x = c.in-Some.packet in
+    let end = c.in_err-send_one.field-0.0 in
+    let steps : into_iter_items at.packet-iterator ≡ x ∷ into_iter_items c.next.new.self = c.in-Some.ensures.steps.0 in
+    let cut : AreCutShort end c.args.packets.items c.args.sent.now.items c.send_one.new.sent.items
+    (g.W.Wire.told c.args.wire.now) (g.W.Wire.told c.send_one.new.wire) =
+    cut_behind end at.yielded (x ∷ []) (into_iter_items c.next.new.self) c.args.packets.items _ _ _ _ _ _
+    at.invariant.sent c.in_err-send_one.ensures.cut
+    (append_assoc at.yielded (x ∷ []) _ ∙ ap (λ ys. at.yielded ++ ys) (sym steps) ∙ at.invariant.left
+    ∙ c.into_iter-packet-iterator.ensures.into_iter_gives.0) in
     search (rules, cut)
-
-pub loop-output-preserved : goal.loop-output-preserved
-loop-output-preserved g c =
-    rw (packets_more c.args.outputs.now c.loop-output.output-index c.output-item.result c.loop-output-test.true
-    c.output-item.is) (sent_more _ _ 0 0 _ _ _ _ _ _ c.loop-output.invariant c.in_ok-send_output.ensures.sent)

@@ -1,5 +1,5 @@
-use Rattle.std.proofs.Common.{◌≡◌, ◌+◌, ◌-◌, length, refl, arith}
-use Rattle.debugger.proofs.Keeping.{moved_by, forward_steps}
+use Rattle.std.proofs.Common.{◌+◌, ◌-◌, length, refl, arith}
+use Rattle.debugger.proofs.Keeping.{moved_by, forward_few, forward_steps}
 use Rattle.debugger.proofs.session.Debugger.forward.Goals as goal
 
 pub returns-clause-moved : goal.returns-clause-moved
@@ -20,3 +20,14 @@ returns-clause-replayed c =
     c.self.inside.replayed
     (record { view = c.self.view_is; kept = c.self.invariant }) refl (omega (arith, c.if-count-left.false)) refl
     c.in_ok-steps.ensures.steps
+
+pub returns-clause-few : goal.returns-clause-few
+returns-clause-few c =
+    forward_few c.args.self.now c.in_ok-steps.steps c.args.count
+    (forward_steps c.args.self.now c.self.inside.scenario.now c.self.inside.entries c.self.inside.place
+    (c.self.inside.place + c.args.count) c.args.count (length c.self.inside.entries - c.self.inside.place)
+    c.in_ok-steps.steps
+    c.self.inside.made.items c.self.inside.devices.items c.self.inside.breaks.items c.self.inside.copies.items
+    c.self.inside.replayed
+    (record { view = c.self.view_is; kept = c.self.invariant }) refl (omega (arith, c.if-count-left.false)) refl
+    c.in_ok-steps.ensures.steps)

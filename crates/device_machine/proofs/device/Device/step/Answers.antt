@@ -1,6 +1,7 @@
 -- The device's own requests and those of the flat state are alike: the same ones live. What lies in the device's place
 -- is what the device keeps.
 use Rattle.std.proofs.Common.{refl, ap, ◌∙◌}
+use Rattle.device_machine.specs.Held.{Held}
 use Rattle.device_machine.specs.Reactions.{flat_after}
 use Rattle.device_machine.specs.State.{living}
 use Rattle.device_machine.proofs.Living.{alike, living_remembered}
@@ -9,8 +10,8 @@ use Rattle.device_machine.proofs.device.Device.step.Goals as goal
 pub returns-clause-outputs : goal.returns-clause-outputs
 returns-clause-outputs c =
     λ f shows. c.in_ok-outputs.ensures.gives.sent
-    ∙ (alike c.deref_mut.result.now f
-    (ap living c.deref_mut.ensures.value ∙ (ap (λ s. s.flat) c.self.view_is ∙ shows.holds))
+    ∙ (alike c.deref_mut.result.now.flat f
+    (ap (λ (h : Held). living h.flat) c.deref_mut.ensures.value ∙ (ap (λ s. s.flat) c.self.view_is ∙ shows.holds))
     c.args.event.now).outputs
 
 pub returns-clause-shows : goal.returns-clause-shows
@@ -18,8 +19,8 @@ returns-clause-shows c =
     λ f shows. record {
       ready = refl;
       holds = ap living c.in_ok-outputs.ensures.gives.then_flat
-          ∙ (living_remembered (flat_after c.deref_mut.result.now c.args.event.now) c.args.event.now
-          ∙ (alike c.deref_mut.result.now f
-          (ap living c.deref_mut.ensures.value ∙ (ap (λ s. s.flat) c.self.view_is ∙ shows.holds))
+          ∙ (living_remembered (flat_after c.deref_mut.result.now.flat c.args.event.now) c.args.event.now
+          ∙ (alike c.deref_mut.result.now.flat f
+          (ap (λ (h : Held). living h.flat) c.deref_mut.ensures.value ∙ (ap (λ s. s.flat) c.self.view_is ∙ shows.holds))
           c.args.event.now).living_then);
     }

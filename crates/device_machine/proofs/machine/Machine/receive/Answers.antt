@@ -5,15 +5,15 @@ use Rattle.std.proofs.lemmas.Result.{on_err_weaker}
 use Rattle.device_requests.specs.Client.{has_account}
 use Rattle.device_machine.specs.Memory.{datagram_grows, message_grows}
 use Rattle.device_machine.specs.Reactions.{Gives}
-use Rattle.device_machine.specs.State.{Machine}
+use Rattle.device_machine.specs.Held.{Held}
 use Rattle.device_machine.proofs.Copying.{grows_taken, grows_wanting, ignored}
 use Rattle.device_machine.proofs.Repeating.{all_true}
 use Rattle.device_machine.proofs.machine.Machine.receive.Goals as goal
 
 pub returns-then-is_ignored-clause-gives : goal.returns-then-is_ignored-clause-gives
 returns-then-is_ignored-clause-gives c =
-    subst (λ r. Gives c.none-then-is_ignored.result c.args.self.now r)
-    (sym (ignored c.args.self.now c.args.server c.args.bytes.now
+    subst (λ r. Gives c.none-then-is_ignored.result c.args.self.now.flat r)
+    (sym (ignored c.args.self.now.flat c.args.server c.args.bytes.now
     (All-from_get_or (λ b. b < 256) c.args.bytes.now 0 (λ i h. omega (arith, c.type_inv.bytes i)))
     (sym c.is_ignored.ensures ∙ c.if-is_ignored.true)))
     (record { sent = c.none-then-is_ignored.ensures; then_flat = refl })
@@ -21,19 +21,19 @@ returns-then-is_ignored-clause-gives c =
 pub returns-in-Ok-clause-grows : goal.returns-in-Ok-clause-grows
 returns-in-Ok-clause-grows c =
     on_err_weaker c.take_owned.result
-    (λ g. all_true (has_account c.args.self.now.kept.client c.args.server) (datagram_grows c.args.bytes.now)
-    (ap (λ (f : Machine). has_account f.kept.client c.args.server) (sym c.self.view_is) ∙ sym c.has_account.ensures
+    (λ g. all_true (has_account c.args.self.now.flat.kept.client c.args.server) (datagram_grows c.args.bytes.now)
+    (ap (λ (h : Held). has_account h.flat.kept.client c.args.server) (sym c.self.view_is) ∙ sym c.has_account.ensures
     ∙ c.if-not-has_account.false)
-    (grows_taken c.args.self.now c.args.server c.args.bytes.now c.in-Ok.message c.in-Ok.ensures.found
+    (grows_taken c.args.self.now.flat c.args.server c.args.bytes.now c.in-Ok.message c.in-Ok.ensures.found
     c.in-Ok.ensures.early
-    (subst (λ (f : Machine). message_grows f c.args.server c.in-Ok.message c.in-Ok.message.kind ≡ true)
+    (subst (λ (h : Held). message_grows h.flat c.args.server c.in-Ok.message c.in-Ok.message.kind ≡ true)
     c.self.view_is g)))
     c.take_owned.ensures.grows
 
 pub returns-in-Err-Memory-clause-grows : goal.returns-in-Err-Memory-clause-grows
 returns-in-Err-Memory-clause-grows c =
-    all_true (has_account c.args.self.now.kept.client c.args.server) (datagram_grows c.args.bytes.now)
-    (ap (λ (f : Machine). has_account f.kept.client c.args.server) (sym c.self.view_is) ∙ sym c.has_account.ensures
+    all_true (has_account c.args.self.now.flat.kept.client c.args.server) (datagram_grows c.args.bytes.now)
+    (ap (λ (h : Held). has_account h.flat.kept.client c.args.server) (sym c.self.view_is) ∙ sym c.has_account.ensures
     ∙ c.if-not-has_account.false)
     (grows_wanting c.args.bytes.now (Err c.in-Err-Memory.field-0) c.in-Err-Memory.ensures.early
     c.in-Err-Memory.ensures.empty (sym c.is_ignored.ensures ∙ c.if-is_ignored.false)

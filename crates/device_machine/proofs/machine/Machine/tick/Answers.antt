@@ -1,23 +1,28 @@
--- Without observations nothing is sent, and those that are kept live.
-use Rattle.std.proofs.Common.{◌∙◌, ◌++◌, ◌+◌, ap, subst, sym}
+-- Where something is to be sent, the outputs take memory; and the requests that are kept live.
+use Rattle.std.proofs.Common.{◌≡◌, ◌∙◌, ◌++◌, ◌+◌, true, ap, subst, sym}
+use Rattle.std.proofs.Math.Logic.{inl}
 use Rattle.notifier.proofs.Answers.{on_error}
 use Rattle.device_notifications.specs.Outbox.{Outbox}
+use Rattle.device_notifications.specs.Progress.{does_act}
 use Rattle.device_notifications.specs.Second.{seconds}
+use Rattle.device_notifications.proofs.Jumps.{acts_is}
+use Rattle.device_machine.specs.Held.{Held}
+use Rattle.device_machine.specs.Reactions.{sweep_in}
 use Rattle.device_machine.specs.Records.{AllLive}
 use Rattle.device_machine.proofs.Lives.{kept_live}
-use Rattle.device_machine.proofs.Ticks.{none_sent}
 use Rattle.device_machine.proofs.machine.Machine.tick.Goals as goal
 
 pub returns-in_err-outputs-clause-grows : goal.returns-in_err-outputs-clause-grows
 returns-in_err-outputs-clause-grows c =
+    let os = c.self.inside.observations.list in
     on_error c.from_residual-in_err-outputs.result _
-    (λ none. c.in_err-outputs.ensures.grows
+    (subst (λ (h : Held). does_act (sweep_in h.flat.kept c.args.count) h.flat.kept.observations ≡ true) c.self.view_is
+    (acts_is (seconds c.self.inside.client c.self.inside.clock c.args.count c.self.inside.next_id os) os
+    (inl (λ none. c.in_err-outputs.ensures.grows
     (c.into_vec.ensures ∙ c.in_ok-seconds.ensures.done.sent
     ∙ ap (λ (box : Outbox). box.sent ++ (seconds c.self.inside.client c.self.inside.clock c.args.count box.next_id
-    c.self.inside.observations).sent) c.new-outbox.ensures
-    ∙ ap (λ os. (seconds c.self.inside.client c.self.inside.clock c.args.count c.self.inside.next_id os).sent)
-    (ap (λ f. f.kept.observations) c.self.view_is ∙ none)
-    ∙ none_sent c.self.inside.client c.self.inside.clock c.args.count c.self.inside.next_id))
+    os).sent) c.new-outbox.ensures
+    ∙ none)))))
 
 pub invariant_of-self-2 : goal.invariant_of-self-2
 invariant_of-self-2 c =

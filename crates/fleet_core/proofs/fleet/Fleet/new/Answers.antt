@@ -1,4 +1,4 @@
-use Rattle.std.proofs.Common.{ap, ◌∙◌, replicate, None}
+use Rattle.std.proofs.Common.{ap, ◌∙◌, replicate}
 use Rattle.fleet_core.proofs.Board.{starts}
 use Rattle.fleet_core.proofs.fleet.Fleet.new.Goals as goal
 
@@ -9,4 +9,4 @@ invariant_of-result c =
     starts c.args.scenario.now c.new.result c.in_ok-vec.field-0.items c.in_ok-vec-2.field-0.items
     c.in_ok-devices.devices.items
     c.rows-rows.ensures.valid c.new.ensures (a ∙ ap (λ n. replicate n 0) c.rows-rows.ensures.count) b
-    (c.in_ok-devices.ensures ∙ ap (λ n. replicate n None) c.rows-rows.ensures.count)
+    c.in_ok-devices.ensures.count c.in_ok-devices.ensures.parked

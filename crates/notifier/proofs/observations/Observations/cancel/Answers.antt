@@ -1,24 +1,43 @@
-use Rattle.std.proofs.Common.{not, sym, ap, subst, ◌∙◌, length, arith}
-use Rattle.std.specs.List.{AllByRecursion}
-use Rattle.std.specs.Map.{values_of}
-use Rattle.notifier.specs.Observed.{IsKeyed, is_named, cancelled}
-use Rattle.notifier.proofs.ObservedLaws.{values-filter, each-filter, kept_at_most}
+use Rattle.std.proofs.Common.{◌||◌, position, sym, ap, ◌∙◌}
+use Rattle.notifier.specs.Observed.{cancelled, is_named}
+use Rattle.notifier.specs.Said.{Watch, said_without}
+use Rattle.notifier.proofs.Places.{any_first, first_place}
+use Rattle.notifier.proofs.SaidLaws.{filter_none, filter_removed, none_first, or_false, or_true, said_none}
+use Rattle.notifier.proofs.SaidLaws.{said_removed}
 use Rattle.notifier.proofs.observations.Observations.cancel.Goals as goal
 
-pub invariant_of-self : goal.invariant_of-self
-invariant_of-self c =
-    let left = c.keep_others.ensures in (
-      subst (AllByRecursion IsKeyed) (sym left) (each-filter IsKeyed _ _ c.self.invariant.0),
-      omega (
-        arith,
-        ap length left,
-        kept_at_most (λ e. not (is_named c.args.server c.args.token.now e.1)) c.self.inside.entries.entries,
-        c.self.invariant.1,
-      ),
+pub loop-place-preserved : goal.loop-place-preserved
+loop-place-preserved c =
+    let p = is_named c.args.server c.args.token.now in
+    let os = c.loop-place.self.list in
+    let ss = c.loop-place.self.said in
+    let i = c.in-Some.place in
+    let is_first = first_place p os i
+    (ap (λ (w : Watch). position p w.list) (sym c.self.view_is) ∙ sym c.place_of.ensures ∙ c.in-Some.is) in (
+      ap (λ left. cancelled left c.args.server c.args.token.now) c.remove.ensures.list ∙ filter_removed p os i is_first
+          ∙ c.loop-place.invariant.0,
+      (λ j. said_without p (c.remove.ensures.list j) (c.remove.ensures.said j)) ∙ said_removed p os ss i is_first
+          ∙ c.loop-place.invariant.1,
+      c.loop-place.invariant.2 ∙ ap (λ b. c.loop-place.held || b) (any_first p os i is_first) ∙ or_true c.loop-place.held,
     )
+
+pub returns-clause-answer : goal.returns-clause-answer
+returns-clause-answer c =
+    let p = is_named c.args.server c.args.token.now in
+    let none = none_first p c.loop-place.self.list
+    (ap (λ (w : Watch). position p w.list) (sym c.self.view_is) ∙ sym c.in_default.ensures) in
+    sym (c.loop-place.invariant.2 ∙ ap (λ b. c.loop-place.held || b) none ∙ or_false c.loop-place.held)
 
 pub returns-clause-left : goal.returns-clause-left
 returns-clause-left c =
-    ap values_of c.keep_others.ensures
-    ∙ values-filter (λ o. not (is_named c.args.server c.args.token.now o)) c.self.inside.entries.entries
-    ∙ ap (λ all. cancelled all c.args.server c.args.token.now) c.self.view_is
+    let p = is_named c.args.server c.args.token.now in
+    let none = none_first p c.loop-place.self.list
+    (ap (λ (w : Watch). position p w.list) (sym c.self.view_is) ∙ sym c.in_default.ensures) in
+    sym (filter_none p c.loop-place.self.list none) ∙ c.loop-place.invariant.0
+
+pub returns-clause-said : goal.returns-clause-said
+returns-clause-said c =
+    let p = is_named c.args.server c.args.token.now in
+    let none = none_first p c.loop-place.self.list
+    (ap (λ (w : Watch). position p w.list) (sym c.self.view_is) ∙ sym c.in_default.ensures) in
+    sym (said_none p c.loop-place.self.list c.loop-place.self.said none) ∙ c.loop-place.invariant.1

@@ -4,4 +4,4 @@ use Rattle.notifier.specs.Due.{IsFirst, is_one_due}
 use Rattle.notifier.proofs.observations.Observations.due.Given as goal
 
 abbrev pub invariant-loop-place : goal.invariant-loop-place
-invariant-loop-place l = IsFirst (is_one_due (take l.place l.self) (take l.place l.pending)) l.now l.first
+invariant-loop-place l = IsFirst (is_one_due (take l.place l.self.list) (take l.place l.self.said)) l.now l.first

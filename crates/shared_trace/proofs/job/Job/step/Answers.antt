@@ -160,3 +160,7 @@ returns-clause-steps c =
       outputs = c.in_ok-outputs.outputs;
     })
     c.self.view_is (then c) (made c) c.in_ok-push.ensures.items
+
+pub returns-clause-began : goal.returns-clause-began
+returns-clause-began c =
+    subst (λ t. is_enabled t.subject t.front t.device ≡ true) c.self.view_is c.self.invariant.task.began

@@ -1,23 +1,33 @@
 use Rattle.std.proofs.Common.{ℕ, ◌≤◌, sym, ap, subst, ◌∙◌}
-use Rattle.shared_trace.specs.Trace.{IsShared, IsReady}
+use Rattle.ticket_lock.specs.Log.{Adds}
+use Rattle.shared_trace.specs.Trace.{IsShared, IsReady, trace_log}
 use Rattle.shared_trace.specs.Claims.{IsTaken, Claims}
 use Rattle.shared_trace.proofs.Stations.{shared_of}
 use Rattle.shared_trace.proofs.trace.Trace.claim.Goals as goal
 
 pub returns-then-self-clause-shared : goal.returns-then-self-clause-shared
 returns-then-self-clause-shared c =
-    shared_of c.args.self.now c.self.inside.subject.value c.self.inside.entries.items c.self.inside.stations.items
+    shared_of c.args.self.now c.self.inside.subject.value c.self.inside.entries.held c.self.inside.stations.items
     c.self.inside.posts.items c.self.inside.stopped c.self.view_is c.self.invariant.0
 
 pub returns-in-Some-clause-claims : goal.returns-in-Some-clause-claims
 returns-in-Some-clause-claims c = record {
   going = sym (ap (λ t. t.stopped) c.self.view_is) ∙ c.if-self.false;
-  taken = subst (λ t. IsTaken t c.hand_out.new.self c.args.worker c.hand_out.result) c.lowest.ensures.same
-      c.hand_out.ensures.taken;
+  taken = subst (λ t. IsTaken t c.hand_out.new.self c.args.worker c.hand_out.result)
+      (c.list_for_job-list.ensures.same ∙ c.lowest.ensures.same) c.hand_out.ensures.taken;
   lowest = subst (λ n. (d : ℕ) → IsReady c.args.self.now d → n ≤ d)
       (sym c.hand_out.ensures.device)
       (λ d ready. c.in-Some.ensures.ready.1 d (subst (λ t. IsReady t d) (sym c.lowest.ensures.same) ready));
 }
+
+pub hand_out-requires-clause-ready : goal.hand_out-requires-clause-ready
+hand_out-requires-clause-ready c =
+    subst (λ t. IsReady t c.in-Some.device) (sym c.list_for_job-list.ensures.same) c.in-Some.ensures.ready.0
+
+pub returns-in-Some-clause-adds : goal.returns-in-Some-clause-adds
+returns-in-Some-clause-adds c =
+    subst (λ t. Adds trace_log c.args.worker t c.hand_out.new.self)
+    (c.list_for_job-list.ensures.same ∙ c.lowest.ensures.same) c.hand_out.ensures.adds
 
 pub returns-in-None-clause-claims : goal.returns-in-None-clause-claims
 returns-in-None-clause-claims c =
@@ -30,5 +40,5 @@ returns-in-None-clause-stands c = c.idle.ensures.stands c.args.worker
 pub returns-in-None-clause-shared : goal.returns-in-None-clause-shared
 returns-in-None-clause-shared c =
     subst IsShared (sym c.lowest.ensures.same)
-    (shared_of c.args.self.now c.self.inside.subject.value c.self.inside.entries.items c.self.inside.stations.items
+    (shared_of c.args.self.now c.self.inside.subject.value c.self.inside.entries.held c.self.inside.stations.items
     c.self.inside.posts.items c.self.inside.stopped c.self.view_is c.self.invariant.0)

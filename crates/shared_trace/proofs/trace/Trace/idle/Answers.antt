@@ -10,7 +10,7 @@ first_left-requires c =
 pub returns-in-Some-clause-claims : goal.returns-in-Some-clause-claims
 returns-in-Some-clause-claims c = λ w. (
   idle_now c.args.self.now c.requires.going c.requires.none,
-  any_out c.args.self.now c.self.inside.subject.value c.self.inside.entries.items c.self.inside.stations.items
+  any_out c.args.self.now c.self.inside.subject.value c.self.inside.entries.held c.self.inside.stations.items
       c.self.inside.posts.items c.self.inside.stopped c.in-Some.field-0
       c.as_slice.result.now c.as_slice.ensures.value c.self.view_is c.self.invariant.0 c.in-Some.ensures.out,
 )
@@ -18,11 +18,11 @@ returns-in-Some-clause-claims c = λ w. (
 pub returns-in-Some-first_left-clause-claims : goal.returns-in-Some-first_left-clause-claims
 returns-in-Some-first_left-clause-claims c = λ w. (
   idle_now c.args.self.now c.requires.going c.requires.none,
-  complete_is c.args.self.now c.self.inside.subject.value c.self.inside.entries.items c.self.inside.stations.items
+  complete_is c.args.self.now c.self.inside.subject.value c.self.inside.entries.held c.self.inside.stations.items
       c.self.inside.posts.items c.self.inside.stopped
       c.as_slice.result.now c.as_slice.ensures.value c.self.view_is c.self.invariant.0 c.requires.none
       c.in-None.ensures.none,
-  any_left c.args.self.now c.self.inside.subject.value c.self.inside.entries.items c.self.inside.stations.items
+  any_left c.args.self.now c.self.inside.subject.value c.self.inside.entries.held c.self.inside.stations.items
       c.self.inside.posts.items c.self.inside.stopped c.in-Some-first_left.field-0
       c.as_slice-2.result.now c.as_slice-2.ensures.value c.self.view_is c.self.invariant.0
       c.in-Some-first_left.ensures.left,
@@ -31,11 +31,11 @@ returns-in-Some-first_left-clause-claims c = λ w. (
 pub returns-in-None-first_left-clause-claims : goal.returns-in-None-first_left-clause-claims
 returns-in-None-first_left-clause-claims c = λ w. (
   idle_now c.args.self.now c.requires.going c.requires.none,
-  complete_is c.args.self.now c.self.inside.subject.value c.self.inside.entries.items c.self.inside.stations.items
+  complete_is c.args.self.now c.self.inside.subject.value c.self.inside.entries.held c.self.inside.stations.items
       c.self.inside.posts.items c.self.inside.stopped
       c.as_slice.result.now c.as_slice.ensures.value c.self.view_is c.self.invariant.0 c.requires.none
       c.in-None.ensures.none,
-  all_ended c.args.self.now c.self.inside.subject.value c.self.inside.entries.items c.self.inside.stations.items
+  all_ended c.args.self.now c.self.inside.subject.value c.self.inside.entries.held c.self.inside.stations.items
       c.self.inside.posts.items c.self.inside.stopped
       c.as_slice-2.result.now c.as_slice-2.ensures.value c.self.view_is c.self.invariant.0
       c.in-None-first_left.ensures.none,

@@ -13,17 +13,17 @@ use Rattle.shared_trace.proofs.trace.Trace.put.Goals as goal
 pub returns-in-Err-clause-shared : goal.returns-in-Err-clause-shared
 returns-in-Err-clause-shared c =
     subst (λ l. IsShared (traced c.self.inside.subject.value l c.self.inside.stations.items c.self.inside.stopped))
-    (sym c.in-Err.ensures.items)
-    (shared_is c.self.inside.subject.value c.self.inside.entries.items c.self.inside.stations.items
+    (sym c.in-Err.ensures.unchanged)
+    (shared_is c.self.inside.subject.value c.self.inside.entries.held c.self.inside.stations.items
     c.self.inside.posts.items c.self.inside.stopped c.self.invariant.0)
 
 fits : (c : goal.After-as_slice)
-    → IsFitting c.self.inside.subject.value c.self.inside.entries.items c.self.inside.stations.items
+    → IsFitting c.self.inside.subject.value c.self.inside.entries.held c.self.inside.stations.items
     c.self.inside.posts.items c.args.worker c.job.inside.device c.job.inside.claimed.value.entries
     c.job.inside.entries.items c.job.inside.held c.job.inside.known.items c.job.inside.posted.items
     c.job.inside.place c.job.inside.next
 fits c =
-    fitting c.args.self.now c.args.job c.self.inside.subject.value c.self.inside.entries.items
+    fitting c.args.self.now c.args.job c.self.inside.subject.value c.self.inside.entries.held
     c.self.inside.stations.items c.self.inside.posts.items c.self.inside.stopped c.job.inside.claimed.value.subject
     c.job.inside.worker c.args.worker c.job.inside.device c.job.inside.claimed.value.entries
     c.job.inside.entries.items c.job.inside.held c.job.inside.spent c.job.inside.known.items
@@ -42,7 +42,7 @@ add_posts-requires-clause-room c =
 
 pub index_mut-requires : goal.index_mut-requires
 index_mut-requires c =
-    let h = put_place (fitting c.args.self.now c.args.job c.self.inside.subject.value c.self.inside.entries.items
+    let h = put_place (fitting c.args.self.now c.args.job c.self.inside.subject.value c.self.inside.entries.held
     c.self.inside.stations.items c.self.inside.posts.items c.self.inside.stopped c.job.inside.claimed.value.subject
     c.job.inside.worker c.args.worker c.job.inside.device c.job.inside.claimed.value.entries
     c.job.inside.entries.items c.job.inside.held c.job.inside.spent c.job.inside.known.items
@@ -51,12 +51,12 @@ index_mut-requires c =
     omega (arith, h, c.from.ensures, c.self.inside.stations.ok.0)
 
 then : (c : goal.After-drop-claimed)
-    → IsFitting c.self.inside.subject.value c.self.inside.entries.items c.self.inside.stations.items
+    → IsFitting c.self.inside.subject.value c.self.inside.entries.held c.self.inside.stations.items
     c.self.inside.posts.items c.args.worker c.job.inside.device c.job.inside.claimed.value.entries
     c.job.inside.entries.items c.job.inside.held c.job.inside.known.items c.job.inside.posted.items
     c.job.inside.place c.job.inside.next
 then c =
-    fitting c.args.self.now c.args.job c.self.inside.subject.value c.self.inside.entries.items
+    fitting c.args.self.now c.args.job c.self.inside.subject.value c.self.inside.entries.held
     c.self.inside.stations.items c.self.inside.posts.items c.self.inside.stopped c.job.inside.claimed.value.subject
     c.job.inside.worker c.args.worker c.job.inside.device c.job.inside.claimed.value.entries
     c.job.inside.entries.items c.job.inside.held c.job.inside.spent c.job.inside.known.items
@@ -87,7 +87,7 @@ invariant_of-self-2 c = (
         c.job.inside.next;
     known = c.job.inside.known;
   })
-      c.from.result c.append.new.self.items c.add_posts.new.posts.items c.from.ensures c.in-Ok.ensures.items refl refl
+      c.from.result c.append.new.self.held c.add_posts.new.posts.items c.from.ensures c.in-Ok.ensures.held refl refl
       refl refl c.add_posts.ensures.count
       (λ g. c.add_posts.ensures.sums g ∙ ap (λ l. slice_index c.self.inside.posts.items g + count_by (λ h. h == g) l)
       c.as_slice.ensures.value),
@@ -115,9 +115,9 @@ returns-clause-put c =
       next = c.job.inside.next;
       known =
           c.job.inside.known;
-    }) c.from.result c.append.new.self.items c.self.view_is c.from.ensures
-    c.in-Ok.ensures.items refl
-    ∙ ap (λ t. with_block c.args.self.now t.device t.shown t.entries) c.job.view_is
+    }) c.from.result c.append.new.self.held c.self.view_is c.from.ensures
+    c.in-Ok.ensures.held refl
+    ∙ ap (λ t. with_block c.args.self.now t.device t.held t.entries) c.job.view_is
 
 pub returns-clause-adds : goal.returns-clause-adds
 returns-clause-adds c =
@@ -129,8 +129,8 @@ returns-clause-adds c =
       next = c.job.inside.next;
       known =
           c.job.inside.known;
-    }) c.from.result c.append.new.self.items c.self.view_is c.from.ensures
-    c.in-Ok.ensures.items refl)
+    }) c.from.result c.append.new.self.held c.self.view_is c.from.ensures
+    c.in-Ok.ensures.held refl)
 
 pub returns-clause-shared : goal.returns-clause-shared
 returns-clause-shared c = shared_is _ _ _ _ _ (invariant_of-self-2 c).0

@@ -5,7 +5,7 @@ use Rattle.shared_trace.proofs.trace.Trace.unfinished.Goals as goal
 
 pub returns-in-Some : goal.returns-in-Some
 returns-in-Some c =
-    unfinished_is c.args.self.now c.self.inside.subject.value c.self.inside.entries.items c.self.inside.stations.items
+    unfinished_is c.args.self.now c.self.inside.subject.value c.self.inside.entries.held c.self.inside.stations.items
     c.self.inside.posts.items c.self.inside.stopped c.args.device c.from.result c.deref.result.now
     c.in-Some.station.now c.is_at_end.result
     c.deref.ensures.value c.self.view_is c.self.invariant.0 c.from.ensures

@@ -1,0 +1,68 @@
+-- What was said of observations is still what their present answers are, where none of these has changed.
+use Rattle.std.proofs.Common.{◌≡◌, ℕ, ◌<◌, ◌^◌, Bool, true, false, cond, not, List, [], ◌∷◌, filter, map}
+use Rattle.std.proofs.Common.{Option, None, Some, MatchOption, refl, sym, ap, subst, ◌∙◌}
+use Rattle.std.specs.Bool.{if◌then◌else◌}
+use Rattle.notifier.specs.Due.{IsFirstDue, IsNeverDue, is_one_due}
+use Rattle.notifier.specs.Observed.{as_closed, is_awaited, with_acknowledged}
+use Rattle.notifier.specs.Said.{Watch, said_without}
+use Rattle.notifier.specs.declared.observation.Observation.{Observation}
+use Rattle.notifier.specs.declared.pending.Outlook.{Outlook}
+use Rattle.device_requests.specs.Client.{Client}
+use Rattle.device_notifications.specs.Laws.{IsFirstSending}
+use Rattle.device_notifications.specs.Second.{quiet, second}
+use Rattle.device_notifications.proofs.Resting.{first_sending, quiet_second}
+use Rattle.device_notifications.specs.Outlooks.{IsKnown, outlook_of, outlooks_of}
+
+without : (f : Observation → Outlook) (p : Observation → Bool) (os : List Observation)
+    → said_without p os (map f os) ≡ map f (filter (λ o. not (p o)) os)
+without f p [] = refl
+without f p (o ∷ os) =
+    elim (p o) as (λ b. (if b then said_without p os (map f os) else f o ∷ said_without p os (map f os))
+    ≡ map f (cond (not b) (o ∷ filter (λ x. not (p x)) os) (filter (λ x. not (p x)) os))) [
+      | true ↦ without f p os
+      | false ↦ ap (λ t. f o ∷ t) (without f p os)
+    ]
+
+-- where observations go
+pub known_without : (client : Client) (p : Observation → Bool) (old new : Watch) → IsKnown client old
+    → new.list ≡ filter (λ o. not (p o)) old.list → new.said ≡ said_without p old.list old.said → IsKnown client new
+known_without client p old new known list said =
+    said ∙ ap (λ ss. said_without p old.list ss) known ∙ without (outlook_of client) p old.list
+    ∙ ap (λ os. outlooks_of client os) (sym list)
+
+closed : (client : Client) (p : Observation → Bool) (os : List Observation)
+    → outlooks_of client os ≡ outlooks_of client (map (λ o. if p o then as_closed o else o) os)
+closed client p [] = refl
+closed client p (o ∷ os) =
+    elim (p o) as (λ b. outlook_of client o ∷ outlooks_of client os
+    ≡ outlook_of client (if b then as_closed o else o)
+    ∷ outlooks_of client (map (λ x. if p x then as_closed x else x) os)) [
+      | true ↦ ap (λ t. outlook_of client o ∷ t) (closed client p os)
+      | false ↦ ap (λ t. outlook_of client o ∷ t) (closed client p os)
+    ]
+
+-- where some of them are closed
+pub known_closed : (client : Client) (server mid : ℕ) (old new : Watch) → IsKnown client old
+    → new.list ≡ with_acknowledged old.list server mid → new.said ≡ old.said → IsKnown client new
+known_closed client server mid old new known list said =
+    said ∙ known ∙ closed client (is_awaited server mid) old.list ∙ ap (λ os. outlooks_of client os) (sym list)
+
+-- where they were said anew if something changed
+pub known_after : (changed : Bool) (client after : Client) (old new : Watch) → IsKnown client old
+    → (changed ≡ false → after ≡ client) → (changed ≡ true → IsKnown after new) → (changed ≡ false → new ≡ old)
+    → IsKnown after new
+known_after true client after old new known same anew still = anew refl
+known_after false client after old new known same anew still =
+    ap (λ (w : Watch). w.said) (still refl) ∙ known
+    ∙ (λ j. outlooks_of (sym (same refl) j) ((sym (still refl) j).list))
+
+-- the first second that is due by what was said is the first in which something is sent or removed
+pub due_is : (client : Client) (clock next_id : ℕ) (os : List Observation) (ss : List Outlook) (r : Option ℕ)
+    → ss ≡ outlooks_of client os → MatchOption r (IsNeverDue clock os ss) (λ first. IsFirstDue clock os ss first)
+    → MatchOption r
+    ((t : ℕ) → clock < t → t < 2 ^ 64 → second client t next_id os ≡ quiet next_id os)
+    (λ first. IsFirstSending client clock next_id os first)
+due_is client clock next_id os ss None known h =
+    λ t after fits. quiet_second client t next_id os (ap (λ xs. is_one_due os xs t) (sym known) ∙ h t after fits)
+due_is client clock next_id os ss (Some first) known h =
+    first_sending client clock next_id os first (subst (λ xs. IsFirstDue clock os xs first) known h)

@@ -1,0 +1,27 @@
+-- Where there is none to end, nothing changes.
+use Rattle.std.proofs.Common.{◌≡◌, ◌∙◌, false, Option, None, Some, OnOk, Result, Ok, Err, ap, subst, sym, unwrap_or}
+use Rattle.std.specs.Option.{is_some}
+use Rattle.device_firmware.specs.Firmware.{firmware_after}
+use Rattle.device_firmware.specs.declared.event.FirmwareEvent.TheVariants.{Ended}
+use Rattle.instance_store.specs.Stored.{Stored}
+use Rattle.device_requests.specs.Client.{Client, with_stored}
+use Rattle.device_notifications.specs.Outlooks.{outlooks_of}
+use Rattle.device_machine.specs.Held.{IsUpToDate}
+use Rattle.device_machine.proofs.machine.Machine.end_firmware.Goals as goal
+
+missed : (client new : Client) (after : Option Stored) → is_some after ≡ false
+    → new ≡ with_stored client (unwrap_or after client.store) → new ≡ client
+missed client new None h is = is
+missed client new (Some stored) h is = cc
+
+on_ok : {X E : Type 0} (r : Result X E) (P : Type 0) → P → OnOk r P
+on_ok (Ok x) P p = p
+on_ok (Err e) P p = tt
+
+pub returns-clause-up_to_date : goal.returns-clause-up_to_date
+returns-clause-up_to_date c =
+    let client = c.self.inside.client in
+    let os = c.self.inside.observations.list in
+    let same = missed client c.end_firmware.new.self (firmware_after client.store (Ended c.args.code))
+    (sym c.in_ok-end_firmware.ensures.ended ∙ c.if-branch.false) c.in_ok-end_firmware.ensures.change in
+    on_ok c.one.result _ (subst IsUpToDate (sym c.self.view_is) c.requires ∙ ap (λ x. outlooks_of x os) (sym same))

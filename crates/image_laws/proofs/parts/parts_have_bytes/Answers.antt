@@ -1,0 +1,14 @@
+use Rattle.image_laws.proofs.PartsRead.{definitions, outputs, steps, values}
+use Rattle.image_laws.proofs.parts.parts_have_bytes.Goals as goal
+
+pub returns-clause-values : goal.returns-clause-values
+returns-clause-values c = values
+
+pub returns-clause-definitions : goal.returns-clause-definitions
+returns-clause-definitions c = definitions
+
+pub returns-clause-steps : goal.returns-clause-steps
+returns-clause-steps c = steps c.exact_layouts.ensures.step
+
+pub returns-clause-outputs : goal.returns-clause-outputs
+returns-clause-outputs c = outputs

@@ -1,0 +1,15 @@
+//! The parts of images and trace files, one of each kind.
+
+ghost use Rattle.image_laws.specs.Parts.{DefinitionsHaveBytes, OutputsHaveBytes, StepsHaveBytes, ValuesHaveBytes};
+
+use scenario_image::exact_layouts;
+
+/// These are the bytes of values, definitions of resources, steps and outputs, one of each kind.
+pub fn parts_have_bytes()
+    ensures values { ValuesHaveBytes }
+    ensures definitions { DefinitionsHaveBytes }
+    ensures steps { StepsHaveBytes }
+    ensures outputs { OutputsHaveBytes }
+{
+    exact_layouts();
+}

@@ -1,0 +1,145 @@
+-- The first of an object's instances, in ascending order, that passes a test is the lowest that does.
+use Rattle.std.proofs.Common.{◌≡◌, ℕ, ◌<◌, Bool, true, false, cond, ◌&&◌, List, [], ◌∷◌, map, Option, None, Some, refl}
+use Rattle.std.proofs.Common.{sym, ap, subst, ◌∙◌, arith}
+use Rattle.std.proofs.Math.Dec.{T}
+use Rattle.std.specs.Option.{is_some}
+use Rattle.std.specs.List.{find as first_that}
+use Rattle.std.specs.Ordering.{nat_cmp, is_lt, eq_by_cmp}
+use Rattle.std.specs.FinMap as map
+use Rattle.std.specs.FinMap.{find, is_sorted}
+use Rattle.std.specs.FinMap.Entries.{below_all}
+use Rattle.std.proofs.lemmas.Bool.{false≢true}
+use Rattle.std.proofs.lemmas.Bool.Decides.{nat_tests}
+use Rattle.object_defs.proofs.LookUps.{skipped}
+use Rattle.instance_store.specs.Stored.{Stored, has_instance, instances_of}
+use Rattle.instance_store.proofs.InstanceLaws.{under, keys_of-under, find-under, sorted-under, place}
+
+abbrev Numbers : Type 0
+Numbers = List (ℕ × Unit {0})
+
+abbrev Has : Numbers → ℕ → Type 0
+Has ns n = is_some (find nat_cmp n ns) ≡ true
+
+-- it is among the numbers, passes, and no lower one among them does
+record Lowest (test : ℕ → Bool) (ns : Numbers) (j : ℕ) : Type 0 where
+  there : Has ns j
+  passes : test j ≡ true
+  lowest : (k : ℕ) → k < j → Has ns k → test k ≡ false
+
+first : (a b : Bool) → T (a && b) → T a
+first true b p = tt
+first false b p = p
+
+second : (a b : Bool) → T (a && b) → T b
+second true b p = p
+second false b p = absurd p
+
+sure : (b : Bool) → T b → b ≡ true
+sure true p = refl
+sure false p = absurd p
+
+apart : (m n : ℕ) → m < n → eq_by_cmp nat_cmp m n ≡ false
+apart m n h = grind (arith, nat_tests)
+
+same : (m n : ℕ) → eq_by_cmp nat_cmp m n ≡ true → m ≡ n
+same m n h = grind (arith, nat_tests)
+
+itself : (n : ℕ) → eq_by_cmp nat_cmp n n ≡ true
+itself n = grind (arith, nat_tests)
+
+less : (n k : ℕ) → is_lt (nat_cmp n k) ≡ true → n < k
+less n k h = grind (arith, nat_tests)
+
+passed_by : (m : ℕ) (e : ℕ × Unit {0}) (es : Numbers) → m < e.0 → find nat_cmp m (e ∷ es) ≡ find nat_cmp m es
+passed_by m e es h = ap (λ b. cond b (Some e.1) (find nat_cmp m es)) (apart m e.0 h)
+
+absent_below : (n m : ℕ) (ns : Numbers) → T (below_all nat_cmp n ns) → m < n → find nat_cmp m ns ≡ None
+absent_below n m [] h l = refl
+absent_below n m (e ∷ es) h l =
+    let k : n < e.0 = less n e.0 (sure _ (first _ _ h)) in
+    passed_by m e es (omega arith) ∙ absent_below n m es (second _ _ h) l
+
+later : (b : Bool) (x : Unit {0}) (o : Option (Unit {0})) → is_some o ≡ true → is_some (cond b (Some x) o) ≡ true
+later true x o h = refl
+later false x o h = h
+
+fails_at : (test : ℕ → Bool) (e : ℕ × Unit {0}) (es : Numbers) (k : ℕ) (b : Bool) → eq_by_cmp nat_cmp k e.0 ≡ b
+    → test e.0 ≡ false → (Has es k → test k ≡ false) → is_some (cond b (Some e.1) (find nat_cmp k es)) ≡ true
+    → test k ≡ false
+fails_at test e es k true h fails rest has = ap test (same k e.0 h) ∙ fails
+fails_at test e es k false h fails rest has = rest has
+
+found_head : (test : ℕ → Bool) (e : ℕ × Unit {0}) (es : Numbers) (j : ℕ) (b : Bool) → test e.0 ≡ b
+    → T (is_sorted nat_cmp (e ∷ es)) → cond b (Some e.0) (first_that test (map (λ x. x.0) es)) ≡ Some j
+    → (first_that test (map (λ x. x.0) es) ≡ Some j → Lowest test es j) → Lowest test (e ∷ es) j
+found_head test e es j true passes sorted h rest =
+    let here : e.0 ≡ j = cc in
+    subst (Lowest test (e ∷ es)) here (record {
+      there = ap (λ b. is_some (cond b (Some e.1) (find nat_cmp e.0 es))) (itself e.0);
+      passes = passes;
+      lowest = λ k l has. absurd (false≢true (sym
+          (ap is_some (passed_by k e es l ∙ absent_below e.0 k es (first _ _ sorted) l)) ∙ has));
+    })
+found_head test e es j false fails sorted h rest =
+    let low = rest h in
+    record {
+      there = later (eq_by_cmp nat_cmp j e.0) e.1 (find nat_cmp j es) low.there;
+      passes = low.passes;
+      lowest = λ k l has. fails_at test e es k (eq_by_cmp nat_cmp k e.0) refl fails (low.lowest k l) has;
+    }
+
+found : (test : ℕ → Bool) (ns : Numbers) (j : ℕ) → T (is_sorted nat_cmp ns)
+    → first_that test (map (λ x. x.0) ns) ≡ Some j → Lowest test ns j
+found test [] j sorted h = let f : ⊥ = cc in absurd f
+found test (e ∷ es) j sorted h = found_head test e es j (test e.0) refl sorted h (found test es j (second _ _ sorted))
+
+missed : (test : ℕ → Bool) (ns : Numbers) → first_that test (map (λ x. x.0) ns) ≡ None → (k : ℕ) → Has ns k
+    → test k ≡ false
+missed test [] h k has = let f : ⊥ = cc in absurd f
+missed test (e ∷ es) h k has =
+    let parts = skipped (test e.0) e.0 (first_that test (map (λ x. x.0) es)) h in
+    fails_at test e es k (eq_by_cmp nat_cmp k e.0) refl parts.0 (missed test es parts.1 k) has
+
+-- the instances of an object, by their numbers
+numbers : Stored → ℕ → Numbers
+numbers stored object = under object (map.entries stored.instances)
+
+numbers_are : (stored : Stored) (object : ℕ) → instances_of stored object ≡ map (λ x. x.0) (numbers stored object)
+unfolding numbers
+numbers_are stored object = keys_of-under object (map.entries stored.instances)
+
+has_is : (stored : Stored) (object k : ℕ) → is_some (find nat_cmp k (numbers stored object))
+    ≡ has_instance stored (place object k)
+unfolding numbers
+has_is stored object k =
+    ap is_some (find-under object (map.entries stored.instances) k
+    ∙ sym (map.get-entries stored.instances (place object k)))
+
+sorted_are : (stored : Stored) (object : ℕ) → T (is_sorted nat_cmp (numbers stored object))
+unfolding numbers
+sorted_are stored object =
+    sorted-under object (map.entries stored.instances) (map.entries_sorted stored.instances)
+
+-- an instance of an object is there and passes, and no lower one does
+pub record IsFirst (stored : Stored) (object : ℕ) (test : ℕ → Bool) (j : ℕ) : Type 0 where
+  pub there : has_instance stored (place object j) ≡ true
+  pub passes : test j ≡ true
+  pub lowest : (k : ℕ) → k < j → has_instance stored (place object k) ≡ true → test k ≡ false
+
+pub first_is : (stored : Stored) (object : ℕ) (test : ℕ → Bool) (j : ℕ)
+    → first_that test (instances_of stored object) ≡ Some j → IsFirst stored object test j
+first_is stored object test j h =
+    let low = found test (numbers stored object) j (sorted_are stored object)
+    (sym (ap (first_that test) (numbers_are stored object)) ∙ h) in
+    record {
+      there = sym (has_is stored object j) ∙ low.there;
+      passes = low.passes;
+      lowest = λ k l has. low.lowest k l (has_is stored object k ∙ has);
+    }
+
+pub none_is : (stored : Stored) (object : ℕ) (test : ℕ → Bool)
+    → first_that test (instances_of stored object) ≡ None → (k : ℕ) → has_instance stored (place object k) ≡ true
+    → test k ≡ false
+none_is stored object test h k has =
+    missed test (numbers stored object) (sym (ap (first_that test) (numbers_are stored object)) ∙ h) k
+    (has_is stored object k ∙ has)
