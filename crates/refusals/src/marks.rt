@@ -12,6 +12,9 @@ pub enum Mode {
     CountAfter,
 }
 
+/// More than the allocations that a call makes in one run and not in another.
+const MOST_FEWER: u32 = 100;
+
 /// The beginning and the end of a call. `rt try --fail-alloc N` refuses the Nth allocation of the whole program, and
 /// only that one; so boxes decide which of the call's own allocations it is. A call that is made once more stands
 /// between no marks.
@@ -53,6 +56,14 @@ impl Marks {
             }
             Mode::CountBefore => self.counted = Some(make(self.alloc, u32::MAX)),
             Mode::CountAfter => {}
+        }
+    }
+
+    /// Makes boxes in the place of allocations that the call makes in another run and not in this one, as threads that
+    /// share its work may: a refusal that the call did not meet then meets a box, and nothing that follows.
+    pub fn make_up(&mut self) {
+        if let Mode::Boxes(_) = self.mode {
+            make(self.alloc, MOST_FEWER);
         }
     }
 

@@ -27,6 +27,7 @@ fn fleet_once<R: Threads + Wait + Sync>(rt: &R, given: &Given, marks: &mut Marks
     marks.begin();
     let run = run_fleet(rt, given.alloc, given.scenario, 2, 1, &OpenGate);
     marks.end();
+    marks.make_up();
     match run {
         Ok(run) => answer(given, &run, line),
         Err(RunFault::Memory(entries)) => {
