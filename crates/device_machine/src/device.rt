@@ -148,7 +148,8 @@ impl Device {
     /// The value at a path of three or four numbers; a spent device gives the one that it was
     /// left with.
     pub fn value(&self, path: &Path) -> Option<&Value>
-        ensures shown { (f : FlatState) → Shows self.now f → option_copied result ≡ value_in f.kept (full_path path.now) }
+        ensures shown { (f : FlatState) → Shows self.now f
+            → option_copied result ≡ value_in f.kept (full_path path.now) }
         ensures left { option_copied result ≡ value_in self.now.flat.kept (full_path path.now) }
     {
         let path = path.full()?;
