@@ -166,11 +166,11 @@ impl Found {
         }
     }
 
-    /// An image of version 1 that was read has to be written again as one of version 2, longer by a byte for each
-    /// class.
+    /// An image of version 1 that was read has to be written again as one of version 2, with a 0 more for each class.
     fn want_newer(&mut self, classes: usize, bytes: &[u8]) {
-        let rest = self.file.len().saturating_sub(classes);
-        if version(self.file.as_slice()) != 2 || rest != bytes.len() {
+        let file = self.file.as_slice();
+        let is_longer = file.len() == bytes.len().saturating_add(classes);
+        if !is_longer || version(file) != 2 || !has_more_zeros(file, bytes) {
             self.refuse("written again as no newer image");
         }
     }
@@ -220,4 +220,18 @@ fn version(image: &[u8]) -> u8 {
         [_, _, _, _, version, ..] => *version,
         _ => 0,
     }
+}
+
+/// Whether an image is another one with bytes 0 put in, the versions aside.
+fn has_more_zeros(image: &[u8], other: &[u8]) -> bool {
+    let mut rest = other.iter().skip(5);
+    let mut next = rest.next();
+    for byte in image.iter().skip(5) {
+        if next == Some(byte) {
+            next = rest.next();
+        } else if *byte != 0 {
+            return false;
+        }
+    }
+    next.is_none()
 }

@@ -36,8 +36,8 @@ fn is_front_as(out: &mut Sheet, kind: FileKind, front: &[u8], verdict: &str) -> 
     is_same
 }
 
-/// Adds the verdict on the file with one byte changed, at each place in turn, to its two neighbours, with its lowest or
-/// its highest bit turned, to 0 and to 255: each is refused, or it is read and is written again as the same bytes.
+/// Adds the verdict on the file with one byte changed, at each place in turn, to each of the 255 others: each of these
+/// files is refused, or it is read and is written again as the same bytes.
 pub fn put_verdict_of_changes(out: &mut Sheet, kind: FileKind, bytes: &[u8]) {
     match Vec::from_slice(out.alloc(), bytes) {
         Err(_) => out.cut(),
@@ -53,22 +53,35 @@ pub fn put_verdict_of_changes(out: &mut Sheet, kind: FileKind, bytes: &[u8]) {
 /// other one is added.
 fn are_changes_due(out: &mut Sheet, kind: FileKind, bytes: &[u8], copy: &mut [u8]) -> bool {
     for (place, old) in bytes.iter().enumerate() {
-        let old = *old;
-        let (above, below) = (old.wrapping_add(1), old.wrapping_sub(1));
-        for byte in [above, below, old ^ 1, old ^ 0x80, 0, 255, old] {
-            if let Some(field) = copy.get_mut(place) {
-                *field = byte;
-            }
-            if !is_due(out, kind, copy) {
-                out.put(" with ");
-                out.put_number(u64::from(byte));
-                out.put(" at ");
-                out.put_number(place as u64);
-                return false;
-            }
+        if !are_due_at(out, kind, copy, place, *old) {
+            return false;
         }
     }
     true
+}
+
+/// Whether each other byte in the place of this one has a verdict that is due. If so, the copy is then as it was.
+fn are_due_at(out: &mut Sheet, kind: FileKind, copy: &mut [u8], place: usize, old: u8) -> bool {
+    let mut byte = old;
+    for _ in 0..255u8 {
+        byte = byte.wrapping_add(1);
+        set(copy, place, byte);
+        if !is_due(out, kind, copy) {
+            out.put(" with ");
+            out.put_number(u64::from(byte));
+            out.put(" at ");
+            out.put_number(place as u64);
+            return false;
+        }
+    }
+    set(copy, place, old);
+    true
+}
+
+fn set(bytes: &mut [u8], place: usize, byte: u8) {
+    if let Some(field) = bytes.get_mut(place) {
+        *field = byte;
+    }
 }
 
 /// Whether these bytes are refused, or there is something in them. If not, the verdict is added.
