@@ -3,7 +3,7 @@ ghost use Rattle.std.specs.Thread.{IsSync};
 
 use crate::scenes::alike;
 use fleet_core::{run_serial, write_entries};
-use fleet_workers::{OpenGate, RunFault, run_fleet};
+use fleet_workers::{FleetEnd, OpenGate, RunFault, run_fleet};
 use std::alloc::{AllocError, Global};
 use std::sync::Wait;
 use std::thread::Threads;
@@ -54,7 +54,8 @@ fn are_same(
     Ok(true)
 }
 
-/// Devices of three steps each, which workers make one by one: whether each device did what it does in the serial run.
+/// Devices of three steps each, which workers make one by one: whether all steps are made, and each device did what it
+/// does in the serial run.
 pub fn is_as_serial<R: Threads + Wait + Sync>(
     rt: &R,
     alloc: Global,
@@ -73,7 +74,8 @@ pub fn is_as_serial<R: Threads + Wait + Sync>(
     let (entries, serial) = (run.entries.as_slice(), serial.as_slice());
     let count = usize::from(devices) * 3;
     let is_all = entries.len() == count && serial.len() == count;
-    Ok(is_all && are_same(alloc, entries, serial, devices)?)
+    let is_done = matches!(run.end, FleetEnd::Done);
+    Ok(is_done && is_all && are_same(alloc, entries, serial, devices)?)
 }
 
 /// Whether one worker makes the run of 64 devices under the number 1 alone.
@@ -87,7 +89,8 @@ pub fn is_all_by_one<R: Threads + Wait + Sync>(rt: &R, alloc: Global) -> Result<
         return Ok(false);
     };
     let entries = run.entries.as_slice();
-    Ok(entries.len() == 192 && entries.iter().all(|entry| entry.worker == 1))
+    let is_done = matches!(run.end, FleetEnd::Done);
+    Ok(is_done && entries.len() == 192 && entries.iter().all(|entry| entry.worker == 1))
 }
 
 /// Whether no run is made by this many workers.

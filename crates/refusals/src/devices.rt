@@ -1,5 +1,5 @@
-//! `step TEXT K PATH`: step K of the first device, counted from 0. A device that was refused memory is spent, and still
-//! returns its clock, its observations, its attributes and its values.
+//! `step TEXT K PATH`: step K of the first device, counted from 0. A device that was refused memory is spent: it
+//! refuses that step and each later one, and still returns its clock, its observations, its attributes and its values.
 use crate::given::Given;
 use crate::line::Line;
 use crate::marks::Marks;
@@ -15,6 +15,8 @@ struct Turn<'a> {
     /// The steps before it.
     before: &'a [Step],
     event: &'a Event,
+    /// The step of this event, and those after it.
+    rest: &'a [Step],
 }
 
 pub fn step(given: &Given, marks: &mut Marks, line: &mut Line) {
@@ -22,13 +24,17 @@ pub fn step(given: &Given, marks: &mut Marks, line: &mut Line) {
         return line.add("no row");
     };
     let count = given.number(0);
-    let (Some(before), Some(Step::Event(event))) = (steps.get(..count), steps.get(count)) else {
+    let Some((before, rest)) = steps.split_at_checked(count) else {
+        return line.add("no step");
+    };
+    let Some(Step::Event(event)) = rest.first() else {
         return line.add("no event");
     };
     let turn = Turn {
         class,
         before,
         event,
+        rest,
     };
     step_first(given, &turn, marks, line);
     if line.is_refused() {
@@ -37,14 +43,14 @@ pub fn step(given: &Given, marks: &mut Marks, line: &mut Line) {
     }
 }
 
-/// The step of a device. One that is spent after it is asked once more, and shown.
+/// The step of a device. One that is spent after it is asked for this step and all later ones, and shown.
 fn step_first(given: &Given, turn: &Turn, marks: &mut Marks, line: &mut Line) {
     let Ok(mut device) = device_before(turn) else {
         return line.cut();
     };
     step_once(&mut device, turn.event, marks, line);
     if line.is_refused() {
-        step_once(&mut device, turn.event, marks, line);
+        step_spent(&mut device, turn.rest, line);
         add_shown(&device, given.words, line);
     }
 }
@@ -78,16 +84,40 @@ fn step_once(device: &mut Device, event: &Event, marks: &mut Marks, line: &mut L
     match outputs {
         Ok(outputs) => line.add_outputs(outputs.as_slice()),
         Err(StepFault::Memory) => line.refuse(),
-        Err(StepFault::Spent) => line.add("then spent,"),
+        Err(StepFault::Spent) => line.add("spent"),
     }
 }
 
-/// Adds the clock, how many observations there are, and the value at the path that is the second word.
+/// Asks a device for these steps, one after another: adds how many of their events are refused since it is spent, and
+/// what comes of the others.
+fn step_spent(device: &mut Device, steps: &[Step], line: &mut Line) {
+    let mut asked = 0u64;
+    let mut refused = 0u64;
+    for step in steps {
+        if let Step::Event(event) = step {
+            asked = asked.saturating_add(1);
+            match device.step(event) {
+                Ok(outputs) => line.add_outputs(outputs.as_slice()),
+                Err(StepFault::Memory) => line.refuse(),
+                Err(StepFault::Spent) => refused = refused.saturating_add(1),
+            }
+        }
+    }
+    line.add_spent(refused, asked);
+}
+
+/// Adds the clock, how many observations there are, and the value at the path that is the second word; where that is
+/// `-`, only that they are returned.
 fn add_shown(device: &Device, words: &str, line: &mut Line) {
-    line.add_count("clock", device.clock());
-    line.add_count("observations", device.observations().len() as u64);
+    let clock = device.clock();
+    let observations = device.observations().len();
     let _attributes = device.attributes();
     let word = words.split_whitespace().nth(1).unwrap_or("");
+    if word == "-" {
+        return line.add("shown");
+    }
+    line.add_count("clock", clock);
+    line.add_count("observations", observations as u64);
     let Ok((path, _)) = path(word.as_bytes()) else {
         return line.add("no path");
     };

@@ -14,7 +14,7 @@ pub fn commit(given: &Given, marks: &mut Marks, line: &mut Line) {
     }
 }
 
-/// The commit to a fleet. One that is spent after it is asked once more.
+/// The commit to a fleet. One that is spent after it is asked for a commit of each device that is enabled.
 fn commit_first(given: &Given, marks: &mut Marks, line: &mut Line) {
     let Ok(mut fleet) = fleet_before(given) else {
         return line.cut();
@@ -22,7 +22,7 @@ fn commit_first(given: &Given, marks: &mut Marks, line: &mut Line) {
     let device = last_device(given);
     commit_once(&mut fleet, device, marks, line);
     if line.is_refused() {
-        commit_once(&mut fleet, device, marks, line);
+        commit_spent(&mut fleet, given.scenario.rows(), line);
     }
     add_shown(&fleet, device, line);
 }
@@ -73,9 +73,30 @@ fn commit_once(fleet: &mut Fleet, device: u16, marks: &mut Marks, line: &mut Lin
     match committed {
         Ok(()) => line.add("committed,"),
         Err(CommitFault::Memory) => line.refuse(),
-        Err(CommitFault::Spent) => line.add("then spent,"),
+        Err(CommitFault::Spent) => line.add("spent,"),
         Err(CommitFault::NotEnabled) => line.add("not enabled,"),
     }
+}
+
+/// Asks a fleet of so many devices for a commit of each that is enabled: adds how many of these are refused since it is
+/// spent, and what comes of the others.
+fn commit_spent(fleet: &mut Fleet, devices: usize, line: &mut Line) {
+    let mut asked = 0u64;
+    let mut refused = 0u64;
+    let mut device = 0u16;
+    for _ in 0..devices {
+        if fleet.enabled(device) {
+            asked = asked.saturating_add(1);
+            match fleet.commit(1, device) {
+                Ok(()) => line.add("committed,"),
+                Err(CommitFault::Memory) => line.refuse(),
+                Err(CommitFault::Spent) => refused = refused.saturating_add(1),
+                Err(CommitFault::NotEnabled) => line.add("not enabled,"),
+            }
+        }
+        device = device.saturating_add(1);
+    }
+    line.add_spent(refused, asked);
 }
 
 /// Adds how many entries there are, whether the device is enabled, and how many posts there are to group 1.

@@ -86,17 +86,42 @@ impl Line {
         }
     }
 
-    /// Adds what a device output.
+    /// Of so many calls after that, these were refused since what was called is spent.
+    pub fn add_spent(&mut self, refused: u64, asked: u64) {
+        self.add_count("then spent", refused);
+        self.add_count("of", asked);
+        self.sheet.put(",");
+    }
+
+    /// Adds what a device output: of more than eight outputs how many there are, the first and the last.
     pub fn add_outputs(&mut self, outputs: &[Output]) {
         if outputs.is_empty() {
             self.add("nothing");
         }
-        for output in outputs {
-            match output {
-                Output::Send { server, bytes } => self.add_sent(*server, bytes.as_slice()),
-                Output::Act(Act::Missed) => self.add("act missed"),
-                Output::Act(_) => self.add("act"),
+        if outputs.len() > 8 {
+            self.add_ends(outputs);
+        } else {
+            for output in outputs {
+                self.add_output(output);
             }
+        }
+    }
+
+    fn add_ends(&mut self, outputs: &[Output]) {
+        self.add_count("outputs", outputs.len() as u64);
+        if let (Some(first), Some(last)) = (outputs.first(), outputs.last()) {
+            self.add("first");
+            self.add_output(first);
+            self.add("last");
+            self.add_output(last);
+        }
+    }
+
+    fn add_output(&mut self, output: &Output) {
+        match output {
+            Output::Send { server, bytes } => self.add_sent(*server, bytes.as_slice()),
+            Output::Act(Act::Missed) => self.add("act missed"),
+            Output::Act(_) => self.add("act"),
         }
     }
 
