@@ -1,5 +1,6 @@
 -- What is done and what is refused, put together from its parts.
 use Rattle.std.proofs.Common.{◌≡◌, ◌<◌, ◌≤◌, ◌⊎◌, ℕ, List, [], ◌∷◌, Ok, Option, None, Some, length, arith, inl, inr}
+use Rattle.std.proofs.Common.{subst}
 use Rattle.std.proofs.lemmas.Bool.{cases_lt}
 use Rattle.std.specs.Result.{IsOkAnd}
 use Rattle.hex.specs.Hex.{decode_of}
@@ -12,9 +13,9 @@ use Rattle.trace_file.specs.declared.entry.Entry.{Entry}
 use Rattle.trace_file.specs.Layout.{IsTraceFile}
 use Rattle.fleet_core.specs.declared.verdict.Verdict.{Verdict}
 use Rattle.fleet_core.specs.Verdict.{Judges}
-use Rattle.fleet_core.specs.Waiting.{waiting}
 use Rattle.fleet_workers.specs.declared.fleet.FleetRun.{FleetRun}
-use Rattle.fleet_workers.specs.Fleet.{IsFleetRun, AreByBlocks, AreWorkers}
+use Rattle.fleet_workers.specs.Blocks.{anyone}
+use Rattle.fleet_workers.specs.Fleet.{IsFleetRun, AreByBlocks, AreWorkers, left_by}
 use Rattle.bench_commands.specs.Demo.{demo_outputs}
 use Rattle.debug_answers.specs.Printed.{printed}
 use Rattle.bench_commands.specs.Runs.{end_line, end_status, verdict_line, verdict_status}
@@ -56,7 +57,7 @@ between n most h = by (cases_lt 0 n) (cases_lt most n)
     by (inr none) few = absurd (h (λ it. omega (arith, it.0, none)))
 
 pub run_by : (s : Scenario) (workers batch : ℕ) (r : FleetRun) → ((AreWorkers workers → ⊥) → ⊥)
-    → (IsWrongBatch workers batch → ⊥) → IsFleetRun s workers r → AreByBlocks s workers batch r.entries
+    → (IsWrongBatch workers batch → ⊥) → IsFleetRun s workers r → AreByBlocks anyone s workers batch r.entries
     → IsRunBy s workers batch r
 run_by s workers batch r counted bounded right blocks =
     record { workers_are = are; batch_is = between batch 64 (λ no. bounded (are, no)); right = right; blocks = blocks }
@@ -66,11 +67,16 @@ run_by s workers batch r counted bounded right blocks =
 
 pub run_answer : (s : Scenario) (workers batch : ℕ) (trace : Option (List ℕ)) (r : FleetRun) (status : Status)
     (text : List ℕ) (made : List Made) → IsRunBy s workers batch r
-    → IsSavedAs trace r.entries made → text ≡ end_line (length r.entries) (waiting s r.entries)
-    → status ≡ end_status (waiting s r.entries)
+    → IsSavedAs trace r.entries made → text ≡ end_line (length r.entries) (left_by r.end)
+    → status ≡ end_status (left_by r.end)
     → IsRunAnswer s workers batch trace status text made
-run_answer s workers batch trace r status text made right saved said ended =
-    record { run = r; right = right; saved = saved; text_is = said; status_is = ended }
+run_answer s workers batch trace r status text made right saved said ended = record {
+  run = r;
+  right = right;
+  saved = saved;
+  text_is = subst (λ ds. text ≡ end_line (length r.entries) ds) right.right.waiting said;
+  status_is = subst (λ ds. status ≡ end_status ds) right.right.waiting ended;
+}
 
 pub judged_as : (s : Scenario) (es : List Entry) (verdict : Verdict) (status : Status) (text : List ℕ)
     → Judges s es verdict → text ≡ verdict_line verdict

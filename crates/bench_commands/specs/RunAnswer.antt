@@ -7,6 +7,7 @@ use Rattle.fleet_core.specs.declared.verdict.Verdict.{Verdict}
 use Rattle.fleet_core.specs.Verdict.{Judges}
 use Rattle.fleet_core.specs.Waiting.{waiting}
 use Rattle.fleet_workers.specs.declared.fleet.FleetRun.{FleetRun}
+use Rattle.fleet_workers.specs.Blocks.{anyone}
 use Rattle.fleet_workers.specs.Fleet.{IsFleetRun, AreByBlocks, AreWorkers, IsBatch}
 use Rattle.bench_commands.specs.Files.{Made}
 use Rattle.bench_commands.specs.Runs.{end_line, end_status, verdict_line, verdict_status}
@@ -31,7 +32,7 @@ pub record IsRunBy (s : Scenario) (workers batch : ℕ) (run : FleetRun) : Type 
   pub workers_are : AreWorkers workers
   pub batch_is : IsBatch batch
   pub right : IsFleetRun s workers run
-  pub blocks : AreByBlocks s workers batch run.entries
+  pub blocks : AreByBlocks anyone s workers batch run.entries
 
 -- such a run, its trace file where one is asked for, the line of its end, and the status
 pub record IsRunAnswer (s : Scenario) (workers batch : ℕ) (trace : Option (List ℕ)) (status : Status) (text : List ℕ)

@@ -1,16 +1,15 @@
 //! What the program answers to the words that are about runs: `run` and `check`.
-ghost use Rattle.std.specs.Prelude.{◌≡◌, [], length, option_map, IfErr, IfOk};
+ghost use Rattle.std.specs.Prelude.{◌≡◌, [], option_map, IfErr, IfOk};
 ghost use Rattle.std.specs.String.{string_bytes};
 ghost use Rattle.bench_commands.specs.Runs.{device_word, device_words, done_line, end_line, end_status, stalled_line};
 ghost use Rattle.bench_commands.specs.Runs.{stalled_text, verdict_line, verdict_status};
-ghost use Rattle.fleet_core.specs.Waiting.{waiting};
 ghost use Rattle.bench_commands.specs.Answers.{files_of};
 ghost use Rattle.bench_commands.specs.RunAnswer.{IsJudged, IsRunBy, IsRunFault, IsSavedAs, IsSavingFault, IsRunAnswer};
 
 use crate::answer::{Answer, NewFile};
 use crate::fault::Fault;
 use crate::status::Status;
-use fleet_core::{Verdict, check, unfinished};
+use fleet_core::{Verdict, check};
 use fleet_workers::{FleetRun, OpenGate, run_fleet};
 use scenario_image::Scenario;
 use std::alloc::{AllocError, Global};
@@ -34,7 +33,7 @@ pub fn run_scenario<'a, R: Threads + Wait + Sync>(
     ensures refused { IfErr result (IsRunFault scenario.now workers batch) }
 {
     let run = made_by_workers(rt, alloc, scenario, workers, batch)?;
-    let ended = end_of(alloc, scenario, run.entries.as_slice())?;
+    let ended = end_of(alloc, run.entries.len(), run.end.waiting())?;
     let file = trace_file(alloc, trace, run.entries.as_slice())?;
     Ok(Answer {
         status: ended.status,
@@ -86,16 +85,14 @@ struct Ending {
     text: String,
 }
 
-/// What is said of entries that end a run: how many there are, and the devices that are not at the end of their rows.
-fn end_of(alloc: Global, scenario: &Scenario, entries: &[Entry]) -> Result<Ending, AllocError>
-    ensures text { IfOk result (λ a. string_bytes a.text
-        ≡ end_line (length entries.now) (waiting scenario.now entries.now)) }
-    ensures status { IfOk result (λ a. a.status ≡ end_status (waiting scenario.now entries.now)) }
+/// What is said of a run of so many entries, after which these devices are not at the end of their rows.
+fn end_of(alloc: Global, count: usize, waiting: &[u16]) -> Result<Ending, AllocError>
+    ensures text { IfOk result (λ a. string_bytes a.text ≡ end_line count waiting.now) }
+    ensures status { IfOk result (λ a. a.status ≡ end_status waiting.now) }
 {
-    let waiting = unfinished(alloc, scenario, entries)?;
     Ok(Ending {
-        status: end_status(waiting.as_slice()),
-        text: end_line(alloc, entries.len(), waiting.as_slice())?,
+        status: end_status(waiting),
+        text: end_line(alloc, count, waiting)?,
     })
 }
 

@@ -69,33 +69,36 @@ own_put w old block new put all =
 -- ---- blocks
 
 -- nothing was put
-pub put_nothing : (s : Scenario) (w batch : ℕ) (old new : List Entry) → Begins old new
-    → own_entries w new ≡ own_entries w old → HasPut s w batch old new
-put_nothing s w batch old new begins own = record {
+pub put_nothing : (came : ℕ → ℕ → Type 0) (s : Scenario) (w batch : ℕ) (old new : List Entry) → Begins old new
+    → own_entries w new ≡ own_entries w old → HasPut came s w batch old new
+put_nothing came s w batch old new begins own = record {
   blocks = [];
   own = own ∙ sym (append-nil (own_entries w old));
   made = (begins, own);
 }
 
-block_own : (s : Scenario) (w batch : ℕ) (seen block : List Entry) → IsBlock s w batch seen block
+block_own : (came : ℕ → ℕ → Type 0) (s : Scenario) (w batch : ℕ) (seen block : List Entry)
+    → IsBlock came s w batch seen block
     → own_entries w block ≡ block
-block_own s w batch seen block is =
+block_own came s w batch seen block is =
     own_all w block (every_one (IsOf w is.device) (λ e. e.worker ≡ w) (λ e h. h.0) block is.each)
 
 -- a block was put
-pub put_block : (s : Scenario) (w batch : ℕ) (old block new : List Entry) → HasMade s w batch old block new
-    → HasPut s w batch old new
-put_block s w batch old block new made = record {
+pub put_block : (came : ℕ → ℕ → Type 0) (s : Scenario) (w batch : ℕ) (old block new : List Entry)
+    → HasMade came s w batch old block new
+    → HasPut came s w batch old new
+put_block came s w batch old block new made = record {
   blocks = block ∷ [];
-  own = own_put w old block new made.put (block_own s w batch made.seen block made.made)
+  own = own_put w old block new made.put (block_own came s w batch made.seen block made.made)
       ∙ ap (λ l. own_entries w old ++ l) (sym (append-nil block));
   made = (new, made, (([], sym (append-nil new)), refl));
 }
 
 -- the worker's next block comes after more entries of others
-made_later : (s : Scenario) (w batch : ℕ) (old mid block new : List Entry) → Begins old mid
-    → own_entries w mid ≡ own_entries w old → HasMade s w batch mid block new → HasMade s w batch old block new
-made_later s w batch old mid block new begins own made = record {
+made_later : (came : ℕ → ℕ → Type 0) (s : Scenario) (w batch : ℕ) (old mid block new : List Entry) → Begins old mid
+    → own_entries w mid ≡ own_entries w old → HasMade came s w batch mid block new
+    → HasMade came s w batch old block new
+made_later came s w batch old mid block new begins own made = record {
   put = record {
     before = made.put.before;
     begins = begins_both old mid made.put.before begins made.put.begins;
@@ -107,68 +110,77 @@ made_later s w batch old mid block new begins own made = record {
   made = made.made;
 }
 
-are_later : (s : Scenario) (w batch : ℕ) (old mid : List Entry) (blocks : List (List Entry)) (new : List Entry)
-    → Begins old mid → own_entries w mid ≡ own_entries w old → AreMade s w batch mid blocks new
-    → AreMade s w batch old blocks new
-are_later s w batch old mid [] new begins own made = (begins_both old mid new begins made.0, made.1 ∙ own)
-are_later s w batch old mid (block ∷ blocks) new begins own made =
-    (made.0, made_later s w batch old mid block made.0 begins own made.1, made.2)
+are_later : (came : ℕ → ℕ → Type 0) (s : Scenario) (w batch : ℕ) (old mid : List Entry) (blocks : List (List Entry))
+    (new : List Entry)
+    → Begins old mid → own_entries w mid ≡ own_entries w old → AreMade came s w batch mid blocks new
+    → AreMade came s w batch old blocks new
+are_later came s w batch old mid [] new begins own made = (begins_both old mid new begins made.0, made.1 ∙ own)
+are_later came s w batch old mid (block ∷ blocks) new begins own made =
+    (made.0, made_later came s w batch old mid block made.0 begins own made.1, made.2)
 
-are_both : (s : Scenario) (w batch : ℕ) (old : List Entry) (first : List (List Entry)) (mid : List Entry)
-    (second : List (List Entry)) (new : List Entry) → AreMade s w batch old first mid
-    → AreMade s w batch mid second new → AreMade s w batch old (first ++ second) new
-are_both s w batch old [] mid second new a b = are_later s w batch old mid second new a.0 a.1 b
-are_both s w batch old (block ∷ first) mid second new a b =
-    (a.0, a.1, are_both s w batch a.0 first mid second new a.2 b)
+are_both : (came : ℕ → ℕ → Type 0) (s : Scenario) (w batch : ℕ) (old : List Entry) (first : List (List Entry))
+    (mid : List Entry)
+    (second : List (List Entry)) (new : List Entry) → AreMade came s w batch old first mid
+    → AreMade came s w batch mid second new → AreMade came s w batch old (first ++ second) new
+are_both came s w batch old [] mid second new a b = are_later came s w batch old mid second new a.0 a.1 b
+are_both came s w batch old (block ∷ first) mid second new a b =
+    (a.0, a.1, are_both came s w batch a.0 first mid second new a.2 b)
 
 -- first the one, then the other
-pub put_both : (s : Scenario) (w batch : ℕ) (old mid new : List Entry) → HasPut s w batch old mid
-    → HasPut s w batch mid new → HasPut s w batch old new
-put_both s w batch old mid new a b = record {
+pub put_both : (came : ℕ → ℕ → Type 0) (s : Scenario) (w batch : ℕ) (old mid new : List Entry)
+    → HasPut came s w batch old mid
+    → HasPut came s w batch mid new → HasPut came s w batch old new
+put_both came s w batch old mid new a b = record {
   blocks = a.blocks ++ b.blocks;
   own = b.own
       ∙ (ap (λ l. l ++ flat_map (λ block. block) b.blocks) a.own
       ∙ (append_assoc (own_entries w old) (flat_map (λ block. block) a.blocks) (flat_map (λ block. block) b.blocks)
       ∙ ap (λ l. own_entries w old ++ l) (sym (flat_map-append (λ block. block) a.blocks b.blocks))));
-  made = are_both s w batch old a.blocks mid b.blocks new a.made b.made;
+  made = are_both came s w batch old a.blocks mid b.blocks new a.made b.made;
 }
 
 -- others have added to the log since
-pub put_longer : (s : Scenario) (w batch : ℕ) (old mid new : List Entry) → HasPut s w batch old mid → Begins mid new
-    → own_entries w new ≡ own_entries w mid → HasPut s w batch old new
-put_longer s w batch old mid new put begins own =
-    put_both s w batch old mid new put (put_nothing s w batch mid new begins own)
+pub put_longer : (came : ℕ → ℕ → Type 0) (s : Scenario) (w batch : ℕ) (old mid new : List Entry)
+    → HasPut came s w batch old mid → Begins mid new
+    → own_entries w new ≡ own_entries w mid → HasPut came s w batch old new
+put_longer came s w batch old mid new put begins own =
+    put_both came s w batch old mid new put (put_nothing came s w batch mid new begins own)
 
 -- ---- by passes
 
 -- a visit that adds nothing
-pub visit_puts : (s : Scenario) (batch : ℕ) (v r : Seen) → Follows v r
-    → own_entries v.low r.front ≡ own_entries v.low v.front → HasPut s v.low batch v.front r.front
-visit_puts s batch v r follows own = put_nothing s v.low batch v.front r.front (follows.added, follows.front) own
+pub visit_puts : (came : ℕ → ℕ → Type 0) (s : Scenario) (batch : ℕ) (v r : Seen) → Follows v r
+    → own_entries v.low r.front ≡ own_entries v.low v.front → HasPut came s v.low batch v.front r.front
+visit_puts came s batch v r follows own =
+    put_nothing came s v.low batch v.front r.front (follows.added, follows.front) own
 
 -- a visit that puts a block, where it is answered so, and nothing otherwise
-pub block_or_nothing : {A B : Type 0} (s : Scenario) (batch : ℕ) (v r : Seen) (block : List Entry)
-    (answer : Result A B) → Follows v r → (IsOk answer → HasMade s v.low batch v.front block r.front)
-    → (IsErr answer → own_entries v.low r.front ≡ own_entries v.low v.front) → HasPut s v.low batch v.front r.front
-block_or_nothing s batch v r block (Ok a) follows made kept = put_block s v.low batch v.front block r.front (made refl)
-block_or_nothing s batch v r block (Err e) follows made kept = visit_puts s batch v r follows (kept refl)
+pub block_or_nothing : {A B : Type 0} (came : ℕ → ℕ → Type 0) (s : Scenario) (batch : ℕ) (v r : Seen)
+    (block : List Entry)
+    (answer : Result A B) → Follows v r → (IsOk answer → HasMade came s v.low batch v.front block r.front)
+    → (IsErr answer → own_entries v.low r.front ≡ own_entries v.low v.front) → HasPut came s v.low batch v.front r.front
+block_or_nothing came s batch v r block (Ok a) follows made kept =
+    put_block came s v.low batch v.front block r.front (made refl)
+block_or_nothing came s batch v r block (Err e) follows made kept = visit_puts came s batch v r follows (kept refl)
 
 -- of a pass with numbers one is the lowest
 pub has_low : (v : Seen) → 0 < v.count → HasNumber v v.low
 has_low v some = (omega arith, omega arith)
 
 -- one visit after another, by the same pass
-pub puts_both : (s : Scenario) (batch : ℕ) (u v w : Seen) → HasPut s u.low batch u.front v.front → v.low ≡ u.low
-    → HasPut s v.low batch v.front w.front → HasPut s u.low batch u.front w.front
-puts_both s batch u v w a low b =
-    put_both s u.low batch u.front v.front w.front a (subst (λ n. HasPut s n batch v.front w.front) low b)
+pub puts_both : (came : ℕ → ℕ → Type 0) (s : Scenario) (batch : ℕ) (u v w : Seen)
+    → HasPut came s u.low batch u.front v.front → v.low ≡ u.low
+    → HasPut came s v.low batch v.front w.front → HasPut came s u.low batch u.front w.front
+puts_both came s batch u v w a low b =
+    put_both came s u.low batch u.front v.front w.front a (subst (λ n. HasPut came s n batch v.front w.front) low b)
 
 -- what a job has made since its claim is a block
-pub made_block : (s : Scenario) (batch : ℕ) (v r : Seen) (old new : Task) → v.subject ≡ Some s → Knows v old
+pub made_block : (came : ℕ → ℕ → Type 0) (s : Scenario) (batch : ℕ) (v r : Seen) (old new : Task) → v.subject ≡ Some s
+    → Knows v old
     → old.entries ≡ [] → Advances old new batch → 1 ≤ length new.entries → IsRun new.subject (new.front ++ new.entries)
-    → AllByRecursion (IsOf new.worker new.device) new.entries → IsPut v.low v.front new.entries r.front
-    → HasMade s v.low batch v.front new.entries r.front
-made_block s batch v r old new subject knows fresh advances least run each put =
+    → AllByRecursion (IsOf new.worker new.device) new.entries → came v.low old.device
+    → IsPut v.low v.front new.entries r.front → HasMade came s v.low batch v.front new.entries r.front
+made_block came s batch v r old new subject knows fresh advances least run each gate put =
     let made : new.entries ≡ advances.added = advances.entries ∙ ap (λ l. l ++ advances.added) fresh in
     let same : new.subject ≡ s = advances.same.subject ∙ some_is old.subject s (sym knows.subject ∙ subject) in
     let worker : new.worker ≡ v.low = advances.same.worker ∙ knows.worker in
@@ -185,5 +197,6 @@ made_block s batch v r old new subject knows fresh advances least run each put =
         each = subst (λ n. AllByRecursion (IsOf n new.device) new.entries) worker each;
         stops = λ less. subst (λ k. is_enabled k (new.front ++ new.entries) new.device ≡ false) same
             (advances.stops (subst (λ l. length l < batch) made less));
+        gate = subst (came v.low) (sym advances.same.device) gate;
       };
     }

@@ -1,7 +1,7 @@
 -- What a visit to the trace leaves a pass with.
 use Rattle.std.proofs.Common.{◌≡◌, ℕ, ◌+◌, ◌<◌, ◌≤◌, false, [], ◌++◌, Some, refl, sym, ap, subst, ◌∙◌, arith}
 use Rattle.std.proofs.Common.{append_assoc, append-nil}
-use Rattle.std.specs.Prelude.{Contains}
+use Rattle.std.specs.Prelude.{Contains, Result, Ok, Err}
 use Rattle.trace_file.specs.declared.entry.Entry.{Entry}
 use Rattle.fleet_core.specs.Run.{IsRun, made_by, posts_of}
 use Rattle.fleet_core.proofs.Sums.{posts_later}
@@ -13,7 +13,7 @@ use Rattle.ticket_lock.specs.Names.{lowest_work}
 use Rattle.ticket_lock.proofs.Logs.{every-append, every_one}
 use Rattle.shared_trace.specs.declared.claims.Claim.{Claim}
 use Rattle.shared_trace.specs.declared.claims.Claim.TheVariants.{Got, Busy, Done, Stalled, Stopped}
-use Rattle.shared_trace.specs.Trace.{Traced, IsShared, with_block, open_by, trace_log}
+use Rattle.shared_trace.specs.Trace.{Traced, IsShared, with_block, work_by, no_work, trace_log}
 use Rattle.shared_trace.specs.Job.{Task, StandsIn, MayPut, IsSameJob}
 use Rattle.shared_trace.specs.Claims.{Claims, ClaimStands}
 use Rattle.fleet_workers.specs.Blocks.{own_entries, IsPut}
@@ -21,6 +21,12 @@ use Rattle.fleet_workers.specs.Knowing.{Seen, IsByOne, Follows, Knows, IsDone, I
 
 pub some_is : {X : Type 0} (x y : X) → Some x ≡ Some y → x ≡ y
 some_is x y e = cc
+
+pub err_is : {A B : Type 0} (x y : B) (r : Result A B) → r ≡ Err x → r ≡ Err y → x ≡ y
+err_is x y r e f = let h = sym e ∙ f in cc
+
+pub ok_not : {A B : Type 0} (x : A) (y : B) (r : Result A B) → r ≡ Ok x → r ≡ Err y → ⊥
+ok_not x y r e f = let h = sym e ∙ f in absurd cc
 
 -- a pass follows itself
 pub follows_itself : (v : Seen) → Follows v v
@@ -86,7 +92,7 @@ follows v r inside t x y aware entered is one within adds shared =
 
 -- what a claim tells a pass that has left the lock since. The trace was of the pass's scenario at the claim
 pub claim_told : (v r : Seen) (x y : Traced) (claim : Claim) → v.subject ≡ Some x.subject → r.subject ≡ v.subject
-    → r.low ≡ v.low → r.front ≡ y.entries → lowest_work r [] ≡ open_by y v.low → Claims x y v.low claim
+    → r.low ≡ v.low → r.front ≡ y.entries → lowest_work r no_work ≡ work_by y v.low → Claims x y v.low claim
     → ClaimStands y v.low claim → HasClaimed r claim
 claim_told v r x y (Got job) subject same low front work claims stands =
     let left : y.entries ≡ x.entries = ap (λ z. z.entries) claims.taken.left in (
@@ -94,7 +100,7 @@ claim_told v r x y (Got job) subject same low front work claims stands =
         front = ([], front ∙ (left ∙ (sym claims.taken.front ∙ sym (append-nil job.front))));
         subject = same ∙ (subject ∙ ap Some (sym claims.taken.subject));
         worker = claims.taken.worker ∙ sym low;
-        stands = subst (λ l. StandsIn l job) (sym work) stands;
+        stands = subst (λ o. StandsIn o.out job) (sym work) stands;
       },
       claims.taken.entries,
       claims.taken.ready,
@@ -114,7 +120,7 @@ claim_told v r x y Stopped subject same low front work claims stands = tt
 -- where the pass has claimed from the trace as it found it
 pub has_claimed : (v r inside : Seen) (t : ℕ) (x y : Traced) (claim : Claim) → IsAware trace_log x v
     → inside ≡ arrived trace_log v t x → r ≡ given trace_log inside y
-    → lowest_work r [] ≡ open_by y v.low → Claims x y v.low claim → ClaimStands y v.low claim → HasClaimed r claim
+    → lowest_work r no_work ≡ work_by y v.low → Claims x y v.low claim → ClaimStands y v.low claim → HasClaimed r claim
 has_claimed v r inside t x y claim aware entered is work claims stands =
     let there : r ≡ given trace_log (arrived trace_log v t x) y = is ∙ ap (λ w. given trace_log w y) entered in
     claim_told v r x y claim aware.subject (ap (λ w. w.subject) there) (ap (λ w. w.low) there) (ap (λ w. w.front) there)
@@ -122,7 +128,7 @@ has_claimed v r inside t x y claim aware entered is work claims stands =
 
 -- where it has put a job before that
 pub claimed_after : (v r inside : Seen) (t : ℕ) (x y : Traced) (job : Task) (claim : Claim) → IsAware trace_log x v
-    → inside ≡ arrived trace_log v t x → r ≡ given trace_log inside y → lowest_work r [] ≡ open_by y v.low
+    → inside ≡ arrived trace_log v t x → r ≡ given trace_log inside y → lowest_work r no_work ≡ work_by y v.low
     → Claims (with_block x job.device job.held job.entries) y v.low claim → ClaimStands y v.low claim
     → HasClaimed r claim
 claimed_after v r inside t x y job claim aware entered is work claims stands =
@@ -132,14 +138,14 @@ claimed_after v r inside t x y job claim aware entered is work claims stands =
 
 -- the trace that a worker finds takes the job that its pass knows
 pub may_put : (v : Seen) (x : Traced) (job : Task) → IsAware trace_log x v → Knows v job
-    → lowest_work v [] ≡ open_by x v.low → job.spent ≡ false → MayPut x v.low job
+    → lowest_work v no_work ≡ work_by x v.low → job.spent ≡ false → MayPut x v.low job
 may_put v x job aware knows work ready =
     let log : x.entries ≡ job.front ++ (knows.front.0 ++ aware.after) =
     aware.front ∙ (ap (λ l. l ++ aware.after) knows.front.1 ∙ append_assoc job.front knows.front.0 aware.after) in
     record {
       subject = some_is job.subject x.subject (sym knows.subject ∙ aware.subject);
       worker = knows.worker;
-      stands = subst (λ l. StandsIn l job) work knows.stands;
+      stands = subst (λ o. StandsIn o.out job) work knows.stands;
       posts = λ g. subst (λ l. posts_of x.subject g job.front ≤ posts_of x.subject g l) (sym log)
           (posts_later x.subject g job.front (knows.front.0 ++ aware.after));
       ready = ready;
@@ -165,6 +171,7 @@ still_knows v old new same knows = record {
   front = subst (λ l. Begins l v.front) (sym same.front) knows.front;
   subject = knows.subject ∙ ap Some (sym same.subject);
   worker = same.worker ∙ knows.worker;
-  stands = subst (λ d. Contains (lowest_work v []) (d, made_by d new.front)) (sym same.device)
-      (subst (λ l. Contains (lowest_work v []) (old.device, made_by old.device l)) (sym same.front) knows.stands);
+  stands = subst (λ d. Contains (lowest_work v no_work).out (d, made_by d new.front)) (sym same.device)
+      (subst (λ l. Contains (lowest_work v no_work).out (old.device, made_by old.device l))
+      (sym same.front) knows.stands);
 }

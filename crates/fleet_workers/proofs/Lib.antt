@@ -1,4 +1,6 @@
 pub mod Following
+pub mod Stops
+pub mod Outs
 pub mod Blocks
 pub mod Together
 pub mod Ending

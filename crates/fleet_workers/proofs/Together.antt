@@ -1,10 +1,11 @@
 -- What a worker and those above it leave together.
-use Rattle.std.proofs.Common.{◌≡◌, ℕ, ◌+◌, ◌-◌, ◌<◌, ◌≤◌, Bool, eqb, cond, true, false, List, [], ◌∷◌, ◌++◌, Some}
+use Rattle.std.proofs.Common.{◌≡◌, ℕ, zero, suc, ◌+◌, ◌-◌, ◌<◌, ◌≤◌, Bool, eqb, cond, true, false, List, [], ◌∷◌, ◌++◌}
+use Rattle.std.proofs.Common.{Some, min}
 use Rattle.std.proofs.Common.{refl, sym, ap, subst, ◌∙◌, append-nil, arith}
-use Rattle.std.specs.Prelude.{nat_lt, length, ◌||◌}
+use Rattle.std.specs.Prelude.{nat_lt, length, take, drop, ◌||◌}
 use Rattle.std.specs.List.{AllByRecursion}
-use Rattle.std.proofs.lemmas.Bool.{eq-eqb, ne_eqb}
-use Rattle.std.proofs.lemmas.List.{append_cancel_left}
+use Rattle.std.proofs.lemmas.Bool.{eq-eqb, ne_eqb, false≢true}
+use Rattle.std.proofs.lemmas.List.{append_cancel_left, length-map}
 use mathlib.Core.Logic.{dite}
 use native.Mathlib.Decide.{dec_lt}
 use Rattle.scenario_image.specs.Scenario.{Scenario}
@@ -13,20 +14,27 @@ use Rattle.fleet_core.specs.Run.{Fits, IsRun, IsComplete}
 use Rattle.fleet_core.proofs.Along.{along-right}
 use Rattle.fleet_core.proofs.Posts.{run_left}
 use Rattle.ticket_lock.specs.declared.rule.TheConstants.{NUMBERS}
+use Rattle.ticket_lock.specs.declared.logged.Share.{Share}
 use Rattle.ticket_lock.specs.Log.{Begins}
+use Rattle.ticket_lock.specs.Log as log
 use Rattle.ticket_lock.specs.Lock.{HasNumber}
+use Rattle.ticket_lock.specs.Names.{work_or, IsFaithful}
 use Rattle.ticket_lock.specs.Changes.{lower, upper, joined, longer}
-use Rattle.ticket_lock.proofs.Logs.{begins_both, every_one}
+use Rattle.ticket_lock.proofs.Logs.{begins_both, every_one, length-each}
+use Rattle.ticket_lock.proofs.Neighbours.{shares_below}
+use Rattle.shared_trace.specs.declared.work.OpenWork.{OpenWork}
+use Rattle.shared_trace.specs.Trace.{no_work, trace_log}
 use Rattle.fleet_workers.specs.declared.loops.LoopEnd.{LoopEnd}
 use Rattle.fleet_workers.specs.declared.loops.LoopEnd.TheVariants.{Done, Stalled, Stopped, Memory, Spent}
 use Rattle.fleet_workers.specs.Blocks.{own_entries, HasPut}
-use Rattle.fleet_workers.specs.Knowing.{Seen, IsByOne, Follows, IsDone, IsStalled, EndsAs}
-use Rattle.fleet_workers.specs.Crew.{IsByCrew, CrewFollows, HavePut, joint_end}
+use Rattle.fleet_workers.specs.Knowing.{Seen, IsByOne, Follows, IsDone, IsStalled, EndsAs, has_stopped}
+use Rattle.fleet_workers.specs.Crew.{IsByCrew, CrewFollows, CrewEndsAs, HavePut, joint_end, is_any_stopped, HasWorked}
+use Rattle.fleet_workers.specs.Crew.{HaveWorked}
 use Rattle.fleet_workers.proofs.Blocks.{own-append, put_longer}
 
 -- ---- one worker
 
-pub alone_follows : (v w : Seen) → Follows v w → CrewFollows 1 v w
+alone_follows : (v w : Seen) → Follows v w → CrewFollows 1 v w
 alone_follows v w f = record {
   low = f.low;
   count = f.count;
@@ -38,10 +46,10 @@ alone_follows v w f = record {
   run = f.run;
 }
 
-pub alone_puts : (s : Scenario) (low batch : ℕ) (old new : List Entry) → HasPut s low batch old new
-    → HavePut s low 1 batch old new
-alone_puts s low batch old new put = λ w least most.
-    let same : low ≡ w = omega (arith, least, most) in subst (λ n. HasPut s n batch old new) same put
+alone_puts : (came : ℕ → ℕ → Type 0) (s : Scenario) (low batch : ℕ) (old new : List Entry)
+    → HasPut came s low batch old new → HavePut came s low 1 batch old new
+alone_puts came s low batch old new put = λ w least most.
+    let same : low ≡ w = omega (arith, least, most) in subst (λ n. HasPut came s n batch old new) same put
 
 -- ---- own entries
 
@@ -90,7 +98,8 @@ by_crew n v (e ∷ es) within none = (
     within.0.0,
     within.0.1,
     λ has. dite (dec_lt e.worker (v.low + n)) (λ lt. lt)
-        (λ ge. let here : e ∷ own_entries e.worker es ≡ [] = sym (own_here e es) ∙ none e.worker has (omega arith) in cc),
+        (λ ge. let here : e ∷ own_entries e.worker es ≡ [] =
+        sym (own_here e es) ∙ none e.worker has (omega arith) in cc),
   ),
   by_crew n v es within.1 (λ w has out. none_after w e es (none w has out)),
 )
@@ -104,12 +113,12 @@ adds : (P : Entry → Type 0) (old added new : List Entry) → new ≡ old ++ ad
 adds P old added new grown all more is =
     subst (AllByRecursion P) (append_cancel_left old added more (sym grown ∙ is)) all
 
-pub either : (P : List Entry → Type 0) (a b : List Entry) → P a → P b → P (longer a b)
+either : (P : List Entry → Type 0) (a b : List Entry) → P a → P b → P (longer a b)
 either P a b p q = elim (nat_lt (length a) (length b)) as (λ t. P (cond t b a)) [ true ↦ q | false ↦ p ]
 
 -- ---- together: `one` and `two` are the two parts of the pass v, from which a and b came, which were joined as `all`
 
-pub joint_follows : (m : ℕ) (v one two a b all : Seen) → 1 < m → 1 < v.count → one ≡ lower v → two ≡ upper v
+joint_follows : (m : ℕ) (v one two a b all : Seen) → 1 < m → 1 < v.count → one ≡ lower v → two ≡ upper v
     → Follows one a → CrewFollows (m - 1) two b → all ≡ record (joined a b) { end = all.end }
     → Begins a.front all.front × Begins b.front all.front
     → ((w : ℕ) → HasNumber b w → own_entries w all.front ≡ own_entries w b.front) → CrewFollows m v all
@@ -127,8 +136,9 @@ joint_follows m v one two a b all more many is_one is_two fa fb glued fronts own
     let grown2 : b.front ≡ v.front ++ fb.added = fb.front ∙ ap (λ l. l ++ fb.added) front2 in
     let begins : Begins v.front all.front = begins_both v.front a.front all.front (fa.added, grown1) fronts.0 in
     let long : longer a.front b.front ≡ all.front = sym (ap (λ u. u.front) glued) in
+    let first : min a.low b.low ≡ a.low = omega (arith, low1, low2) in
     record {
-      low = ap (λ u. u.low) glued ∙ low1;
+      low = ap (λ u. u.low) glued ∙ (first ∙ low1);
       count = omega (arith, count, count1, count2, many);
       subject = ap (λ u. u.subject) glued ∙ (fa.subject ∙ ap (λ u. u.subject) is_one);
       added = begins.0;
@@ -146,7 +156,8 @@ joint_follows m v one two a b all more many is_one is_two fa fb glued fronts own
           none_own w fb.added
           (every_one (IsByCrew (m - 1) two) (λ e. e.worker ≡ w → ⊥)
           (λ e by is.
-          let below = by.2 (omega (arith, low_two, is, out, more), omega (arith, low_two, count_two, is, has.1, many)) in
+          let below = by.2 (omega (arith, low_two, is, out, more), omega (arith, low_two, count_two, is, has.1, many))
+          in
           omega (arith, low_two, is, out, more, below)) fb.added fb.workers) in
           let kept : own_entries w all.front ≡ own_entries w b.front =
           own w (omega (arith, low2, out, more), omega (arith, low2, count2, has.1, many)) in
@@ -158,13 +169,14 @@ joint_follows m v one two a b all more many is_one is_two fa fb glued fronts own
           (fb.run s (ap (λ u. u.subject) is_two ∙ subject) (subst (IsRun s) (sym front2) run)));
     }
 
-pub joint_puts : (s : Scenario) (batch m : ℕ) (v one two a b all : Seen) → 1 < m → m ≤ v.count → one ≡ lower v
-    → two ≡ upper v → Follows one a → CrewFollows (m - 1) two b → HasPut s one.low batch one.front a.front
-    → HavePut s two.low (m - 1) batch two.front b.front → Begins a.front all.front × Begins b.front all.front
+joint_puts : (came : ℕ → ℕ → Type 0) (s : Scenario) (batch m : ℕ) (v one two a b all : Seen) → 1 < m → m ≤ v.count
+    → one ≡ lower v
+    → two ≡ upper v → Follows one a → CrewFollows (m - 1) two b → HasPut came s one.low batch one.front a.front
+    → HavePut came s two.low (m - 1) batch two.front b.front → Begins a.front all.front × Begins b.front all.front
     → ((w : ℕ) → HasNumber a w → own_entries w all.front ≡ own_entries w a.front)
     → ((w : ℕ) → HasNumber b w → own_entries w all.front ≡ own_entries w b.front)
-    → HavePut s v.low m batch v.front all.front
-joint_puts s batch m v one two a b all more numbers is_one is_two fa fb pa pb fronts first second = λ w least most.
+    → HavePut came s v.low m batch v.front all.front
+joint_puts came s batch m v one two a b all more numbers is_one is_two fa fb pa pb fronts first second = λ w least most.
     let front1 : one.front ≡ v.front = ap (λ u. u.front) is_one in
     let front2 : two.front ≡ v.front = ap (λ u. u.front) is_two in
     let low_one : one.low ≡ v.low = ap (λ u. u.low) is_one in
@@ -176,12 +188,13 @@ joint_puts s batch m v one two a b all more numbers is_one is_two fa fb pa pb fr
     dite (dec_lt w (v.low + 1))
     (λ lt.
     let same : one.low ≡ w = omega (arith, low_one, least, lt) in
-    put_longer s w batch v.front a.front all.front
-    (subst (λ l. HasPut s w batch l a.front) front1 (subst (λ n. HasPut s n batch one.front a.front) same pa)) fronts.0
+    put_longer came s w batch v.front a.front all.front
+    (subst (λ l. HasPut came s w batch l a.front) front1 (subst (λ n. HasPut came s n batch one.front a.front) same pa))
+    fronts.0
     (first w (omega (arith, low1, same), omega (arith, low1, same, count1))))
     (λ ge.
-    put_longer s w batch v.front b.front all.front
-    (subst (λ l. HasPut s w batch l b.front) front2
+    put_longer came s w batch v.front b.front all.front
+    (subst (λ l. HasPut came s w batch l b.front) front2
     (pb w (omega (arith, low_two, ge)) (omega (arith, low_two, ge, most, more)))) fronts.1
     (second w (omega (arith, low2, low_two, ge), omega (arith, low2, low_two, count2, ge, most, numbers, more))))
 
@@ -275,22 +288,163 @@ or_true false = refl
 other_spent : (v one two a b all : Seen) → Parts v one two a b all → b.end ≡ true → EndsAs all Spent
 other_spent v one two a b all p end = p.end (ap (λ t. a.end || t) end ∙ or_true a.end)
 
-pub joint_ends : (v one two a b all : Seen) (first others : LoopEnd) → Parts v one two a b all → EndsAs a first
-    → EndsAs b others → EndsAs all (joint_end first others)
-joint_ends v one two a b all Memory others p ea eb = tt
-joint_ends v one two a b all Stopped others p ea eb = tt
-joint_ends v one two a b all Spent Memory p ea eb = tt
-joint_ends v one two a b all Spent Stopped p ea eb = tt
-joint_ends v one two a b all Spent Spent p ea eb = first_spent v one two a b all p ea
-joint_ends v one two a b all Spent Done p ea eb = first_spent v one two a b all p ea
-joint_ends v one two a b all Spent Stalled p ea eb = first_spent v one two a b all p ea
-joint_ends v one two a b all Done Memory p ea eb = tt
-joint_ends v one two a b all Done Stopped p ea eb = tt
-joint_ends v one two a b all Done Spent p ea eb = other_spent v one two a b all p eb
-joint_ends v one two a b all Done Done p ea eb = done_all v one two a b all p ea
-joint_ends v one two a b all Done Stalled p ea eb = done_all v one two a b all p ea
-joint_ends v one two a b all Stalled Memory p ea eb = tt
-joint_ends v one two a b all Stalled Stopped p ea eb = tt
-joint_ends v one two a b all Stalled Spent p ea eb = other_spent v one two a b all p eb
-joint_ends v one two a b all Stalled Done p ea eb = stalled_all v one two a b all p ea
-joint_ends v one two a b all Stalled Stalled p ea eb = stalled_all v one two a b all p ea
+-- ---- who stopped the trace
+
+or-false : (t : Bool) → (t || false) ≡ t
+or-false true = refl
+or-false false = refl
+
+-- of the first number alone
+any_one : (xs : List (Share Entry OpenWork)) → is_any_stopped 1 xs ≡ (work_or xs no_work).stopped
+any_one [] = refl
+any_one (x ∷ xs) = or-false x.work.stopped
+
+-- of one number, and those after it
+any_joined : (k : ℕ) (xs ys : List (Share Entry OpenWork)) → length xs ≡ 1
+    → is_any_stopped (suc k) (xs ++ ys) ≡ ((work_or xs no_work).stopped || is_any_stopped k ys)
+any_joined k [] ys one = absurd (omega (arith, one))
+any_joined k (x ∷ []) ys one = refl
+any_joined k (x ∷ y ∷ xs) ys one = absurd (omega (arith, one))
+
+any_none : (k : ℕ) → is_any_stopped k [] ≡ false
+any_none zero = refl
+any_none (suc k) = refl
+
+any_split : (k : ℕ) (xs : List (Share Entry OpenWork))
+    → is_any_stopped (suc k) xs ≡ ((work_or (take 1 xs) no_work).stopped || is_any_stopped k (drop 1 xs))
+any_split k [] = sym (any_none k)
+any_split k (x ∷ xs) = refl
+
+-- a pass has as many shares as numbers
+one_share : (v : Seen) → IsFaithful trace_log v → v.count ≡ 1 → length v.shares ≡ 1
+one_share v faithful one =
+    sym (length-map v.shares (λ s. s.own))
+    ∙ (ap length faithful ∙ (length-each (λ w. log.own trace_log w v.front) v.low v.count ∙ one))
+
+-- after the join: the flag of the first, and those of the others
+stopped_all : (m : ℕ) (a b all : Seen) → 1 < m → a.low < b.low → IsFaithful trace_log a → a.count ≡ 1
+    → all ≡ record (joined a b) { end = all.end }
+    → is_any_stopped m all.shares ≡ (has_stopped a || is_any_stopped (m - 1) b.shares)
+stopped_all m a b all more below faithful one glued =
+    let next : m ≡ suc (m - 1) = omega (arith, more) in
+    ap (λ n. is_any_stopped n all.shares) next
+    ∙ (ap (λ u. is_any_stopped (suc (m - 1)) u.shares) glued
+    ∙ (ap (is_any_stopped (suc (m - 1))) (shares_below a b below)
+    ∙ any_joined (m - 1) a.shares b.shares (one_share a faithful one)))
+
+stopped_parts : (m : ℕ) (v one two : Seen) → 1 < m → one ≡ lower v → two ≡ upper v
+    → is_any_stopped m v.shares ≡ (has_stopped one || is_any_stopped (m - 1) two.shares)
+stopped_parts m v one two more is_one is_two =
+    let next : m ≡ suc (m - 1) = omega (arith, more) in
+    ap (λ n. is_any_stopped n v.shares) next
+    ∙ (any_split (m - 1) v.shares
+    ∙ (ap (λ u. has_stopped u || is_any_stopped (m - 1) (drop 1 v.shares)) (sym is_one)
+    ∙ ap (λ u. has_stopped one || is_any_stopped (m - 1) u.shares) (sym is_two)))
+
+-- none of the parts had seen the end where the whole has not
+ends_not : (b c : Bool) → (b ≡ true → c ≡ true) → c ≡ false → b ≡ false
+ends_not true c up not = absurd (false≢true (sym not ∙ up refl))
+ends_not false c up not = refl
+
+first_not : (b c : Bool) → (b || c) ≡ false → b ≡ false
+first_not true c h = absurd (false≢true (sym h))
+first_not false c h = refl
+
+other_not : (b c : Bool) → (b || c) ≡ false → c ≡ false
+other_not true c h = absurd (false≢true (sym h))
+other_not false c h = h
+
+-- ---- how they end together
+
+module _ (m : ℕ) (v one two a b all : Seen) (p : Parts v one two a b all)
+    (stops : is_any_stopped m all.shares ≡ (has_stopped a || is_any_stopped (m - 1) b.shares)) where
+  first_out : EndsAs a Memory → CrewEndsAs m all Memory
+  first_out out not =
+      let before : a.end ≡ false =
+      first_not a.end b.end (ends_not (a.end || b.end) all.end p.end not) in
+      stops ∙ ap (λ t. t || is_any_stopped (m - 1) b.shares) (out before)
+
+  others_out : CrewEndsAs (m - 1) b Memory → CrewEndsAs m all Memory
+  others_out out not =
+      let before : b.end ≡ false =
+      other_not a.end b.end (ends_not (a.end || b.end) all.end p.end not) in
+      stops ∙ (ap (λ t. has_stopped a || t) (out before) ∙ or_true (has_stopped a))
+
+  joint_ends : (first others : LoopEnd) → EndsAs a first → CrewEndsAs (m - 1) b others
+      → CrewEndsAs m all (joint_end first others)
+  joint_ends Memory others ea eb = first_out ea
+  joint_ends Stopped Memory ea eb = others_out eb
+  joint_ends Stopped Stopped ea eb = tt
+  joint_ends Stopped Spent ea eb = tt
+  joint_ends Stopped Done ea eb = tt
+  joint_ends Stopped Stalled ea eb = tt
+  joint_ends Spent Memory ea eb = others_out eb
+  joint_ends Spent Stopped ea eb = tt
+  joint_ends Spent Spent ea eb = first_spent v one two a b all p ea
+  joint_ends Spent Done ea eb = first_spent v one two a b all p ea
+  joint_ends Spent Stalled ea eb = first_spent v one two a b all p ea
+  joint_ends Done Memory ea eb = others_out eb
+  joint_ends Done Stopped ea eb = tt
+  joint_ends Done Spent ea eb = other_spent v one two a b all p eb
+  joint_ends Done Done ea eb = done_all v one two a b all p ea
+  joint_ends Done Stalled ea eb = done_all v one two a b all p ea
+  joint_ends Stalled Memory ea eb = others_out eb
+  joint_ends Stalled Stopped ea eb = tt
+  joint_ends Stalled Spent ea eb = other_spent v one two a b all p eb
+  joint_ends Stalled Done ea eb = stalled_all v one two a b all p ea
+  joint_ends Stalled Stalled ea eb = stalled_all v one two a b all p ea
+
+-- where they do not end for want of memory together, neither part does
+first_has : (first others : LoopEnd) → (joint_end first others ≡ Memory → ⊥) → first ≡ Memory → ⊥
+first_has first others not is = not (ap (λ e. joint_end e others) is)
+
+others_have : (first others : LoopEnd) → (joint_end first others ≡ Memory → ⊥) → others ≡ Memory → ⊥
+others_have Memory others not is = not refl
+others_have Stopped others not is = not (ap (joint_end Stopped) is)
+others_have Spent others not is = not (ap (joint_end Spent) is)
+others_have Done others not is = not (ap (joint_end Done) is)
+others_have Stalled others not is = not (ap (joint_end Stalled) is)
+
+-- ---- all of it
+
+alone_ends : (w : Seen) (end : LoopEnd) → EndsAs w end → CrewEndsAs 1 w end
+alone_ends w Done ends = ends
+alone_ends w Stalled ends = ends
+alone_ends w Stopped ends = tt
+alone_ends w Memory ends = λ not. any_one w.shares ∙ ends not
+alone_ends w Spent ends = ends
+
+pub alone_worked : (came : ℕ → ℕ → Type 0) (s : Scenario) (batch : ℕ) (v w : Seen) (end : LoopEnd)
+    → HasWorked came s batch v w end → HaveWorked came s batch 1 v w end
+alone_worked came s batch v w end h = record {
+  follows = alone_follows v w h.follows;
+  blocks = alone_puts came s v.low batch v.front w.front h.blocks;
+  ends = alone_ends w end h.ends;
+  going = λ not. any_one w.shares ∙ (h.going not ∙ sym (any_one v.shares));
+}
+
+pub joint_worked : (came : ℕ → ℕ → Type 0) (s : Scenario) (batch m : ℕ) (v one two a b all : Seen)
+    (first others : LoopEnd) → 1 < m → m ≤ v.count → 1 < v.count → one ≡ lower v → two ≡ upper v
+    → HasWorked came s batch one a first → HaveWorked came s batch (m - 1) two b others → IsFaithful trace_log a
+    → all ≡ record (joined a b) { end = all.end } → ((joined a b).end ≡ true → all.end ≡ true)
+    → Begins a.front all.front × Begins b.front all.front
+    → ((w : ℕ) → HasNumber a w → own_entries w all.front ≡ own_entries w a.front)
+    → ((w : ℕ) → HasNumber b w → own_entries w all.front ≡ own_entries w b.front)
+    → HaveWorked came s batch m v all (joint_end first others)
+joint_worked came s batch m v one two a b all first others more numbers many is_one is_two wa wb faithful glued end
+    fronts own1 own2 =
+    let count1 : a.count ≡ 1 = wa.follows.count ∙ ap (λ u. u.count) is_one in
+    let low1 : a.low ≡ v.low = wa.follows.low ∙ ap (λ u. u.low) is_one in
+    let low2 : b.low ≡ v.low + 1 = wb.follows.low ∙ ap (λ u. u.low) is_two in
+    let stops = stopped_all m a b all more (omega (arith, low1, low2)) faithful count1 glued in
+    let p = parts_of (m - 1) v one two a b all is_one is_two wa.follows wb.follows glued fronts end in
+    record {
+      follows = joint_follows m v one two a b all more many is_one is_two wa.follows wb.follows glued fronts own2;
+      blocks = joint_puts came s batch m v one two a b all more numbers is_one is_two wa.follows wb.follows wa.blocks
+          wb.blocks fronts own1 own2;
+      ends = joint_ends m v one two a b all p stops first others wa.ends wb.ends;
+      going = λ not. stops
+          ∙ (ap (λ t. t || is_any_stopped (m - 1) b.shares) (wa.going (first_has first others not))
+          ∙ (ap (λ t. has_stopped one || t) (wb.going (others_have first others not))
+          ∙ sym (stopped_parts m v one two more is_one is_two)));
+    }

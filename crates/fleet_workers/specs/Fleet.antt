@@ -1,5 +1,5 @@
 -- The run that workers make together.
-use Rattle.std.specs.Prelude.{◌≡◌, ℕ, ◌≤◌, true, false, List, []}
+use Rattle.std.specs.Prelude.{◌≡◌, ℕ, ◌≤◌, ◌⊎◌, true, false, List, [], Result, Err, IsOk, IfOk, IfErr}
 use Rattle.std.specs.List.{AllByRecursion}
 use Rattle.scenario_image.specs.Scenario.{Scenario}
 use Rattle.trace_file.specs.declared.entry.Entry.{Entry}
@@ -38,6 +38,11 @@ abbrev pub IsEndOf : Scenario → List Entry → FleetEnd → Type 0
 IsEndOf s es ends.Done = (d : ℕ) → is_waiting s es d ≡ false
 IsEndOf s es (ends.Stalled devices) = IsUnfinished s es devices.items
 
+-- the devices that are not at the end of their rows
+abbrev pub left_by : FleetEnd → List ℕ
+left_by ends.Done = []
+left_by (ends.Stalled devices) = devices.items
+
 -- the run is complete, and each entry is a worker's. Whatever the order in which the workers took the lock, each device
 -- has as many entries as in the serial run, and these output the same, one after another
 pub record IsFleetRun (s : Scenario) (workers : ℕ) (r : FleetRun) : Type 0 where
@@ -45,11 +50,12 @@ pub record IsFleetRun (s : Scenario) (workers : ℕ) (r : FleetRun) : Type 0 whe
   pub by_workers : AllByRecursion (IsByWorker workers) r.entries
   pub serial : (es : List Entry) → IsSerial s es → (d : ℕ) → IsSame d r.entries es
   pub end : IsEndOf s r.entries r.end
+  pub waiting : left_by r.end ≡ waiting s r.entries
 
 -- each of this many workers has put its own entries in blocks, once and in its order; they make all of the run
-pub record AreByBlocks (s : Scenario) (workers batch : ℕ) (es : List Entry) : Type 0 where
+pub record AreByBlocks (came : ℕ → ℕ → Type 0) (s : Scenario) (workers batch : ℕ) (es : List Entry) : Type 0 where
   pub by_workers : AllByRecursion (IsByWorker workers) es
-  pub each : HavePut s 1 workers batch [] es
+  pub each : HavePut came s 1 workers batch [] es
 
 -- what the workers made until memory or the tickets ran out is a run
 abbrev pub Leaves : Scenario → RunFault → Type 0
@@ -59,11 +65,11 @@ Leaves s faults.Workers = Unit {0}
 Leaves s faults.Batch = Unit {0}
 
 -- and it is made of blocks
-abbrev pub LeavesBlocks : Scenario → ℕ → ℕ → RunFault → Type 0
-LeavesBlocks s workers batch (faults.Memory es) = AreByBlocks s workers batch es
-LeavesBlocks s workers batch (faults.Spent es) = AreByBlocks s workers batch es
-LeavesBlocks s workers batch faults.Workers = Unit {0}
-LeavesBlocks s workers batch faults.Batch = Unit {0}
+abbrev pub LeavesBlocks : (ℕ → ℕ → Type 0) → Scenario → ℕ → ℕ → RunFault → Type 0
+LeavesBlocks came s workers batch (faults.Memory es) = AreByBlocks came s workers batch es
+LeavesBlocks came s workers batch (faults.Spent es) = AreByBlocks came s workers batch es
+LeavesBlocks came s workers batch faults.Workers = Unit {0}
+LeavesBlocks came s workers batch faults.Batch = Unit {0}
 
 -- ---- what workers leave
 
@@ -80,9 +86,24 @@ pub record IsLeft (s : Scenario) (workers : ℕ) (es : List Entry) (end : LoopEn
   pub by_workers : AllByRecursion (IsByWorker workers) es
   pub ended : HasEnded s es end
 
--- the entries come with the fault
-abbrev pub Keeps : List Entry → RunFault → Type 0
-Keeps es (faults.Memory left) = left ≡ es
-Keeps es (faults.Spent left) = left ≡ es
-Keeps es faults.Workers = ⊥
-Keeps es faults.Batch = ⊥
+-- what is answered where workers left these entries and ended so together: all of the entries come with it. Where a
+-- worker ran out of memory, or was stopped by one that did, that is Memory; Spent comes only where none did
+abbrev pub IsOutcome : List Entry → LoopEnd → Result FleetRun RunFault → Type 0
+IsOutcome es loops.Done answer = IsOk answer × IfOk answer (λ r. r.entries ≡ es)
+IsOutcome es loops.Stalled answer = IfOk answer (λ r. r.entries ≡ es) × IfErr answer (λ e. e ≡ faults.Memory es)
+IsOutcome es loops.Stopped answer = answer ≡ Err (faults.Memory es)
+IsOutcome es loops.Memory answer = answer ≡ Err (faults.Memory es)
+IsOutcome es loops.Spent answer = answer ≡ Err (faults.Spent es)
+
+-- what came of a run: these entries, and how the workers ended together, where each has put its own in blocks
+pub record IsMade (came : ℕ → ℕ → Type 0) (s : Scenario) (workers batch : ℕ) (es : List Entry) (end : LoopEnd)
+    : Type 0 where
+  pub left : IsLeft s workers es end
+  pub blocks : AreByBlocks came s workers batch es
+
+-- the answer has the entries that the workers left; or it is Memory without any, where there are none to have: the run
+-- could not begin, a worker could not be started, or there was no memory for a list of the entries
+abbrev pub IsAnswer : (ℕ → ℕ → Type 0) → Scenario → ℕ → ℕ → Result FleetRun RunFault → Type 0
+IsAnswer came s workers batch answer =
+    (answer ≡ Err (faults.Memory []))
+    ⊎ ((es : List Entry) × (end : LoopEnd) × IsMade came s workers batch es end × IsOutcome es end answer)

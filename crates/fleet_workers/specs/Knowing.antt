@@ -1,5 +1,5 @@
 -- What a worker knows by its pass, which has seen the log of a trace.
-use Rattle.std.specs.Prelude.{◌≡◌, ℕ, ◌+◌, ◌<◌, ◌≤◌, true, false, List, [], ◌++◌, Some}
+use Rattle.std.specs.Prelude.{◌≡◌, ℕ, ◌+◌, ◌<◌, ◌≤◌, Bool, true, false, List, [], ◌++◌, Some, Contains}
 use Rattle.std.specs.List.{AllByRecursion}
 use Rattle.scenario_image.specs.Scenario.{Scenario}
 use Rattle.trace_file.specs.declared.entry.Entry.{Entry}
@@ -12,14 +12,19 @@ use Rattle.ticket_lock.specs.Lock.{HasNumber}
 use Rattle.ticket_lock.specs.Names.{lowest_work}
 use Rattle.shared_trace.specs.declared.claims.Claim.{Claim}
 use Rattle.shared_trace.specs.declared.claims.Claim.TheVariants as claims
-use Rattle.shared_trace.specs.Trace.{Traced}
+use Rattle.shared_trace.specs.declared.work.OpenWork.{OpenWork}
+use Rattle.shared_trace.specs.Trace.{Traced, no_work}
 use Rattle.shared_trace.specs.Job.{Task, StandsIn}
 use Rattle.fleet_workers.specs.declared.loops.LoopEnd.{LoopEnd}
 use Rattle.fleet_workers.specs.declared.loops.LoopEnd.TheVariants as ends
 
 -- what a pass knows of a trace
 abbrev pub Seen : Type 0
-Seen = View Traced Entry Scenario (List (ℕ × ℕ))
+Seen = View Traced Entry Scenario OpenWork
+
+-- whether the trace was stopped under the pass's lowest number
+abbrev pub has_stopped : Seen → Bool
+has_stopped v = (lowest_work v no_work).stopped
 
 -- the entry is under a number of the lock; of the pass's own, it is the lowest
 abbrev pub IsByOne : Seen → Entry → Type 0
@@ -36,12 +41,24 @@ pub record Follows (v w : Seen) : Type 0 where
   pub workers : AllByRecursion (IsByOne v) added
   pub run : (s : Scenario) → v.subject ≡ Some s → IsRun s v.front → IsRun s w.front
 
+-- the device is out under the pass's lowest number
+abbrev pub IsOut : Seen → ℕ → Type 0
+IsOut v d = (made : ℕ) × Contains (lowest_work v no_work).out (d, made)
+
+-- the claim got the device
+abbrev pub Gets : Claim → ℕ → Type 0
+Gets (claims.Got job) d = job.device ≡ d
+Gets claims.Busy d = ⊥
+Gets claims.Done d = ⊥
+Gets claims.Stalled d = ⊥
+Gets claims.Stopped d = ⊥
+
 -- the job was claimed under the pass's lowest number, and the pass has left the lock since
 pub record Knows (v : Seen) (job : Task) : Type 0 where
   pub front : Begins job.front v.front
   pub subject : v.subject ≡ Some job.subject
   pub worker : job.worker ≡ v.low
-  pub stands : StandsIn (lowest_work v []) job
+  pub stands : StandsIn (lowest_work v no_work).out job
 
 -- the run is complete, and each row is at its end
 pub record IsDone (s : Scenario) (es : List Entry) : Type 0 where
@@ -62,10 +79,11 @@ HasClaimed v claims.Done = (s : Scenario) → v.subject ≡ Some s → IsDone s 
 HasClaimed v claims.Stalled = (s : Scenario) → v.subject ≡ Some s → IsStalled s v.front
 HasClaimed v claims.Stopped = Unit {0}
 
--- what a pass knows at the end of its worker's loop
+-- what a pass knows at the end of its worker's loop. One whose memory ran out has stopped the trace, unless no ticket
+-- was left for it
 abbrev pub EndsAs : Seen → LoopEnd → Type 0
 EndsAs v ends.Done = (s : Scenario) → v.subject ≡ Some s → IsDone s v.front
 EndsAs v ends.Stalled = (s : Scenario) → v.subject ≡ Some s → IsStalled s v.front
 EndsAs v ends.Stopped = Unit {0}
-EndsAs v ends.Memory = Unit {0}
+EndsAs v ends.Memory = v.end ≡ false → has_stopped v ≡ true
 EndsAs v ends.Spent = v.end ≡ true

@@ -1,15 +1,14 @@
 //! Workers, and the run that they make.
 
-ghost use Rattle.std.specs.Prelude.{◌≡◌, ◌≢◌, ◌≤◌, ◌↔◌, [], true, IsTrue, Err, IfOk, IfErr, IsOk};
+ghost use Rattle.std.specs.Prelude.{◌≡◌, ◌≢◌, ◌≤◌, ◌↔◌, [], IsTrue, Err, IfOk, IfErr, IfSome};
 ghost use Rattle.std.specs.List.{AllByRecursion};
 ghost use Rattle.fleet_core.specs.Run.{IsRun, IsComplete};
 ghost use Rattle.ticket_lock.specs.Changes.{whole};
 ghost use Rattle.ticket_lock.specs.Names.{lock_id, opening_value, pass_view, IsPass};
 ghost use Rattle.shared_trace.specs.Trace.{trace_log};
 ghost use Rattle.fleet_workers.specs.Knowing.{IsStalled};
-ghost use Rattle.fleet_workers.specs.Crew.{is_cut, is_spent};
-ghost use Rattle.fleet_workers.specs.Fleet.{IsByWorker, IsFleetRun, IsEndOf, Leaves, IsLeft, HasEnded, Keeps};
-ghost use Rattle.fleet_workers.specs.Fleet.{AreByBlocks, LeavesBlocks, AreWorkers, IsBatch};
+ghost use Rattle.fleet_workers.specs.Fleet.{IsByWorker, IsFleetRun, IsEndOf, Leaves, IsLeft, HasEnded, left_by};
+ghost use Rattle.fleet_workers.specs.Fleet.{IsOutcome, IsAnswer, AreByBlocks, LeavesBlocks, AreWorkers, IsBatch};
 
 use crate::crew::run_crew;
 use crate::gate::Gate;
@@ -33,6 +32,18 @@ pub enum FleetEnd {
     Stalled(Vec<u16>),
 }
 
+impl FleetEnd {
+    /// The devices that are not at the end of their rows, in ascending order.
+    pub fn waiting(&self) -> &[u16]
+        ensures { result.now ≡ left_by self.now }
+    {
+        match self {
+            FleetEnd::Done => &[],
+            FleetEnd::Stalled(devices) => devices.as_slice(),
+        }
+    }
+}
+
 /// A run that workers made.
 #[derive(Debug, Drop)]
 pub struct FleetRun {
@@ -45,10 +56,11 @@ pub struct FleetRun {
 /// Why there is no run, or none that is complete.
 #[derive(Debug, Drop, Error)]
 pub enum RunFault {
-    /// Memory ran out. These entries were made; there are none where there was no memory for a list of them.
+    /// Memory ran out. These entries were made. There are none where the run could not begin, a worker could not be
+    /// started, or there was no memory for a list of them.
     #[error("out of memory")]
     Memory(Entries),
-    /// The lock had no ticket left. These entries were made.
+    /// The lock had no ticket left, and no worker ran out of memory. These entries were made.
     #[error("no ticket is left")]
     Spent(Entries),
     /// The number of workers is not from 1 to 64.
@@ -81,8 +93,8 @@ fn stalled_run(
     }
 }
 
-/// What is answered where the workers ended so together.
-fn outcome(
+/// The result for this joint end of the workers, who left these entries.
+pub fn outcome(
     alloc: Global,
     scenario: &Scenario,
     workers: u16,
@@ -91,11 +103,7 @@ fn outcome(
 ) -> Result<FleetRun, RunFault>
     requires { IsLeft scenario.now workers entries end }
     ensures run { IfOk result (λ r. IsFleetRun scenario.now workers r) }
-    ensures entries { IfOk result (λ r. r.entries ≡ entries) }
-    ensures fault { IfErr result (λ e. Keeps entries e) }
-    ensures done { end ≡ LoopEnd.Done → IsOk result }
-    ensures memory { is_cut end ≡ true → result ≡ Err (RunFault.Memory entries) }
-    ensures spent { is_spent end ≡ true → result ≡ Err (RunFault.Spent entries) }
+    ensures outcome { IsOutcome entries end result }
 {
     match end {
         LoopEnd::Done => Ok(FleetRun {
@@ -108,7 +116,8 @@ fn outcome(
     }
 }
 
-/// The workers of the numbers from 1 on, over a new lock: their trace, and how they ended together.
+/// The workers of the numbers from 1 on, over a new lock: their trace, and how they ended together. There is none where
+/// one can't be started.
 fn run_all<R: Threads + Wait + Sync, G: Gate + Sync>(
     rt: &R,
     lock: TicketLock<Trace>,
@@ -117,21 +126,49 @@ fn run_all<R: Threads + Wait + Sync, G: Gate + Sync>(
     workers: u16,
     batch: u32,
     gate: &G,
-) -> (Trace, LoopEnd)
+) -> Option<(Trace, LoopEnd)>
     requires pass { IsPass (lock_id lock) pass }
     requires whole { pass_view pass ≡ whole trace_log (opening_value lock) 0 }
     requires subject { (opening_value lock).subject ≡ scenario.now }
     requires empty { (opening_value lock).entries ≡ [] }
     requires workers { AreWorkers workers }
     requires batch { 1 ≤ batch }
-    ensures left { IsLeft scenario.now workers result.0.entries result.1 }
-    ensures blocks { AreByBlocks scenario.now workers batch result.0.entries }
+    ensures left { IfSome result (λ r. IsLeft scenario.now workers r.0.entries r.1) }
+    ensures blocks { IfSome result (λ r. AreByBlocks (G.came gate.now) scenario.now workers batch r.0.entries) }
 {
-    let (pass, end) = run_crew(rt, &lock, pass, scenario, batch, gate, workers);
+    let (pass, end) = run_crew(rt, &lock, pass, scenario, batch, gate, workers)?;
     let Ok(trace) = lock.close(pass) else {
         unreachable!()
     };
-    (trace, end)
+    Some((trace, end))
+}
+
+/// The entries that workers make over a new trace, and how they ended together. There are none where the run can't
+/// begin, a worker can't be started, or there is no memory for a list of the entries.
+fn make_run<R: Threads + Wait + Sync, G: Gate + Sync>(
+    rt: &R,
+    alloc: Global,
+    scenario: &Scenario,
+    workers: u16,
+    batch: u32,
+    gate: &G,
+) -> Option<(Entries, LoopEnd)>
+    requires workers { AreWorkers workers }
+    requires batch { 1 ≤ batch }
+    ensures left { IfSome result (λ r. IsLeft scenario.now workers r.0 r.1) }
+    ensures blocks { IfSome result (λ r. AreByBlocks (G.came gate.now) scenario.now workers batch r.0) }
+{
+    let Ok(trace) = Trace::new(alloc, scenario) else {
+        return None;
+    };
+    let Ok((lock, pass)) = TicketLock::new(trace, alloc) else {
+        return None;
+    };
+    let (trace, end) = run_all(rt, lock, pass, scenario, workers, batch, gate)?;
+    match trace.into_entries() {
+        Ok(entries) => Some((entries, end)),
+        Err(_) => None,
+    }
 }
 
 /// The run of workers over a new trace.
@@ -146,23 +183,17 @@ fn run_new<R: Threads + Wait + Sync, G: Gate + Sync>(
     requires workers { AreWorkers workers }
     requires batch { 1 ≤ batch }
     ensures run { IfOk result (λ r. IsFleetRun scenario.now workers r) }
-    ensures blocks { IfOk result (λ r. AreByBlocks scenario.now workers batch r.entries) }
+    ensures blocks { IfOk result (λ r. AreByBlocks (G.came gate.now) scenario.now workers batch r.entries) }
     ensures left { IfErr result (λ e. Leaves scenario.now e) }
-    ensures left_blocks { IfErr result (λ e. LeavesBlocks scenario.now workers batch e) }
+    ensures left_blocks { IfErr result (λ e. LeavesBlocks (G.came gate.now) scenario.now workers batch e) }
+    ensures answer { IsAnswer (G.came gate.now) scenario.now workers batch result }
     ensures workers { result ≢ Err RunFault.Workers }
     ensures batch { result ≢ Err RunFault.Batch }
 {
-    let Ok(trace) = Trace::new(alloc, scenario) else {
-        return Err(RunFault::Memory(Entries::new(alloc)));
-    };
-    let Ok((lock, pass)) = TicketLock::new(trace, alloc) else {
-        return Err(RunFault::Memory(Entries::new(alloc)));
-    };
-    let (trace, end) = run_all(rt, lock, pass, scenario, workers, batch, gate);
-    let Ok(entries) = trace.into_entries() else {
-        return Err(RunFault::Memory(Entries::new(alloc)));
-    };
-    outcome(alloc, scenario, workers, entries, end)
+    match make_run(rt, alloc, scenario, workers, batch, gate) {
+        Some((entries, end)) => outcome(alloc, scenario, workers, entries, end),
+        None => Err(RunFault::Memory(Entries::new(alloc))),
+    }
 }
 
 fn are_workers(workers: u16) -> bool
@@ -181,7 +212,7 @@ fn is_batch(batch: u32) -> bool
 /// of a device at a time, 1 to 64.
 ///
 /// Whatever the order in which they take the trace, each device makes the steps of the serial run, and outputs the
-/// same. Where a thread can't be started, its worker works after the others.
+/// same.
 pub fn run_fleet<R: Threads + Wait + Sync, G: Gate + Sync>(
     rt: &R,
     alloc: Global,
@@ -193,9 +224,11 @@ pub fn run_fleet<R: Threads + Wait + Sync, G: Gate + Sync>(
     ensures workers { (result ≡ Err RunFault.Workers) ↔ (AreWorkers workers → ⊥) }
     ensures batch { (result ≡ Err RunFault.Batch) ↔ (AreWorkers workers × (IsBatch batch → ⊥)) }
     ensures run { IfOk result (λ r. IsFleetRun scenario.now workers r) }
-    ensures blocks { IfOk result (λ r. AreByBlocks scenario.now workers batch r.entries) }
+    ensures blocks { IfOk result (λ r. AreByBlocks (G.came gate.now) scenario.now workers batch r.entries) }
     ensures left { IfErr result (λ e. Leaves scenario.now e) }
-    ensures left_blocks { IfErr result (λ e. LeavesBlocks scenario.now workers batch e) }
+    ensures left_blocks { IfErr result (λ e. LeavesBlocks (G.came gate.now) scenario.now workers batch e) }
+    ensures answer { AreWorkers workers → IsBatch batch
+        → IsAnswer (G.came gate.now) scenario.now workers batch result }
 {
     if !are_workers(workers) {
         return Err(RunFault::Workers);

@@ -3,7 +3,14 @@
 /// Is called after each claim that gets a device, with the worker's number and the device. The worker is outside the
 /// lock then.
 pub trait Gate {
-    fn pass(&self, worker: u16, device: u16);
+    ghost use Rattle.std.specs.Prelude.{ℕ};
+
+    // That a worker of this number has come to the gate with this device. Of a gate that is not known nothing but a
+    // call of `pass` tells so: code that promises it for any gate makes the call.
+    ghost came: { Self → ℕ → ℕ → Type 0 } = { λ _ _ _. Unit {0} };
+
+    fn pass(&self, worker: u16, device: u16)
+        ensures { came self.now worker device };
 }
 
 /// A gate that does nothing.

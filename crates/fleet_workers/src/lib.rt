@@ -5,10 +5,11 @@ mod crew;
 mod fleet;
 mod gate;
 mod loops;
+mod promise;
 mod visits;
 
 pub use crew::run_crew;
-pub use fleet::{FleetEnd, FleetRun, RunFault, run_fleet};
+pub use fleet::{FleetEnd, FleetRun, RunFault, outcome, run_fleet};
 pub use gate::{Gate, OpenGate};
 pub use loops::{LoopEnd, worker_loop};
 pub use visits::{Put, claim_job, put_and_claim, put_job, stop_trace};

@@ -1,10 +1,11 @@
 //! The loop of a worker.
 
-ghost use Rattle.std.specs.Prelude.{◌≡◌, ◌≤◌, [], false, List, Some, IfOk, IfErr, IsOk};
+ghost use Rattle.std.specs.Prelude.{◌≡◌, ◌≢◌, ◌≤◌, ◌⊎◌, ℕ, [], false, List, Some, Err, IfOk, IfErr, IsOk};
+ghost use Rattle.std.specs.Prelude.{IsOkAnd};
 ghost use Rattle.ticket_lock.specs.Names.{lock_id, pass_view, IsPass};
 ghost use Rattle.trace_file.specs.declared.entry.Entry.{Entry};
-ghost use Rattle.fleet_workers.specs.Blocks.{HasMade, HasPut};
-ghost use Rattle.fleet_workers.specs.Knowing.{Follows, Knows, HasClaimed, EndsAs};
+ghost use Rattle.fleet_workers.specs.Blocks.{HasMade, HasPut, own_entries};
+ghost use Rattle.fleet_workers.specs.Knowing.{Follows, Knows, HasClaimed, EndsAs, has_stopped, IsOut, Gets};
 
 use crate::gate::Gate;
 use crate::visits::{claim_job, put_and_claim, stop_trace};
@@ -48,12 +49,18 @@ fn make_steps<R: Wait, G: Gate>(
     requires ready { job.spent ≡ false }
     ensures pass { IsPass (lock_id lock.now) result.0 }
     ensures follows { Follows (pass_view pass) (pass_view result.0) }
-    ensures made { IsOk result.1 → (block : List Entry) × HasMade scenario.now (pass_view pass).low batch
+    ensures gate { G.came gate.now (pass_view pass).low job.device }
+    ensures made { IsOk result.1 → (block : List Entry)
+        × HasMade (G.came gate.now) scenario.now (pass_view pass).low batch
         (pass_view pass).front block (pass_view result.0).front }
     ensures claimed { IfOk result.1 (λ claim. HasClaimed (pass_view result.0) claim) }
-    ensures blocks { HasPut scenario.now (pass_view pass).low batch
+    ensures blocks { HasPut (G.came gate.now) scenario.now (pass_view pass).low batch
         (pass_view pass).front (pass_view result.0).front }
     ensures end { IfErr result.1 (λ e. EndsAs (pass_view result.0) e) }
+    ensures going { result.1 ≢ Err LoopEnd.Memory
+        → has_stopped (pass_view result.0) ≡ has_stopped (pass_view pass) }
+    ensures out { (d : ℕ) → IsOut (pass_view result.0) d
+        → IsOut (pass_view pass) d ⊎ IsOkAnd result.1 (λ claim. Gets claim d) }
 {
     gate.pass(pass.number(), job.device());
     match job.advance(&pass, scenario, batch) {
@@ -68,21 +75,22 @@ fn make_steps<R: Wait, G: Gate>(
     put_and_claim(rt, lock, pass, job)
 }
 
-/// Claims where there was nothing to claim, for others have what is left.
+/// Claims again after `Busy`.
 fn claim_again<R: Wait>(
     rt: &R,
     lock: &TicketLock<Trace>,
     pass: Pass<Trace>,
-    scenario: &Scenario,
-    _batch: u32,
 ) -> (Pass<Trace>, Result<Claim, LoopEnd>)
     requires pass { IsPass (lock_id lock.now) pass }
     ensures pass { IsPass (lock_id lock.now) result.0 }
     ensures follows { Follows (pass_view pass) (pass_view result.0) }
+    ensures own { own_entries (pass_view pass).low (pass_view result.0).front
+        ≡ own_entries (pass_view pass).low (pass_view pass).front }
     ensures claimed { IfOk result.1 (λ claim. HasClaimed (pass_view result.0) claim) }
-    ensures blocks { HasPut scenario.now (pass_view pass).low _batch
-        (pass_view pass).front (pass_view result.0).front }
     ensures end { IfErr result.1 (λ e. EndsAs (pass_view result.0) e) }
+    ensures going { has_stopped (pass_view result.0) ≡ has_stopped (pass_view pass) }
+    ensures out { (d : ℕ) → IsOut (pass_view result.0) d
+        → IsOut (pass_view pass) d ⊎ IsOkAnd result.1 (λ claim. Gets claim d) }
 {
     let (pass, claim) = claim_job(rt, lock, pass);
     match claim {
@@ -110,9 +118,14 @@ fn one_turn<R: Wait, G: Gate>(
     ensures pass { IsPass (lock_id lock.now) result.0 }
     ensures follows { Follows (pass_view pass) (pass_view result.0) }
     ensures claimed { IfOk result.1 (λ claim. HasClaimed (pass_view result.0) claim) }
-    ensures blocks { HasPut scenario.now (pass_view pass).low batch
+    ensures blocks { HasPut (G.came gate.now) scenario.now (pass_view pass).low batch
         (pass_view pass).front (pass_view result.0).front }
     ensures end { IfErr result.1 (λ e. EndsAs (pass_view result.0) e) }
+    ensures gate { (d : ℕ) → Gets claim d → G.came gate.now (pass_view pass).low d }
+    ensures going { result.1 ≢ Err LoopEnd.Memory
+        → has_stopped (pass_view result.0) ≡ has_stopped (pass_view pass) }
+    ensures out { (d : ℕ) → IsOut (pass_view result.0) d
+        → IsOut (pass_view pass) d ⊎ IsOkAnd result.1 (λ claim. Gets claim d) }
 {
     match claim {
         Claim::Got(job) => {
@@ -121,7 +134,7 @@ fn one_turn<R: Wait, G: Gate>(
         }
         Claim::Busy => {
             backoff.snooze();
-            claim_again(rt, lock, pass, scenario, batch)
+            claim_again(rt, lock, pass)
         }
         Claim::Done => (pass, Err(LoopEnd::Done)),
         Claim::Stalled => (pass, Err(LoopEnd::Stalled)),
@@ -131,6 +144,9 @@ fn one_turn<R: Wait, G: Gate>(
 
 /// Claims devices under the lowest number of the pass, lets each make at most `batch` steps outside the lock, and puts
 /// them into the trace, until there is nothing left to do. The pass comes back.
+///
+/// The gate is called for each device that was claimed: for those that were put (`blocks`), and for one that was given
+/// up, which stays out (`gate`).
 pub fn worker_loop<R: Wait, G: Gate>(
     rt: &R,
     lock: &TicketLock<Trace>,
@@ -144,9 +160,13 @@ pub fn worker_loop<R: Wait, G: Gate>(
     requires batch { 1 ≤ batch }
     ensures pass { IsPass (lock_id lock.now) result.0 }
     ensures follows { Follows (pass_view pass) (pass_view result.0) }
-    ensures blocks { HasPut scenario.now (pass_view pass).low batch
+    ensures blocks { HasPut (G.came gate.now) scenario.now (pass_view pass).low batch
         (pass_view pass).front (pass_view result.0).front }
     ensures end { EndsAs (pass_view result.0) result.1 }
+    ensures going { result.1 ≢ LoopEnd.Memory
+        → has_stopped (pass_view result.0) ≡ has_stopped (pass_view pass) }
+    ensures gate { (d : ℕ) → IsOut (pass_view result.0) d
+        → IsOut (pass_view pass) d ⊎ G.came gate.now (pass_view pass).low d }
 {
     let backoff = Backoff::new();
     // (it begins as a worker that had nothing to claim)

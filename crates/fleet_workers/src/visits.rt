@@ -1,14 +1,15 @@
 //! What a worker does with the trace while it has the lock: it claims, it puts, it stops.
 
 ghost use Rattle.std.specs.Prelude.{◌≡◌, ◌≢◌, ◌⊎◌, ℕ, ◌++◌, true, false, [], IfSome, IfNone, IfOk, IfErr, IsOk, IsErr};
+ghost use Rattle.std.specs.Prelude.{Err, IsSomeAnd, IsOkAnd};
 ghost use Rattle.ticket_lock.specs.Log.{Adds};
 ghost use Rattle.ticket_lock.specs.Lock.{HasNumber};
 ghost use Rattle.ticket_lock.specs.Names.{lock_id, pass_view, IsPass};
-ghost use Rattle.shared_trace.specs.Trace.{IsShared, with_block, stopped_of, trace_log};
+ghost use Rattle.shared_trace.specs.Trace.{IsShared, with_block, stopped_under, trace_log};
 ghost use Rattle.shared_trace.specs.Job.{MayPut};
 ghost use Rattle.shared_trace.specs.Claims.{Claims, ClaimStands};
 ghost use Rattle.fleet_workers.specs.Blocks.{own_entries, IsPut};
-ghost use Rattle.fleet_workers.specs.Knowing.{Follows, Knows, HasClaimed, EndsAs};
+ghost use Rattle.fleet_workers.specs.Knowing.{Follows, Knows, HasClaimed, EndsAs, has_stopped, IsOut, Gets};
 
 use crate::loops::LoopEnd;
 use shared_trace::{Claim, Job, Trace};
@@ -28,6 +29,9 @@ pub fn claim_job<R: Wait>(
         → own_entries n (pass_view result.0).front ≡ own_entries n (pass_view pass).front }
     ensures claimed { IfSome result.1 (λ claim. HasClaimed (pass_view result.0) claim) }
     ensures spent { IfNone result.1 ((pass_view result.0).end ≡ true) }
+    ensures going { has_stopped (pass_view result.0) ≡ has_stopped (pass_view pass) }
+    ensures out { (d : ℕ) → IsOut (pass_view result.0) d
+        → IsOut (pass_view pass) d ⊎ IsSomeAnd result.1 (λ claim. Gets claim d) }
 {
     let worker = pass.number();
     match lock.take(rt, pass) {
@@ -43,14 +47,14 @@ pub fn claim_job<R: Wait>(
 fn put_or_stop(trace: &mut Trace, worker: u16, job: Job) -> bool
     requires { MayPut trace.old worker job }
     ensures put { result ≡ true → trace.new ≡ with_block trace.old job.device job.held job.entries }
-    ensures stopped { result ≡ false → trace.new ≡ stopped_of trace.old }
+    ensures stopped { result ≡ false → trace.new ≡ stopped_under trace.old worker }
     ensures adds { Adds trace_log worker trace.old trace.new }
     ensures shared { IsShared trace.new }
 {
     match trace.put(worker, job) {
         Ok(()) => true,
         Err((job, _)) => {
-            trace.stop();
+            trace.stop(worker);
             job.abandon();
             false
         }
@@ -62,9 +66,9 @@ fn put_or_stop(trace: &mut Trace, worker: u16, job: Job) -> bool
 pub enum Put {
     /// Its entries stand in the trace.
     Made,
-    /// Memory ran out; the trace was stopped.
+    /// Memory ran out. The trace was stopped.
     Memory,
-    /// No ticket was left.
+    /// No ticket was left, so the trace is as it was.
     Spent,
 }
 
@@ -87,6 +91,8 @@ pub fn put_job<R: Wait>(
     ensures kept { result.1 ≢ Put.Made → own_entries (pass_view pass).low (pass_view result.0).front
         ≡ own_entries (pass_view pass).low (pass_view pass).front }
     ensures spent { result.1 ≡ Put.Spent → (pass_view result.0).end ≡ true }
+    ensures memory { result.1 ≡ Put.Memory → has_stopped (pass_view result.0) ≡ true }
+    ensures going { result.1 ≢ Put.Memory → has_stopped (pass_view result.0) ≡ has_stopped (pass_view pass) }
 {
     let worker = pass.number();
     match lock.take(rt, pass) {
@@ -107,7 +113,7 @@ fn put_then_claim(trace: &mut Trace, worker: u16, job: Job) -> Option<Claim>
     ensures claims { IfSome result (λ claim.
         Claims (with_block trace.old job.device job.held job.entries) trace.new worker claim) }
     ensures stands { IfSome result (λ claim. ClaimStands trace.new worker claim) }
-    ensures stopped { IfNone result (trace.new ≡ stopped_of trace.old) }
+    ensures stopped { IfNone result (trace.new ≡ stopped_under trace.old worker) }
     ensures adds { Adds trace_log worker trace.old trace.new }
     ensures shared { IsShared trace.new }
 {
@@ -140,6 +146,11 @@ pub fn put_and_claim<R: Wait>(
         ≡ own_entries (pass_view pass).low (pass_view pass).front }
     ensures end { IfErr result.1 (λ e. EndsAs (pass_view result.0) e) }
     ensures memory_or_spent { IfErr result.1 (λ e. (e ≡ LoopEnd.Memory) ⊎ (e ≡ LoopEnd.Spent)) }
+    ensures memory { result.1 ≡ Err LoopEnd.Memory → has_stopped (pass_view result.0) ≡ true }
+    ensures out { (d : ℕ) → IsOut (pass_view result.0) d
+        → IsOut (pass_view pass) d ⊎ IsOkAnd result.1 (λ claim. Gets claim d) }
+    ensures going { result.1 ≢ Err LoopEnd.Memory
+        → has_stopped (pass_view result.0) ≡ has_stopped (pass_view pass) }
 {
     let worker = pass.number();
     match lock.take(rt, pass) {
@@ -158,17 +169,20 @@ pub fn put_and_claim<R: Wait>(
     }
 }
 
-/// Stops the trace, if a ticket is left for it.
+/// Stops the trace under the lowest number of the pass, if a ticket is left for it.
 pub fn stop_trace<R: Wait>(rt: &R, lock: &TicketLock<Trace>, pass: Pass<Trace>) -> Pass<Trace>
     requires { IsPass (lock_id lock.now) pass }
     ensures pass { IsPass (lock_id lock.now) result }
     ensures follows { Follows (pass_view pass) (pass_view result) }
+    ensures stopped { (pass_view result).end ≡ false → has_stopped (pass_view result) ≡ true }
+    ensures out { (d : ℕ) → IsOut (pass_view result) d → IsOut (pass_view pass) d }
     ensures own { (n : ℕ) → HasNumber (pass_view pass) n
         → own_entries n (pass_view result).front ≡ own_entries n (pass_view pass).front }
 {
+    let worker = pass.number();
     match lock.take(rt, pass) {
         Ok(mut held) => {
-            held.value_mut().stop();
+            held.value_mut().stop(worker);
             held.give()
         }
         Err((pass, _)) => pass,

@@ -39,7 +39,7 @@ fn put_again(trace: &mut Trace, worker: u16, job: Job) -> Came
             words: "put,",
         },
         Err((job, _)) => {
-            trace.stop();
+            trace.stop(worker);
             job.abandon();
             Came {
                 left: Some(left),

@@ -13,7 +13,9 @@ use Rattle.fleet_core.specs.Board.{HoldsAfter, Holding, ShowsAfter}
 use Rattle.ticket_lock.specs.Log.{Adds}
 use Rattle.shared_trace.specs.declared.station.Place.TheVariants.{Parked, Out}
 use Rattle.shared_trace.specs.declared.station.Station.{Station}
-use Rattle.shared_trace.specs.Trace.{Traced, IsPlaced, IsReady, with_out, open_by, trace_log}
+use Rattle.shared_trace.specs.declared.stops.Stops.{Stops}
+use Rattle.shared_trace.specs.Stops.{numbers_in}
+use Rattle.shared_trace.specs.Trace.{Traced, IsPlaced, IsReady, with_out, has_stopped, open_by, trace_log}
 use Rattle.shared_trace.specs.Kept.{IsTrace, IsStation, AreEnded, IsOnWay, IsJob, is_parked, places_of}
 use Rattle.shared_trace.specs.Kept.{table_length}
 use Rattle.shared_trace.proofs.Lists.{set_gives, get-set_same, get-set_other, at_map, from_map, map-set, same_some}
@@ -30,11 +32,11 @@ pub record IsHanded (s : Scenario) (es : List Entry) (stations : List Station) (
   pub parked : x.place ≡ Parked shown
   pub enabled : is_enabled s es d ≡ true
 
-pub handed : (v : Traced) (s : Scenario) (es : List Entry) (stations : List Station) (counts : List ℕ) (stopped : Bool)
-    (d i : ℕ) (x : Station) → traced s es stations stopped ≡ v
+pub handed : (v : Traced) (s : Scenario) (es : List Entry) (stations : List Station) (counts : List ℕ) (stops : Stops)
+    (d i : ℕ) (x : Station) → traced s es stations stops ≡ v
     → IsTrace s es stations counts → (r : IsReady v d) → i ≡ d → x ≡ get_or stations i x
     → IsHanded s es stations counts d x r.held
-handed v s es stations counts stopped d i x view t r from read =
+handed v s es stations counts stops d i x view t r from read =
     let found = from_map (λ y. y.place) stations d (Parked r.held)
     (subst (λ w. slice_get w.places d ≡ Some (Parked r.held)) (sym view) r.parked) in
     let here : slice_get stations d ≡ Some x =
@@ -90,11 +92,11 @@ pub out_ended : (s : Scenario) (es : List Entry) (stations : List Station) (coun
 out_ended s es stations counts low d i x y shown h from ended =
     ended_set s es stations counts low d i x y h.trace h.at (enabled_waits s es d h.enabled) from ended
 
-pub out_view : (v : Traced) (s : Scenario) (es : List Entry) (stations : List Station) (stopped : Bool) (d w i : ℕ)
-    (y : Station) → traced s es stations stopped ≡ v
-    → i ≡ d → y.place ≡ Out w → traced s es (set stations i y) stopped ≡ with_out v d w
-out_view v s es stations stopped d w i y view from out =
-    ap (λ l. record { subject = s; entries = es; places = l; stopped = stopped })
+pub out_view : (v : Traced) (s : Scenario) (es : List Entry) (stations : List Station) (stops : Stops) (d w i : ℕ)
+    (y : Station) → traced s es stations stops ≡ v
+    → i ≡ d → y.place ≡ Out w → traced s es (set stations i y) stops ≡ with_out v d w
+out_view v s es stations stops d w i y view from out =
+    ap (λ l. record { subject = s; entries = es; places = l; stopped_by = numbers_in stops })
     (map-set (λ x. x.place) stations i y ∙ (ap (λ j. set (places_of stations) j y.place) from
     ∙ ap (λ p. set (places_of stations) d p) out))
     ∙ ap (λ u. with_out u d w) view
@@ -108,8 +110,9 @@ out_adds v new d w x at is =
       entries = sym (append-nil v.entries);
       by_worker = tt;
       subject = refl;
-      others = λ n ne. open_same n v.places v.entries v.entries 0 d (Parked x) (Out w) at refl
-          (ne_eqb w n (λ e. ne (sym e))) (λ j h. refl);
+      others = λ n ne. ap (λ o. record { out = o; stopped = has_stopped v n })
+          (open_same n v.places v.entries v.entries 0 d (Parked x) (Out w) at refl
+          (ne_eqb w n (λ e. ne (sym e))) (λ j h. refl));
     })
 
 pub out_stands : (v new claimed : Traced) (d w : ℕ) (x : Holding) → slice_get v.places d ≡ Some (Parked x)
@@ -155,28 +158,28 @@ fresh_here s es stations counts known posted d w x shown machine h device table 
 }
 
 pub fresh_job : (v claimed : Traced) (s : Scenario) (es entries : List Entry) (stations : List Station)
-    (counts known posted : List ℕ) (stopped : Bool) (d w : ℕ) (x : Station) (shown machine : Holding)
-    → traced s es stations stopped ≡ v → claimed ≡ v → IsHanded s es stations counts d x shown
+    (counts known posted : List ℕ) (stops : Stops) (d w : ℕ) (x : Station) (shown machine : Holding)
+    → traced s es stations stops ≡ v → claimed ≡ v → IsHanded s es stations counts d x shown
     → x.place ≡ Parked machine → known ≡ counts → posted ≡ [] → entries ≡ []
     → IsJob claimed.subject w d claimed.entries entries machine false known posted x.made x.next
-fresh_job v claimed s es entries stations counts known posted stopped d w x shown machine view same h device table none
+fresh_job v claimed s es entries stations counts known posted stops d w x shown machine view same h device table none
     empty =
     subst (λ u. IsJob u.subject w d u.entries entries machine false known posted x.made x.next) (view ∙ sym same)
     (subst (λ l. IsJob s w d es l machine false known posted x.made x.next) (sym empty)
     (fresh_here s es stations counts known posted d w x shown machine h device table none))
 
 pub parked_now : (v : Traced) (s : Scenario) (es : List Entry) (stations : List Station) (counts : List ℕ)
-    (stopped : Bool) (d : ℕ) (x : Station) (shown machine : Holding)
-    → traced s es stations stopped ≡ v → IsHanded s es stations counts d x shown → x.place ≡ Parked machine
+    (stops : Stops) (d : ℕ) (x : Station) (shown machine : Holding)
+    → traced s es stations stops ≡ v → IsHanded s es stations counts d x shown → x.place ≡ Parked machine
     → slice_get v.places d ≡ Some (Parked machine)
-parked_now v s es stations counts stopped d x shown machine view h device =
+parked_now v s es stations counts stops d x shown machine view h device =
     subst (λ u. slice_get u.places d ≡ Some (Parked machine)) view
     (at_map (λ y. y.place) stations d x h.at ∙ ap Some device)
 
 pub shows_now : (v : Traced) (s : Scenario) (es : List Entry) (stations : List Station) (counts : List ℕ)
-    (stopped : Bool) (d : ℕ) (x : Station) (shown machine : Holding)
-    → traced s es stations stopped ≡ v → IsHanded s es stations counts d x shown → x.place ≡ Parked machine
+    (stops : Stops) (d : ℕ) (x : Station) (shown machine : Holding)
+    → traced s es stations stops ≡ v → IsHanded s es stations counts d x shown → x.place ≡ Parked machine
     → ShowsAfter v.subject d (made_by d v.entries) machine.shown
-shows_now v s es stations counts stopped d x shown machine view h device =
+shows_now v s es stations counts stops d x shown machine view h device =
     let here : HoldsAfter s d (made_by d es) machine = subst (IsPlaced s es d) device (h.trace.each d x h.at).placed in
     subst (λ u. ShowsAfter u.subject d (made_by d u.entries) machine.shown) view here.shows

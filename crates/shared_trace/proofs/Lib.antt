@@ -7,6 +7,7 @@ pub mod Ended
 pub mod Idle
 pub mod Handing
 pub mod Stepping
+pub mod Stopping
 pub mod Putting
 pub mod Counting
 pub mod Lengths

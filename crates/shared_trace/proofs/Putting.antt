@@ -20,6 +20,8 @@ use Rattle.shared_trace.specs.declared.station.Place.{Place}
 use Rattle.shared_trace.specs.declared.station.Place.TheVariants.{Parked, Out}
 use Rattle.shared_trace.specs.declared.station.Station.{Station}
 use Rattle.shared_trace.specs.Next.{next_of}
+use Rattle.shared_trace.specs.declared.stops.Stops.{Stops}
+use Rattle.shared_trace.specs.Stops.{numbers_in, is_among}
 use Rattle.shared_trace.specs.Trace.{Traced, IsPlaced, with_block, trace_log}
 use Rattle.shared_trace.specs.Job.{Task, IsOf, MayPut}
 use Rattle.shared_trace.specs.Kept.{IsTrace, IsStation, AreEnded, IsTask, IsOnWay, IsJob, places_of}
@@ -39,14 +41,14 @@ pub record IsFitting (s : Scenario) (es : List Entry) (stations : List Station) 
   pub count : made_by d front ≡ made_by d es
   pub posts : (g : ℕ) → posts_of s g front ≤ posts_of s g es
 
-fits_here : (v : Traced) (job : Task) (es : List Entry) (stations : List Station) (counts : List ℕ) (stopped : Bool)
+fits_here : (v : Traced) (job : Task) (es : List Entry) (stations : List Station) (counts : List ℕ) (stops : Stops)
     (s : Scenario) (w d : ℕ) (front block : List Entry) (x : Holding)
-    (known groups : List ℕ) (k : ℕ) (n : Next) → traced s es stations stopped ≡ v
+    (known groups : List ℕ) (k : ℕ) (n : Next) → traced s es stations stops ≡ v
     → tasked s w d front block x false ≡ job → IsTrace s es stations counts
     → IsTask s w d front block → IsOnWay s d (front ++ block) block x known groups k n → MayPut v w job
     → IsFitting s es stations counts w d front block x known groups k n
-fits_here v job es stations counts stopped s w d front block x known groups k n view is trace task way may =
-    let plain : MayPut (traced s es stations stopped) w (tasked s w d front block x false) =
+fits_here v job es stations counts stops s w d front block x known groups k n view is trace task way may =
+    let plain : MayPut (traced s es stations stops) w (tasked s w d front block x false) =
     subst (λ u. MayPut u w (tasked s w d front block x false)) (sym view) (subst (MayPut v w) (sym is) may) in
     let found : IsOpen w (places_of stations) es 0 d (made_by d front) =
     open_tells w (places_of stations) es 0 d (made_by d front) plain.stands in
@@ -61,12 +63,12 @@ fits_here v job es stations counts stopped s w d front block x known groups k n 
     }
 
 pub fitting : (v : Traced) (job : Task) (t : Scenario) (es : List Entry) (stations : List Station) (counts : List ℕ)
-    (stopped : Bool) (s : Scenario) (u w d : ℕ) (front block : List Entry) (x : Holding)
-    (spent : Bool) (known groups : List ℕ) (k : ℕ) (n : Next) → traced t es stations stopped ≡ v
+    (stops : Stops) (s : Scenario) (u w d : ℕ) (front block : List Entry) (x : Holding)
+    (spent : Bool) (known groups : List ℕ) (k : ℕ) (n : Next) → traced t es stations stops ≡ v
     → tasked s u d front block x spent ≡ job → IsTrace t es stations counts
     → IsJob s u d front block x spent known groups k n → MayPut v w job
     → IsFitting t es stations counts w d front block x known groups k n
-fitting v job t es stations counts stopped s u w d front block x spent known groups k n view is trace inside may =
+fitting v job t es stations counts stops s u w d front block x spent known groups k n view is trace inside may =
     let subject : s ≡ t = ap (λ j. j.subject) is ∙ (may.subject ∙ sym (ap (λ i. i.subject) view)) in
     let worker : u ≡ w = ap (λ j. j.worker) is ∙ may.worker in
     let ready : spent ≡ false = ap (λ j. j.spent) is ∙ may.ready in
@@ -74,7 +76,7 @@ fitting v job t es stations counts stopped s u w d front block x spent known gro
     ap (λ i. tasked i w d front block x false) (sym subject)
     ∙ (ap (λ i. tasked s i d front block x false) (sym worker)
     ∙ (ap (λ b. tasked s u d front block x b) (sym ready) ∙ is)) in
-    fits_here v job es stations counts stopped t w d front block x known groups k n view same trace
+    fits_here v job es stations counts stops t w d front block x known groups k n view same trace
     (subst (λ i. IsTask i w d front block) subject (subst (λ i. IsTask s i d front block) worker inside.task))
     (subst (λ i. IsOnWay i d (front ++ block) block x known groups k n) subject (inside.ready ready)) may
 
@@ -155,26 +157,27 @@ module _ {s : Scenario} {es : List Entry} {stations : List Station} {counts : Li
       ended_set s es stations counts low d i found.0 y f.trace found.1
       (subst (IsPlaced s es d) found.2 (f.trace.each d found.0 found.1).placed) from ended
 
-  pub put_view : (v : Traced) (stopped : Bool) (y : Station) (i : ℕ) (all : List Entry)
-      → traced s es stations stopped ≡ v → i ≡ d → all ≡ es ++ block → y.place ≡ Parked x
-      → traced s all (set stations i y) stopped ≡ with_block v d x block
-  put_view v stopped y i all view from more place =
-      ap (λ l. traced s l (set stations i y) stopped) more
-      ∙ (ap (λ l. record { subject = s; entries = es ++ block; places = l; stopped = stopped })
+  pub put_view : (v : Traced) (stops : Stops) (y : Station) (i : ℕ) (all : List Entry)
+      → traced s es stations stops ≡ v → i ≡ d → all ≡ es ++ block → y.place ≡ Parked x
+      → traced s all (set stations i y) stops ≡ with_block v d x block
+  put_view v stops y i all view from more place =
+      ap (λ l. traced s l (set stations i y) stops) more
+      ∙ (ap (λ l. record { subject = s; entries = es ++ block; places = l; stopped_by = numbers_in stops })
       (map-set (λ z. z.place) stations i y ∙ (ap (λ j. set (places_of stations) j y.place) from
       ∙ ap (λ p. set (places_of stations) d p) place))
       ∙ ap (λ u. with_block u d x block) view)
 
-  pub put_adds : (v new : Traced) (stopped : Bool) → traced s es stations stopped ≡ v → new ≡ with_block v d x block
+  pub put_adds : (v new : Traced) (stops : Stops) → traced s es stations stops ≡ v → new ≡ with_block v d x block
       → Adds trace_log w v new
-  put_adds v new stopped view is =
+  put_adds v new stops view is =
       subst (Adds trace_log w v) (sym is)
       (subst (λ u. Adds trace_log w u (with_block u d x block)) view (record {
         added = block;
         entries = refl;
         by_worker = all_weaker (IsOf w d) (λ e. e.worker ≡ w) block (λ e h. h.0) f.task.each;
         subject = refl;
-        others = λ m ne. open_same m (places_of stations) es (es ++ block) 0 d (Out w) (Parked x) f.place
+        others = λ m ne. ap (λ o. record { out = o; stopped = is_among m (numbers_in stops) })
+            (open_same m (places_of stations) es (es ++ block) 0 d (Out w) (Parked x) f.place
             (ne_eqb w m (λ e. ne (sym e))) refl
-            (λ j h. block_others d j es block own_block (λ e. h (omega (arith, e))));
+            (λ j h. block_others d j es block own_block (λ e. h (omega (arith, e)))));
       }))

@@ -15,18 +15,25 @@ use Rattle.shared_trace.specs.declared.station.Place.{Place}
 use Rattle.shared_trace.specs.declared.station.Place.TheVariants.{Parked, Out}
 use Rattle.shared_trace.specs.declared.station.Station.{Station}
 use Rattle.shared_trace.specs.Next.{can_go, is_end}
-use Rattle.shared_trace.specs.Trace.{Traced, IsPlaced, IsShared, IsReady}
+use Rattle.shared_trace.specs.declared.stops.Stops.{Stops}
+use Rattle.shared_trace.specs.Stops.{numbers_in}
+use Rattle.shared_trace.specs.Trace.{Traced, IsPlaced, IsShared, IsReady, is_stopped}
 use Rattle.shared_trace.specs.Claims.{IsAnyOut, IsAnyLeft, AreAllAtEnd, IsIdle}
 use Rattle.shared_trace.specs.Kept.{IsTrace, is_parked, is_ready, is_ready_in, places_of}
 use Rattle.shared_trace.proofs.Lists.{at_map, from_map, some_at}
 use Rattle.shared_trace.proofs.Nexts.{go_enabled, waiting_is, past_waiting}
 
-abbrev pub traced : Scenario → List Entry → List Station → Bool → Traced
-traced s es stations stopped = record { subject = s; entries = es; places = places_of stations; stopped = stopped }
+abbrev pub traced : Scenario → List Entry → List Station → Stops → Traced
+traced s es stations stops = record {
+  subject = s;
+  entries = es;
+  places = places_of stations;
+  stopped_by = numbers_in stops;
+}
 
-pub shared_is : (s : Scenario) (es : List Entry) (stations : List Station) (counts : List ℕ) (stopped : Bool)
-    → IsTrace s es stations counts → IsShared (traced s es stations stopped)
-shared_is s es stations counts stopped t = record {
+pub shared_is : (s : Scenario) (es : List Entry) (stations : List Station) (counts : List ℕ) (stops : Stops)
+    → IsTrace s es stations counts → IsShared (traced s es stations stops)
+shared_is s es stations counts stops t = record {
   valid = t.valid;
   run = t.run;
   count = length-map stations (λ x. x.place) ∙ t.count;
@@ -36,9 +43,9 @@ shared_is s es stations counts stopped t = record {
 }
 
 pub shared_of : (v : Traced) (s : Scenario) (es : List Entry) (stations : List Station) (counts : List ℕ)
-    (stopped : Bool) → traced s es stations stopped ≡ v
+    (stops : Stops) → traced s es stations stops ≡ v
     → IsTrace s es stations counts → IsShared v
-shared_of v s es stations counts stopped view t = subst IsShared view (shared_is s es stations counts stopped t)
+shared_of v s es stations counts stops view t = subst IsShared view (shared_is s es stations counts stops t)
 
 -- ---- ready devices
 
@@ -48,11 +55,11 @@ ready_parked : (posts : ℕ → ℕ) (p : Place) (n : Next) → is_ready_in post
 ready_parked posts (Parked x) n h = (x, refl, h)
 ready_parked posts (Out w) n h = absurd (false≢true h)
 
-ready_is : (s : Scenario) (es : List Entry) (stations : List Station) (counts : List ℕ) (stopped : Bool) (d : ℕ)
+ready_is : (s : Scenario) (es : List Entry) (stations : List Station) (counts : List ℕ) (stops : Stops) (d : ℕ)
     (x : Station) → IsTrace s es stations counts
     → slice_get stations d ≡ Some x → is_ready (λ g. slice_index counts g) x ≡ true
-    → IsReady (traced s es stations stopped) d
-ready_is s es stations counts stopped d x t at ready =
+    → IsReady (traced s es stations stops) d
+ready_is s es stations counts stops d x t at ready =
     let found = ready_parked (λ g. slice_index counts g) x.place x.next ready in
     record {
       held = found.0;
@@ -60,11 +67,11 @@ ready_is s es stations counts stopped d x t at ready =
       enabled = sym (go_enabled s es d (λ g. slice_index counts g) x.next t.posts (t.each d x at).next) ∙ found.2;
     }
 
-ready_at : (s : Scenario) (es : List Entry) (stations : List Station) (counts : List ℕ) (stopped : Bool) (d : ℕ)
+ready_at : (s : Scenario) (es : List Entry) (stations : List Station) (counts : List ℕ) (stops : Stops) (d : ℕ)
     → IsTrace s es stations counts
-    → IsReady (traced s es stations stopped) d → (x : Station) × (slice_get stations d ≡ Some x)
+    → IsReady (traced s es stations stops) d → (x : Station) × (slice_get stations d ≡ Some x)
     × (is_ready (λ g. slice_index counts g) x ≡ true)
-ready_at s es stations counts stopped d t r =
+ready_at s es stations counts stops d t r =
     let found = from_map (λ y. y.place) stations d (Parked r.held) r.parked in (
       found.0,
       found.1,
@@ -73,37 +80,37 @@ ready_at s es stations counts stopped d t r =
           ∙ r.enabled),
     )
 
-lowest_by : (s : Scenario) (es : List Entry) (stations : List Station) (counts : List ℕ) (stopped : Bool) (d i : ℕ)
+lowest_by : (s : Scenario) (es : List Entry) (stations : List Station) (counts : List ℕ) (stops : Stops) (d i : ℕ)
     → IsTrace s es stations counts
     → ((j : ℕ) (x : Station) → j < d → slice_get stations j ≡ Some x → is_ready (λ g. slice_index counts g) x ≡ false)
-    → IsReady (traced s es stations stopped) i → (i < d) ⊎ (d ≤ i) → d ≤ i
-lowest_by s es stations counts stopped d i t lower r (inl less) =
-    let found = ready_at s es stations counts stopped i t r in
+    → IsReady (traced s es stations stops) i → (i < d) ⊎ (d ≤ i) → d ≤ i
+lowest_by s es stations counts stops d i t lower r (inl less) =
+    let found = ready_at s es stations counts stops i t r in
     absurd (false≢true (sym (lower i found.0 less found.1) ∙ found.2))
-lowest_by s es stations counts stopped d i t lower r (inr more) = more
+lowest_by s es stations counts stops d i t lower r (inr more) = more
 
 -- the lowest station that is ready is that of the lowest device that is
 pub lowest_is : (v : Traced) (s : Scenario) (es : List Entry) (stations : List Station) (counts : List ℕ)
-    (stopped : Bool) (d : ℕ) → traced s es stations stopped ≡ v
+    (stops : Stops) (d : ℕ) → traced s es stations stops ≡ v
     → IsTrace s es stations counts
     → ((x : Station) × (slice_get stations d ≡ Some x) × (is_ready (λ g. slice_index counts g) x ≡ true))
     → ((j : ℕ) (x : Station) → j < d → slice_get stations j ≡ Some x → is_ready (λ g. slice_index counts g) x ≡ false)
     → IsReady v d × ((i : ℕ) → IsReady v i → d ≤ i)
-lowest_is v s es stations counts stopped d view t ready lower =
+lowest_is v s es stations counts stops d view t ready lower =
     subst (λ w. IsReady w d × ((i : ℕ) → IsReady w i → d ≤ i)) view (
-      ready_is s es stations counts stopped d ready.0 t ready.1 ready.2,
-      λ i r. lowest_by s es stations counts stopped d i t lower r (cases_lt i d),
+      ready_is s es stations counts stops d ready.0 t ready.1 ready.2,
+      λ i r. lowest_by s es stations counts stops d i t lower r (cases_lt i d),
     )
 
-pub none_is : (v : Traced) (s : Scenario) (es : List Entry) (stations : List Station) (counts : List ℕ) (stopped : Bool)
-    → traced s es stations stopped ≡ v
+pub none_is : (v : Traced) (s : Scenario) (es : List Entry) (stations : List Station) (counts : List ℕ) (stops : Stops)
+    → traced s es stations stops ≡ v
     → IsTrace s es stations counts
     → ((i : ℕ) (x : Station) → slice_get stations i ≡ Some x → is_ready (λ g. slice_index counts g) x ≡ false)
     → (i : ℕ) → IsReady v i → ⊥
-none_is v s es stations counts stopped view t none =
+none_is v s es stations counts stops view t none =
     subst (λ w. (i : ℕ) → IsReady w i → ⊥) view
     (λ i r. let found =
-    ready_at s es stations counts stopped i t r in false≢true (sym (none i found.0 found.1) ∙ found.2))
+    ready_at s es stations counts stops i t r in false≢true (sym (none i found.0 found.1) ∙ found.2))
 
 -- the same of lists that are the trace's
 trace_at : (s : Scenario) (es : List Entry) (stations l : List Station) (counts m : List ℕ) → l ≡ stations → m ≡ counts
@@ -111,29 +118,29 @@ trace_at : (s : Scenario) (es : List Entry) (stations l : List Station) (counts 
 trace_at s es stations l counts m el em t =
     subst (λ k. IsTrace s es k m) (sym el) (subst (IsTrace s es stations) (sym em) t)
 
-view_at : (v : Traced) (s : Scenario) (es : List Entry) (stations l : List Station) (stopped : Bool) → l ≡ stations
-    → traced s es stations stopped ≡ v → traced s es l stopped ≡ v
-view_at v s es stations l stopped el view = ap (λ k. traced s es k stopped) el ∙ view
+view_at : (v : Traced) (s : Scenario) (es : List Entry) (stations l : List Station) (stops : Stops) → l ≡ stations
+    → traced s es stations stops ≡ v → traced s es l stops ≡ v
+view_at v s es stations l stops el view = ap (λ k. traced s es k stops) el ∙ view
 
 pub lowest_from : (v : Traced) (s : Scenario) (es : List Entry) (stations : List Station) (counts : List ℕ)
-    (stopped : Bool) (d : ℕ) (l : List Station) (m : List ℕ)
-    → l ≡ stations → m ≡ counts → traced s es stations stopped ≡ v
+    (stops : Stops) (d : ℕ) (l : List Station) (m : List ℕ)
+    → l ≡ stations → m ≡ counts → traced s es stations stops ≡ v
     → IsTrace s es stations counts
     → ((x : Station) × (slice_get l d ≡ Some x) × (is_ready (λ g. slice_index m g) x ≡ true))
     → ((j : ℕ) (x : Station) → j < d → slice_get l j ≡ Some x → is_ready (λ g. slice_index m g) x ≡ false)
     → IsReady v d × ((i : ℕ) → IsReady v i → d ≤ i)
-lowest_from v s es stations counts stopped d l m el em view t ready lower =
-    lowest_is v s es l m stopped d (view_at v s es stations l stopped el view)
+lowest_from v s es stations counts stops d l m el em view t ready lower =
+    lowest_is v s es l m stops d (view_at v s es stations l stops el view)
     (trace_at s es stations l counts m el em t) ready lower
 
 pub none_from : (v : Traced) (s : Scenario) (es : List Entry) (stations : List Station) (counts : List ℕ)
-    (stopped : Bool) (l : List Station) (m : List ℕ)
-    → l ≡ stations → m ≡ counts → traced s es stations stopped ≡ v
+    (stops : Stops) (l : List Station) (m : List ℕ)
+    → l ≡ stations → m ≡ counts → traced s es stations stops ≡ v
     → IsTrace s es stations counts
     → ((i : ℕ) (x : Station) → slice_get l i ≡ Some x → is_ready (λ g. slice_index m g) x ≡ false)
     → (i : ℕ) → IsReady v i → ⊥
-none_from v s es stations counts stopped l m el em view t none =
-    none_is v s es l m stopped (view_at v s es stations l stopped el view)
+none_from v s es stations counts stops l m el em view t none =
+    none_is v s es l m stops (view_at v s es stations l stops el view)
     (trace_at s es stations l counts m el em t) none
 
 -- ---- where no device is ready
@@ -161,14 +168,14 @@ complete_of v shared none parked =
     no_more v.subject v.entries shared.run (λ d. blocked_by v d shared none parked (cases_lt d (length v.subject.rows)))
 
 pub complete_is : (v : Traced) (s : Scenario) (es : List Entry) (stations : List Station) (counts : List ℕ)
-    (stopped : Bool) (l : List Station) → l ≡ stations → traced s es stations stopped ≡ v
+    (stops : Stops) (l : List Station) → l ≡ stations → traced s es stations stops ≡ v
     → IsTrace s es stations counts → ((i : ℕ) → IsReady v i → ⊥)
     → ((i : ℕ) (x : Station) → slice_get l i ≡ Some x → is_parked x.place ≡ true)
     → IsComplete v.subject v.entries
-complete_is v s es stations counts stopped l el view t none parked =
-    complete_of v (shared_of v s es stations counts stopped view t) none
+complete_is v s es stations counts stops l el view t none parked =
+    complete_of v (shared_of v s es stations counts stops view t) none
     (subst (λ w. (i : ℕ) (p : Place) → slice_get w.places i ≡ Some p → is_parked p ≡ true)
-    (view_at v s es stations l stopped el view)
+    (view_at v s es stations l stops el view)
     (λ i p at. let found =
     from_map (λ x. x.place) l i p at in subst (λ q. is_parked q ≡ true) found.2 (parked i found.0 found.1)))
 
@@ -188,30 +195,30 @@ ended_by s es stations counts d t ends (inl less) =
 ended_by s es stations counts d t ends (inr past) = past_waiting s es d past
 
 pub all_ended : (v : Traced) (s : Scenario) (es : List Entry) (stations : List Station) (counts : List ℕ)
-    (stopped : Bool) (l : List Station) → l ≡ stations → traced s es stations stopped ≡ v
+    (stops : Stops) (l : List Station) → l ≡ stations → traced s es stations stops ≡ v
     → IsTrace s es stations counts → ((i : ℕ) (x : Station) → slice_get l i ≡ Some x → is_end x.next ≡ true)
     → AreAllAtEnd v
-all_ended v s es stations counts stopped l el view t ends =
-    subst AreAllAtEnd (view_at v s es stations l stopped el view)
+all_ended v s es stations counts stops l el view t ends =
+    subst AreAllAtEnd (view_at v s es stations l stops el view)
     (λ d. ended_by s es l counts d (trace_at s es stations l counts counts el refl t) ends (cases_lt d (length s.rows)))
 
 pub any_left : (v : Traced) (s : Scenario) (es : List Entry) (stations : List Station) (counts : List ℕ)
-    (stopped : Bool) (d : ℕ) (l : List Station) → l ≡ stations → traced s es stations stopped ≡ v
+    (stops : Stops) (d : ℕ) (l : List Station) → l ≡ stations → traced s es stations stops ≡ v
     → IsTrace s es stations counts → ((x : Station) × (slice_get l d ≡ Some x) × (is_end x.next ≡ false)) → IsAnyLeft v
-any_left v s es stations counts stopped d l el view t found =
-    subst IsAnyLeft (view_at v s es stations l stopped el view)
+any_left v s es stations counts stops d l el view t found =
+    subst IsAnyLeft (view_at v s es stations l stops el view)
     (record {
       device = d;
       waits =
           left_is s es l counts d found.0 (trace_at s es stations l counts counts el refl t) found.1 ∙ ap not found.2;
     })
 
-pub any_out : (v : Traced) (s : Scenario) (es : List Entry) (stations : List Station) (counts : List ℕ) (stopped : Bool)
-    (d : ℕ) (l : List Station) → l ≡ stations → traced s es stations stopped ≡ v
+pub any_out : (v : Traced) (s : Scenario) (es : List Entry) (stations : List Station) (counts : List ℕ) (stops : Stops)
+    (d : ℕ) (l : List Station) → l ≡ stations → traced s es stations stops ≡ v
     → IsTrace s es stations counts → ((x : Station) × (w : ℕ) × (slice_get l d ≡ Some x) × (x.place ≡ Out w))
     → IsAnyOut v
-any_out v s es stations counts stopped d l el view t found =
-    subst IsAnyOut (view_at v s es stations l stopped el view) (record {
+any_out v s es stations counts stops d l el view t found =
+    subst IsAnyOut (view_at v s es stations l stops el view) (record {
       device = d;
       worker = found.1;
       place = at_map (λ y. y.place) l d found.0 found.2 ∙ ap Some found.3;
@@ -219,14 +226,14 @@ any_out v s es stations counts stopped d l el view t found =
           found.2).placed;
     })
 
-pub idle_now : (v : Traced) → v.stopped ≡ false → ((d : ℕ) → IsReady v d → ⊥) → IsIdle v v
+pub idle_now : (v : Traced) → is_stopped v ≡ false → ((d : ℕ) → IsReady v d → ⊥) → IsIdle v v
 idle_now v going none = record { going = going; same = refl; none = none }
 
 pub unfinished_is : (v : Traced) (s : Scenario) (es : List Entry) (stations : List Station) (counts : List ℕ)
-    (stopped : Bool) (d i : ℕ) (l : List Station) (x : Station) (b : Bool) → l ≡ stations
-    → traced s es stations stopped ≡ v → IsTrace s es stations counts → i ≡ d → i < length l → x ≡ get_or l i x
+    (stops : Stops) (d i : ℕ) (l : List Station) (x : Station) (b : Bool) → l ≡ stations
+    → traced s es stations stops ≡ v → IsTrace s es stations counts → i ≡ d → i < length l → x ≡ get_or l i x
     → b ≡ is_end x.next → not b ≡ is_waiting v.subject v.entries d
-unfinished_is v s es stations counts stopped d i l x b el view t from within read is =
+unfinished_is v s es stations counts stops d i l x b el view t from within read is =
     let here : slice_get l d ≡ Some x =
     subst (λ j. slice_get l j ≡ Some x) from (slice_get_read l (length l) i x refl within read) in
     ap not is

@@ -6,7 +6,7 @@ use Rattle.fleet_core.specs.Board.{ShowsAfter}
 use Rattle.shared_trace.specs.declared.station.Place.TheVariants.{Parked, Out}
 use Rattle.shared_trace.specs.declared.claims.Claim.{Claim}
 use Rattle.shared_trace.specs.declared.claims.Claim.TheVariants.{Got, Busy, Done, Stalled, Stopped}
-use Rattle.shared_trace.specs.Trace.{Traced, IsReady, with_out, open_by}
+use Rattle.shared_trace.specs.Trace.{Traced, IsReady, with_out, is_stopped, open_by}
 use Rattle.shared_trace.specs.Job.{Task, StandsIn}
 
 -- the device that was parked, and can step, is out under the worker, and the job has it, which shows the state at its
@@ -24,13 +24,13 @@ pub record IsTaken (old new : Traced) (w : ℕ) (job : Task) : Type 0 where
 
 -- it is the lowest such device
 pub record IsGot (old new : Traced) (w : ℕ) (job : Task) : Type 0 where
-  pub going : old.stopped ≡ false
+  pub going : is_stopped old ≡ false
   pub taken : IsTaken old new w job
   pub lowest : (d : ℕ) → IsReady old d → job.device ≤ d
 
 -- nothing changed, and no device is parked and can step
 pub record IsIdle (old new : Traced) : Type 0 where
-  pub going : old.stopped ≡ false
+  pub going : is_stopped old ≡ false
   pub same : new ≡ old
   pub none : (d : ℕ) → IsReady old d → ⊥
 
@@ -56,7 +56,7 @@ Claims old new worker (Got job) = IsGot old new worker job
 Claims old new worker Busy = IsIdle old new × IsAnyOut old
 Claims old new worker Done = IsIdle old new × IsComplete old.subject old.entries × AreAllAtEnd old
 Claims old new worker Stalled = IsIdle old new × IsComplete old.subject old.entries × IsAnyLeft old
-Claims old new worker Stopped = (old.stopped ≡ true) × (new ≡ old)
+Claims old new worker Stopped = (is_stopped old ≡ true) × (new ≡ old)
 
 -- a job that was got stands in the worker's open work
 abbrev pub ClaimStands : Traced → ℕ → Claim → Type 0

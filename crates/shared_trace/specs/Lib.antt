@@ -1,5 +1,6 @@
 pub mod Next
 pub mod Pages
+pub mod Stops
 pub mod Trace
 pub mod Job
 pub mod Claims

@@ -9,13 +9,16 @@ use Rattle.fleet_core.specs.Board.{HoldsAfter, Holding}
 use Rattle.ticket_lock.specs.Log.{Reading}
 use Rattle.shared_trace.specs.declared.station.Place.{Place}
 use Rattle.shared_trace.specs.declared.station.Place.TheVariants.{Parked, Out}
+use Rattle.shared_trace.specs.declared.work.OpenWork.{OpenWork}
+use Rattle.shared_trace.specs.Stops.{is_any, is_among}
 
--- what contracts see of a trace: its scenario, its entries, where each device is, and whether it was stopped
+-- what contracts see of a trace: its scenario, its entries, where each device is, and the numbers of the workers that
+-- have stopped it, from the last one on
 pub record Traced : Type 0 where
   pub subject : Scenario
   pub entries : List Entry
   pub places : List Place
-  pub stopped : Bool
+  pub stopped_by : List ℕ
 
 -- a parked device shows the state after the steps that it has made, also where it is yet to be started, or its memory
 -- was let go of (`HoldsAfter`); one that is out has a step left
@@ -40,8 +43,12 @@ pub record IsReady (t : Traced) (d : ℕ) : Type 0 where
 
 -- the device is out under the worker
 abbrev pub with_out : Traced → ℕ → ℕ → Traced
-with_out t d worker =
-    record { subject = t.subject; entries = t.entries; places = slice_set t.places d (Out worker); stopped = t.stopped }
+with_out t d worker = record {
+  subject = t.subject;
+  entries = t.entries;
+  places = slice_set t.places d (Out worker);
+  stopped_by = t.stopped_by;
+}
 
 -- the device is parked, after these entries more
 abbrev pub with_block : Traced → ℕ → Holding → List Entry → Traced
@@ -49,11 +56,17 @@ with_block t d x block = record {
   subject = t.subject;
   entries = t.entries ++ block;
   places = slice_set t.places d (Parked x);
-  stopped = t.stopped;
+  stopped_by = t.stopped_by;
 }
 
-abbrev pub stopped_of : Traced → Traced
-stopped_of t = record { subject = t.subject; entries = t.entries; places = t.places; stopped = true }
+-- the worker has stopped it
+abbrev pub stopped_under : Traced → ℕ → Traced
+stopped_under t worker = record {
+  subject = t.subject;
+  entries = t.entries;
+  places = t.places;
+  stopped_by = worker ∷ t.stopped_by;
+}
 
 -- ---- the open work
 
@@ -71,6 +84,21 @@ open_from worker (p ∷ ps) es i =
 abbrev pub open_by : Traced → ℕ → List (ℕ × ℕ)
 open_by t worker = open_from worker t.places t.entries 0
 
+-- whether a worker has stopped the trace
+abbrev pub is_stopped : Traced → Bool
+is_stopped t = is_any t.stopped_by
+
+-- whether this worker has stopped it
+abbrev pub has_stopped : Traced → ℕ → Bool
+has_stopped t worker = is_among worker t.stopped_by
+
+-- what the lock's rule reads for a worker: its open work, and whether it has stopped the trace
+abbrev pub work_by : Traced → ℕ → OpenWork
+work_by t worker = record { out = open_by t worker; stopped = has_stopped t worker }
+
+abbrev pub no_work : OpenWork
+no_work = record { out = []; stopped = false }
+
 -- how a lock reads a trace
-abbrev pub trace_log : Reading Traced Entry Scenario (List (ℕ × ℕ))
-trace_log = record { entries = λ t. t.entries; worker = λ e. e.worker; subject = λ t. t.subject; work = open_by }
+abbrev pub trace_log : Reading Traced Entry Scenario OpenWork
+trace_log = record { entries = λ t. t.entries; worker = λ e. e.worker; subject = λ t. t.subject; work = work_by }

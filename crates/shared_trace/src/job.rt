@@ -5,6 +5,7 @@ ghost use Rattle.std.specs.Prelude.{slice_index};
 ghost use Rattle.std.specs.List.{AllByRecursion};
 ghost use Rattle.fleet_core.specs.Run.{IsRun, is_enabled, step_at};
 ghost use Rattle.ticket_lock.specs.Names.{pass_view, lowest_work};
+ghost use Rattle.shared_trace.specs.Trace.{no_work};
 ghost use Rattle.shared_trace.specs.Job.{Task, IsOf, StandsIn, IsSameJob, Advances, Steps, seen_by};
 ghost use Rattle.shared_trace.specs.Kept.{IsJob, table_length};
 
@@ -175,7 +176,7 @@ impl Job {
         scenario: &Scenario,
         batch: u32,
     ) -> Result<(), AdvanceFault>
-        requires stands { StandsIn (lowest_work (pass_view pass.now) []) self.old }
+        requires stands { StandsIn (lowest_work (pass_view pass.now) no_work).out self.old }
         requires subject { (pass_view pass.now).subject ≡ Some self.old.subject }
         requires scenario { scenario.now ≡ self.old.subject }
         requires batch { 1 ≤ batch }

@@ -10,11 +10,14 @@ mod next;
 mod pages;
 mod start;
 mod station;
+mod stops;
 mod tables;
 mod trace;
+mod work;
 
 pub use claims::Claim;
 pub use entries::EntryIter;
 pub use job::{AdvanceFault, Job};
 pub use station::Place;
 pub use trace::Trace;
+pub use work::OpenWork;

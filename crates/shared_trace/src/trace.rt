@@ -6,8 +6,8 @@ ghost use Rattle.fleet_core.specs.Run.{IsRun, made_by, is_enabled};
 ghost use Rattle.fleet_core.specs.Waiting.{is_waiting};
 ghost use Rattle.ticket_lock.specs.Log.{Adds};
 ghost use Rattle.shared_trace.specs.declared.station.Place.TheVariants.{Parked, Out};
-ghost use Rattle.shared_trace.specs.Trace.{Traced, IsShared, IsReady, with_out, with_block, stopped_of, open_by};
-ghost use Rattle.shared_trace.specs.Trace.{trace_log};
+ghost use Rattle.shared_trace.specs.Trace.{Traced, IsShared, IsReady, with_out, with_block, stopped_under, is_stopped};
+ghost use Rattle.shared_trace.specs.Trace.{open_by, trace_log};
 ghost use Rattle.shared_trace.specs.Job.{Task, MayPut, StandsIn};
 ghost use Rattle.shared_trace.specs.Claims.{IsTaken, IsAnyOut, IsAnyLeft, AreAllAtEnd, Claims, ClaimStands};
 ghost use Rattle.shared_trace.specs.Kept.{IsTrace, IsStation, table_length, is_parked};
@@ -19,17 +19,18 @@ use crate::job::Job;
 use crate::pages::Pages;
 use crate::start::start_stations;
 use crate::station::{Place, Station, any_out, count_ended, first_left, look_from, lowest_ready};
+use crate::stops::Stops;
 use crate::tables::{add_posts, table_length};
+use crate::work::OpenWork;
 use scenario_image::Scenario;
 use std::alloc::{AllocError, Global};
-use std::collections::LinkedList;
 use std::marker::Model;
 use std::snapshot::Snapshot;
 use ticket_lock::Logged;
 use trace_file::{Entries, Entry};
 
 /// A run of a scenario that workers make together. Contracts see its scenario, its entries, where each device is, and
-/// whether it was stopped.
+/// which workers have stopped it.
 #[derive(Drop)]
 pub struct Trace {
     alloc: Global,
@@ -43,7 +44,7 @@ pub struct Trace {
     first: usize,
     /// The device that was handed out last.
     last: usize,
-    stopped: bool,
+    stops: Stops,
 }
 
 impl Model for Trace {
@@ -51,6 +52,7 @@ impl Model for Trace {
     ghost use Rattle.instance_store.specs.Stored.{stored_code};
     ghost use Rattle.device_requests.specs.Client.{attributes_code};
     ghost use Rattle.shared_trace.specs.Trace.{Traced};
+    ghost use Rattle.shared_trace.specs.Stops.{numbers_in};
     ghost use Rattle.std.specs.Prelude.{slice_index};
     ghost use Rattle.shared_trace.specs.Kept.{IsTrace, AreEnded, AreIdle, places_of};
 
@@ -62,7 +64,7 @@ impl Model for Trace {
       subject = t.subject.value;
       entries = t.entries.held;
       places = places_of t.stations.items;
-      stopped = t.stopped;
+      stopped_by = numbers_in t.stops;
     } };
 
     ghost invariant = { λ t. IsTrace t.subject.value t.entries.held t.stations.items t.posts.items
@@ -76,7 +78,7 @@ impl Logged for Trace {
 
     type Subject = Scenario;
 
-    type Work = LinkedList<(u16, u32)>;
+    type Work = OpenWork;
 
     ghost log = { trace_log };
 }
@@ -87,7 +89,7 @@ impl Trace {
     pub fn new(alloc: Global, scenario: &Scenario) -> Result<Trace, AllocError>
         ensures subject { IfOk result (λ t. t.subject ≡ scenario.now) }
         ensures entries { IfOk result (λ t. t.entries ≡ []) }
-        ensures going { IfOk result (λ t. t.stopped ≡ false) }
+        ensures going { IfOk result (λ t. t.stopped_by ≡ []) }
         ensures parked { IfOk result (λ t. (d : ℕ) (p : Place) → slice_get t.places d ≡ Some p → is_parked p ≡ true) }
         ensures shared { IfOk result (λ t. IsShared t) }
     {
@@ -105,7 +107,7 @@ impl Trace {
             low: 0,
             first: 0,
             last: 0,
-            stopped: false,
+            stops: Stops::Never,
         })
     }
 
@@ -141,7 +143,7 @@ impl Trace {
             low,
             first,
             last,
-            stopped,
+            stops,
         } = self;
         match entries.into_vec() {
             Ok(entries) => Ok(Entries::from_vec(entries)),
@@ -155,20 +157,30 @@ impl Trace {
                     low,
                     first,
                     last,
-                    stopped,
+                    stops,
                 };
                 Err((trace, fault))
             }
         }
     }
 
-    /// Stops the trace: each later claim answers so.
-    pub fn stop(&mut self)
-        ensures stopped { self.new ≡ stopped_of self.old }
-        ensures adds { (worker : ℕ) → Adds trace_log worker self.old self.new }
+    /// Stops the trace, for this worker: each later claim answers so.
+    pub fn stop(&mut self, worker: u16)
+        ensures stopped { self.new ≡ stopped_under self.old worker }
+        ensures adds { Adds trace_log worker self.old self.new }
         ensures shared { IsShared self.new }
     {
-        self.stopped = true;
+        self.stops = Stops::By(Snapshot::of(&self.stops), worker);
+    }
+
+    fn is_stopped(&self) -> bool
+        ensures is { result ≡ is_stopped self.now }
+        ensures shared { IsShared self.now }
+    {
+        match self.stops {
+            Stops::Never => false,
+            Stops::By(_, _) => true,
+        }
     }
 
     /// The lowest device that is ready. `low` moves on to the lowest device that is not at the end of its row, and
@@ -193,7 +205,7 @@ impl Trace {
 
     /// What is answered where no device is ready.
     fn idle(&self) -> Claim
-        requires going { self.now.stopped ≡ false }
+        requires going { is_stopped self.now ≡ false }
         requires none { (d : ℕ) → IsReady self.now d → ⊥ }
         ensures claims { (worker : ℕ) → Claims self.now self.now worker result }
         ensures stands { (worker : ℕ) → ClaimStands self.now worker result }
@@ -255,7 +267,7 @@ impl Trace {
         ensures adds { Adds trace_log worker self.old self.new }
         ensures shared { IsShared self.new }
     {
-        if self.stopped {
+        if self.is_stopped() {
             return Claim::Stopped;
         }
         match self.lowest() {

@@ -1,9 +1,12 @@
-use Rattle.fleet_workers.proofs.Together.{alone_follows, alone_puts}
+use Rattle.fleet_workers.proofs.Together.{alone_worked}
 use Rattle.fleet_workers.proofs.crew.run_alone.Goals as goal
 
-pub returns-clause-follows : goal.returns-clause-follows
-returns-clause-follows g c =
-    alone_follows c.args.pass.seat.me.0 c.worker_loop.result.0.seat.me.0 c.worker_loop.ensures.follows
-
-pub returns-clause-blocks : goal.returns-clause-blocks
-returns-clause-blocks g c = alone_puts _ _ _ _ _ c.worker_loop.ensures.blocks
+pub returns-clause-worked : goal.returns-clause-worked
+returns-clause-worked g c =
+    alone_worked (g.G.Gate.came c.args.gate.now) c.args.scenario.now c.args.batch c.args.pass.seat.me.0
+    c.worker_loop.result.0.seat.me.0 c.worker_loop.result.1 (record {
+      follows = c.worker_loop.ensures.follows;
+      blocks = c.worker_loop.ensures.blocks;
+      ends = c.worker_loop.ensures.end;
+      going = c.worker_loop.ensures.going;
+    })

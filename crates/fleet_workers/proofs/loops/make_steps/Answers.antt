@@ -1,4 +1,4 @@
-use Rattle.std.proofs.Common.{arith}
+use Rattle.std.proofs.Common.{arith, inl, refl, subst}
 use Rattle.fleet_workers.proofs.Following.{still_knows}
 use Rattle.fleet_workers.proofs.Blocks.{made_block, block_or_nothing, visit_puts, has_low}
 use Rattle.fleet_workers.proofs.loops.make_steps.Goals as goal
@@ -10,21 +10,32 @@ put_and_claim-requires-clause-knows g c =
 pub returns-clause-made : goal.returns-clause-made
 returns-clause-made g c ok = (
   c.advance.new.self.entries,
-  made_block c.args.scenario.now c.args.batch c.args.pass.seat.me.0 c.put_and_claim.result.0.seat.me.0 c.args.job
+  made_block (g.G.Gate.came c.args.gate.now) c.args.scenario.now c.args.batch c.args.pass.seat.me.0
+      c.put_and_claim.result.0.seat.me.0 c.args.job
       c.advance.new.self c.requires.subject c.requires.knows c.requires.fresh c.in-Ok.ensures.advances
       (c.in-Ok.ensures.fresh c.requires.fresh) c.entries-made.ensures.run c.entries-made.ensures.each
+      (subst (λ n. g.G.Gate.came c.args.gate.now n c.args.job.device) c.number.ensures
+      (subst (λ d. g.G.Gate.came c.args.gate.now c.number.result d) c.device.ensures c.pass.ensures))
       (c.put_and_claim.ensures.put ok),
 )
 
 pub returns-clause-blocks : goal.returns-clause-blocks
 unfolding returns-clause-made
 returns-clause-blocks g c =
-    block_or_nothing c.args.scenario.now c.args.batch c.args.pass.seat.me.0 c.put_and_claim.result.0.seat.me.0
+    block_or_nothing (g.G.Gate.came c.args.gate.now) c.args.scenario.now c.args.batch c.args.pass.seat.me.0
+    c.put_and_claim.result.0.seat.me.0
     c.advance.new.self.entries c.put_and_claim.result.1 c.put_and_claim.ensures.follows
     (λ ok. (returns-clause-made g c ok).1) c.put_and_claim.ensures.kept
 
 pub returns-in-Err-clause-blocks : goal.returns-in-Err-clause-blocks
 returns-in-Err-clause-blocks g c =
     let v = c.args.pass.seat.me.0 in
-    visit_puts c.args.scenario.now c.args.batch v c.stop_trace.result.seat.me.0 c.stop_trace.ensures.follows
+    visit_puts (g.G.Gate.came c.args.gate.now) c.args.scenario.now c.args.batch v c.stop_trace.result.seat.me.0
+    c.stop_trace.ensures.follows
     (c.stop_trace.ensures.own v.low (has_low v (omega (arith, c.args.pass.within.0, c.args.pass.numbers.1))))
+
+pub returns-in-Err-clause-going : goal.returns-in-Err-clause-going
+returns-in-Err-clause-going g c not = absurd (not refl)
+
+pub returns-in-Err-clause-out : goal.returns-in-Err-clause-out
+returns-in-Err-clause-out g c d out = inl (c.stop_trace.ensures.out d out)

@@ -1,10 +1,13 @@
-use Rattle.std.proofs.Common.{◌++◌, [], sym, ap, subst, ◌∙◌, arith}
+use Rattle.std.proofs.Common.{◌++◌, [], inl, refl, sym, ap, subst, ◌∙◌, arith}
 use Rattle.ticket_lock.specs.Log.{Adds}
-use Rattle.shared_trace.specs.Trace.{with_block, stopped_of, open_by, trace_log}
+use Rattle.shared_trace.specs.Trace.{with_block, stopped_under, work_by, no_work, trace_log}
 use Rattle.shared_trace.specs.Job.{MayPut}
 use Rattle.shared_trace.specs.Claims.{Claims, ClaimStands}
 use Rattle.fleet_workers.proofs.Following.{follows, follows_ended, may_put, is_put, claimed_after}
 use Rattle.fleet_workers.proofs.Blocks.{own_left, own_ended, own_block, own_put, claim_leaves}
+use Rattle.fleet_workers.specs.Knowing.{Gets}
+use Rattle.fleet_workers.proofs.Outs.{both_outs, stop_outs, visit_outs, visit_leaves, ended_outs}
+use Rattle.fleet_workers.proofs.Stops.{claim_keeps, still_going, now_stopped, ended_going}
 use Rattle.fleet_workers.proofs.visits.put_and_claim.Goals as goal
 
 pub put_then_claim-claim-requires : goal.put_then_claim-claim-requires
@@ -12,7 +15,8 @@ put_then_claim-claim-requires g c =
     let v = c.args.pass.seat.me.0 in let h = c.in-Ok.held in
     subst (λ n. MayPut c.value_mut.result.now n c.args.job) (sym c.number-worker.ensures)
     (subst (λ x. MayPut x v.low c.args.job) (sym c.value_mut.ensures.value)
-    (may_put v h.value c.args.job c.in-Ok.ensures.value c.requires.knows (c.in-Ok.ensures.work []) c.requires.ready))
+    (may_put v h.value c.args.job c.in-Ok.ensures.value c.requires.knows
+    (c.in-Ok.ensures.work no_work) c.requires.ready))
 
 pub returns-in-Some-clause-follows : goal.returns-in-Some-clause-follows
 returns-in-Some-clause-follows g c =
@@ -69,7 +73,7 @@ returns-in-Some-clause-claimed g c =
     let claim = c.in-Some.claim in
     claimed_after v c.give-pass.result.seat.me.0 h.seat.me.0 c.in-Ok.ensures.view.0 h.value new job claim
     c.in-Ok.ensures.value c.in-Ok.ensures.view.1 c.give-pass.ensures.given
-    (c.give-pass.ensures.work [] ∙ ap (λ u. open_by new u.low) c.in-Ok.ensures.view.1)
+    (c.give-pass.ensures.work no_work ∙ ap (λ u. work_by new u.low) c.in-Ok.ensures.view.1)
     (subst (λ x. Claims (with_block x job.device job.held job.entries) new v.low claim) c.value_mut.ensures.value
     (subst (λ n. Claims (with_block c.value_mut.result.now job.device job.held job.entries) new n claim)
     c.number-worker.ensures c.in-Some.ensures.claims))
@@ -79,7 +83,8 @@ pub returns-in-None-clause-kept : goal.returns-in-None-clause-kept
 returns-in-None-clause-kept g c _ =
     let v = c.args.pass.seat.me.0 in let h = c.in-Ok.held in let new = c.put_then_claim-claim.new.trace in
     own_left v.low v c.give-pass.result.seat.me.0 h.seat.me.0 h.value new c.give-pass.ensures.given
-    (ap (λ t. t.entries) (c.in-None.ensures.stopped ∙ ap stopped_of c.value_mut.ensures.value))
+    (ap (λ t. t.entries) (c.in-None.ensures.stopped
+    ∙ ap (λ x. stopped_under x c.number-worker.result) c.value_mut.ensures.value))
     (c.in-Ok.ensures.own v.low (omega arith, omega (arith, c.args.pass.within.0, c.args.pass.numbers.1)))
 
 pub returns-in-Err-clause-follows : goal.returns-in-Err-clause-follows
@@ -88,3 +93,53 @@ returns-in-Err-clause-follows g c = follows_ended c.args.pass.seat.me.0 c.in-Err
 pub returns-in-Err-clause-kept : goal.returns-in-Err-clause-kept
 returns-in-Err-clause-kept g c _ =
     own_ended c.args.pass.seat.me.0.low c.args.pass.seat.me.0 c.in-Err.pass.seat.me.0 c.in-Err.ensures.spent.1
+
+pub returns-in-Some-clause-going : goal.returns-in-Some-clause-going
+returns-in-Some-clause-going g c not =
+    let v = c.args.pass.seat.me.0 in let h = c.in-Ok.held in let new = c.put_then_claim-claim.new.trace in let job =
+    c.args.job in
+    still_going v c.give-pass.result.seat.me.0 h.seat.me.0 c.in-Ok.ensures.view.0 h.value new
+    c.in-Ok.ensures.view.1 (c.in-Ok.ensures.work no_work) (c.give-pass.ensures.work no_work)
+    (claim_keeps (with_block c.value_mut.result.now job.device job.held job.entries) new _ c.in-Some.claim
+    c.in-Some.ensures.claims
+    ∙ ap (λ x. x.stopped_by) c.value_mut.ensures.value)
+
+pub returns-in-None-clause-memory : goal.returns-in-None-clause-memory
+returns-in-None-clause-memory g c _ =
+    let v = c.args.pass.seat.me.0 in let h = c.in-Ok.held in let new = c.put_then_claim-claim.new.trace in
+    now_stopped v c.give-pass.result.seat.me.0 h.seat.me.0 c.in-Ok.ensures.view.0 c.number-worker.result
+    h.value new c.in-Ok.ensures.view.1 (c.give-pass.ensures.work no_work)
+    (c.in-None.ensures.stopped ∙ ap (λ x. stopped_under x c.number-worker.result) c.value_mut.ensures.value)
+    c.number-worker.ensures
+
+pub returns-in-None-clause-end : goal.returns-in-None-clause-end
+unfolding returns-in-None-clause-memory
+returns-in-None-clause-end g c _ = returns-in-None-clause-memory g c refl
+
+pub returns-in-Err-clause-going : goal.returns-in-Err-clause-going
+returns-in-Err-clause-going g c not =
+    ended_going c.args.pass.seat.me.0 c.in-Err.pass.seat.me.0 c.in-Err.ensures.spent.1
+
+pub returns-in-Some-clause-out : goal.returns-in-Some-clause-out
+returns-in-Some-clause-out g c d =
+    let v = c.args.pass.seat.me.0 in let h = c.in-Ok.held in let new = c.put_then_claim-claim.new.trace in let job =
+    c.args.job in
+    let claim = c.in-Some.claim in
+    visit_outs v c.give-pass.result.seat.me.0 h.seat.me.0 c.in-Ok.ensures.view.0 h.value new (Gets claim d) d
+    c.in-Ok.ensures.view.1 (c.in-Ok.ensures.work no_work) (c.give-pass.ensures.work no_work)
+    (both_outs h.value new v.low job claim d
+    (subst (λ x. Claims (with_block x job.device job.held job.entries) new v.low claim) c.value_mut.ensures.value
+    (subst (λ n. Claims (with_block c.value_mut.result.now job.device job.held job.entries) new n claim)
+    c.number-worker.ensures c.in-Some.ensures.claims)))
+
+pub returns-in-None-clause-out : goal.returns-in-None-clause-out
+returns-in-None-clause-out g c d out =
+    let v = c.args.pass.seat.me.0 in let h = c.in-Ok.held in let new = c.put_then_claim-claim.new.trace in
+    inl (visit_leaves v c.give-pass.result.seat.me.0 h.seat.me.0 c.in-Ok.ensures.view.0 h.value new d
+    c.in-Ok.ensures.view.1 (c.in-Ok.ensures.work no_work) (c.give-pass.ensures.work no_work)
+    (stop_outs h.value new v.low c.number-worker.result d
+    (c.in-None.ensures.stopped ∙ ap (λ x. stopped_under x c.number-worker.result) c.value_mut.ensures.value)) out)
+
+pub returns-in-Err-clause-out : goal.returns-in-Err-clause-out
+returns-in-Err-clause-out g c d out =
+    inl (ended_outs c.args.pass.seat.me.0 c.in-Err.pass.seat.me.0 d c.in-Err.ensures.spent.1 out)

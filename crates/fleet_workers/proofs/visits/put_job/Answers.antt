@@ -1,9 +1,10 @@
 use Rattle.std.proofs.Common.{[], sym, ap, subst, ◌∙◌, arith}
 use Rattle.ticket_lock.specs.Log.{Adds}
-use Rattle.shared_trace.specs.Trace.{with_block, stopped_of, trace_log}
+use Rattle.shared_trace.specs.Trace.{with_block, stopped_under, no_work, trace_log}
 use Rattle.shared_trace.specs.Job.{MayPut}
 use Rattle.fleet_workers.proofs.Following.{follows, follows_ended, may_put, is_put}
 use Rattle.fleet_workers.proofs.Blocks.{own_left, own_ended, own_block, own_put}
+use Rattle.fleet_workers.proofs.Stops.{still_going, now_stopped, ended_going}
 use Rattle.fleet_workers.proofs.visits.put_job.Goals as goal
 use Rattle.fleet_workers.proofs.visits.put_job.Goals.{then-put, else-put}
 
@@ -12,7 +13,8 @@ put_or_stop-put-requires g c =
     let v = c.args.pass.seat.me.0 in let h = c.in-Ok.held in
     subst (λ n. MayPut c.value_mut.result.now n c.args.job) (sym c.number-worker.ensures)
     (subst (λ x. MayPut x v.low c.args.job) (sym c.value_mut.ensures.value)
-    (may_put v h.value c.args.job c.in-Ok.ensures.value c.requires.knows (c.in-Ok.ensures.work []) c.requires.ready))
+    (may_put v h.value c.args.job c.in-Ok.ensures.value c.requires.knows
+    (c.in-Ok.ensures.work no_work) c.requires.ready))
 
 pub returns-after-put-clause-follows : goal.returns-after-put-clause-follows
 returns-after-put-clause-follows g c =
@@ -63,7 +65,8 @@ returns-after-put-clause-kept g c not =
       | else-put w ↦
           own_left v.low v c.give.result.seat.me.0 h.seat.me.0 h.value new c.give.ensures.given
           (ap (λ t. t.entries)
-          (c.put_or_stop-put.ensures.stopped w.if-put.false ∙ ap stopped_of c.value_mut.ensures.value))
+          (c.put_or_stop-put.ensures.stopped w.if-put.false
+          ∙ ap (λ x. stopped_under x c.number-worker.result) c.value_mut.ensures.value))
           (c.in-Ok.ensures.own v.low (omega arith, omega (arith, c.args.pass.within.0, c.args.pass.numbers.1)))
     ]
 
@@ -73,3 +76,32 @@ returns-in-Err-clause-follows g c = follows_ended c.args.pass.seat.me.0 c.in-Err
 pub returns-in-Err-clause-kept : goal.returns-in-Err-clause-kept
 returns-in-Err-clause-kept g c not =
     own_ended c.args.pass.seat.me.0.low c.args.pass.seat.me.0 c.in-Err.pass.seat.me.0 c.in-Err.ensures.spent.1
+
+pub returns-after-put-clause-memory : goal.returns-after-put-clause-memory
+returns-after-put-clause-memory g c memory =
+    let v = c.args.pass.seat.me.0 in let h = c.in-Ok.held in let new = c.put_or_stop-put.new.trace in
+    elim c.if-put.branch [
+      | then-put w ↦ (let e = sym memory ∙ w.result-is in absurd cc)
+      | else-put w ↦
+          now_stopped v c.give.result.seat.me.0 h.seat.me.0 c.in-Ok.ensures.view.0 c.number-worker.result
+          h.value new c.in-Ok.ensures.view.1 (c.give.ensures.work no_work)
+          (c.put_or_stop-put.ensures.stopped w.if-put.false
+          ∙ ap (λ x. stopped_under x c.number-worker.result) c.value_mut.ensures.value)
+          c.number-worker.ensures
+    ]
+
+pub returns-after-put-clause-going : goal.returns-after-put-clause-going
+returns-after-put-clause-going g c not =
+    let v = c.args.pass.seat.me.0 in let h = c.in-Ok.held in let new = c.put_or_stop-put.new.trace in
+    elim c.if-put.branch [
+      | then-put w ↦
+          still_going v c.give.result.seat.me.0 h.seat.me.0 c.in-Ok.ensures.view.0 h.value new
+          c.in-Ok.ensures.view.1 (c.in-Ok.ensures.work no_work) (c.give.ensures.work no_work)
+          (ap (λ t. t.stopped_by) (c.put_or_stop-put.ensures.put w.if-put.true)
+          ∙ ap (λ x. x.stopped_by) c.value_mut.ensures.value)
+      | else-put w ↦ absurd (not w.result-is)
+    ]
+
+pub returns-in-Err-clause-going : goal.returns-in-Err-clause-going
+returns-in-Err-clause-going g c not =
+    ended_going c.args.pass.seat.me.0 c.in-Err.pass.seat.me.0 c.in-Err.ensures.spent.1

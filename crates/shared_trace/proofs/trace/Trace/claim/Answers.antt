@@ -1,18 +1,12 @@
-use Rattle.std.proofs.Common.{ℕ, ◌≤◌, sym, ap, subst, ◌∙◌}
+use Rattle.std.proofs.Common.{ℕ, ◌≤◌, sym, subst, ◌∙◌}
 use Rattle.ticket_lock.specs.Log.{Adds}
 use Rattle.shared_trace.specs.Trace.{IsShared, IsReady, trace_log}
 use Rattle.shared_trace.specs.Claims.{IsTaken, Claims}
-use Rattle.shared_trace.proofs.Stations.{shared_of}
 use Rattle.shared_trace.proofs.trace.Trace.claim.Goals as goal
-
-pub returns-then-self-clause-shared : goal.returns-then-self-clause-shared
-returns-then-self-clause-shared c =
-    shared_of c.args.self.now c.self.inside.subject.value c.self.inside.entries.held c.self.inside.stations.items
-    c.self.inside.posts.items c.self.inside.stopped c.self.view_is c.self.invariant.0
 
 pub returns-in-Some-clause-claims : goal.returns-in-Some-clause-claims
 returns-in-Some-clause-claims c = record {
-  going = sym (ap (λ t. t.stopped) c.self.view_is) ∙ c.if-self.false;
+  going = sym c.is_stopped.ensures.is ∙ c.if-is_stopped.false;
   taken = subst (λ t. IsTaken t c.hand_out.new.self c.args.worker c.hand_out.result)
       (c.list_for_job-list.ensures.same ∙ c.lowest.ensures.same) c.hand_out.ensures.taken;
   lowest = subst (λ n. (d : ℕ) → IsReady c.args.self.now d → n ≤ d)
@@ -38,7 +32,4 @@ pub returns-in-None-clause-stands : goal.returns-in-None-clause-stands
 returns-in-None-clause-stands c = c.idle.ensures.stands c.args.worker
 
 pub returns-in-None-clause-shared : goal.returns-in-None-clause-shared
-returns-in-None-clause-shared c =
-    subst IsShared (sym c.lowest.ensures.same)
-    (shared_of c.args.self.now c.self.inside.subject.value c.self.inside.entries.held c.self.inside.stations.items
-    c.self.inside.posts.items c.self.inside.stopped c.self.view_is c.self.invariant.0)
+returns-in-None-clause-shared c = subst IsShared (sym c.lowest.ensures.same) c.is_stopped.ensures.shared

@@ -11,7 +11,7 @@ hand : (c : goal.After-as_slice)
     c.self.inside.posts.items c.args.device c.index_mut-station.result.now c.requires.ready.held
 hand c =
     handed c.args.self.now c.self.inside.subject.value c.self.inside.entries.held c.self.inside.stations.items
-    c.self.inside.posts.items c.self.inside.stopped
+    c.self.inside.posts.items c.self.inside.stops
     c.args.device c.from.result c.index_mut-station.result.now c.self.view_is c.self.invariant.0 c.requires.ready
     c.from.ensures c.index_mut-station.ensures.value
 
@@ -33,7 +33,7 @@ then : (c : goal.After-new)
     c.self.inside.posts.items c.args.device c.index_mut-station.result.now c.requires.ready.held
 then c =
     handed c.args.self.now c.self.inside.subject.value c.self.inside.entries.held c.self.inside.stations.items
-    c.self.inside.posts.items c.self.inside.stopped
+    c.self.inside.posts.items c.self.inside.stops
     c.args.device c.from.result c.index_mut-station.result.now c.self.view_is c.self.invariant.0 c.requires.ready
     c.from.ensures c.index_mut-station.ensures.value
 
@@ -56,7 +56,7 @@ pub invariant_of-result : goal.invariant_of-result
 invariant_of-result c =
     fresh_job c.args.self.now c.of-claimed.result.value c.self.inside.subject.value c.self.inside.entries.held
     c.args.list.items c.self.inside.stations.items c.self.inside.posts.items
-    c.copy_from_slice.new.self.items c.new.result.items c.self.inside.stopped c.args.device c.args.worker
+    c.copy_from_slice.new.self.items c.new.result.items c.self.inside.stops c.args.device c.args.worker
     c.index_mut-station.result.now c.requires.ready.held c.hand_out-held.result.0
     c.self.view_is c.of-claimed.ensures (then c) c.hand_out-held.ensures.device
     (c.copy_from_slice.ensures.items ∙ c.as_slice.ensures.value) c.new.ensures.items c.requires.empty
@@ -64,7 +64,7 @@ invariant_of-result c =
 pub returns-clause-taken : goal.returns-clause-taken
 returns-clause-taken c = record {
   parked = parked_now c.args.self.now c.self.inside.subject.value c.self.inside.entries.held
-      c.self.inside.stations.items c.self.inside.posts.items c.self.inside.stopped
+      c.self.inside.stations.items c.self.inside.posts.items c.self.inside.stops
       c.args.device c.index_mut-station.result.now c.requires.ready.held c.hand_out-held.result.0 c.self.view_is
       (then c) c.hand_out-held.ensures.device;
   enabled = c.requires.ready.enabled;
@@ -74,11 +74,11 @@ returns-clause-taken c = record {
   entries = c.requires.empty;
   ready = refl;
   shows = shows_now c.args.self.now c.self.inside.subject.value c.self.inside.entries.held c.self.inside.stations.items
-      c.self.inside.posts.items c.self.inside.stopped
+      c.self.inside.posts.items c.self.inside.stops
       c.args.device c.index_mut-station.result.now c.requires.ready.held c.hand_out-held.result.0 c.self.view_is
       (then c) c.hand_out-held.ensures.device;
   left = out_view c.args.self.now c.self.inside.subject.value c.self.inside.entries.held c.self.inside.stations.items
-      c.self.inside.stopped
+      c.self.inside.stops
       c.args.device c.args.worker c.from.result c.hand_out-held.new.self c.self.view_is c.from.ensures
       c.hand_out-held.ensures.place;
 }
@@ -90,7 +90,7 @@ pub returns-clause-adds : goal.returns-clause-adds
 returns-clause-adds c =
     out_adds c.args.self.now _ c.args.device c.args.worker c.requires.ready.held c.requires.ready.parked
     (out_view c.args.self.now c.self.inside.subject.value c.self.inside.entries.held c.self.inside.stations.items
-    c.self.inside.stopped
+    c.self.inside.stops
     c.args.device c.args.worker c.from.result c.hand_out-held.new.self c.self.view_is c.from.ensures
     c.hand_out-held.ensures.place)
 
@@ -99,6 +99,6 @@ returns-clause-stands c =
     out_stands c.args.self.now _ c.of-claimed.result.value c.args.device c.args.worker c.requires.ready.held
     c.requires.ready.parked
     (out_view c.args.self.now c.self.inside.subject.value c.self.inside.entries.held c.self.inside.stations.items
-    c.self.inside.stopped
+    c.self.inside.stops
     c.args.device c.args.worker c.from.result c.hand_out-held.new.self c.self.view_is c.from.ensures
     c.hand_out-held.ensures.place) c.of-claimed.ensures

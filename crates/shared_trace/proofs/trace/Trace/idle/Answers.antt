@@ -11,7 +11,7 @@ pub returns-in-Some-clause-claims : goal.returns-in-Some-clause-claims
 returns-in-Some-clause-claims c = λ w. (
   idle_now c.args.self.now c.requires.going c.requires.none,
   any_out c.args.self.now c.self.inside.subject.value c.self.inside.entries.held c.self.inside.stations.items
-      c.self.inside.posts.items c.self.inside.stopped c.in-Some.field-0
+      c.self.inside.posts.items c.self.inside.stops c.in-Some.field-0
       c.as_slice.result.now c.as_slice.ensures.value c.self.view_is c.self.invariant.0 c.in-Some.ensures.out,
 )
 
@@ -19,11 +19,11 @@ pub returns-in-Some-first_left-clause-claims : goal.returns-in-Some-first_left-c
 returns-in-Some-first_left-clause-claims c = λ w. (
   idle_now c.args.self.now c.requires.going c.requires.none,
   complete_is c.args.self.now c.self.inside.subject.value c.self.inside.entries.held c.self.inside.stations.items
-      c.self.inside.posts.items c.self.inside.stopped
+      c.self.inside.posts.items c.self.inside.stops
       c.as_slice.result.now c.as_slice.ensures.value c.self.view_is c.self.invariant.0 c.requires.none
       c.in-None.ensures.none,
   any_left c.args.self.now c.self.inside.subject.value c.self.inside.entries.held c.self.inside.stations.items
-      c.self.inside.posts.items c.self.inside.stopped c.in-Some-first_left.field-0
+      c.self.inside.posts.items c.self.inside.stops c.in-Some-first_left.field-0
       c.as_slice-2.result.now c.as_slice-2.ensures.value c.self.view_is c.self.invariant.0
       c.in-Some-first_left.ensures.left,
 )
@@ -32,11 +32,11 @@ pub returns-in-None-first_left-clause-claims : goal.returns-in-None-first_left-c
 returns-in-None-first_left-clause-claims c = λ w. (
   idle_now c.args.self.now c.requires.going c.requires.none,
   complete_is c.args.self.now c.self.inside.subject.value c.self.inside.entries.held c.self.inside.stations.items
-      c.self.inside.posts.items c.self.inside.stopped
+      c.self.inside.posts.items c.self.inside.stops
       c.as_slice.result.now c.as_slice.ensures.value c.self.view_is c.self.invariant.0 c.requires.none
       c.in-None.ensures.none,
   all_ended c.args.self.now c.self.inside.subject.value c.self.inside.entries.held c.self.inside.stations.items
-      c.self.inside.posts.items c.self.inside.stopped
+      c.self.inside.posts.items c.self.inside.stops
       c.as_slice-2.result.now c.as_slice-2.ensures.value c.self.view_is c.self.invariant.0
       c.in-None-first_left.ensures.none,
 )

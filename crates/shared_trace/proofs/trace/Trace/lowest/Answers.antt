@@ -30,13 +30,13 @@ invariant_of-self-in-None c = (
 pub returns-in-Some-clause-ready : goal.returns-in-Some-clause-ready
 returns-in-Some-clause-ready c =
     lowest_from _ c.self.inside.subject.value c.self.inside.entries.held c.self.inside.stations.items
-    c.self.inside.posts.items c.self.inside.stopped c.in-Some.device
+    c.self.inside.posts.items c.self.inside.stops c.in-Some.device
     c.as_slice-2.result.now c.as_slice-3.result.now c.as_slice-2.ensures.value c.as_slice-3.ensures.value refl
     c.self.invariant.0 c.in-Some.ensures.ready c.in-Some.ensures.lowest
 
 pub returns-in-None-clause-none : goal.returns-in-None-clause-none
 returns-in-None-clause-none c =
     none_from _ c.self.inside.subject.value c.self.inside.entries.held c.self.inside.stations.items
-    c.self.inside.posts.items c.self.inside.stopped
+    c.self.inside.posts.items c.self.inside.stops
     c.as_slice-2.result.now c.as_slice-3.result.now c.as_slice-2.ensures.value c.as_slice-3.ensures.value refl
     c.self.invariant.0 c.in-None.ensures.none

@@ -1,4 +1,5 @@
 use Rattle.std.proofs.Common.{slice_index}
+use Rattle.shared_trace.specs.declared.stops.Stops.{Never}
 use Rattle.shared_trace.proofs.Starting.{start_trace, all_parked}
 use Rattle.shared_trace.proofs.Stations.{shared_is}
 use Rattle.shared_trace.proofs.Ended.{none_ended}
@@ -19,4 +20,4 @@ pub returns-clause-parked : goal.returns-clause-parked
 returns-clause-parked c = all_parked c.args.scenario.now c.in_ok-stations.stations.items c.in_ok-stations.ensures.parked
 
 pub returns-clause-shared : goal.returns-clause-shared
-returns-clause-shared c = shared_is _ _ _ _ _ (invariant_of-result c).0
+returns-clause-shared c = shared_is _ _ _ _ Never (invariant_of-result c).0

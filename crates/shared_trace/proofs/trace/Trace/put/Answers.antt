@@ -12,10 +12,10 @@ use Rattle.shared_trace.proofs.trace.Trace.put.Goals as goal
 
 pub returns-in-Err-clause-shared : goal.returns-in-Err-clause-shared
 returns-in-Err-clause-shared c =
-    subst (λ l. IsShared (traced c.self.inside.subject.value l c.self.inside.stations.items c.self.inside.stopped))
+    subst (λ l. IsShared (traced c.self.inside.subject.value l c.self.inside.stations.items c.self.inside.stops))
     (sym c.in-Err.ensures.unchanged)
     (shared_is c.self.inside.subject.value c.self.inside.entries.held c.self.inside.stations.items
-    c.self.inside.posts.items c.self.inside.stopped c.self.invariant.0)
+    c.self.inside.posts.items c.self.inside.stops c.self.invariant.0)
 
 fits : (c : goal.After-as_slice)
     → IsFitting c.self.inside.subject.value c.self.inside.entries.held c.self.inside.stations.items
@@ -24,7 +24,7 @@ fits : (c : goal.After-as_slice)
     c.job.inside.place c.job.inside.next
 fits c =
     fitting c.args.self.now c.args.job c.self.inside.subject.value c.self.inside.entries.held
-    c.self.inside.stations.items c.self.inside.posts.items c.self.inside.stopped c.job.inside.claimed.value.subject
+    c.self.inside.stations.items c.self.inside.posts.items c.self.inside.stops c.job.inside.claimed.value.subject
     c.job.inside.worker c.args.worker c.job.inside.device c.job.inside.claimed.value.entries
     c.job.inside.entries.items c.job.inside.held c.job.inside.spent c.job.inside.known.items
     c.job.inside.posted.items c.job.inside.place c.job.inside.next
@@ -43,7 +43,7 @@ add_posts-requires-clause-room c =
 pub index_mut-requires : goal.index_mut-requires
 index_mut-requires c =
     let h = put_place (fitting c.args.self.now c.args.job c.self.inside.subject.value c.self.inside.entries.held
-    c.self.inside.stations.items c.self.inside.posts.items c.self.inside.stopped c.job.inside.claimed.value.subject
+    c.self.inside.stations.items c.self.inside.posts.items c.self.inside.stops c.job.inside.claimed.value.subject
     c.job.inside.worker c.args.worker c.job.inside.device c.job.inside.claimed.value.entries
     c.job.inside.entries.items c.job.inside.held c.job.inside.spent c.job.inside.known.items
     c.job.inside.posted.items c.job.inside.place c.job.inside.next
@@ -57,7 +57,7 @@ then : (c : goal.After-drop-claimed)
     c.job.inside.place c.job.inside.next
 then c =
     fitting c.args.self.now c.args.job c.self.inside.subject.value c.self.inside.entries.held
-    c.self.inside.stations.items c.self.inside.posts.items c.self.inside.stopped c.job.inside.claimed.value.subject
+    c.self.inside.stations.items c.self.inside.posts.items c.self.inside.stops c.job.inside.claimed.value.subject
     c.job.inside.worker c.args.worker c.job.inside.device c.job.inside.claimed.value.entries
     c.job.inside.entries.items c.job.inside.held c.job.inside.spent c.job.inside.known.items
     c.job.inside.posted.items c.job.inside.place c.job.inside.next
@@ -108,7 +108,7 @@ invariant_of-self-2 c = (
 
 pub returns-clause-put : goal.returns-clause-put
 returns-clause-put c =
-    put_view (then c) c.args.self.now c.self.inside.stopped
+    put_view (then c) c.args.self.now c.self.inside.stops
     (record {
       place = Parked c.job.inside.held;
       made = c.job.inside.place;
@@ -121,8 +121,8 @@ returns-clause-put c =
 
 pub returns-clause-adds : goal.returns-clause-adds
 returns-clause-adds c =
-    put_adds (then c) c.args.self.now _ c.self.inside.stopped c.self.view_is
-    (put_view (then c) c.args.self.now c.self.inside.stopped
+    put_adds (then c) c.args.self.now _ c.self.inside.stops c.self.view_is
+    (put_view (then c) c.args.self.now c.self.inside.stops
     (record {
       place = Parked c.job.inside.held;
       made = c.job.inside.place;
