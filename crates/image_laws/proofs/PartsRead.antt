@@ -21,9 +21,10 @@ use Rattle.scenario_image.specs.Layout.{datagram, firmware, need, post, put, rec
 use Rattle.scenario_image.specs.declared.step.Step.{Step}
 use Rattle.scenario_image.specs.declared.step.Step.TheVariants.{Event}
 use Rattle.trace_file.specs.Layout as trace
-use Rattle.trace_file.proofs.Exact.{output_exact}
-use Rattle.image_laws.specs.Parts.{DefinitionsHaveBytes, OutputsHaveBytes, SpellsOutput, SpellsStep, SpellsValue}
-use Rattle.image_laws.specs.Parts.{StepsHaveBytes, ValuesHaveBytes}
+use Rattle.trace_file.specs.declared.entry.Entry.{Entry}
+use Rattle.trace_file.proofs.Exact.{entry_exact, output_exact}
+use Rattle.image_laws.specs.Parts.{DefinitionsHaveBytes, EntriesHaveBytes, OutputsHaveBytes, SpellsEntry, SpellsOutput}
+use Rattle.image_laws.specs.Parts.{SpellsStep, SpellsValue, StepsHaveBytes, ValuesHaveBytes}
 use Rattle.image_laws.proofs.Bytes.{whole}
 
 accented : is_utf8 (0x41 ∷ 0xC3 ∷ 0xA9 ∷ []) ≡ true
@@ -90,4 +91,15 @@ outputs = record {
   registration_update = an_output _ _ refl refl;
   disable = an_output _ _ refl refl;
   missed = an_output _ _ refl refl;
+}
+
+an_entry : (bytes : List ℕ) (e : Entry) → list_all (λ b. nat_lt b 256) bytes ≡ true
+    → trace.entry.read bytes ≡ Ok (e, []) → SpellsEntry bytes e
+an_entry bytes e all h = whole trace.entry bytes e entry_exact all h
+
+pub entries : EntriesHaveBytes
+unfolding trace.entry trace.output_list trace.output trace.act raw number each
+entries = record {
+  numbers = an_entry _ _ refl refl;
+  outputs = an_entry _ _ refl refl;
 }

@@ -16,6 +16,7 @@ use Rattle.scenario_image.specs.Layout as layouts
 use Rattle.scenario_image.specs.declared.step.Step.{Step}
 use Rattle.scenario_image.specs.declared.step.Step.TheVariants.{Event, Post, Need}
 use Rattle.trace_file.specs.Layout as trace
+use Rattle.trace_file.specs.declared.entry.Entry.{Entry}
 
 -- ---- values
 
@@ -87,3 +88,22 @@ pub record OutputsHaveBytes : Type 0 where
   pub registration_update : SpellsOutput (0x02 ∷ 0x02 ∷ []) (output.Act RegUpdate)
   pub disable : SpellsOutput (0x02 ∷ 0x03 ∷ []) (output.Act Disable)
   pub missed : SpellsOutput (0x02 ∷ 0x04 ∷ []) (output.Act Missed)
+
+-- ---- entries
+
+-- the bytes are an entry
+abbrev pub SpellsEntry : List ℕ → Entry → Type 0
+SpellsEntry bytes e = IsAll trace.entry bytes e
+
+-- the worker and the device in two bytes each, the step in four; then the count of the outputs in four, and these in
+-- order
+pub record EntriesHaveBytes : Type 0 where
+  pub numbers : SpellsEntry
+      (0x01 ∷ 0x02 ∷ 0x03 ∷ 0x04 ∷ 0x05 ∷ 0x06 ∷ 0x07 ∷ 0x08 ∷ 0x00 ∷ 0x00 ∷ 0x00 ∷ 0x00 ∷ [])
+      (record { worker = 258; device = 772; step = 84281096; outputs = [] })
+  pub outputs : SpellsEntry
+      (
+      0x00 ∷ 0x02 ∷ 0x00 ∷ 0x01 ∷ 0x00 ∷ 0x00 ∷ 0x00 ∷ 0x03
+      ∷ 0x00 ∷ 0x00 ∷ 0x00 ∷ 0x02 ∷ 0x02 ∷ 0x00 ∷ 0x02 ∷ 0x03
+      ∷ []
+      ) (record { worker = 2; device = 1; step = 3; outputs = output.Act Reboot ∷ output.Act Disable ∷ [] })

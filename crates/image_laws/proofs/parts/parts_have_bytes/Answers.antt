@@ -1,4 +1,4 @@
-use Rattle.image_laws.proofs.PartsRead.{definitions, outputs, steps, values}
+use Rattle.image_laws.proofs.PartsRead.{definitions, entries, outputs, steps, values}
 use Rattle.image_laws.proofs.parts.parts_have_bytes.Goals as goal
 
 pub returns-clause-values : goal.returns-clause-values
@@ -12,3 +12,6 @@ returns-clause-steps c = steps c.exact_layouts.ensures.step
 
 pub returns-clause-outputs : goal.returns-clause-outputs
 returns-clause-outputs c = outputs
+
+pub returns-clause-entries : goal.returns-clause-entries
+returns-clause-entries c = entries
