@@ -61,7 +61,8 @@ back_few s d a b (suc x) same =
     back_between s d a b (omega (arith, same)) in
     let apart : events_by s d b + 64 * (b / 64) ≤ events_by s d (64 * (b / 64)) + b =
     events_apart s d (64 * (b / 64)) b (omega arith) in
-    let one : ◌≡◌ {A = ℕ} (cond (nat_lt 0 (suc x)) 1 0) 1 = ap (λ t. cond {A = ℕ} t 1 0) (lt-ltb 0 (suc x) (omega arith)) in
+    let one : ◌≡◌ {A = ℕ} (cond (nat_lt 0 (suc x)) 1 0) 1 =
+    ap (λ t. cond {A = ℕ} t 1 0) (lt-ltb 0 (suc x) (omega arith)) in
     let most : steps_between s d a b ≤ 63 = omega (arith, back, apart) in
     subst (λ n. steps_between s d a b ≤ 63 * n) (sym one) most
 

@@ -246,7 +246,8 @@ requested f server bytes m o h e = by h.carries
     by : (m.kind ≡ Con) ⊎ (m.kind ≡ Non) → arrival_of f server bytes ≡ request_arrival m o
     by (inl k) =
         typed f server bytes m Con h.brings k
-        ∙ ap (λ b. if b then request_arrival m (repeat_of f server m) else rejected m.mid) (method_tested m.code h.method)
+        ∙ ap (λ b. if b then request_arrival m (repeat_of f server m) else rejected m.mid)
+        (method_tested m.code h.method)
         ∙ ap (request_arrival m) e
     by (inr k) =
         typed f server bytes m Non h.brings k

@@ -142,7 +142,8 @@ reply_given : (before : List Output) (f : Machine) (server : ℕ) (bytes : List 
     → Given (Recv server bytes) before f.kept.next_id (sent_to server (option_map spelling reply)) next
 reply_given before f server bytes m number answer reply next (by_ack k) b =
     let r = response Ack m.mid m.token number answer in
-    given_free (Recv server bytes) before f.kept.next_id (Send server (spelling r)) (none_to_ack server r refl (refl, b k))
+    given_free (Recv server bytes) before f.kept.next_id (Send server (spelling r))
+    (none_to_ack server r refl (refl, b k))
 reply_given before f server bytes m number answer reply next (by_non k u) b =
     let r = response Non f.kept.next_id m.token number answer in
     given_own (Recv server bytes) before f.kept.next_id f.kept.next_id (Send server (spelling r))

@@ -38,7 +38,8 @@ only_evaluated o clock t closed is = sym (ap (λ timer. turn_with o.second timer
 told_by : (client : Client) (clock next_id : ℕ) (o : Observation) → IsDue client clock o
     → IsTold client clock o (turn_of client clock next_id o).sent
 told_by client clock next_id o h =
-    let due_now : is_due_now client clock o (present client o).payload ≡ true = due_of client clock o h.waited h.cause in
+    let due_now : is_due_now client clock o (present client o).payload ≡ true =
+    due_of client clock o h.waited h.cause in
     by_all client clock next_id o (λ t. IsTold client clock o t.sent)
     (λ is content due. (
       _,

@@ -315,7 +315,8 @@ confirmable f server bytes m code fresh k line h =
     let s = served f server bytes m fresh (inl k) in
     let c = said f server m code line in
     let r : is_refusal outcome.answer.code ≡ true = ap is_refusal c ∙ h in
-    let is = con_reply f m s.number outcome.answer s.reply (flat_after f (Recv server bytes)).kept.next_id k s.replies in
+    let is = con_reply f m s.number outcome.answer s.reply
+    (flat_after f (Recv server bytes)).kept.next_id k s.replies in
     refused f server bytes m (Some (bare_reply Ack m.mid m.token code)) f.kept.next_id s r
     (is.0 ∙ ap Some (bare_said f server bytes m code Ack m.mid s r c)) is.1
 

@@ -93,7 +93,8 @@ counted_con f server m outcome told n k number left =
       sent = ap (λ kind. sent_to server (option_map spelling (reply_to f.kept.next_id m kind told.number answer))
           ++ acted answer.act) k;
       options = location_options answer.location ++ format_options answer.format;
-      observe = ap (λ o. observe_options o ++ (location_options answer.location ++ format_options answer.format)) number;
+      observe = ap (λ o. observe_options o ++ (location_options answer.location ++ format_options answer.format))
+          number;
     }
 
 counted_non : (f : Machine) (server : ℕ) (m : Message) (outcome : Outcome) (told : Noted) (n : ℕ) → m.kind ≡ Non
@@ -113,7 +114,8 @@ counted_non f server m outcome told n k h number left =
           ++ acted answer.act) k
           ∙ ap (λ b. sent_to server (option_map spelling (if b then None else Some reply)) ++ acted answer.act) h;
       options = location_options answer.location ++ format_options answer.format;
-      observe = ap (λ o. observe_options o ++ (location_options answer.location ++ format_options answer.format)) number;
+      observe = ap (λ o. observe_options o ++ (location_options answer.location ++ format_options answer.format))
+          number;
     }
 
 counted_by : (f : Machine) (server : ℕ) (m : Message) (path : Path) (accept : Option ℕ) (outcome : Outcome)

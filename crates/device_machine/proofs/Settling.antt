@@ -1,17 +1,28 @@
 -- What was said of observations is still what their present answers are, where none of these has changed.
 use Rattle.std.proofs.Common.{◌≡◌, ℕ, ◌<◌, ◌^◌, Bool, true, false, cond, not, List, [], ◌∷◌, filter, map}
-use Rattle.std.proofs.Common.{Option, None, Some, MatchOption, refl, sym, ap, subst, ◌∙◌}
+use Rattle.std.proofs.Common.{Option, None, Some, MatchOption, pos, refl, sym, ap, subst, ◌∙◌}
 use Rattle.std.specs.Bool.{if◌then◌else◌}
+use Rattle.std.specs.Option.{option_map, unwrap_or}
+use Rattle.lwm2m_values.specs.declared.value.Value.{Value}
+use Rattle.lwm2m_values.specs.declared.value.Value.TheVariants.{Whole}
+use Rattle.object_defs.specs.Path.{single_of}
+use Rattle.object_defs.specs.declared.path.FullPath.{FullPath}
+use Rattle.instance_store.specs.Stored.{Stored, with_value}
+use Rattle.device_firmware.specs.Firmware.{firmware_after, firmware_resource, outcome_in, state_number, with_outcome}
+use Rattle.device_firmware.specs.declared.event.FirmwareEvent.TheVariants.{Ended}
 use Rattle.notifier.specs.Due.{IsFirstDue, IsNeverDue, is_one_due}
 use Rattle.notifier.specs.Observed.{as_closed, is_awaited, with_acknowledged}
 use Rattle.notifier.specs.Said.{Watch, said_without}
 use Rattle.notifier.specs.declared.observation.Observation.{Observation}
 use Rattle.notifier.specs.declared.pending.Outlook.{Outlook}
-use Rattle.device_requests.specs.Client.{Client}
+use Rattle.device_requests.specs.Client.{Client, with_stored}
 use Rattle.device_notifications.specs.Laws.{IsFirstSending}
+use Rattle.device_notifications.specs.Reach.{DifferAt}
 use Rattle.device_notifications.specs.Second.{quiet, second}
+use Rattle.device_notifications.proofs.Differing.{differ_at_one, differ_at_two}
 use Rattle.device_notifications.proofs.Resting.{first_sending, quiet_second}
 use Rattle.device_notifications.specs.Outlooks.{IsKnown, outlook_of, outlooks_of}
+use Rattle.device_machine.specs.Memory.{outcome_paths}
 
 without : (f : Observation → Outlook) (p : Observation → Bool) (os : List Observation)
     → said_without p os (map f os) ≡ map f (filter (λ o. not (p o)) os)
@@ -55,6 +66,43 @@ known_after true client after old new known same anew still = anew refl
 known_after false client after old new known same anew still =
     ap (λ (w : Watch). w.said) (still refl) ∙ known
     ∙ (λ j. outlooks_of (sym (same refl) j) ((sym (still refl) j).list))
+
+-- what is said where the values at these full paths alone have changed
+abbrev pub SaysAnew : List FullPath → Client → Watch → Watch → Type 0
+SaysAnew qs client old new =
+    (before : Stored) → DifferAt qs before client.store → IsKnown (with_stored client before) old → IsKnown client new
+
+known_again : (qs : List FullPath) (stored : Stored) (client after : Client) (old new : Watch) → IsKnown client old
+    → after ≡ with_stored client stored → DifferAt qs client.store stored → SaysAnew qs after old new
+    → IsKnown after new
+known_again qs stored client after old new known is differ anew =
+    anew client.store (subst (λ (k : Client). DifferAt qs client.store k.store) (sym is) differ)
+    (known ∙ ap (λ (k : Client). outlooks_of (with_stored k client.store) old.list) (sym is))
+
+-- where a value was set
+pub known_put : (p : FullPath) (v : Value) (client after : Client) (old new : Watch) → IsKnown client old
+    → after ≡ with_stored client (with_value client.store p v) → SaysAnew (p ∷ []) after old new → IsKnown after new
+known_put p v client after old new known is anew =
+    known_again (p ∷ []) (with_value client.store p v) client after old new known is
+    (differ_at_one client.store p v) anew
+
+-- an end of a download or an update sets no other value than the State and the Update Result
+differ_ended : (s : Stored) (code : ℕ) → DifferAt outcome_paths s (unwrap_or (firmware_after s (Ended code)) s)
+differ_ended s code =
+    elim (outcome_in s (Ended code)) as (λ outcome.
+    DifferAt outcome_paths s (unwrap_or (option_map (with_outcome s) outcome) s)) [
+      | None ↦ record { instances = refl; others = λ q other. refl }
+      | Some outcome ↦ differ_at_two s (single_of (firmware_resource 3)) (single_of (firmware_resource 5))
+          (Whole (pos (state_number outcome.state))) (Whole (pos outcome.code))
+    ]
+
+-- where a download or an update has ended
+pub known_ended : (code : ℕ) (client after : Client) (old new : Watch) → IsKnown client old
+    → after ≡ with_stored client (unwrap_or (firmware_after client.store (Ended code)) client.store)
+    → SaysAnew outcome_paths after old new → IsKnown after new
+known_ended code client after old new known is anew =
+    known_again outcome_paths (unwrap_or (firmware_after client.store (Ended code)) client.store) client after old new
+    known is (differ_ended client.store code) anew
 
 -- the first second that is due by what was said is the first in which something is sent or removed
 pub due_is : (client : Client) (clock next_id : ℕ) (os : List Observation) (ss : List Outlook) (r : Option ℕ)

@@ -1,25 +1,27 @@
 -- Which events may take memory, and what is left of a device where there is none.
-use Rattle.std.specs.Prelude.{◌≡◌, ℕ, ◌+◌, ◌/◌, ◌%◌, ◌==◌, nat_le, nat_lt, Bool, true, false, not, ◌&&◌, ◌||◌}
-use Rattle.std.specs.Prelude.{List, length, drop, slice_index, Option, None, Some, is_none, is_some}
-use Rattle.std.specs.Option.{option_or}
+use Rattle.std.specs.Prelude.{◌≡◌, ℕ, ◌+◌, ◌/◌, ◌%◌, ◌==◌, nat_le, Bool, true, false, not, ◌&&◌, ◌||◌}
+use Rattle.std.specs.Prelude.{List, [], ◌∷◌, length, drop, slice_index, Option, None, Some, is_none, is_some}
+use Rattle.std.specs.Option.{option_or, option_to_list}
 use Rattle.coap_codec.specs.declared.fault.CoapFault.{CoapFault}
 use Rattle.coap_codec.specs.declared.kind.Kind.{Kind}
 use Rattle.coap_codec.specs.declared.kind.Kind.TheVariants.{Con, Non, Ack, Rst}
 use Rattle.coap_codec.specs.Fault.{header_fault, is_empty_message, place_fault, token_length}
 use Rattle.coap_codec.specs.Message.{Message}
-use Rattle.device_firmware.specs.Firmware.{firmware_after, is_ready}
+use Rattle.device_firmware.specs.Firmware.{firmware_after, firmware_resource, is_ready}
 use Rattle.device_firmware.specs.declared.event.FirmwareEvent.TheVariants.{Ended}
 use Rattle.device_requests.specs.Client.{has_account}
 use Rattle.device_machine.specs.declared.event.Event.{Event}
 use Rattle.device_machine.specs.declared.event.Event.TheVariants.{Recv, Put, Firmware, Tick}
 use Rattle.device_machine.specs.declared.recorded.Recorded.{Recorded}
 use Rattle.device_notifications.specs.Progress.{does_act}
+use Rattle.device_notifications.specs.Reach.{is_one_reached}
 use Rattle.device_machine.specs.Reactions.{claims_confirmable, is_request, repeat_of, sweep_in}
 use Rattle.device_machine.specs.State.{Machine, Kept, living, value_in}
 use Rattle.device_template.specs.Values.{misses}
 use Rattle.lwm2m_values.specs.Value.{holds_bytes, kind_of}
 use Rattle.lwm2m_values.specs.declared.value.Value.{Value}
-use Rattle.object_defs.specs.Path.{full_path}
+use Rattle.object_defs.specs.Numbers.{update_result, update_state}
+use Rattle.object_defs.specs.Path.{full_path, single_of}
 use Rattle.object_defs.specs.declared.path.FullPath.{FullPath}
 
 -- what a repeated request gets takes memory where it is a datagram
@@ -64,23 +66,27 @@ datagram_grows bytes = claims_confirmable bytes || (claims_non_confirmable bytes
 abbrev pub is_ignored : List ℕ → Bool
 is_ignored bytes = not (claims_confirmable bytes || (claims_non_confirmable bytes || is_empty_message bytes))
 
--- there is an observation, so what changes is read anew for it
-abbrev pub is_observed : Kept → Bool
-is_observed kept = nat_lt 0 (length kept.observations)
+-- an observation is there that one of these values reaches, so it is read anew once they have changed
+abbrev pub is_observed : Kept → List FullPath → Bool
+is_observed kept paths = is_one_reached paths kept.observations
 
--- a value may take memory that fits: a Text or an Opaque, one in a place where none is held, and any while something is
--- observed
+-- a value may take memory that fits: a Text or an Opaque, one in a place where none is held, and one that reaches an
+-- observation
 abbrev pub put_grows : Kept → Option FullPath → Value → Bool
 put_grows kept place value =
     not (misses kept.client.catalogue kept.client.store place value)
-    && ((holds_bytes (kind_of value) || is_none (value_in kept place)) || is_observed kept)
+    && ((holds_bytes (kind_of value) || is_none (value_in kept place)) || is_observed kept (option_to_list place))
 
--- an end of a download or an update may take memory that there is: where State and Update Result are not both held, and
--- while something is observed
+-- the State and the Update Result, which an end of a download or an update sets
+abbrev pub outcome_paths : List FullPath
+outcome_paths = single_of (firmware_resource update_state) ∷ single_of (firmware_resource update_result) ∷ []
+
+-- an end of a download or an update may take memory that there is: where the two are not both held, and where one of
+-- them reaches an observation
 abbrev pub end_grows : Kept → ℕ → Bool
 end_grows kept code =
     is_some (firmware_after kept.client.store (Ended code))
-    && (not (is_ready kept.client.store (Ended code)) || is_observed kept)
+    && (not (is_ready kept.client.store (Ended code)) || is_observed kept outcome_paths)
 
 -- an event may take memory: such a datagram of a server that has an account, such a value, such an end of a download or
 -- an update, and seconds in which something is sent for an observation, or one is removed

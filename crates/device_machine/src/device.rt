@@ -21,7 +21,7 @@ use std::marker::Model;
 /// An emulated device.
 ///
 /// It shows a flat state, and its outputs and its next state are those that the tables give for
-/// each flat state that it shows. Want of memory alone makes it spent; a spent device refuses each
+/// each flat state that it shows. Only a failed allocation makes it spent; a spent device refuses each
 /// event.
 #[derive(Drop)]
 pub struct Device {
@@ -105,7 +105,8 @@ impl Device {
 
     /// Takes an event, and gives what the device outputs, in order.
     ///
-    /// `Memory` leaves the device spent; `Spent` says that it was spent, and changes nothing.
+    /// `Memory` leaves the device spent. `Spent` says that it was spent, or that the tick would take its clock past
+    /// 2^63 - 1, and changes nothing.
     pub fn step(&mut self, event: &Event) -> Result<Outputs, StepFault>
         ensures outputs { (f : FlatState) → Shows self.old f → IfOk result (λ o. o ≡ outputs_of f event.now) }
         ensures shows { (f : FlatState) → Shows self.old f → OnOk result (Shows self.new (flat_after f event.now)) }
@@ -147,7 +148,8 @@ impl Device {
     /// The value at a path of three or four numbers; a spent device gives the one that it was
     /// left with.
     pub fn value(&self, path: &Path) -> Option<&Value>
-        ensures shown { (f : FlatState) → Shows self.now f → option_copied result ≡ value_in f.kept (full_path path.now) }
+        ensures shown { (f : FlatState) → Shows self.now f
+            → option_copied result ≡ value_in f.kept (full_path path.now) }
         ensures left { option_copied result ≡ value_in self.now.flat.kept (full_path path.now) }
     {
         let path = path.full()?;

@@ -7,7 +7,7 @@ pub enum StepFault {
     /// No memory was left; the device is spent.
     #[error("memory")]
     Memory,
-    /// The device is spent; nothing changed.
+    /// The device is spent, or the tick would take its clock past 2^63 - 1; nothing changed.
     #[error("spent")]
     Spent,
 }

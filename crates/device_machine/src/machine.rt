@@ -24,12 +24,14 @@ use crate::event::Event;
 use crate::output::{Output, Outputs};
 use crate::records::Records;
 use coap_codec::Opt;
-use device_notifications::{Outbox, say_all, seconds};
+use device_notifications::{Outbox, say_reached, seconds};
 use device_requests::{Act, Client};
 use device_template::{Template, misses};
 use instance_store::{Store, StoreFault};
 use lwm2m_values::Value;
 use notifier::{Attributes, Observations};
+use object_defs::object_number::FIRMWARE_UPDATE;
+use object_defs::resource_number::{UPDATE_RESULT, UPDATE_STATE};
 use object_defs::{FullPath, Path};
 use std::alloc::{AllocError, Global};
 use std::marker::Model;
@@ -71,6 +73,22 @@ impl Model for Machine {
 
     ghost invariant = { λ c. AllLive c.clock c.recorded };
 }
+
+/// The State of Firmware Update.
+const STATE: FullPath = FullPath {
+    object: FIRMWARE_UPDATE,
+    instance: 0,
+    resource: UPDATE_STATE,
+    part: None,
+};
+
+/// Its Update Result.
+const RESULT: FullPath = FullPath {
+    object: FIRMWARE_UPDATE,
+    instance: 0,
+    resource: UPDATE_RESULT,
+    part: None,
+};
 
 /// Sets a value whose instance is there, and which is not one part too many.
 fn put_fitting(client: &mut Client, path: FullPath, value: Value) -> Result<(), AllocError>
@@ -198,7 +216,7 @@ impl Machine {
         Ok(outputs)
     }
 
-    /// Sets a value where it fits.
+    /// Sets a value where it fits. Only the observations that it reaches are read anew.
     #[tactic(auto, using(crate::proofs::Putting::has_its_instance, crate::proofs::Putting::has_room))]
     fn put(&mut self, path: Path, value: &Value) -> Result<Outputs, AllocError>
         requires { IsUpToDate self.old }
@@ -215,7 +233,7 @@ impl Machine {
         }
         let value = value.copy()?;
         put_fitting(&mut self.client, full, value)?;
-        say_all(&self.client, &mut self.observations)?;
+        say_reached(&self.client, &mut self.observations, &[full])?;
         Ok(Outputs::none(self.alloc))
     }
 
@@ -229,7 +247,7 @@ impl Machine {
         ensures left { OnErr result (KeepsRecords self.old.flat self.new.flat) }
     {
         if self.client.end_firmware(code)? {
-            say_all(&self.client, &mut self.observations)?;
+            say_reached(&self.client, &mut self.observations, &[STATE, RESULT])?;
             return Ok(Outputs::none(self.alloc));
         }
         Outputs::one(self.alloc, Output::Act(Act::Missed))

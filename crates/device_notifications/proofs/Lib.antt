@@ -1,4 +1,5 @@
 mod Deeding
+pub mod Differing
 pub mod Jumps
 mod LaterOnes
 mod MessageIds
@@ -7,6 +8,7 @@ pub mod Numbers
 mod Options
 mod Places
 mod Planning
+mod Reaching
 mod Resendings
 pub mod Resting
 pub mod Spans

@@ -4,6 +4,7 @@ pub mod Period
 pub mod Message
 pub mod Second
 pub mod Outlooks
+pub mod Reach
 pub mod Progress
 pub mod Deeds
 pub mod Laws

@@ -8,6 +8,7 @@ ghost use Rattle.device_notifications.specs.Laws.{FindsNoSending, FindsTheFirstS
 ghost use Rattle.device_notifications.specs.Laws.{SecondsJump};
 ghost use Rattle.device_notifications.specs.Laws.{SecondsCountObserveNumbers, SecondsSendAfterPmin};
 ghost use Rattle.device_notifications.specs.Laws.{SecondsSendBeforePmax, SendsAfterPmin, SendsBeforePmax};
+ghost use Rattle.device_notifications.specs.Reach.{OthersDoNotReach};
 
 /// A notification that keeps its observation is sent only where pmin seconds have passed since the
 /// observation's last message. Every other datagram of a second ends its observation, or is its open
@@ -86,4 +87,11 @@ pub fn due_is_the_first_sending()
 /// Seconds in which something is due are the first second in which it is, and those after it.
 pub fn seconds_jump()
     ensures { SecondsJump }
+{}
+
+/// The present answer of an observation and its periods depend on the instances and on the values that reach it: those
+/// at and below its path, those of Access Control, and the Short Server IDs and default periods of Server. Where these
+/// are the same, so are the answer and the periods, whatever the other values are.
+pub fn others_do_not_reach()
+    ensures { OthersDoNotReach }
 {}

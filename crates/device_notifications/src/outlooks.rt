@@ -78,7 +78,11 @@ fn outlook_of(client: &Client, observation: &Observation) -> Result<Outlook, All
 }
 
 /// Says of the observation at a place what its present answer is, and its periods.
-fn say(client: &Client, observations: &mut Observations, place: usize) -> Result<(), AllocError>
+pub(crate) fn say(
+    client: &Client,
+    observations: &mut Observations,
+    place: usize,
+) -> Result<(), AllocError>
     requires { place < length observations.old.list }
     ensures list { observations.new.list ≡ observations.old.list }
     ensures said { OnOk result ((o : Observation) → slice_get observations.old.list place ≡ Some o

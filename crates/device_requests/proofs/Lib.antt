@@ -1,6 +1,7 @@
 mod Among
 mod Growing
 pub mod Answering
+pub mod Depending
 pub mod Keeping
 mod Hiding
 mod Linking

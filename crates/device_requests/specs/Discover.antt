@@ -42,8 +42,6 @@ paths_below catalogue stored (Part o i r n) = []
 abbrev pub linked : List ObjectDef → Stored → Path → List Path
 linked catalogue stored path = path ∷ paths_below catalogue stored path
 
--- a path as `/3/0/9`
-
 -- how many parts a multiple resource holds
 abbrev pub dimension : List ObjectDef → Stored → Path → ℕ
 dimension catalogue stored (Object o) = 0

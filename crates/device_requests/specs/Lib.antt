@@ -2,6 +2,7 @@ pub mod Access
 pub mod Answer
 pub mod Create
 pub mod Delete
+pub mod Depending
 pub mod Discover
 pub mod Execute
 pub mod Hiding

@@ -1,5 +1,6 @@
 //! What follows from the tables of requests, for their readers. The calls do nothing; their contracts are the laws.
 
+ghost use Rattle.device_requests.specs.Depending.{ReadsDependOnTheirValues};
 ghost use Rattle.device_requests.specs.Execute.{ArgumentsAreTested};
 ghost use Rattle.device_requests.specs.Hiding.{UnreadableIsHidden, UnreadableIsRefused};
 ghost use Rattle.device_requests.specs.Laws.{ChangesAreSaid, FirstLineAnswers, LinksWhatExists, RefusalIsCodeAlone};
@@ -76,4 +77,10 @@ pub fn arguments_are_tested()
 pub fn unreadable_is_hidden()
     ensures refused { UnreadableIsRefused }
     ensures object { UnreadableIsHidden }
+{}
+
+/// The answer to a Read depends on the instances, on the values at and below its path, and on those of Access Control:
+/// where they are the same, so is the answer, whatever the other values are.
+pub fn reads_depend_on_their_values()
+    ensures { ReadsDependOnTheirValues }
 {}

@@ -22,8 +22,8 @@ pub use answer::{Act, Answer, Code};
 pub use client::Client;
 pub use laws::{
     arguments_are_tested, first_line_answers, links_what_exists, only_reads_observe,
-    reads_what_was_written, refusals_change_nothing, refusals_come_in_order, refusals_have_reasons,
-    requests_are_said, unreadable_is_hidden,
+    reads_depend_on_their_values, reads_what_was_written, refusals_change_nothing,
+    refusals_come_in_order, refusals_have_reasons, requests_are_said, unreadable_is_hidden,
 };
 pub use observe::Interest;
 pub use operation::Operation;

@@ -67,8 +67,7 @@ pub fn steps_are_taken()
 {}
 
 /// The counts over two lists of entries, one after the other, are the sums of their counts; so posts only grow. A run
-/// of
-/// a valid scenario has at most 16,777,216 posts to a group.
+/// of a valid scenario has at most 67,108,864 posts to a group.
 pub fn counts_add_up()
     ensures made { (d : ℕ) (a : List Entry) (b : List Entry) → made_by d (a ++ b) ≡ made_by d a + made_by d b }
     ensures posts { (s : Scenario) (g : ℕ) (a : List Entry) (b : List Entry)

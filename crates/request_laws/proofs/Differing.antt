@@ -1,18 +1,15 @@
 -- What is alike in stores that differ only in values that a server may not read.
-use Rattle.std.proofs.Common.{nat_le, ℤ, if◌then◌else◌}
+use Rattle.std.proofs.Common.{nat_le, if◌then◌else◌}
 use Rattle.std.proofs.Common.{◌≡◌, ℕ, Bool, true, false, cond, not, ◌&&◌, ◌||◌, ◌==◌, nat_lt, List}
 use Rattle.std.proofs.Common.{[], ◌∷◌, length, Option, None, Some, option_map, refl, sym, ap, ◌∙◌, ◌+◌, arith}
 use Rattle.std.specs.FinMap as finite
 use Rattle.std.specs.FinMap.{find, is_sorted}
-use Rattle.std.specs.FinMap.Entries.{below_all, find-where_key, is_sorted-where_key, same_entries}
-use Rattle.std.specs.List.{find as find_first}
+use Rattle.std.specs.FinMap.Entries.{below_all, same_entries}
 use Rattle.std.specs.List.{cons_option, filter, filter_map, list_any}
 use Rattle.std.specs.Option.{is_some}
 use Rattle.std.specs.Ordering.{eq_by_cmp}
-use Rattle.std.specs.declared.cmp.Ordering.TheVariants.{Equal}
 use Rattle.std.proofs.Math.Dec.{T}
 use Rattle.std.proofs.lemmas.Bool.Decides.{nat_tests}
-use Rattle.lwm2m_values.specs.Value.{is_integer}
 use Rattle.lwm2m_values.specs.declared.value.Value.{Value}
 use Rattle.object_defs.specs.Catalogue.{definition_of, object_of}
 use Rattle.object_defs.specs.Operations.{can_read}
@@ -26,10 +23,10 @@ use Rattle.object_defs.specs.declared.path.Path.TheVariants.{Object, Instance, R
 use Rattle.object_defs.specs.declared.path.ResourcePath.{ResourcePath}
 use Rattle.object_defs.proofs.PathOrder.{path_exact, path_total}
 use Rattle.instance_store.specs.Existence.{exists_as, is_held}
-use Rattle.instance_store.specs.Stored.{Stored, has_instance, instances_of, lies_in, parts_of, resource_path, value_at}
+use Rattle.instance_store.specs.Stored.{Stored, lies_in, parts_of, resource_path, value_at}
 use Rattle.instance_store.specs.Stored.{values_in}
-use Rattle.access_control.specs.Rights.{control_of, creation, entry_of, every_right, integer_in, names, owns}
-use Rattle.access_control.specs.Rights.{read_alone, read_and_write, right_by, right_by_default, right_by_entry}
+use Rattle.access_control.specs.Rights.{creation, every_right, owns}
+use Rattle.access_control.specs.Rights.{read_alone, read_and_write}
 use Rattle.access_control.specs.Rights.{right_of, right_on_control}
 use Rattle.access_control.specs.declared.letters.Rights.{Rights}
 use Rattle.lwm2m_payloads.specs.Changes.{has_too_many, is_kept, is_other, is_too_many, resource_of}
@@ -43,6 +40,7 @@ use Rattle.device_requests.specs.Access.{reads, rights_at}
 use Rattle.device_requests.specs.Client.{Client}
 use Rattle.device_requests.specs.Refusals.{is_target}
 use Rattle.device_requests.specs.Targets.{exists, is_multiple, place_of, resource_place}
+use Rattle.device_requests.proofs.Depending.{SameControls, same_instance, same_right, same_values}
 use Rattle.request_laws.specs.Unread.{DiffersUnread}
 
 -- ---- the full paths of values
@@ -139,10 +137,6 @@ same_as : (s t : Stored) (p : ResourcePath) (d : Option ResourceDef) → HaveSam
 same_as s t p None h = refl
 same_as s t p (Some d) h = ap (λ (b : Bool). not (can_read d.ops) || b) (same_held s t p d.multiple h)
 
-pub same_instance : (s t : Stored) (p : InstancePath) → s.instances ≡ t.instances
-    → has_instance s p ≡ has_instance t p
-same_instance s t p h = ap (λ m. finite.contains_key m p) h
-
 pub same_exists : (catalogue : List ObjectDef) (s t : Stored) → s.instances ≡ t.instances → HaveSamePlaces s t
     → (path : Path) → exists catalogue s path ≡ exists catalogue t path
 same_exists catalogue s t i h (Object o) = refl
@@ -165,11 +159,10 @@ same_target catalogue s t i (Resource o n r) =
 same_target catalogue s t i (Part o n r m) =
     ap (λ (b : Bool). is_multiple (definition_of catalogue o r) && b) (same_instance s t (place_of o n) i)
 
-pub same_list : (s t : Stored) (o : ℕ) → s.instances ≡ t.instances → instances_of s o ≡ instances_of t o
-same_list s t o h =
-    ap (λ m. instances_of (record { values = s.values; instances = m }) o) h
-
 -- ---- rights
+
+same_number : (a b : ℕ) → (a == b) ≡ true → a ≡ b
+same_number a b h = grind (arith, nat_tests)
 
 -- Access Control can be read by all
 reads_control : (stored : Stored) (accounts server j : ℕ) → reads stored accounts server 2 j ≡ true
@@ -182,63 +175,31 @@ reads_control stored accounts server j =
       ]
     ]
 
-same_control : (client : Client) (stored : Stored) (server j r : ℕ) (n : Option ℕ) → DiffersUnread client stored server
-    → value_at stored (record { object = 2; instance = j; resource = r; part = n })
-    ≡ value_at client.store (record { object = 2; instance = j; resource = r; part = n })
-same_control client stored server j r n h =
-    h.values (record { object = 2; instance = j; resource = r; part = n })
-    (reads_control client.store (length client.accounts) server j)
+same_controls : (client : Client) (stored : Stored) (server : ℕ) → DiffersUnread client stored server
+    → SameControls stored client.store
+same_controls client stored server h = record {
+  instances = h.instances;
+  values = λ q is. h.values q
+      (ap (λ o. reads client.store (length client.accounts) server o q.instance) (same_number q.object 2 is)
+      ∙ reads_control client.store (length client.accounts) server q.instance);
+}
 
-same_names : (client : Client) (stored : Stored) (server j r n : ℕ) → DiffersUnread client stored server
-    → names stored j r n ≡ names client.store j r n
-same_names client stored server j r n h =
-    ap (λ (v : Option Value). is_integer n (integer_in v)) (same_control client stored server j r None h)
-
-same_entry : (client : Client) (stored : Stored) (server j n : ℕ) → DiffersUnread client stored server
-    → entry_of stored j n ≡ entry_of client.store j n
-same_entry client stored server j n h = ap integer_in (same_control client stored server j 2 (Some n) h)
-
-same_decider : (client : Client) (stored : Stored) (server o i : ℕ) → DiffersUnread client stored server
-    → control_of stored o i ≡ control_of client.store o i
-same_decider client stored server o i h =
-    λ k. find_first (λ j. same_names client stored server j 0 o h k && same_names client stored server j 1 i h k)
-    (same_list stored client.store 2 h.instances k)
-
-same_by_entry : (client : Client) (stored : Stored) (server j : ℕ) (entry : Option ℤ)
-    → DiffersUnread client stored server
-    → right_by_entry stored j server entry ≡ right_by_entry client.store j server entry
-same_by_entry client stored server j (Some n) h = refl
-same_by_entry client stored server j None h =
-    λ k. if same_names client stored server j 3 server h k then every_right
-    else right_by_default (same_entry client stored server j 0 h k)
-
-same_right_by : (client : Client) (stored : Stored) (server : ℕ) (control : Option ℕ)
-    → DiffersUnread client stored server → right_by stored server control ≡ right_by client.store server control
-same_right_by client stored server None h = refl
-same_right_by client stored server (Some j) h =
-    ap (right_by_entry stored j server) (same_entry client stored server j server h)
-    ∙ same_by_entry client stored server j (entry_of client.store j server) h
-
-same_right : (client : Client) (stored : Stored) (server o i : ℕ) → DiffersUnread client stored server
+same_right_of : (client : Client) (stored : Stored) (server o i : ℕ) → DiffersUnread client stored server
     → right_of stored (length client.accounts) server o i ≡ right_of client.store (length client.accounts) server o i
-same_right client stored server o i h =
-    let other = ap (right_by stored server) (same_decider client stored server o i h)
-    ∙ same_right_by client stored server (control_of client.store o i) h in
-    λ k. if nat_le (length client.accounts) 1 then every_right
-    else (if o == 2
-    then (if same_names client stored server i 3 server h k then read_and_write else read_alone) else other k)
+same_right_of client stored server o i h =
+    same_right stored client.store (length client.accounts) server o i (same_controls client stored server h)
 
 pub same_rights : (client : Client) (stored : Stored) (server : ℕ) (path : Path) → DiffersUnread client stored server
     → rights_at stored (length client.accounts) server path
     ≡ rights_at client.store (length client.accounts) server path
-same_rights client stored server (Object o) h = same_right client stored server o creation h
-same_rights client stored server (Instance o i) h = same_right client stored server o i h
-same_rights client stored server (Resource o i r) h = same_right client stored server o i h
-same_rights client stored server (Part o i r n) h = same_right client stored server o i h
+same_rights client stored server (Object o) h = same_right_of client stored server o creation h
+same_rights client stored server (Instance o i) h = same_right_of client stored server o i h
+same_rights client stored server (Resource o i r) h = same_right_of client stored server o i h
+same_rights client stored server (Part o i r n) h = same_right_of client stored server o i h
 
 pub same_reads : (client : Client) (stored : Stored) (server o i : ℕ) → DiffersUnread client stored server
     → reads stored (length client.accounts) server o i ≡ reads client.store (length client.accounts) server o i
-same_reads client stored server o i h = ap (λ (r : Rights). r.read) (same_right client stored server o i h)
+same_reads client stored server o i h = ap (λ (r : Rights). r.read) (same_right_of client stored server o i h)
 
 -- ---- counts
 
@@ -257,28 +218,6 @@ same_excesses mode resources s t place given h =
     λ j. list_any (λ a. is_kept resources a && same_excess mode s t (resource_of place a.resource) a.given h j) given
 
 -- ---- values that may be read
-
-cond_alike : (b : Bool) (v w : Option Value) → (b ≡ true → v ≡ w) → cond b v None ≡ cond b w None
-cond_alike true v w h = h refl
-cond_alike false v w h = refl
-
-pub same_values : (s t : Stored) (path : Path) → ((q : FullPath) → lies_in path q ≡ true → value_at s q ≡ value_at t q)
-    → values_in s path ≡ values_in t path
-same_values s t path h =
-    let es = finite.entries s.values in
-    let fs = finite.entries t.values in
-    let as_key = λ (q x : FullPath) (e : path_cmp q x ≡ Equal). ap (lies_in path) (sym (path_exact q x e)) in
-    same_entries path_cmp path_total path_exact (values_in s path) (values_in t path)
-    (is_sorted-where_key path_cmp (lies_in path) es (finite.entries_sorted s.values))
-    (is_sorted-where_key path_cmp (lies_in path) fs (finite.entries_sorted t.values))
-    (λ q. find-where_key path_cmp (lies_in path) q (as_key q) es
-    ∙ ap (λ (v : Option Value). cond (lies_in path q) v None) (sym (finite.get-entries s.values q))
-    ∙ cond_alike (lies_in path q) (value_at s q) (value_at t q) (h q)
-    ∙ ap (λ (v : Option Value). cond (lies_in path q) v None) (finite.get-entries t.values q)
-    ∙ sym (find-where_key path_cmp (lies_in path) q (as_key q) fs))
-
-same_number : (a b : ℕ) → (a == b) ≡ true → a ≡ b
-same_number a b h = grind (arith, nat_tests)
 
 two : (a b : Bool) → (a && b) ≡ true → (a ≡ true) × (b ≡ true)
 two true true h = (refl, refl)

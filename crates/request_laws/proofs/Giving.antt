@@ -272,7 +272,8 @@ gives_no_instance d node g (gives_value bytes v one is) i inner e = cc
 gives_no_instance d node g (gives_parts inner ps many are some) i within e = cc
 
 pub no_instance : (purpose : Purpose) (resources : List ResourceDef) (nodes : Trees) (given : List Assignment)
-    → RecordsGive purpose resources nodes given → (i : ℕ) (inner rest : Trees) → nodes ≡ more (instance i inner) rest → ⊥
+    → RecordsGive purpose resources nodes given → (i : ℕ) (inner rest : Trees)
+    → nodes ≡ more (instance i inner) rest → ⊥
 no_instance purpose resources nodes given no_record i inner rest e = cc
 no_instance purpose resources nodes given (one_record_more d node g later others is_defined may gives never more_of) i
     inner rest e =

@@ -43,7 +43,8 @@ number_is : (n m : ℕ) → Some n ≡ Some m → n ≡ m
 number_is n m e = cc
 
 alone_says : (r n : ℕ) (b : List ℕ) (nodes : Trees) (s : ℕ) (k : Option ℕ) (c : List ℕ)
-    → RecordsSay (more (multi r (more (part n b) none)) nodes) s k c ↔ (Same r (Some n) b s k c ⊎ RecordsSay nodes s k c)
+    → RecordsSay (more (multi r (more (part n b) none)) nodes) s k c
+    ↔ (Same r (Some n) b s k c ⊎ RecordsSay nodes s k c)
 alone_says r n b nodes s None c = (
   λ h. elim h [ inl e ↦ cc | inr f ↦ inr f ],
   λ h. elim h [ inl same ↦ let k = same.1 in cc | inr f ↦ inr f ],

@@ -70,9 +70,9 @@ use Rattle.device_requests.specs.Write.{write_unless}
 use Rattle.device_requests.specs.WriteAttributes.{annotate_unless, attributes_given}
 use Rattle.device_requests.proofs.Reading.{said}
 use Rattle.request_laws.specs.Unread.{AnswersHideUnread, DiffersUnread, asks_firmware, is_package}
+use Rattle.device_requests.proofs.Depending.{read_by, same_instance, same_list}
 use Rattle.request_laws.proofs.Differing.{instance_below, resource_below, same_below, same_excess, same_excesses}
-use Rattle.request_laws.proofs.Differing.{same_exists, same_instance, same_list, same_parts, same_reads, same_rights}
-use Rattle.request_laws.proofs.Differing.{same_target}
+use Rattle.request_laws.proofs.Differing.{same_exists, same_parts, same_reads, same_rights, same_target}
 
 there : (client : Client) (stored : Stored) (server : ℕ) → DiffersUnread client stored server
     → (path : Path) → exists client.catalogue stored path ≡ exists client.catalogue client.store path
@@ -80,15 +80,6 @@ there client stored server h path =
     same_exists client.catalogue stored client.store h.instances h.places path
 
 -- ---- Read
-
--- the answer to a Read, by whether the target exists and may be read, and by the payload
-abbrev read_by : Client → Path → Option ℕ → Bool → Bool → List ℕ → Answer
-read_by client path accept exists_there may payload =
-    let format = format_at client.catalogue path accept in
-    refused_or (first_line ((object_in path == 0, Unauthorized) ∷ (not exists_there, NotFound)
-    ∷ (not may, Unauthorized) ∷ (not (can_be_read client.catalogue path), MethodNotAllowed)
-    ∷ (not (is_some format), NotAcceptable) ∷ (is_oversized payload, InternalServerError) ∷ []))
-    (content_in format payload)
 
 unread : (a b : Bool) (lines others : List (Bool × Code)) (answer other : Answer)
     → refused_or (first_line ((a, Unauthorized) ∷ (b, NotFound) ∷ (true, Unauthorized) ∷ lines)) answer

@@ -59,7 +59,8 @@ pub record HoldsReadable (client : Client) (o i r : ℕ) (n : Option ℕ) (bytes
 pub record ShowsInstance (client : Client) (o i : ℕ) (nodes : Trees) : Type 0 where
   pub ascend : Ascend nodes
   pub each : (t : Tree) → IsRecordIn t nodes → IsResourceRecord t
-  pub exactly : (r : ℕ) (n : Option ℕ) (bytes : List ℕ) → RecordsSay nodes r n bytes ↔ HoldsReadable client o i r n bytes
+  pub exactly : (r : ℕ) (n : Option ℕ) (bytes : List ℕ)
+      → RecordsSay nodes r n bytes ↔ HoldsReadable client o i r n bytes
 
 -- a server may read an instance that is there
 pub record MayRead (client : Client) (server o i : ℕ) : Type 0 where

@@ -1,7 +1,7 @@
 -- What a pass knows of the value's log stays true while others add to it, and goes with its numbers where they are
 -- split or joined.
 use Rattle.std.proofs.Common.{◌≡◌, ℕ, ◌+◌, ◌-◌, ◌<◌, ◌≤◌, eqb, cond, List, [], ◌∷◌, ◌++◌, length, take, drop, refl, sym}
-use Rattle.std.proofs.Common.{ap, ◌∙◌, subst, arith, append_assoc, append-nil, Some}
+use Rattle.std.proofs.Common.{ap, ◌∙◌, subst, arith, append_assoc, append-nil, Some, min, ◌⊎◌, ⊎_elim}
 use Rattle.std.specs.List.{AllByRecursion}
 use Rattle.std.proofs.lemmas.Bool.{ne_eqb}
 use Rattle.std.proofs.lemmas.List.Elements.{filter-append}
@@ -10,8 +10,10 @@ use native.Mathlib.Decide.{dec_lt}
 use Rattle.ticket_lock.specs.declared.rule.TheConstants.{NUMBERS}
 use Rattle.ticket_lock.specs.declared.rule.View.{View}
 use Rattle.ticket_lock.specs.Log.{Reading, own, share, shares, Adds}
-use Rattle.ticket_lock.specs.Lock.{HasNumber, IsOther, IsAware}
+use Rattle.ticket_lock.specs.declared.logged.Share.{Share}
+use Rattle.ticket_lock.specs.Lock.{HasNumber, AreNeighbours, IsOther, IsAware}
 use Rattle.ticket_lock.specs.Changes.{joined, lower, upper, arrived, given, whole}
+use Rattle.ticket_lock.proofs.Neighbours.{in_one, shares_below, shares_above}
 use Rattle.ticket_lock.proofs.Logs.{every-append, every-right, every_one, every_two, every_none, between, longer_first}
 use Rattle.ticket_lock.proofs.Logs.{longer_second, each_same, each-append, each_first, each_rest}
 
@@ -65,21 +67,19 @@ module _ {T E S O : Type 0} (R : Reading T E S O) where
     shares = a.shares ∙ others_share x y w v.low v.count adds (λ l h. out (l, h));
   }
 
-  -- two neighbours as one
-  pub both_aware : (x : T) (v w : View T E S O) → v.low + v.count ≡ w.low → IsAware R x v → IsAware R x w
-      → IsAware R x (joined v w)
-  both_aware x v w next a b =
-      let row : v.shares ++ w.shares ≡ shares R x v.low (v.count + w.count) =
-      ap (λ l. l ++ w.shares) a.shares ∙ (ap (λ l. shares R x v.low v.count ++ l)
-      (b.shares ∙ ap (λ n. shares R x n w.count) (sym next)) ∙ sym (each-append (share R x) v.low v.count w.count))
-      in
+  -- two passes as one that has the numbers of both and no others, and this row of shares
+  as_one : (x : T) (v w : View T E S O) (low : ℕ) (row : List (Share E O))
+      → ((n : ℕ) → low ≤ n → n < low + (v.count + w.count) → HasNumber v n ⊎ HasNumber w n)
+      → row ≡ shares R x low (v.count + w.count) → IsAware R x v → IsAware R x w
+      → IsAware R x (record (joined v w) { low = low; shares = row })
+  as_one x v w low row numbers is a b =
       let P = IsOther R v.low v.count in let Q = IsOther R w.low w.count in let S =
-      IsOther R v.low (v.count + w.count) in
+      IsOther R low (v.count + w.count) in
       let both : (e : E) → P e → Q e → S e = λ e p q. (
         p.0,
         p.1,
-        λ l h. dite (dec_lt (R.worker e) (v.low + v.count)) (λ lt. p.2 l lt)
-            (λ no. q.2 (omega arith) (omega arith)),
+        λ l h. ⊎_elim (λ (k : HasNumber v (R.worker e)). p.2 k.0 k.1) (λ (k : HasNumber w (R.worker e)). q.2 k.0 k.1)
+            (numbers (R.worker e) l h),
       ) in
       dite (dec_lt (length v.front) (length w.front))
       (λ lt.
@@ -90,7 +90,7 @@ module _ {T E S O : Type 0} (R : Reading T E S O) where
         front = b.front ∙ ap (λ l. l ++ b.after) (sym (longer_second v.front w.front lt));
         others = every_two P Q S both b.after left b.others;
         subject = a.subject;
-        shares = row;
+        shares = is;
       })
       (λ ge.
       let m = between w.front v.front b.after a.after (sym b.front ∙ a.front) (omega arith) in
@@ -100,8 +100,26 @@ module _ {T E S O : Type 0} (R : Reading T E S O) where
         front = a.front ∙ ap (λ l. l ++ a.after) (sym (longer_first v.front w.front (omega arith)));
         others = every_two P Q S both a.after a.others right;
         subject = a.subject;
-        shares = row;
+        shares = is;
       })
+
+  -- two neighbours as one
+  pub both_aware : (x : T) (v w : View T E S O) → 0 < v.count → AreNeighbours v w → IsAware R x v → IsAware R x w
+      → IsAware R x (joined v w)
+  both_aware x v w some next a b = as_one x v w (min v.low w.low) (joined v w).shares (λ n l h. in_one v w next n (l, h))
+      (⊎_elim
+      (λ (above : v.low + v.count ≡ w.low).
+      let low : v.low ≡ min v.low w.low = omega arith in
+      shares_below v w (omega arith) ∙ (row v w above a b ∙ ap (λ n. shares R x n (v.count + w.count)) low))
+      (λ (below : w.low + w.count ≡ v.low).
+      let low : w.low ≡ min v.low w.low = omega arith in
+      let sum : w.count + v.count ≡ v.count + w.count = omega arith in
+      shares_above v w (omega arith) ∙ (row w v below b a ∙ (λ i. shares R x (low i) (sum i)))) next) a b
+    where
+      row : (v w : View T E S O) → v.low + v.count ≡ w.low → IsAware R x v → IsAware R x w
+          → v.shares ++ w.shares ≡ shares R x v.low (v.count + w.count)
+      row v w next a b = ap (λ l. l ++ w.shares) a.shares ∙ (ap (λ l. shares R x v.low v.count ++ l)
+          (b.shares ∙ ap (λ n. shares R x n w.count) (sym next)) ∙ sym (each-append (share R x) v.low v.count w.count))
 
   pub lower_aware : (x : T) (v : View T E S O) → 0 < v.count → IsAware R x v → IsAware R x (lower v)
   lower_aware x v some a = record {

@@ -1,6 +1,6 @@
 -- Splitting and joining passes keep the rule, and a pass with all numbers is alone.
 use Rattle.std.proofs.Common.{◌≡◌, ◌≢◌, ℕ, ◌+◌, ◌*◌, ◌/◌, ◌<◌, inr, ⊎_elim, Bool, true, false, ◌||◌, List, [], ◌∷◌}
-use Rattle.std.proofs.Common.{◌++◌, set, refl, sym, ap, ◌∙◌, subst, arith, Option, Some, None}
+use Rattle.std.proofs.Common.{◌++◌, min, ◌≤◌, set, refl, sym, ap, ◌∙◌, subst, arith, Option, Some, None}
 use Rattle.std.proofs.lemmas.Bool.{false≢true}
 use mathlib.Core.Option.{some, some-injective}
 use mathlib.Core.Logic.{dite}
@@ -11,9 +11,10 @@ use Rattle.atomic_table.proofs.Lists.{at_set, set_else}
 use Rattle.ticket_lock.specs.declared.rule.TheConstants.{NUMBERS, LAST}
 use Rattle.ticket_lock.specs.declared.rule.View.{View}
 use Rattle.ticket_lock.specs.Log.{Reading, shares}
-use Rattle.ticket_lock.specs.Lock.{IsAt, is_resting, HasTicket, IsApart, Knows, Fits}
+use Rattle.ticket_lock.specs.Lock.{IsAt, is_resting, HasTicket, HasNumber, AreNeighbours, IsApart, Knows, Fits}
 use Rattle.ticket_lock.specs.Changes.{gone, lower, upper, joined}
 use Rattle.ticket_lock.proofs.Views.{same_at, each_end, some_end, pairs_end, set_swap}
+use Rattle.ticket_lock.proofs.Neighbours.{in_one}
 use Rattle.ticket_lock.proofs.Logs.{shorter_begins}
 use Rattle.ticket_lock.proofs.Aware.{both_aware, lower_aware, upper_aware, sees_all}
 use Rattle.ticket_lock.proofs.Stages.{no_turn, even_home, resting_lives, no_ticket, ticket_lives}
@@ -87,13 +88,16 @@ module _ {T E S O : Type 0} (R : Reading T E S O) (opened : T × ℕ) where
 
   pub join_fits : (s : State (Option T) (View T E S O)) (f : Fits R opened s) (id : ℕ) (v : View T E S O) (other : ℕ)
       (w : View T E S O) → IsAt s.views id v → other ≢ id → IsAt s.views other w
-      → is_resting v.stage ≡ true → is_resting w.stage ≡ true → v.low + v.count ≡ w.low
+      → is_resting v.stage ≡ true → is_resting w.stage ≡ true → AreNeighbours v w
       → Fits R opened record { words = s.words; homes = s.homes; views = set (set s.views id (joined v w)) other gone }
   unfolding changes
   join_fits s f id v other w at ne there rest rest' next =
       let k = f.each id v at in let l = f.each other w there in let live = resting_lives v.stage rest in let live' =
       resting_lives w.stage rest' in
       let inside = k.within live in let inside' = l.within live' in
+      let within : (1 ≤ min v.low w.low) × (min v.low w.low + (v.count + w.count) ≤ NUMBERS + 1) = ⊎_elim
+      (λ (above : v.low + v.count ≡ w.low). (omega arith, omega arith))
+      (λ (below : w.low + w.count ≡ v.low). (omega arith, omega arith)) next in
       let empty : State (Option T) (View T E S O) =
       record { words = s.words; homes = s.homes; views = set s.views other gone } in
       let spent : Fits R opened empty =
@@ -121,12 +125,12 @@ module _ {T E S O : Type 0} (R : Reading T E S O) (opened : T × ℕ) where
       record {
         stands = tt;
         empty = λ e. absurd (false≢true (sym e));
-        within = λ _. (omega arith, inside.1, omega arith);
+        within = λ _. (omega arith, within.0, within.1);
         seen_end = either_true v.end w.end (f.next ≡ LAST) k.seen_end l.seen_end;
         turn = λ t e. absurd (no_turn t e);
         earlier = let a = k.aware live in let b =
             l.aware live' in shorter_begins v.front w.front a.after b.after (sym a.front ∙ b.front);
-        aware = λ _. both_aware R f.value v w next (k.aware live) (l.aware live');
+        aware = λ _. both_aware R f.value v w inside.0 next (k.aware live) (l.aware live');
       }
       (λ u p h. h)
       (λ j u ne' a p h. ⊎_elim
@@ -137,8 +141,8 @@ module _ {T E S O : Type 0} (R : Reading T E S O) (opened : T × ℕ) where
             λ n x y. x;
       })
       (λ (t : (j ≢ other) × IsAt s.views j u). let q = f.apart other j w u there t.1 (λ e. t.0 (sym e)) in record {
-        numbers = λ n x y. dite (dec_lt n (v.low + v.count)) (λ lt. p.numbers n (x.0, lt) y)
-            (λ ge. q.numbers n (omega arith, omega arith) y);
+        numbers = λ n x y. ⊎_elim (λ (h : HasNumber v n). p.numbers n h y) (λ (h : HasNumber w n). q.numbers n h y)
+            (in_one v w next n x);
         tickets = λ n x y. x;
       })
       (at_set s.views other j gone u a))

@@ -1,5 +1,6 @@
 pub mod Views
 pub mod Logs
+pub mod Neighbours
 pub mod Aware
 pub mod Stages
 pub mod Steps

@@ -11,7 +11,7 @@ use Rattle.ticket_lock.specs.declared.rule.TheConstants.{LAST}
 use Rattle.ticket_lock.specs.declared.rule.View.{View}
 use Rattle.ticket_lock.specs.declared.rule.Stage.TheVariants.{Waiting, Inside}
 use Rattle.ticket_lock.specs.Log.{Reading, Adds}
-use Rattle.ticket_lock.specs.Lock.{is_live, is_resting, is_inside, ticket_of, found_or, holds_slot, Fits}
+use Rattle.ticket_lock.specs.Lock.{is_live, is_resting, is_inside, ticket_of, found_or, holds_slot, AreNeighbours, Fits}
 use Rattle.ticket_lock.specs.Changes.{gone, ended, staged, lower, upper, joined, arrived, given, Looked, Drew, Entered}
 use Rattle.ticket_lock.specs.Changes.{Left}
 use Rattle.ticket_lock.proofs.Stages.{insider, one_slot}
@@ -153,7 +153,7 @@ module _ {T E S O : Type 0} (R : Reading T E S O) (opened : T × ℕ) (id : ℕ)
   splits rest two s f at = split_fits R opened s f id v at rest two
 
   pub joins : (other : ℕ) (w : View T E S O) → is_resting v.stage ≡ true → is_resting w.stage ≡ true
-      → v.low + v.count ≡ w.low → Joins (Fits R opened) id v other w (joined v w) gone
+      → AreNeighbours v w → Joins (Fits R opened) id v other w (joined v w) gone
   joins other w rest rest' next s f at ne there =
       join_fits R opened s f id v other w at ne
       (sym (set_else s.views id other (joined v w) ne) ∙ there) rest rest' next

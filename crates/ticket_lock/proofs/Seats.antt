@@ -1,6 +1,6 @@
 -- What the clauses say of a pass's seat and of the value, from what the rule says of the pass.
 use Rattle.std.proofs.Common.{◌≡◌, ℕ, zero, suc, ◌+◌, ◌<◌, true, Option, List, [], ◌∷◌, ◌++◌, map, length, take, drop}
-use Rattle.std.proofs.Common.{refl, sym, ap, ◌∙◌, arith}
+use Rattle.std.proofs.Common.{refl, sym, ap, ◌∙◌, arith, min, ⊎_elim}
 use mathlib.Core.List.{map-append}
 use mathlib.Core.Logic.{dite}
 use native.Mathlib.Decide.{ℕ_discrete}
@@ -10,9 +10,10 @@ use Rattle.ticket_lock.specs.declared.logged.Share.{Share}
 use Rattle.ticket_lock.specs.declared.rule.View.{View}
 use Rattle.ticket_lock.specs.declared.rule.Stage.{Stage}
 use Rattle.ticket_lock.specs.Log.{Reading, each_of, own, owns, share, shares}
-use Rattle.ticket_lock.specs.Lock.{IsAware, HasNumber}
+use Rattle.ticket_lock.specs.Lock.{IsAware, HasNumber, AreNeighbours}
 use Rattle.ticket_lock.specs.Changes.{ended, staged, lower, upper, joined, Looked}
 use Rattle.ticket_lock.specs.Names.{work_or, lowest_work, IsFaithful}
+use Rattle.ticket_lock.proofs.Neighbours.{shares_below, shares_above}
 use Rattle.ticket_lock.proofs.Logs.{map-each, parts, length-each, each_same, each-append, each_first, each_rest}
 use Rattle.ticket_lock.proofs.Logs.{each_at}
 use Rattle.ticket_lock.proofs.Aware.{own_of_front}
@@ -86,23 +87,42 @@ module _ {T E S O : Type 0} (R : Reading T E S O) where
       map-drop_one (λ (s : Share E O). s.own) v.shares
       ∙ (ap (drop 1) h ∙ each_rest (λ w. own R w v.front) v.low v.count some)
 
+  -- a front whose own entries under the numbers of two neighbours, the first and the second, are those of both
+  rows : (log : List E) (v w : View T E S O) → v.low + v.count ≡ w.low → IsFaithful R v → IsFaithful R w
+      → map (λ s. s.own) (v.shares ++ w.shares) ≡ owns R log v.low (v.count + w.count)
+      → (owns R log v.low v.count ≡ owns R v.front v.low v.count)
+      × (owns R log w.low w.count ≡ owns R w.front w.low w.count)
+  rows log v w next this other both = let J : ℕ → List E = λ n. own R n log in let f : Share E O → List E =
+      λ s. s.own in
+      let split : each_of J v.low v.count ++ each_of J w.low w.count ≡ owns R log v.low (v.count + w.count) =
+      ap (λ n. each_of J v.low v.count ++ each_of J n w.count) (sym next)
+      ∙ sym (each-append J v.low v.count w.count) in
+      parts (each_of J v.low v.count) (owns R v.front v.low v.count) (each_of J w.low w.count)
+      (owns R w.front w.low w.count)
+      (split ∙ (sym both ∙ (map-append f v.shares w.shares ∙ (λ i. this i ++ other i))))
+      (length-each J v.low v.count ∙ sym (length-each (λ n. own R n v.front) v.low v.count))
+
   -- the joined front has, under each number, the own entries of the front that the number came with
-  module _ (v w : View T E S O) (next : v.low + v.count ≡ w.low) (this : IsFaithful R v) (other : IsFaithful R w)
-      (both : IsFaithful R (joined v w)) where
-    rows : (owns R (joined v w).front v.low v.count ≡ owns R v.front v.low v.count)
+  module _ (v w : View T E S O) (some : 0 < v.count) (next : AreNeighbours v w) (this : IsFaithful R v)
+      (other : IsFaithful R w) (both : IsFaithful R (joined v w)) where
+    joined_rows : (owns R (joined v w).front v.low v.count ≡ owns R v.front v.low v.count)
         × (owns R (joined v w).front w.low w.count ≡ owns R w.front w.low w.count)
-    rows = let J : ℕ → List E = λ n. own R n (joined v w).front in let f : Share E O → List E = λ s. s.own in
-        let split : each_of J v.low v.count ++ each_of J w.low w.count
-        ≡ owns R (joined v w).front v.low (v.count + w.count) =
-        ap (λ n. each_of J v.low v.count ++ each_of J n w.count) (sym next)
-        ∙ sym (each-append J v.low v.count w.count) in
-        parts (each_of J v.low v.count) (owns R v.front v.low v.count) (each_of J w.low w.count)
-        (owns R w.front w.low w.count)
-        (split ∙ (sym both ∙ (map-append f v.shares w.shares ∙ (λ i. this i ++ other i))))
-        (length-each J v.low v.count ∙ sym (length-each (λ n. own R n v.front) v.low v.count))
+    joined_rows = let log : List E = (joined v w).front in let f : Share E O → List E = λ s. s.own in ⊎_elim
+        (λ (above : v.low + v.count ≡ w.low).
+        let low : min v.low w.low ≡ v.low = omega arith in
+        rows log v w above this other (ap (map f) (sym (shares_below v w (omega arith)))
+        ∙ (both ∙ ap (λ n. owns R log n (v.count + w.count)) low)))
+        (λ (below : w.low + w.count ≡ v.low).
+        let low : min v.low w.low ≡ w.low = omega arith in
+        let sum : v.count + w.count ≡ w.count + v.count = omega arith in
+        let r = rows log w v below other this (ap (map f) (sym (shares_above v w (omega arith)))
+        ∙ (both ∙ (λ i. owns R log (low i) (sum i)))) in
+        (r.1, r.0)) next
 
     pub joined_lower : (n : ℕ) → HasNumber v n → own R n (joined v w).front ≡ own R n v.front
-    joined_lower n h = each_at (λ k. own R k (joined v w).front) (λ k. own R k v.front) v.low v.count n rows.0 h.0 h.1
+    joined_lower n h =
+        each_at (λ k. own R k (joined v w).front) (λ k. own R k v.front) v.low v.count n joined_rows.0 h.0 h.1
 
     pub joined_upper : (n : ℕ) → HasNumber w n → own R n (joined v w).front ≡ own R n w.front
-    joined_upper n h = each_at (λ k. own R k (joined v w).front) (λ k. own R k w.front) w.low w.count n rows.1 h.0 h.1
+    joined_upper n h =
+        each_at (λ k. own R k (joined v w).front) (λ k. own R k w.front) w.low w.count n joined_rows.1 h.0 h.1

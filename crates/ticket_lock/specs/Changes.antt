@@ -1,6 +1,6 @@
 -- What each step makes of the view of the pass that steps, and what it tells the pass.
 use Rattle.std.specs.Prelude.{◌≡◌, ◌≢◌, ℕ, ◌+◌, ◌-◌, ◌/◌, ◌≤◌, true, false, ◌||◌, ◌==◌, if◌then◌else◌, List, [], ◌∷◌}
-use Rattle.std.specs.Prelude.{◌++◌, length, take, drop, Option, Some, None, nat_lt}
+use Rattle.std.specs.Prelude.{◌++◌, length, take, drop, Option, Some, None, min, nat_lt}
 use Rattle.atomic_table.specs.Table.{Me, Step}
 use Rattle.ticket_lock.specs.declared.rule.TheConstants.{NUMBERS, LAST}
 use Rattle.ticket_lock.specs.declared.rule.View.{View}
@@ -50,10 +50,10 @@ module _ {T E S O : Type 0} where
   abbrev pub upper : View T E S O → View T E S O
   upper v = record v { low = v.low + 1; count = v.count - 1; turn = None; shares = drop 1 v.shares }
 
-  -- two neighbours as one pass
+  -- two neighbours as one pass, whichever has the lower numbers
   abbrev pub joined : View T E S O → View T E S O → View T E S O
   joined v w = record {
-    low = v.low;
+    low = min v.low w.low;
     count = v.count + w.count;
     end = v.end || w.end;
     turn = None;
@@ -61,7 +61,7 @@ module _ {T E S O : Type 0} where
     front = longer v.front w.front;
     earlier = shorter v.front w.front;
     subject = v.subject;
-    shares = v.shares ++ w.shares;
+    shares = if nat_lt v.low w.low then v.shares ++ w.shares else w.shares ++ v.shares;
   }
 
   -- where the word `next` was the one expected, the pass has it as its ticket

@@ -1,7 +1,7 @@
 -- The rule of a ticket lock: what its two words, its slot and the views of all passes have to do with each other
 -- between any two steps.
 use Rattle.std.specs.Prelude.{◌≡◌, ◌≢◌, ℕ, ◌+◌, ◌*◌, ◌/◌, ◌%◌, ◌<◌, ◌≤◌, Bool, true, false, List, [], ◌∷◌, ◌++◌, Option}
-use Rattle.std.specs.Prelude.{Some, None}
+use Rattle.std.specs.Prelude.{Some, None, ◌⊎◌}
 use Rattle.std.proofs.Common.{zero, suc}
 use Rattle.std.specs.List.{AllByRecursion}
 use mathlib.Core.Option.{none, some}
@@ -68,6 +68,10 @@ module _ {T : Type 0} where
 module _ {T E S O : Type 0} where
   abbrev pub HasNumber : View T E S O → ℕ → Type 0
   HasNumber v n = (v.low ≤ n) × (n < v.low + v.count)
+
+  -- the numbers of one come right after those of the other
+  abbrev pub AreNeighbours : View T E S O → View T E S O → Type 0
+  AreNeighbours v w = (v.low + v.count ≡ w.low) ⊎ (w.low + w.count ≡ v.low)
 
   -- two passes have no number and no ticket in common
   pub record IsApart (v w : View T E S O) : Type 0 where

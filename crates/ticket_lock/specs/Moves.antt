@@ -9,7 +9,7 @@ use Rattle.ticket_lock.specs.declared.rule.TheConstants.{NUMBERS, LAST}
 use Rattle.ticket_lock.specs.declared.rule.View.{View}
 use Rattle.ticket_lock.specs.declared.rule.Stage.TheVariants.{Waiting, Inside}
 use Rattle.ticket_lock.specs.Log.{Reading, Adds}
-use Rattle.ticket_lock.specs.Lock.{IsAt, is_live, is_resting, is_inside, Fits}
+use Rattle.ticket_lock.specs.Lock.{IsAt, is_live, is_resting, is_inside, AreNeighbours, Fits}
 use Rattle.ticket_lock.specs.Changes.{gone, ended, staged, lower, upper, joined, whole, arrived, given}
 
 -- a step, by the place of the pass that steps; a join also by the other's, a draw by the ticket that it expects, and a
@@ -40,7 +40,7 @@ module _ {T E S O : Type 0} (R : Reading T E S O) where
       × (t ≡ record s { views = slice_set s.views id (lower v) ++ upper v ∷ [] })
   Steps (joins id other) s t =
       (v : View T E S O) × (w : View T E S O) × IsAt s.views id v × IsAt s.views other w × (other ≢ id)
-      × (is_resting v.stage ≡ true) × (is_resting w.stage ≡ true) × (v.low + v.count ≡ w.low)
+      × (is_resting v.stage ≡ true) × (is_resting w.stage ≡ true) × AreNeighbours v w
       × (t ≡ record s { views = slice_set (slice_set s.views id (joined v w)) other gone })
   Steps (loads id) s t =
       (v : View T E S O) × IsAt s.views id v × (is_live v.stage ≡ true)

@@ -81,14 +81,16 @@ impl<T: Logged + Drop> TicketLock<T> {
         Ok((TicketLock { table }, pass))
     }
 
-    // Waits while a ticket is out. Whoever has a ticket keeps all later ones waiting, even while its thread has no
-    // processor; whoever has none keeps nobody waiting. Nothing is known of what it sees.
+    // Waits while a ticket is out and another is left. Whoever has a ticket keeps all later ones waiting, even while its
+    // thread has no processor; whoever has none keeps nobody waiting. Nothing is known of what it sees.
     fn stay_outside<R: Wait>(&self, rt: &R) {
         let shared = &self.table.shared;
         let asleep = AtomicU64::new(0);
         let mut looks = 0;
         for _ in rt.forever() {
-            if shared.peek(SERVING) == shared.peek(NEXT).saturating_mul(2) {
+            let served = shared.peek(SERVING);
+            let next = shared.peek(NEXT);
+            if next == LAST || served == next.saturating_mul(2) {
                 return;
             }
             if looks < LOOKS {
@@ -101,7 +103,8 @@ impl<T: Logged + Drop> TicketLock<T> {
         unreachable!()
     }
 
-    // Draws a ticket that is due at once, or finds that none is left. Nothing is known of the former.
+    // Draws a ticket that is due at once, or finds that none is left, for which it does not wait. Nothing is known of the
+    // former.
     fn draw<R: Wait>(&self, rt: &R, seat: &mut SeatOf<T>) -> Option<u64>
         requires { (seat.old.table_id ≡ lock_id self.now) × (is_resting seat.old.me.0.stage ≡ true) }
         ensures seat { (seat.new.table_id ≡ seat.old.table_id) × (seat.new.id ≡ seat.old.id) }
@@ -114,7 +117,6 @@ impl<T: Logged + Drop> TicketLock<T> {
     {
         let shared = &self.table.shared;
         for _ in rt.forever() {
-            self.stay_outside(rt);
             let ticket = shared.load::<Look>(seat, NEXT);
             if ticket == LAST {
                 return None;
@@ -124,6 +126,7 @@ impl<T: Logged + Drop> TicketLock<T> {
             {
                 return Some(ticket);
             }
+            self.stay_outside(rt);
         }
         unreachable!()
     }
@@ -160,8 +163,8 @@ impl<T: Logged + Drop> TicketLock<T> {
         self.table.shared.exchange(seat, 0, new)
     }
 
-    /// Draws a ticket, waits until it is due, and takes the value. The pass comes back if no ticket up to 2^63 - 2 is
-    /// left.
+    /// Draws a ticket, waits until it is due, and takes the value. The pass comes back at once if no ticket up to
+    /// 2^63 - 2 is left.
     pub fn take<R: Wait>(&self, rt: &R, pass: Pass<T>) -> Result<Held<'_, T>, (Pass<T>, Spent)>
         requires { IsPass (lock_id self.now) pass }
         ensures lock { IfOk result (λ h. held_id h ≡ lock_id self.now) }

@@ -27,7 +27,7 @@ pub struct OneLeft;
 impl<T: Logged + Drop> Pass<T> {
     ghost use Rattle.std.specs.Prelude.{◌≡◌, ℕ, ◌+◌, ◌<◌, true, IfOk, IfErr};
     ghost use Rattle.ticket_lock.specs.Log.{Begins, own};
-    ghost use Rattle.ticket_lock.specs.Lock.{HasNumber};
+    ghost use Rattle.ticket_lock.specs.Lock.{HasNumber, AreNeighbours};
     ghost use Rattle.ticket_lock.specs.Changes.{lower, upper, joined};
     ghost use Rattle.ticket_lock.specs.Names.{lock_id, pass_view, IsPass};
 
@@ -68,12 +68,12 @@ impl<T: Logged + Drop> Pass<T> {
         Ok((first, others))
     }
 
-    /// The numbers of both, with the longer front, of which both fronts are prefixes. The other's lowest number comes
-    /// right after this pass's last. Then it looks whether a ticket is left.
+    /// The numbers of both, which are neighbours in either order, with the longer front, of which both fronts are
+    /// prefixes. Then it looks whether a ticket is left.
     pub fn join(self, lock: &TicketLock<T>, other: Pass<T>) -> Pass<T>
         requires this { IsPass (lock_id lock.now) self }
         requires other { IsPass (lock_id lock.now) other }
-        requires neighbours { (pass_view self).low + (pass_view self).count ≡ (pass_view other).low }
+        requires neighbours { AreNeighbours (pass_view self) (pass_view other) }
         ensures own { IsPass (lock_id lock.now) result }
         ensures joined { pass_view result
             ≡ record (joined (pass_view self) (pass_view other)) { end = (pass_view result).end } }
@@ -91,7 +91,7 @@ impl<T: Logged + Drop> Pass<T> {
             mut seat,
         } = self;
         let Pass {
-            low: _,
+            low: others_low,
             count: more,
             seat: spent,
         } = other;
@@ -99,7 +99,7 @@ impl<T: Logged + Drop> Pass<T> {
         shared.join_seat::<Glue>(&mut seat, spent);
         shared.load::<Look>(&mut seat, NEXT);
         Pass {
-            low,
+            low: low.min(others_low),
             count: count + more,
             seat,
         }

@@ -4,6 +4,7 @@
 
 mod board;
 mod claims;
+mod ends;
 mod items;
 mod parts;
 mod shown;

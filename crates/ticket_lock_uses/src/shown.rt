@@ -3,9 +3,10 @@ ghost use Rattle.std.specs.Thread.{IsSync};
 
 use crate::board::Board;
 use crate::claims::claim;
+use crate::ends::{is_spent_while_held, taken_once};
 use crate::items::Items;
 use crate::parts::parted;
-use crate::work::{add, two};
+use crate::work::two;
 use std::alloc::{AllocError, Global};
 use std::io;
 use std::sync::Wait;
@@ -22,12 +23,13 @@ fn are_all_added<R: Threads + Wait + Sync>(rt: &R, alloc: Global) -> Result<bool
     Ok(first == 100 && second == 100 && items.as_slice().len() == 200)
 }
 
-/// Takes a lock twice that has one ticket left: whether the first alone had a ticket.
+/// Takes a lock that has one ticket left, gives the list back as it is, and takes it again: whether that is refused,
+/// and the lock closed with the list as it was.
 fn is_last_drawn_once<R: Wait>(rt: &R, alloc: Global) -> Result<bool, AllocError> {
-    let (lock, pass) = TicketLock::with_first(Items::new(alloc), alloc, 9223372036854775806)?;
-    let (pass, first) = add(rt, &lock, pass, 7);
-    let (_, second) = add(rt, &lock, pass, 8);
-    Ok(first && !second)
+    let mut items = Items::new(alloc);
+    items.push(1, 7)?;
+    let items = taken_once(rt, alloc, items)?;
+    Ok(items.as_slice() == [(1, 7)].as_slice())
 }
 
 /// Claims the place of a board of one, twice: whether the first alone had it.
@@ -48,6 +50,21 @@ fn is_split_once(alloc: Global) -> Result<bool, AllocError> {
     match one.split(&lock) {
         Ok(_) => Ok(false),
         Err((one, OneLeft)) => Ok(has_numbers && one.number() == 1),
+    }
+}
+
+/// Splits the pass of a lock, and joins the lowest number to the others: whether that is the whole pass again, as where
+/// the others are joined to it.
+fn is_joined_to_others(alloc: Global) -> Result<bool, AllocError> {
+    let (lock, pass) = TicketLock::new(Items::new(alloc), alloc)?;
+    let Ok((one, two)) = pass.split(&lock) else {
+        return Ok(false);
+    };
+    let pass = two.join(&lock, one);
+    let is_first = pass.number() == 1;
+    match lock.close(pass) {
+        Ok(items) => Ok(is_first && items.as_slice().is_empty()),
+        Err(_) => Ok(false),
     }
 }
 
@@ -98,11 +115,21 @@ pub fn show<R: Threads + Wait + Sync + Print>(rt: &R, alloc: Global) -> io::Resu
         "the last ticket is drawn once",
         is_last_drawn_once(rt, alloc)?,
     )?;
+    say(
+        rt,
+        "no ticket is left while the last one's holder is inside",
+        is_spent_while_held(rt, alloc)?,
+    )?;
     say(rt, "a place is claimed once", is_claimed_once(rt, alloc)?)?;
     say(
         rt,
         "a pass of one number is not split",
         is_split_once(alloc)?,
+    )?;
+    say(
+        rt,
+        "the lowest number is joined to the others",
+        is_joined_to_others(alloc)?,
     )?;
     say(
         rt,

@@ -72,7 +72,8 @@ transmissions_alike n (t ∷ ts) (u ∷ us) same =
     ap (λ l. t ∷ l) (transmissions_alike (n + 1) ts us rest) ∙ ap (λ x. x ∷ us) (transmission_alike n t u first)
 
 pub traces_alike : (bytes : List ℕ) (s : Scenario) (es : List Entry) (r : Scenario) (fs : List Entry)
-    → IsCapture bytes (trace_packets s es) → IsCapture bytes (trace_packets r fs) → transmissions s es ≡ transmissions r fs
+    → IsCapture bytes (trace_packets s es) → IsCapture bytes (trace_packets r fs)
+    → transmissions s es ≡ transmissions r fs
 traces_alike bytes s es r fs a b =
     transmissions_alike 0 (transmissions s es) (transmissions r fs)
     (one_list bytes (trace_packets s es) (trace_packets r fs) a b)

@@ -116,7 +116,8 @@ impl Machine {
         payload: Bytes,
     ) -> Result<Option<u32>, AllocError>
         ensures kept { IfOk result (λ n. Notes n self.old.flat.kept self.new.flat.kept
-            (entered self.old.flat.kept.observations (begun self.old.flat.kept server message.now path accept payload))) }
+            (entered self.old.flat.kept.observations
+            (begun self.old.flat.kept server message.now path accept payload))) }
         ensures recorded { OnOk result (self.new.flat.recorded ≡ self.old.flat.recorded) }
         ensures up_to_date { OnOk result (IsUpToDate self.new) }
         ensures left { OnErr result (KeepsRecords self.old.flat self.new.flat) }

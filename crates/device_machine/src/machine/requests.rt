@@ -215,7 +215,8 @@ impl Machine {
     /// Takes a message, and keeps the memory of its options.
     fn take_owned(&mut self, server: u16, message: Message) -> Result<Outputs, AllocError>
         requires { IsUpToDate self.old }
-        ensures gives { IfOk result (λ o. Gives o self.new.flat (on_message self.old.flat server message message.kind)) }
+        ensures gives { IfOk result (λ o. Gives o self.new.flat
+            (on_message self.old.flat server message message.kind)) }
         ensures grows { OnErr result (message_grows self.old.flat server message message.kind ≡ true) }
         ensures up_to_date { OnOk result (IsUpToDate self.new) }
         ensures left { OnErr result (KeepsRecords self.old.flat self.new.flat) }

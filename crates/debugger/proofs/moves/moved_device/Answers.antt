@@ -11,4 +11,5 @@ returns-then-from-to c =
 pub returns : goal.returns
 returns c =
     subst (λ n. IsMoved c.args.scenario.now c.args.device c.args.to n c.in_ok-earlier.earlier)
-    (sym (back_between c.args.scenario.now c.args.device c.args.from c.args.to c.if-from-to.false)) c.in_ok-earlier.ensures
+    (sym (back_between c.args.scenario.now c.args.device c.args.from c.args.to c.if-from-to.false))
+    c.in_ok-earlier.ensures

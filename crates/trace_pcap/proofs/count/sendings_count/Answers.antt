@@ -9,7 +9,8 @@ loop-output-preserved c = record {
   so_far =
       λ second device. one_more (sending second device) c.args.outputs.now c.loop-output.output-index
       c.output-item.result c.loop-output.count c.sending_count-count.result c.loop-output-test.true
-      c.output-item.is (c.loop-output.invariant.so_far second device) (c.sending_count-count.ensures.count second device);
+      c.output-item.is (c.loop-output.invariant.so_far second device)
+      (c.sending_count-count.ensures.count second device);
 }
 
 pub returns-clause-count : goal.returns-clause-count

@@ -1,4 +1,4 @@
--- Where there is none to end, nothing changes.
+-- Where there is none to end, nothing changes; where there is one, it is said of what it reaches.
 use Rattle.std.proofs.Common.{◌≡◌, ◌∙◌, false, Option, None, Some, OnOk, Result, Ok, Err, ap, subst, sym, unwrap_or}
 use Rattle.std.specs.Option.{is_some}
 use Rattle.device_firmware.specs.Firmware.{firmware_after}
@@ -7,6 +7,7 @@ use Rattle.instance_store.specs.Stored.{Stored}
 use Rattle.device_requests.specs.Client.{Client, with_stored}
 use Rattle.device_notifications.specs.Outlooks.{outlooks_of}
 use Rattle.device_machine.specs.Held.{IsUpToDate}
+use Rattle.device_machine.proofs.Settling.{known_ended}
 use Rattle.device_machine.proofs.machine.Machine.end_firmware.Goals as goal
 
 missed : (client new : Client) (after : Option Stored) → is_some after ≡ false
@@ -25,3 +26,9 @@ returns-clause-up_to_date c =
     let same = missed client c.end_firmware.new.self (firmware_after client.store (Ended c.args.code))
     (sym c.in_ok-end_firmware.ensures.ended ∙ c.if-branch.false) c.in_ok-end_firmware.ensures.change in
     on_ok c.one.result _ (subst IsUpToDate (sym c.self.view_is) c.requires ∙ ap (λ x. outlooks_of x os) (sym same))
+
+pub returns-then-branch-clause-up_to_date : goal.returns-then-branch-clause-up_to_date
+returns-then-branch-clause-up_to_date c =
+    known_ended c.args.code c.self.inside.client c.end_firmware.new.self c.self.inside.observations
+    c.say_reached.new.observations (subst IsUpToDate (sym c.self.view_is) c.requires)
+    c.in_ok-end_firmware.ensures.change c.in_ok-say_reached.ensures.known

@@ -17,5 +17,6 @@ returns c =
     (c.in_ok-put_packet.ensures
     ∙ ap (λ p. old.out.items ++ packet_record p)
     (captured_same c.args.second c.min.result (min old.microseconds 999999) c.device_end.result c.server_end.result
-    (device_end c.args.device) (server_end c.args.server) bytes c.min.ensures c.device_end.ensures c.server_end.ensures))
+    (device_end c.args.device) (server_end c.args.server) bytes c.min.ensures
+    c.device_end.ensures c.server_end.ensures))
     c.next_of-self.ensures
