@@ -5,12 +5,15 @@ use Rattle.std.proofs.KnownBytes.{Appends-nil, Appends-trans}
 use Rattle.debug_words.specs.declared.command.Command.TheVariants.{Quit}
 use Rattle.debug_words.specs.Saying.{IsLineOf}
 use Rattle.debugger.specs.Session.{Session}
+use Rattle.debug_answers.specs.Notes.{IsNote}
 use Rattle.debug_answers.specs.Replies.{IsReply}
 use Rattle.bench_commands.proofs.Turns.{parts}
-use Rattle.bench_commands.specs.Conversation.{AreAnswered, AreNextLines, IsBeyond, IsConversation, IsCut, IsCutShort}
-use Rattle.bench_commands.specs.Conversation.{IsExchange, IsLastTurn, IsNextLine, IsTurn, IsWithin, WhereKnown}
+use Rattle.bench_commands.specs.Conversation.{AreAnswered, AreNextLines, AreNoted, IsBeyond, IsConversation, IsCut}
+use Rattle.bench_commands.specs.Conversation.{IsCutShort, IsExchange, IsLastTurn, IsNextLine, IsNoted, IsTurn}
 use Rattle.bench_commands.specs.Fault.{IsReadingFault}
-use Rattle.bench_commands.specs.Files.{IsLonger, most_bytes}
+use Rattle.bench_commands.specs.Files.{most_bytes}
+use Rattle.bench_commands.specs.Input.{IsLonger, IsWithin, WhereKnown}
+use Rattle.bench_commands.specs.World.{StreamFaults, Streams}
 use Rattle.bench_commands.specs.declared.fault.Fault.{Fault}
 use Rattle.bench_commands.specs.declared.fault.Fault.TheVariants as faults
 
@@ -50,6 +53,14 @@ more_answers old (first ∷ lines) between new text said more
       ap (λ t. t ++ more) split ∙ append_assoc now then more,
     )
 
+more_notes : (refuses : List ℕ → Type 0) (a b c : Option (List ℕ)) (lines : List (List ℕ)) (said : List ℕ)
+    (note : Option (List ℕ)) → AreNoted refuses a b lines → IsNote said note → IsNoted refuses b c note
+    → AreNoted refuses a c (lines ++ said ∷ [])
+more_notes refuses a b c [] said note same is noted =
+    (note, c, is, subst (λ x. IsNoted refuses x c note) same noted, refl)
+more_notes refuses a b c (first ∷ lines) said note (now, middle, is_now, got, then) is noted =
+    (now, middle, is_now, got, more_notes refuses middle b c lines said note then is noted)
+
 more_read : (a b c : Option (List ℕ)) (lines : List (List ℕ)) (said : List ℕ) → WhereKnown (AreNextLines lines) a b
     → WhereKnown (IsNextLine said) b c → WhereKnown (AreNextLines (lines ++ said ∷ [])) a c
 more_read None b c lines said before next = tt
@@ -66,17 +77,18 @@ more_spent (Some x) (Some y) (Some z) most left more before next = omega (arith,
 
 -- ---- from the first turn to the last
 
-pub begun : (input taken : Option (List ℕ)) (session : Session) → IsExchange input input session session taken taken
-begun input taken session =
+pub begun : (faults : StreamFaults) (a : Streams) (session : Session) → IsExchange faults a a session session
+begun faults a session =
     record {
       lines = [];
-      read = same input;
+      read = same a.input;
       text = [];
       answered = (refl, refl);
-      printed = Appends-nil taken;
+      printed = Appends-nil a.output;
+      noted = refl;
     }
   where
-    same : (a : Option (List ℕ)) → WhereKnown (AreNextLines []) a a
+    same : (i : Option (List ℕ)) → WhereKnown (AreNextLines []) i i
     same None = tt
     same (Some x) = refl
 
@@ -84,40 +96,47 @@ pub none_spent : (input : Option (List ℕ)) (most : ℕ) → IsSpent input inpu
 none_spent None most = tt
 none_spent (Some x) most = refl
 
-pub go_on : (a b c : Option (List ℕ)) (old between new : Session) (t u v : Option (List ℕ)) (left more : ℕ)
-    → IsExchange a b old between t u → IsTurn b c between new u v left more → IsExchange a c old new t v
-go_on a b c old between new t u v left more so_far turn =
+pub go_on : (faults : StreamFaults) (a b c : Streams) (old between new : Session) (left more : ℕ)
+    → IsExchange faults a b old between → IsTurn faults b c between new left more → IsExchange faults a c old new
+go_on faults a b c old between new left more so_far turn =
     record {
       lines = so_far.lines ++ turn.said ∷ [];
-      read = more_read a b c so_far.lines turn.said so_far.read turn.read;
+      read = more_read a.input b.input c.input so_far.lines turn.said so_far.read turn.read;
       text = so_far.text ++ turn.text;
       answered =
           more_answers old so_far.lines between new so_far.text turn.said turn.text so_far.answered turn.other
           turn.reply;
-      printed = Appends-trans t u v so_far.text turn.text so_far.printed turn.printed;
+      printed = Appends-trans a.output b.output c.output so_far.text turn.text so_far.printed turn.printed;
+      noted =
+          more_notes faults.errors_refuse a.errors b.errors c.errors so_far.lines turn.said turn.note so_far.noted
+          turn.is_note turn.noted;
     }
 
-pub spend : (a b c : Option (List ℕ)) (old new : Session) (t u : Option (List ℕ)) (most left more : ℕ)
-    → IsSpent a b most left → IsTurn b c old new t u left more → IsSpent a c most more
-spend a b c old new t u most left more so_far turn = more_spent a b c most left more so_far turn.spent
+pub spend : (faults : StreamFaults) (a : Option (List ℕ)) (b c : Streams) (old new : Session) (most left more : ℕ)
+    → IsSpent a b.input most left → IsTurn faults b c old new left more → IsSpent a c.input most more
+spend faults a b c old new most left more so_far turn =
+    more_spent a b.input c.input most left more so_far turn.spent
 
-pub conversed : (a b c : Option (List ℕ)) (old new : Session) (t u v : Option (List ℕ)) (left : ℕ)
-    → IsExchange a b old new t u → IsSpent a b most_bytes left → IsLastTurn b c u v left → IsConversation a c old t v
-conversed a b c old new t u v left so_far spent last =
+-- what was taken in all is within what might be taken
+within_all : (a b c : Option (List ℕ)) (left : ℕ) → IsSpent a b most_bytes left → WhereKnown (IsWithin left) b c
+    → WhereKnown (IsWithin most_bytes) a c
+within_all None b c left spent within = tt
+within_all (Some x) None c left spent within = absurd spent
+within_all (Some x) (Some y) None left spent within = absurd within
+within_all (Some x) (Some y) (Some z) left spent within = omega (arith, spent, within)
+
+pub conversed : (faults : StreamFaults) (a b c : Streams) (old new : Session) (left : ℕ)
+    → IsExchange faults a b old new → IsSpent a.input b.input most_bytes left → IsLastTurn b c left
+    → IsConversation faults a c old
+conversed faults a b c old new left so_far spent last =
     record {
       between = b;
       new = new;
-      exchange = subst (λ w. IsExchange a b old new t w) (sym last.silent) so_far;
+      exchange = so_far;
       ended = last.ended;
-      within = all a b c spent last.within;
+      silent = last.silent;
+      within = within_all a.input b.input c.input left spent last.within;
     }
-  where
-    all : (a b c : Option (List ℕ)) → IsSpent a b most_bytes left → WhereKnown (IsWithin left) b c
-        → WhereKnown (IsWithin most_bytes) a c
-    all None b c spent within = tt
-    all (Some x) None c spent within = absurd spent
-    all (Some x) (Some y) None spent within = absurd within
-    all (Some x) (Some y) (Some z) spent within = omega (arith, spent, within)
 
 -- ---- cut short
 
@@ -150,20 +169,28 @@ reading P Q faults.TooLong f h = absurd h
 reading P Q faults.Bind f h = absurd h
 reading P Q (faults.Session fault) f h = absurd h
 
-pub cut_short : (fails : Type 0) (refuses : List ℕ → Type 0) (a b : Option (List ℕ)) (old new : Session)
-    (t u v : Option (List ℕ)) (left : ℕ) (fault : Fault) → IsExchange a b old new t u → IsSpent a b most_bytes left
-    → IsCut (fails ⊎ IsLonger left b) refuses b new u v fault → IsCutShort fails refuses a old t v fault
-cut_short fails refuses a b old new t u v left fault so_far spent (inl unheard) =
+pub cut_short : (faults : StreamFaults) (a b c : Streams) (old new : Session) (left : ℕ) (fault : Fault)
+    → IsExchange faults a b old new → IsSpent a.input b.input most_bytes left
+    → IsCut (faults.input_fails ⊎ IsLonger left b.input) faults b c new fault
+    → WhereKnown (IsWithin left) b.input c.input → IsCutShort faults a c old fault
+cut_short faults a b c old new left fault so_far spent cut within =
     record {
-      input = b;
+      between = b;
       new = new;
-      taken = u;
       exchange = so_far;
-      cut = inl (record {
-        why = reading (fails ⊎ IsLonger left b) (fails ⊎ WhereKnown IsBeyond a b) fault (unread fails a b left spent)
-            unheard.why;
-        silent = unheard.silent;
-      });
+      cut = so cut;
+      within = within_all a.input b.input c.input left spent within;
     }
-cut_short fails refuses a b old new t u v left fault so_far spent (inr unsaid) =
-    record { input = b; new = new; taken = u; exchange = so_far; cut = inr unsaid }
+  where
+    so : IsCut (faults.input_fails ⊎ IsLonger left b.input) faults b c new fault
+        → IsCut (faults.input_fails ⊎ WhereKnown IsBeyond a.input b.input) faults b c new fault
+    so (inl unheard) =
+        inl (record {
+          why =
+              reading (faults.input_fails ⊎ IsLonger left b.input)
+              (faults.input_fails ⊎ WhereKnown IsBeyond a.input b.input) fault
+              (unread faults.input_fails a.input b.input left spent) unheard.why;
+          taken = unheard.taken;
+          silent = unheard.silent;
+        })
+    so (inr unsaid) = inr unsaid

@@ -1,5 +1,5 @@
 -- What `debug` came to, put together from its parts.
-use Rattle.std.proofs.Common.{◌≡◌, ◌⊎◌, ℕ, List, [], Option, inl, inr, refl}
+use Rattle.std.proofs.Common.{◌≡◌, ◌⊎◌, ℕ, List, [], inl, inr, refl}
 use Rattle.scenario_image.specs.Scenario.{Scenario}
 use Rattle.trace_file.specs.declared.entry.Entry.{Entry}
 use Rattle.fleet_core.specs.Run.{IsRun}
@@ -16,6 +16,7 @@ use Rattle.bench_commands.specs.Jobs.{IsCheckRefused, IsDebugRefused, IsImageFau
 use Rattle.bench_commands.specs.Jobs.{IsTraceFault}
 use Rattle.bench_commands.specs.RunAnswer.{IsJudged}
 use Rattle.bench_commands.specs.Runs.{verdict_line, verdict_status}
+use Rattle.bench_commands.specs.World.{IsIdle, StreamFaults, Streams}
 use Rattle.bench_commands.specs.declared.fault.Fault.{Fault}
 use Rattle.bench_commands.specs.declared.fault.Fault.TheVariants.{Memory}
 use Rattle.bench_commands.specs.declared.status.Status.{Status}
@@ -42,12 +43,10 @@ debug_refused holds image trace s es status text made found read judged no_run n
       no_run = no_run;
     }
 
-pub debugged_at : (holds : List ℕ → List ℕ → Type 0) (image trace : List ℕ) (s : Scenario) (es : List Entry)
-    (input_before input_after taken_before taken_after : Option (List ℕ)) → IsScenarioAt holds image s
-    → IsTraceAt holds trace es → IsRun s es
-    → IsConversation input_before input_after (opened s es) taken_before taken_after
-    → IsDebuggedAt holds image trace input_before input_after taken_before taken_after
-debugged_at holds image trace s es input_before input_after taken_before taken_after found read run conversation =
+pub debugged_at : (holds : List ℕ → List ℕ → Type 0) (faults : StreamFaults) (image trace : List ℕ) (s : Scenario)
+    (es : List Entry) (before after : Streams) → IsScenarioAt holds image s → IsTraceAt holds trace es → IsRun s es
+    → IsConversation faults before after (opened s es) → IsDebuggedAt holds faults image trace before after
+debugged_at holds faults image trace s es before after found read run conversation =
     record {
       session = opened s es;
       opened = opened_at holds image trace s es found read run;
@@ -55,45 +54,34 @@ debugged_at holds image trace s es input_before input_after taken_before taken_a
     }
 
 -- what is refused before the conversation, or cuts it short
-abbrev pub IsDebugFault : (List ℕ → List ℕ → Type 0) → (List ℕ → Type 0) → Type 0 → (List ℕ → Type 0) → List ℕ
-    → List ℕ → Option (List ℕ) → Option (List ℕ) → Option (List ℕ) → Option (List ℕ) → Fault → Type 0
-IsDebugFault holds fails input_fails refuses image trace input_before input_after taken_before taken_after fault =
-    (IsCheckRefused holds fails image trace fault × (input_after ≡ input_before) × (taken_after ≡ taken_before))
-    ⊎ IsDebugCutAt holds input_fails refuses image trace input_before taken_before taken_after fault
+abbrev pub IsDebugFault : (List ℕ → List ℕ → Type 0) → (List ℕ → Type 0) → StreamFaults → List ℕ → List ℕ → Streams
+    → Streams → Fault → Type 0
+IsDebugFault holds fails faults image trace before after fault =
+    (IsCheckRefused holds fails image trace fault × IsIdle before after)
+    ⊎ IsDebugCutAt holds faults image trace before after fault
 
-pub image_refused : (holds : List ℕ → List ℕ → Type 0) (fails : List ℕ → Type 0) (input_fails : Type 0)
-    (refuses : List ℕ → Type 0) (image trace : List ℕ)
-    (input_before input_after taken_before taken_after : Option (List ℕ)) (fault : Fault)
-    → IsImageFault holds fails image fault → input_after ≡ input_before → taken_after ≡ taken_before
-    → IsDebugFault holds fails input_fails refuses image trace input_before input_after taken_before taken_after fault
-image_refused holds fails input_fails refuses image trace input_before input_after taken_before taken_after fault h
-    unread silent = inl (check_image holds fails image trace fault h, unread, silent)
+pub image_refused : (holds : List ℕ → List ℕ → Type 0) (fails : List ℕ → Type 0) (faults : StreamFaults)
+    (image trace : List ℕ) (before after : Streams) (fault : Fault) → IsImageFault holds fails image fault
+    → IsIdle before after → IsDebugFault holds fails faults image trace before after fault
+image_refused holds fails faults image trace before after fault h idle =
+    inl (check_image holds fails image trace fault h, idle)
 
-pub trace_refused : (holds : List ℕ → List ℕ → Type 0) (fails : List ℕ → Type 0) (input_fails : Type 0)
-    (refuses : List ℕ → Type 0) (image trace : List ℕ)
-    (input_before input_after taken_before taken_after : Option (List ℕ)) (s : Scenario) (fault : Fault)
-    → IsScenarioAt holds image s → IsTraceFault holds fails trace fault → input_after ≡ input_before
-    → taken_after ≡ taken_before
-    → IsDebugFault holds fails input_fails refuses image trace input_before input_after taken_before taken_after fault
-trace_refused holds fails input_fails refuses image trace input_before input_after taken_before taken_after s fault
-    found h unread silent = inl (check_trace holds fails image trace fault s found h, unread, silent)
+pub trace_refused : (holds : List ℕ → List ℕ → Type 0) (fails : List ℕ → Type 0) (faults : StreamFaults)
+    (image trace : List ℕ) (before after : Streams) (s : Scenario) (fault : Fault) → IsScenarioAt holds image s
+    → IsTraceFault holds fails trace fault → IsIdle before after
+    → IsDebugFault holds fails faults image trace before after fault
+trace_refused holds fails faults image trace before after s fault found h idle =
+    inl (check_trace holds fails image trace fault s found h, idle)
 
-pub run_refused : (holds : List ℕ → List ℕ → Type 0) (fails : List ℕ → Type 0) (input_fails : Type 0)
-    (refuses : List ℕ → Type 0) (image trace : List ℕ)
-    (input_before input_after taken_before taken_after : Option (List ℕ)) (s : Scenario) (es : List Entry)
-    (fault : Fault) → IsScenarioAt holds image s → IsTraceAt holds trace es
-    → ((fault ≡ Memory) × (input_after ≡ input_before) × (taken_after ≡ taken_before))
-    ⊎ (IsRun s es × IsCutShort input_fails refuses input_before (opened s es) taken_before taken_after fault)
-    → IsDebugFault holds fails input_fails refuses image trace input_before input_after taken_before taken_after fault
-run_refused holds fails input_fails refuses image trace input_before input_after taken_before taken_after s es fault
-    found read (inl (memory, unread, silent)) =
-    inl (
-      check_image holds fails image trace fault (file_memory holds fails HasImageFault image fault memory),
-      unread,
-      silent,
-    )
-run_refused holds fails input_fails refuses image trace input_before input_after taken_before taken_after s es fault
-    found read (inr (run, cut)) =
+pub run_refused : (holds : List ℕ → List ℕ → Type 0) (fails : List ℕ → Type 0) (faults : StreamFaults)
+    (image trace : List ℕ) (before after : Streams) (s : Scenario) (es : List Entry) (fault : Fault)
+    → IsScenarioAt holds image s → IsTraceAt holds trace es
+    → ((fault ≡ Memory) × IsIdle before after)
+    ⊎ (IsRun s es × IsCutShort faults before after (opened s es) fault)
+    → IsDebugFault holds fails faults image trace before after fault
+run_refused holds fails faults image trace before after s es fault found read (inl (memory, idle)) =
+    inl (check_image holds fails image trace fault (file_memory holds fails HasImageFault image fault memory), idle)
+run_refused holds fails faults image trace before after s es fault found read (inr (run, cut)) =
     inr (record {
       session = opened s es;
       opened = opened_at holds image trace s es found read run;

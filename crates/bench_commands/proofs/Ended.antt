@@ -1,17 +1,22 @@
 -- What a command came to, put together from its parts.
-use Rattle.std.proofs.Common.{◌≡◌, ◌⊎◌, ℕ, List, Option, Result, Ok, Err, IfErr, IfOk, OnOk, inl, inr, subst}
+use Rattle.std.proofs.Common.{◌≡◌, ◌⊎◌, ◌≤◌, ◌+◌, ℕ, List, Option, None, Some, Result, Ok, Err, IfErr, IfOk, OnOk}
+use Rattle.std.proofs.Common.{inl, inr, sym, subst, arith}
 use Rattle.std.specs.Io.KnownBytes.{Appends}
 use Rattle.std.specs.String.{string_bytes}
 use Rattle.bench_words.specs.Words.{IsReadAs}
 use Rattle.bench_words.specs.declared.words.Asked.{Asked}
 use Rattle.bench_words.specs.declared.words.Asked.TheVariants as asked
+use Rattle.bench_words.specs.declared.words.Job.{Job}
+use Rattle.bench_words.specs.declared.words.Job.TheVariants as jobs
 use Rattle.bench_words.specs.declared.words.Live.{Live}
 use Rattle.bench_commands.specs.Answers.{IsUndelivered, files_of}
-use Rattle.bench_commands.specs.Command.{Ends, IsAnswerTo, IsAnswered, IsDebugCut, IsDebugged, IsFinished, IsRefused}
-use Rattle.bench_commands.specs.Command.{IsUnfinished}
-use Rattle.bench_commands.specs.Files.{Grows, Made}
+use Rattle.bench_commands.specs.Command.{Ends, IsAnswerTo, IsAnswered, IsCutJob, IsDebugCut, IsDebugged, IsDebuggedJob}
+use Rattle.bench_commands.specs.Command.{IsFinished, IsRefused, IsUnfinished}
+use Rattle.bench_commands.specs.Files.{Grows, most_bytes}
+use Rattle.bench_commands.specs.Input.{IsWithin, WhereKnown}
 use Rattle.bench_commands.specs.Live.{IsLiveDone, IsLiveFault}
 use Rattle.bench_commands.specs.Refusals.{IsTold}
+use Rattle.bench_commands.specs.World.{FilesKnown, IsAside, IsIdle, StreamFaults, Streams, World}
 use Rattle.bench_commands.specs.declared.answer.Answer.{Answer}
 use Rattle.bench_commands.specs.declared.fault.Fault.{Fault}
 use Rattle.bench_commands.specs.declared.fault.Fault.TheVariants.{Memory}
@@ -19,112 +24,90 @@ use Rattle.bench_commands.specs.declared.refusal.Refusal.{Refusal}
 use Rattle.bench_commands.specs.declared.status.Status.{Status}
 use Rattle.bench_commands.specs.declared.status.Status.TheVariants as ends
 
-pub answered_so : (holds : List ℕ → List ℕ → Type 0) (made_before made_after : Option (List Made))
-    (taken_before taken_after : Option (List ℕ)) (words : List (List ℕ))
-    (asked : Asked) (answer : Answer) (status : Status) → IsReadAs words asked
-    → IsAnswerTo holds asked answer.status (string_bytes answer.text) (files_of answer.file)
-    → Grows made_before made_after (files_of answer.file) → Appends taken_before taken_after (string_bytes answer.text)
-    → status ≡ answer.status
-    → IsAnswered holds made_before made_after taken_before taken_after words status
-answered_so holds made_before made_after taken_before taken_after words asked answer status read right made printed
-    ended =
-    record { asked = asked; read = read; answer = answer; right = right; made = made; printed = printed; ended = ended }
+-- ---- done
 
--- the same of a delivery that may have failed, of an answer for which nothing was read or printed
+-- a delivery that may have failed, of an answer for which nothing was read or printed
 pub answered_if : {E : Type 0}
-    → (holds : List ℕ → List ℕ → Type 0) (made_before made_after : Option (List Made))
-    (input_before input_after taken_before between taken_after : Option (List ℕ)) (words : List (List ℕ))
-    (asked : Asked) (answer : Answer) (delivered : Result Status E) → IsReadAs words asked
-    → IsAnswerTo holds asked answer.status (string_bytes answer.text) (files_of answer.file)
-    → input_after ≡ input_before → between ≡ taken_before
+    → (files : FilesKnown) (faults : StreamFaults) (before after : World) (between : Option (List ℕ))
+    (words : List (List ℕ)) (asked : Asked) (answer : Answer) (delivered : Result Status E) → IsReadAs words asked
+    → IsAnswerTo files.holds asked answer.status (string_bytes answer.text) (files_of answer.file)
+    → IsAside before.streams after.streams → between ≡ before.streams.output
     → IfOk delivered (λ status. status ≡ answer.status)
-    → OnOk delivered (Grows made_before made_after (files_of answer.file))
-    → OnOk delivered (Appends between taken_after (string_bytes answer.text))
-    → IfOk delivered (IsFinished holds made_before made_after input_before input_after taken_before taken_after words)
-answered_if holds made_before made_after input_before input_after taken_before between taken_after words asked answer
-    (Ok status) read right unread silent ended made printed =
+    → OnOk delivered (Grows before.made after.made (files_of answer.file))
+    → OnOk delivered (Appends between after.streams.output (string_bytes answer.text))
+    → IfOk delivered (IsFinished files faults before after words)
+answered_if files faults before after between words asked answer (Ok status) read right aside silent ended made
+    printed =
     inl (
-      inl (
-          answered_so holds made_before made_after taken_before taken_after words asked answer status read right made
-          (subst (λ t. Appends t taken_after (string_bytes answer.text)) silent printed) ended
-          ),
-      unread,
+      inl (record {
+        asked = asked;
+        read = read;
+        answer = answer;
+        right = right;
+        made = made;
+        printed = subst (λ t. Appends t after.streams.output (string_bytes answer.text)) silent printed;
+        ended = ended;
+      }),
+      aside,
     )
-answered_if holds made_before made_after input_before input_after taken_before between taken_after words asked answer
-    (Err e) read right unread silent ended made printed = tt
+answered_if files faults before after between words asked answer (Err e) read right aside silent ended made printed = tt
 
 -- a conversation came to its end
-pub conversed_so : (holds : List ℕ → List ℕ → Type 0) (made_before made_after : Option (List Made))
-    (input_before input_after taken_before taken_after : Option (List ℕ)) (words : List (List ℕ)) (asked : Asked)
-    (status : Status) → IsReadAs words asked
-    → IsDebugged holds asked input_before input_after taken_before taken_after → status ≡ ends.Done
-    → made_after ≡ made_before
-    → IsFinished holds made_before made_after input_before input_after taken_before taken_after words status
-conversed_so holds made_before made_after input_before input_after taken_before taken_after words asked status read
-    debugged ended none =
+pub conversed_so : (files : FilesKnown) (faults : StreamFaults) (before after : World) (words : List (List ℕ))
+    (asked : Asked) (status : Status) → IsReadAs words asked
+    → IsDebugged files.holds faults asked before.streams after.streams → status ≡ ends.Done → after.made ≡ before.made
+    → IsFinished files faults before after words status
+conversed_so files faults before after words asked status read debugged ended none =
     inr (record { asked = asked; read = read; debugged = debugged; ended = ended }, none)
 
 -- a session was concluded
-pub lived : (holds : List ℕ → List ℕ → Type 0) (made_before made_after : Option (List Made))
-    (input_before input_after taken_before taken_after : Option (List ℕ)) (words : List (List ℕ)) (live : Live)
+pub lived : (files : FilesKnown) (faults : StreamFaults) (before after : World) (words : List (List ℕ)) (live : Live)
     (status : Status) → IsReadAs words (asked.Live live)
-    → IsLiveDone holds made_before made_after taken_before taken_after live → status ≡ ends.Done
-    → input_after ≡ input_before
-    → IsFinished holds made_before made_after input_before input_after taken_before taken_after words status
-lived holds made_before made_after input_before input_after taken_before taken_after words live status read done ended
-    unread =
-    inl (inr (record { live = live; read = read; done = done; ended = ended }), unread)
+    → IsLiveDone files.holds before.made after.made before.streams.output after.streams.output live
+    → status ≡ ends.Done → IsAside before.streams after.streams → IsFinished files faults before after words status
+lived files faults before after words live status read done ended aside =
+    inl (inr (record { live = live; read = read; done = done; ended = ended }), aside)
+
+-- ---- not done
 
 -- a session was not concluded
-pub live_lost : (holds : List ℕ → List ℕ → Type 0) (fails file_refuses : List ℕ → Type 0)
-    (made_before made_after : Option (List Made)) (input_fails : Type 0) (input_before input_after : Option (List ℕ))
-    (refuses : List ℕ → Type 0) (taken_before taken_after : Option (List ℕ)) (words : List (List ℕ)) (live : Live)
-    (fault : Fault) → IsReadAs words (asked.Live live)
-    → IsLiveFault holds fails file_refuses refuses taken_before taken_after live fault → input_after ≡ input_before
-    → made_after ≡ made_before
-    → IsUnfinished holds fails file_refuses made_before made_after input_fails input_before input_after refuses
-    taken_before taken_after words fault
-live_lost holds fails file_refuses made_before made_after input_fails input_before input_after refuses taken_before
-    taken_after words live fault read lost unread none =
-    inr (inr (record { live = live; read = read; lost = lost }, unread), none)
+pub live_lost : (files : FilesKnown) (faults : StreamFaults) (before after : World) (words : List (List ℕ))
+    (live : Live) (fault : Fault) → IsReadAs words (asked.Live live)
+    → IsLiveFault files.holds files.fails files.refuses faults.output_refuses before.streams.output
+    after.streams.output live fault
+    → IsAside before.streams after.streams → after.made ≡ before.made
+    → IsUnfinished files faults before after words fault
+live_lost files faults before after words live fault read lost aside none =
+    inr (inr (record { live = live; read = read; lost = lost }, aside), none)
 
-pub no_memory : (holds : List ℕ → List ℕ → Type 0) (fails file_refuses : List ℕ → Type 0)
-    (made_before made_after : Option (List Made)) (input_fails : Type 0) (input_before input_after : Option (List ℕ))
-    (refuses : List ℕ → Type 0) (taken_before taken_after : Option (List ℕ)) (words : List (List ℕ)) (fault : Fault)
-    → fault ≡ Memory → made_after ≡ made_before → input_after ≡ input_before → taken_after ≡ taken_before
-    → IsUnfinished holds fails file_refuses made_before made_after input_fails input_before input_after refuses
-    taken_before taken_after words fault
-no_memory holds fails file_refuses made_before made_after input_fails input_before input_after refuses taken_before
-    taken_after words fault memory none unread silent = inl (inl (inl memory, none, silent), unread)
+pub no_memory : (files : FilesKnown) (faults : StreamFaults) (before after : World) (words : List (List ℕ))
+    (fault : Fault) → fault ≡ Memory → after.made ≡ before.made → IsIdle before.streams after.streams
+    → IsUnfinished files faults before after words fault
+no_memory files faults before after words fault memory none idle =
+    inl (inl (inl memory, none, idle.1), (idle.0, idle.2))
 
 -- there was no answer, or a conversation was cut short
-pub unanswered : (holds : List ℕ → List ℕ → Type 0) (fails file_refuses : List ℕ → Type 0)
-    (made_before made_after : Option (List Made)) (input_fails : Type 0) (input_before input_after : Option (List ℕ))
-    (refuses : List ℕ → Type 0) (taken_before taken_after : Option (List ℕ)) (words : List (List ℕ)) (asked : Asked)
-    (fault : Fault) → IsReadAs words asked
-    → (IsRefused holds fails asked fault × (input_after ≡ input_before) × (taken_after ≡ taken_before))
-    ⊎ IsDebugCut holds input_fails refuses asked input_before taken_before taken_after fault
-    → made_after ≡ made_before
-    → IsUnfinished holds fails file_refuses made_before made_after input_fails input_before input_after refuses
-    taken_before taken_after words fault
-unanswered holds fails file_refuses made_before made_after input_fails input_before input_after refuses taken_before
-    taken_after words asked fault read (inl (refused, unread, silent)) none =
-    inl (inl (inr (record { asked = asked; read = read; refused = refused }), none, silent), unread)
-unanswered holds fails file_refuses made_before made_after input_fails input_before input_after refuses taken_before
-    taken_after words asked fault read (inr cut) none =
+pub unanswered : (files : FilesKnown) (faults : StreamFaults) (before after : World) (words : List (List ℕ))
+    (asked : Asked) (fault : Fault) → IsReadAs words asked
+    → (IsRefused files.holds files.fails asked fault × IsIdle before.streams after.streams)
+    ⊎ IsDebugCut files.holds faults asked before.streams after.streams fault
+    → after.made ≡ before.made → IsUnfinished files faults before after words fault
+unanswered files faults before after words asked fault read (inl (refused, idle)) none =
+    inl (inl (inr (record { asked = asked; read = read; refused = refused }), none, idle.1), (idle.0, idle.2))
+unanswered files faults before after words asked fault read (inr cut) none =
     inr (inl (record { asked = asked; read = read; cut = cut }), none)
 
-pub undelivered_so : (holds : List ℕ → List ℕ → Type 0) (fails file_refuses : List ℕ → Type 0)
-    (made_before made_after : Option (List Made)) (input_fails : Type 0) (input_before input_after : Option (List ℕ))
-    (refuses : List ℕ → Type 0) (taken_before between taken_after : Option (List ℕ)) (words : List (List ℕ))
-    (asked : Asked) (answer : Answer) (fault : Fault) → IsReadAs words asked
-    → IsAnswerTo holds asked answer.status (string_bytes answer.text) (files_of answer.file)
-    → input_after ≡ input_before → between ≡ taken_before
-    → IsUndelivered file_refuses made_before made_after refuses between taken_after answer fault
-    → IsUnfinished holds fails file_refuses made_before made_after input_fails input_before input_after refuses
-    taken_before taken_after words fault
-undelivered_so holds fails file_refuses made_before made_after input_fails input_before input_after refuses taken_before
-    between taken_after words asked answer fault read right unread silent lost =
+-- a delivery that may have gone well, of an answer for which nothing was read or printed
+pub undelivered_if : (files : FilesKnown) (faults : StreamFaults) (before after : World) (between : Option (List ℕ))
+    (words : List (List ℕ)) (asked : Asked) (answer : Answer) (delivered : Result Status Refusal)
+    → IsReadAs words asked
+    → IsAnswerTo files.holds asked answer.status (string_bytes answer.text) (files_of answer.file)
+    → IsAside before.streams after.streams → between ≡ before.streams.output
+    → IfErr delivered (λ r. IsUndelivered files.refuses before.made after.made faults.output_refuses between
+    after.streams.output answer r.fault)
+    → IfErr delivered (λ r. IsUnfinished files faults before after words r.fault)
+undelivered_if files faults before after between words asked answer (Ok status) read right aside silent lost = tt
+undelivered_if files faults before after between words asked answer (Err r) read right aside silent lost =
     inl (
       inr (record {
         asked = asked;
@@ -132,51 +115,97 @@ undelivered_so holds fails file_refuses made_before made_after input_fails input
         answer = answer;
         right = right;
         undelivered =
-            subst (λ t. IsUndelivered file_refuses made_before made_after refuses t taken_after answer fault) silent lost;
+            subst (λ t. IsUndelivered files.refuses before.made after.made faults.output_refuses t after.streams.output
+            answer r.fault) silent lost;
       }),
-      unread,
+      aside,
     )
 
--- the same of a delivery that may have gone well
-pub undelivered_if : (holds : List ℕ → List ℕ → Type 0) (fails file_refuses : List ℕ → Type 0)
-    (made_before made_after : Option (List Made)) (input_fails : Type 0) (input_before input_after : Option (List ℕ))
-    (refuses : List ℕ → Type 0) (taken_before between taken_after : Option (List ℕ)) (words : List (List ℕ))
-    (asked : Asked) (answer : Answer) (delivered : Result Status Refusal) → IsReadAs words asked
-    → IsAnswerTo holds asked answer.status (string_bytes answer.text) (files_of answer.file)
-    → input_after ≡ input_before → between ≡ taken_before
-    → IfErr delivered (λ r.
-    IsUndelivered file_refuses made_before made_after refuses between taken_after answer r.fault)
-    → IfErr delivered (λ r.
-    IsUnfinished holds fails file_refuses made_before made_after input_fails input_before input_after refuses
-    taken_before taken_after words r.fault)
-undelivered_if holds fails file_refuses made_before made_after input_fails input_before input_after refuses taken_before
-    between taken_after words asked answer (Ok status) read right unread silent lost = tt
-undelivered_if holds fails file_refuses made_before made_after input_fails input_before input_after refuses taken_before
-    between taken_after words asked answer (Err r) read right unread silent lost =
-    undelivered_so holds fails file_refuses made_before made_after input_fails input_before input_after refuses
-    taken_before between taken_after words asked answer r.fault read right unread silent lost
+-- ---- what was read
 
-pub finished : (holds : List ℕ → List ℕ → Type 0) (fails file_refuses : List ℕ → Type 0)
-    (made_before made_after : Option (List Made)) (input_fails : Type 0) (input_before input_after : Option (List ℕ))
-    (refuses : List ℕ → Type 0) (taken_before taken_after : Option (List ℕ)) (error_refuses : List ℕ → Type 0)
-    (error_before error_after : Option (List ℕ)) (words : List (List ℕ)) (status : Status)
-    → IsFinished holds made_before made_after input_before input_after taken_before taken_after words status
-    → error_after ≡ error_before
-    → Ends holds fails file_refuses made_before made_after input_fails input_before input_after refuses taken_before
-    taken_after error_refuses error_before error_after words status
-finished holds fails file_refuses made_before made_after input_fails input_before input_after refuses taken_before
-    taken_after error_refuses error_before error_after words status done silent = inl (done, silent)
+unread : (a b : Option (List ℕ)) → b ≡ a → WhereKnown (IsWithin most_bytes) a b
+unread a b same = subst (λ x. WhereKnown (IsWithin most_bytes) a x) (sym same) (none a)
+  where
+    none : (a : Option (List ℕ)) → WhereKnown (IsWithin most_bytes) a a
+    none None = tt
+    none (Some bytes) = omega arith
 
-pub faulted : (holds : List ℕ → List ℕ → Type 0) (fails file_refuses : List ℕ → Type 0)
-    (made_before made_after : Option (List Made)) (input_fails : Type 0) (input_before input_after : Option (List ℕ))
-    (refuses : List ℕ → Type 0) (taken_before between taken_after : Option (List ℕ)) (error_refuses : List ℕ → Type 0)
-    (error_before error_after about : Option (List ℕ)) (words : List (List ℕ))
-    (fault : Fault) (status : Status) → status ≡ ends.Fault
-    → IsUnfinished holds fails file_refuses made_before made_after input_fails input_before input_after refuses
-    taken_before between words fault
-    → IsTold refuses between taken_after error_refuses error_before error_after about fault
-    → Ends holds fails file_refuses made_before made_after input_fails input_before input_after refuses taken_before
-    taken_after error_refuses error_before error_after words status
-faulted holds fails file_refuses made_before made_after input_fails input_before input_after refuses taken_before
-    between taken_after error_refuses error_before error_after about words fault status ended undone told =
-    inr (ended, record { fault = fault; between = between; undone = undone; about = about; told = told })
+within_job : (holds : List ℕ → List ℕ → Type 0) (faults : StreamFaults) (job : Job) (before after : Streams)
+    → IsDebuggedJob holds faults job before after → WhereKnown (IsWithin most_bytes) before.input after.input
+within_job holds faults (jobs.Debug image trace) before after h = h.conversation.within
+within_job holds faults (jobs.One hex) before after h = absurd h
+within_job holds faults (jobs.Asm input output) before after h = absurd h
+within_job holds faults (jobs.Dis input) before after h = absurd h
+within_job holds faults (jobs.Run image workers batch trace) before after h = absurd h
+within_job holds faults (jobs.Check image trace) before after h = absurd h
+within_job holds faults (jobs.Show image trace device from to) before after h = absurd h
+within_job holds faults (jobs.Pcap image trace output) before after h = absurd h
+
+within_cut : (holds : List ℕ → List ℕ → Type 0) (faults : StreamFaults) (job : Job) (before after : Streams)
+    (fault : Fault) → IsCutJob holds faults job before after fault
+    → WhereKnown (IsWithin most_bytes) before.input after.input
+within_cut holds faults (jobs.Debug image trace) before after fault h = h.cut.within
+within_cut holds faults (jobs.One hex) before after fault h = absurd h
+within_cut holds faults (jobs.Asm input output) before after fault h = absurd h
+within_cut holds faults (jobs.Dis input) before after fault h = absurd h
+within_cut holds faults (jobs.Run image workers batch trace) before after fault h = absurd h
+within_cut holds faults (jobs.Check image trace) before after fault h = absurd h
+within_cut holds faults (jobs.Show image trace device from to) before after fault h = absurd h
+within_cut holds faults (jobs.Pcap image trace output) before after fault h = absurd h
+
+within_asked : (holds : List ℕ → List ℕ → Type 0) (faults : StreamFaults) (asked : Asked) (before after : Streams)
+    → IsDebugged holds faults asked before after → WhereKnown (IsWithin most_bytes) before.input after.input
+within_asked holds faults (asked.Job job) before after h = within_job holds faults job before after h
+within_asked holds faults (asked.Live live) before after h = absurd h
+within_asked holds faults (asked.Text help is_mistake) before after h = absurd h
+
+within_lost : (holds : List ℕ → List ℕ → Type 0) (faults : StreamFaults) (asked : Asked) (before after : Streams)
+    (fault : Fault) → IsDebugCut holds faults asked before after fault
+    → WhereKnown (IsWithin most_bytes) before.input after.input
+within_lost holds faults (asked.Job job) before after fault h = within_cut holds faults job before after fault h
+within_lost holds faults (asked.Live live) before after fault h = absurd h
+within_lost holds faults (asked.Text help is_mistake) before after fault h = absurd h
+
+-- ---- the end
+
+pub finished : (files : FilesKnown) (faults : StreamFaults) (before after : World) (words : List (List ℕ))
+    (status : Status) → IsFinished files faults before after words status → Ends files faults before after words status
+finished files faults before after words status done = record { ended = inl done; within = so done }
+  where
+    so : IsFinished files faults before after words status
+        → WhereKnown (IsWithin most_bytes) before.streams.input after.streams.input
+    so (inl (answered, aside)) = unread before.streams.input after.streams.input aside.0
+    so (inr (conversed, none)) =
+        within_asked files.holds faults conversed.asked before.streams after.streams conversed.debugged
+
+pub faulted : (files : FilesKnown) (faults : StreamFaults) (before between after : World) (about : Option (List ℕ))
+    (words : List (List ℕ)) (fault : Fault) (status : Status) → status ≡ ends.Fault
+    → IsUnfinished files faults before between words fault
+    → IsTold faults.output_refuses between.streams.output after.streams.output faults.errors_refuse
+    between.streams.errors after.streams.errors about fault
+    → after.made ≡ between.made → after.streams.input ≡ between.streams.input
+    → Ends files faults before after words status
+faulted files faults before between after about words fault status ended undone told none_made none_read =
+    record {
+      ended = inr (
+        ended,
+        record {
+          fault = fault;
+          between = between;
+          undone = undone;
+          about = about;
+          told = told;
+          none_made = none_made;
+          none_read = none_read;
+        },
+      );
+      within =
+          subst (λ x. WhereKnown (IsWithin most_bytes) before.streams.input x) (sym none_read) (so undone);
+    }
+  where
+    so : IsUnfinished files faults before between words fault
+        → WhereKnown (IsWithin most_bytes) before.streams.input between.streams.input
+    so (inl (undone, aside)) = unread before.streams.input between.streams.input aside.0
+    so (inr (inl lost, none)) =
+        within_lost files.holds faults lost.asked before.streams between.streams fault lost.cut
+    so (inr (inr (lost, aside), none)) = unread before.streams.input between.streams.input aside.0

@@ -1,9 +1,4 @@
 -- What a command comes to: the words were answered, or refused, and the status says which.
---
--- What is known of the files: `holds path bytes`, the file at the path had these bytes when it was read; `fails path`,
--- it could not be read; `refuses path`, no file could be made there; and which files were made before and after. What
--- is known of a stream: `refuses text`, it did not take these bytes; and which bytes it got before and after. What is
--- known of standard input: `fails`, it could not be read; and which bytes it had still to give before and after.
 use Rattle.std.specs.Prelude.{◌≡◌, ℕ, ◌⊎◌, List, [], Option, option_map}
 use Rattle.std.specs.Io.KnownBytes.{Appends}
 use Rattle.std.specs.String.{string_bytes}
@@ -15,7 +10,8 @@ use Rattle.bench_words.specs.declared.words.Job.TheVariants as jobs
 use Rattle.bench_words.specs.declared.words.Live.{Live}
 use Rattle.bench_commands.specs.Answers.{IsUndelivered, files_of}
 use Rattle.bench_commands.specs.Debugging.{IsDebugCutAt, IsDebuggedAt}
-use Rattle.bench_commands.specs.Files.{Grows, Made}
+use Rattle.bench_commands.specs.Files.{Grows, Made, most_bytes}
+use Rattle.bench_commands.specs.Input.{IsWithin, WhereKnown}
 use Rattle.bench_commands.specs.Jobs.{IsAsmDone, IsCheckDone, IsCheckRefused, IsDebugRefused, IsDisDone, IsImageFault}
 use Rattle.bench_commands.specs.Jobs.{IsOneDone, IsOneFault, IsRunDone, IsRunRefused}
 use Rattle.bench_commands.specs.Live.{IsLiveDone, IsLiveFault}
@@ -23,6 +19,7 @@ use Rattle.bench_commands.specs.Refusals.{IsTold}
 use Rattle.bench_commands.specs.Status.{text_status}
 use Rattle.bench_commands.specs.Texts.{IsTextFault}
 use Rattle.bench_commands.specs.Traces.{IsPcapDone, IsPcapRefused, IsShowDone, IsShowRefused}
+use Rattle.bench_commands.specs.World.{FilesKnown, IsAside, StreamFaults, Streams, World}
 use Rattle.bench_commands.specs.declared.answer.Answer.{Answer}
 use Rattle.bench_commands.specs.declared.fault.Fault.{Fault}
 use Rattle.bench_commands.specs.declared.fault.Fault.TheVariants.{Memory}
@@ -74,149 +71,134 @@ IsRefused holds fails (asked.Text help is_mistake) fault = ⊥
 -- ---- what is not answered at once
 
 -- a job is answered by a conversation, which came to its end
-abbrev pub IsDebuggedJob : (List ℕ → List ℕ → Type 0) → Job → Option (List ℕ) → Option (List ℕ) → Option (List ℕ)
-    → Option (List ℕ) → Type 0
-IsDebuggedJob holds (jobs.Debug image trace) input_before input_after taken_before taken_after =
-    IsDebuggedAt holds image.now trace.now input_before input_after taken_before taken_after
-IsDebuggedJob holds _ input_before input_after taken_before taken_after = ⊥
+abbrev pub IsDebuggedJob : (List ℕ → List ℕ → Type 0) → StreamFaults → Job → Streams → Streams → Type 0
+IsDebuggedJob holds faults (jobs.Debug image trace) before after =
+    IsDebuggedAt holds faults image.now trace.now before after
+IsDebuggedJob holds faults _ before after = ⊥
 
 -- a job is answered by a conversation, which this fault cut short
-abbrev pub IsCutJob : (List ℕ → List ℕ → Type 0) → Type 0 → (List ℕ → Type 0) → Job → Option (List ℕ)
-    → Option (List ℕ) → Option (List ℕ) → Fault → Type 0
-IsCutJob holds fails refuses (jobs.Debug image trace) input_before taken_before taken_after fault =
-    IsDebugCutAt holds fails refuses image.now trace.now input_before taken_before taken_after fault
-IsCutJob holds fails refuses _ input_before taken_before taken_after fault = ⊥
+abbrev pub IsCutJob : (List ℕ → List ℕ → Type 0) → StreamFaults → Job → Streams → Streams → Fault → Type 0
+IsCutJob holds faults (jobs.Debug image trace) before after fault =
+    IsDebugCutAt holds faults image.now trace.now before after fault
+IsCutJob holds faults _ before after fault = ⊥
 
-abbrev pub IsDebugged : (List ℕ → List ℕ → Type 0) → Asked → Option (List ℕ) → Option (List ℕ) → Option (List ℕ)
-    → Option (List ℕ) → Type 0
-IsDebugged holds (asked.Job job) input_before input_after taken_before taken_after =
-    IsDebuggedJob holds job input_before input_after taken_before taken_after
-IsDebugged holds (asked.Live live) input_before input_after taken_before taken_after = ⊥
-IsDebugged holds (asked.Text help is_mistake) input_before input_after taken_before taken_after = ⊥
+abbrev pub IsDebugged : (List ℕ → List ℕ → Type 0) → StreamFaults → Asked → Streams → Streams → Type 0
+IsDebugged holds faults (asked.Job job) before after = IsDebuggedJob holds faults job before after
+IsDebugged holds faults (asked.Live live) before after = ⊥
+IsDebugged holds faults (asked.Text help is_mistake) before after = ⊥
 
-abbrev pub IsDebugCut : (List ℕ → List ℕ → Type 0) → Type 0 → (List ℕ → Type 0) → Asked → Option (List ℕ)
-    → Option (List ℕ) → Option (List ℕ) → Fault → Type 0
-IsDebugCut holds fails refuses (asked.Job job) input_before taken_before taken_after fault =
-    IsCutJob holds fails refuses job input_before taken_before taken_after fault
-IsDebugCut holds fails refuses (asked.Live live) input_before taken_before taken_after fault = ⊥
-IsDebugCut holds fails refuses (asked.Text help is_mistake) input_before taken_before taken_after fault = ⊥
+abbrev pub IsDebugCut : (List ℕ → List ℕ → Type 0) → StreamFaults → Asked → Streams → Streams → Fault → Type 0
+IsDebugCut holds faults (asked.Job job) before after fault = IsCutJob holds faults job before after fault
+IsDebugCut holds faults (asked.Live live) before after fault = ⊥
+IsDebugCut holds faults (asked.Text help is_mistake) before after fault = ⊥
 
 -- ---- a command
 
 -- the answer's file was made, its text printed, and nothing else
-pub record IsAnswered (holds : List ℕ → List ℕ → Type 0) (made_before made_after : Option (List Made))
-    (taken_before taken_after : Option (List ℕ)) (words : List (List ℕ)) (status : Status) : Type 0 where
-  pub asked : Asked
-  pub read : IsReadAs words asked
-  pub answer : Answer
-  pub right : IsAnswerTo holds asked answer.status (string_bytes answer.text) (files_of answer.file)
-  pub made : Grows made_before made_after (files_of answer.file)
-  pub printed : Appends taken_before taken_after (string_bytes answer.text)
-  pub ended : status ≡ answer.status
+pub record IsAnswered (files : FilesKnown) (before after : World) (words : List (List ℕ)) (status : Status) : Type 0
+  where
+    pub asked : Asked
+    pub read : IsReadAs words asked
+    pub answer : Answer
+    pub right : IsAnswerTo files.holds asked answer.status (string_bytes answer.text) (files_of answer.file)
+    pub made : Grows before.made after.made (files_of answer.file)
+    pub printed : Appends before.streams.output after.streams.output (string_bytes answer.text)
+    pub ended : status ≡ answer.status
 
 -- what the words ask for was refused for this fault
-pub record IsRefusedAsked (holds : List ℕ → List ℕ → Type 0) (fails : List ℕ → Type 0) (words : List (List ℕ))
+pub record IsRefusedAsked (files : FilesKnown) (words : List (List ℕ)) (fault : Fault) : Type 0 where
+  pub asked : Asked
+  pub read : IsReadAs words asked
+  pub refused : IsRefused files.holds files.fails asked fault
+
+-- there was an answer, and its file was not made or its text not printed
+pub record IsLost (files : FilesKnown) (faults : StreamFaults) (before after : World) (words : List (List ℕ))
     (fault : Fault) : Type 0 where
   pub asked : Asked
   pub read : IsReadAs words asked
-  pub refused : IsRefused holds fails asked fault
-
--- there was an answer, and its file was not made or its text not printed
-pub record IsLost (holds : List ℕ → List ℕ → Type 0) (file_refuses : List ℕ → Type 0)
-    (made_before made_after : Option (List Made)) (refuses : List ℕ → Type 0)
-    (taken_before taken_after : Option (List ℕ)) (words : List (List ℕ)) (fault : Fault) : Type 0 where
-  pub asked : Asked
-  pub read : IsReadAs words asked
   pub answer : Answer
-  pub right : IsAnswerTo holds asked answer.status (string_bytes answer.text) (files_of answer.file)
-  pub undelivered : IsUndelivered file_refuses made_before made_after refuses taken_before taken_after answer fault
+  pub right : IsAnswerTo files.holds asked answer.status (string_bytes answer.text) (files_of answer.file)
+  pub undelivered :
+      IsUndelivered files.refuses before.made after.made faults.output_refuses before.streams.output
+      after.streams.output answer fault
 
 -- no memory was left for an answer, or there was a fault, and then nothing was made and nothing printed; or the answer
 -- was lost
-abbrev pub IsUndone : (List ℕ → List ℕ → Type 0) → (List ℕ → Type 0) → (List ℕ → Type 0) → Option (List Made)
-    → Option (List Made) → (List ℕ → Type 0) → Option (List ℕ) → Option (List ℕ) → List (List ℕ) → Fault → Type 0
-IsUndone holds fails file_refuses made_before made_after refuses taken_before taken_after words fault =
-    (((fault ≡ Memory) ⊎ IsRefusedAsked holds fails words fault) × (made_after ≡ made_before)
-    × (taken_after ≡ taken_before))
-    ⊎ IsLost holds file_refuses made_before made_after refuses taken_before taken_after words fault
+abbrev pub IsUndone : FilesKnown → StreamFaults → World → World → List (List ℕ) → Fault → Type 0
+IsUndone files faults before after words fault =
+    (((fault ≡ Memory) ⊎ IsRefusedAsked files words fault) × (after.made ≡ before.made)
+    × (after.streams.output ≡ before.streams.output))
+    ⊎ IsLost files faults before after words fault
 
 -- the words ask for a conversation, which came to its end
-pub record IsConversed (holds : List ℕ → List ℕ → Type 0)
-    (input_before input_after taken_before taken_after : Option (List ℕ)) (words : List (List ℕ)) (status : Status)
-    : Type 0 where
+pub record IsConversed (files : FilesKnown) (faults : StreamFaults) (before after : World) (words : List (List ℕ))
+    (status : Status) : Type 0 where
   pub asked : Asked
   pub read : IsReadAs words asked
-  pub debugged : IsDebugged holds asked input_before input_after taken_before taken_after
+  pub debugged : IsDebugged files.holds faults asked before.streams after.streams
   pub ended : status ≡ ends.Done
 
 -- the words ask for a conversation, which this fault cut short
-pub record IsConversationLost (holds : List ℕ → List ℕ → Type 0) (fails : Type 0) (refuses : List ℕ → Type 0)
-    (input_before taken_before taken_after : Option (List ℕ)) (words : List (List ℕ)) (fault : Fault) : Type 0 where
+pub record IsConversationLost (files : FilesKnown) (faults : StreamFaults) (before after : World)
+    (words : List (List ℕ)) (fault : Fault) : Type 0 where
   pub asked : Asked
   pub read : IsReadAs words asked
-  pub cut : IsDebugCut holds fails refuses asked input_before taken_before taken_after fault
+  pub cut : IsDebugCut files.holds faults asked before.streams after.streams fault
 
 -- the words ask for a device on UDP, whose session was concluded
-pub record IsLived (holds : List ℕ → List ℕ → Type 0) (made_before made_after : Option (List Made))
-    (taken_before taken_after : Option (List ℕ)) (words : List (List ℕ)) (status : Status) : Type 0 where
+pub record IsLived (files : FilesKnown) (before after : World) (words : List (List ℕ)) (status : Status) : Type 0 where
   pub live : Live
   pub read : IsReadAs words (asked.Live live)
-  pub done : IsLiveDone holds made_before made_after taken_before taken_after live
+  pub done :
+      IsLiveDone files.holds before.made after.made before.streams.output after.streams.output live
   pub ended : status ≡ ends.Done
 
 -- the words ask for a device on UDP, and this fault kept it from a session or from its conclusion
-pub record IsLiveLost (holds : List ℕ → List ℕ → Type 0) (fails file_refuses refuses : List ℕ → Type 0)
-    (taken_before taken_after : Option (List ℕ)) (words : List (List ℕ)) (fault : Fault) : Type 0 where
+pub record IsLiveLost (files : FilesKnown) (faults : StreamFaults) (before after : World) (words : List (List ℕ))
+    (fault : Fault) : Type 0 where
   pub live : Live
   pub read : IsReadAs words (asked.Live live)
-  pub lost : IsLiveFault holds fails file_refuses refuses taken_before taken_after live fault
+  pub lost :
+      IsLiveFault files.holds files.fails files.refuses faults.output_refuses before.streams.output
+      after.streams.output live fault
 
--- the words were answered, or a session was concluded, and nothing was read from standard input; or a conversation
--- came to its end, and no file was made
-abbrev pub IsFinished : (List ℕ → List ℕ → Type 0) → Option (List Made) → Option (List Made) → Option (List ℕ)
-    → Option (List ℕ) → Option (List ℕ) → Option (List ℕ) → List (List ℕ) → Status → Type 0
-IsFinished holds made_before made_after input_before input_after taken_before taken_after words status =
-    ((IsAnswered holds made_before made_after taken_before taken_after words status
-    ⊎ IsLived holds made_before made_after taken_before taken_after words status) × (input_after ≡ input_before))
-    ⊎ (IsConversed holds input_before input_after taken_before taken_after words status
-    × (made_after ≡ made_before))
+-- the words were answered, or a session was concluded, and nothing was read from standard input, and standard error got
+-- nothing; or a conversation came to its end, and no file was made
+abbrev pub IsFinished : FilesKnown → StreamFaults → World → World → List (List ℕ) → Status → Type 0
+IsFinished files faults before after words status =
+    ((IsAnswered files before after words status ⊎ IsLived files before after words status)
+    × IsAside before.streams after.streams)
+    ⊎ (IsConversed files faults before after words status × (after.made ≡ before.made))
 
--- there was no answer, or it was lost, and nothing was read from standard input; or a conversation was cut short, or a
--- session lost, and no file was made
-abbrev pub IsUnfinished : (List ℕ → List ℕ → Type 0) → (List ℕ → Type 0) → (List ℕ → Type 0) → Option (List Made)
-    → Option (List Made) → Type 0 → Option (List ℕ) → Option (List ℕ) → (List ℕ → Type 0) → Option (List ℕ)
-    → Option (List ℕ) → List (List ℕ) → Fault → Type 0
-IsUnfinished holds fails file_refuses made_before made_after input_fails input_before input_after refuses taken_before
-    taken_after words fault =
-    (IsUndone holds fails file_refuses made_before made_after refuses taken_before taken_after words fault
-    × (input_after ≡ input_before))
-    ⊎ ((IsConversationLost holds input_fails refuses input_before taken_before taken_after words fault
-    ⊎ (IsLiveLost holds fails file_refuses refuses taken_before taken_after words fault × (input_after ≡ input_before)))
-    × (made_after ≡ made_before))
+-- there was no answer, or it was lost, and nothing was read from standard input, and standard error got nothing; or a
+-- conversation was cut short, or a session lost likewise, and no file was made
+abbrev pub IsUnfinished : FilesKnown → StreamFaults → World → World → List (List ℕ) → Fault → Type 0
+IsUnfinished files faults before after words fault =
+    (IsUndone files faults before after words fault × IsAside before.streams after.streams)
+    ⊎ ((IsConversationLost files faults before after words fault
+    ⊎ (IsLiveLost files faults before after words fault × IsAside before.streams after.streams))
+    × (after.made ≡ before.made))
 
 -- what the words ask for was not done, and that was told
-pub record IsFaulted (holds : List ℕ → List ℕ → Type 0) (fails file_refuses : List ℕ → Type 0)
-    (made_before made_after : Option (List Made)) (input_fails : Type 0) (input_before input_after : Option (List ℕ))
-    (refuses : List ℕ → Type 0) (taken_before taken_after : Option (List ℕ)) (error_refuses : List ℕ → Type 0)
-    (error_before error_after : Option (List ℕ)) (words : List (List ℕ)) : Type 0 where
+pub record IsFaulted (files : FilesKnown) (faults : StreamFaults) (before after : World) (words : List (List ℕ))
+    : Type 0 where
   pub fault : Fault
-  -- what standard output had got when the fault was met
-  pub between : Option (List ℕ)
-  pub undone :
-      IsUnfinished holds fails file_refuses made_before made_after input_fails input_before input_after refuses
-      taken_before between words fault
+  -- the files and the streams when the fault was met
+  pub between : World
+  pub undone : IsUnfinished files faults before between words fault
   -- the file or the word that standard error names
   pub about : Option (List ℕ)
-  pub told : IsTold refuses between taken_after error_refuses error_before error_after about fault
+  pub told :
+      IsTold faults.output_refuses between.streams.output after.streams.output faults.errors_refuse
+      between.streams.errors after.streams.errors about fault
+  pub none_made : after.made ≡ between.made
+  pub none_read : after.streams.input ≡ between.streams.input
 
--- what the words ask for was done, and standard error got nothing; or there was a fault
-abbrev pub Ends : (List ℕ → List ℕ → Type 0) → (List ℕ → Type 0) → (List ℕ → Type 0) → Option (List Made)
-    → Option (List Made) → Type 0 → Option (List ℕ) → Option (List ℕ) → (List ℕ → Type 0) → Option (List ℕ)
-    → Option (List ℕ) → (List ℕ → Type 0) → Option (List ℕ) → Option (List ℕ) → List (List ℕ) → Status → Type 0
-Ends holds fails file_refuses made_before made_after input_fails input_before input_after refuses taken_before
-    taken_after error_refuses error_before error_after words status =
-    (IsFinished holds made_before made_after input_before input_after taken_before taken_after words status
-    × (error_after ≡ error_before))
-    ⊎ ((status ≡ ends.Fault)
-    × IsFaulted holds fails file_refuses made_before made_after input_fails input_before input_after refuses
-    taken_before taken_after error_refuses error_before error_after words)
+-- a command ends: what the words ask for was done, or there was a fault; and of standard input at most 64 MiB were
+-- taken, whatever the end
+pub record Ends (files : FilesKnown) (faults : StreamFaults) (before after : World) (words : List (List ℕ))
+    (status : Status) : Type 0 where
+  pub ended :
+      IsFinished files faults before after words status
+      ⊎ ((status ≡ ends.Fault) × IsFaulted files faults before after words)
+  pub within : WhereKnown (IsWithin most_bytes) before.streams.input after.streams.input

@@ -1,6 +1,5 @@
--- What is known of files that are read and made, and of the streams that texts are printed to.
-use Rattle.std.specs.Prelude.{◌≡◌, ◌≢◌, ◌<◌, ℕ, ⊤, List, ◌++◌, length, Option, None, Some, IfSome}
-use Rattle.std.specs.Io.BufRead.{take_through}
+-- What is known of files that are read and made.
+use Rattle.std.specs.Prelude.{◌≡◌, ◌≢◌, ℕ, ⊤, List, ◌++◌, Option, None, Some}
 use Rattle.std.specs.declared.io.ErrorKind.{ErrorKind}
 use Rattle.std.specs.declared.io.ErrorKind.TheVariants.{OutOfMemory}
 use Rattle.bench_commands.specs.declared.files.FileFault.{FileFault}
@@ -29,7 +28,3 @@ IsFileFaultOf kind (Failed why) = kind ≢ OutOfMemory
 abbrev pub IsFailure : Type 0 → FileFault → Type 0
 IsFailure failed Memory = ⊤
 IsFailure failed (Failed why) = failed
-
--- the next line of an input, with its line feed, has more bytes than these; where that is known
-abbrev pub IsLonger : ℕ → Option (List ℕ) → Type 0
-IsLonger most rest = IfSome rest (λ bytes. most < length (take_through 10 bytes))

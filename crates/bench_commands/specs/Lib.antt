@@ -6,6 +6,7 @@ pub mod Demo
 pub mod Fault
 pub mod FaultLine
 pub mod Files
+pub mod Input
 pub mod Jobs
 pub mod Live
 pub mod Refusals
@@ -15,3 +16,4 @@ pub mod Status
 pub mod Texts
 pub mod Traces
 pub mod Unread
+pub mod World

@@ -5,6 +5,7 @@ use Rattle.std.specs.declared.io.ErrorKind.{ErrorKind}
 use Rattle.std.specs.declared.io.ErrorKind.TheVariants.{OutOfMemory}
 use Rattle.bench_commands.specs.Fault.{IsWritingFault}
 use Rattle.bench_commands.specs.Refusals.{IsTold}
+use Rattle.bench_commands.specs.World.{StreamFaults, World}
 use Rattle.bench_commands.specs.declared.fault.Fault.{Fault}
 use Rattle.bench_commands.specs.declared.fault.Fault.TheVariants.{Memory}
 use Rattle.bench_commands.specs.declared.status.Status.{Status}
@@ -20,8 +21,17 @@ pub record IsUnreadFault (refuses : List ℕ → Type 0) (before after : Option 
   pub told : IsTold refuses between after error_refuses error_before error_after about fault
 
 -- a word is not a text, and that was printed; or there was a fault
-abbrev pub EndsUnread : (List ℕ → Type 0) → Option (List ℕ) → Option (List ℕ) → (List ℕ → Type 0) → Option (List ℕ)
+abbrev pub IsToldUnread : (List ℕ → Type 0) → Option (List ℕ) → Option (List ℕ) → (List ℕ → Type 0) → Option (List ℕ)
     → Option (List ℕ) → List ℕ → ErrorKind → Status → Type 0
-EndsUnread refuses before after error_refuses error_before error_after text why status =
+IsToldUnread refuses before after error_refuses error_before error_after text why status =
     ((status ≡ ends.Usage) × (why ≢ OutOfMemory) × Appends before after text × (error_after ≡ error_before))
     ⊎ ((status ≡ ends.Fault) × IsUnreadFault refuses before after error_refuses error_before error_after text why)
+
+-- the same, and nothing was read from standard input, and no file was made
+pub record EndsUnread (faults : StreamFaults) (before after : World) (text : List ℕ) (why : ErrorKind)
+    (status : Status) : Type 0 where
+  pub told :
+      IsToldUnread faults.output_refuses before.streams.output after.streams.output faults.errors_refuse
+      before.streams.errors after.streams.errors text why status
+  pub none_made : after.made ≡ before.made
+  pub none_read : after.streams.input ≡ before.streams.input

@@ -86,7 +86,7 @@ pub fn dis<'a, F: Files>(
 
 /// `run IMAGE [--workers N] [--batch N] [--trace FILE]`: a run of the scenario, whose trace file goes to FILE.
 #[tactic(auto, using(crate::proofs::Built::run_done, crate::proofs::Built::run_image, crate::proofs::Built::run_work))]
-pub fn run<'a, R: Threads + Wait + Sync, F: Files>(
+pub(crate) fn run<'a, R: Threads + Wait + Sync, F: Files>(
     rt: &R,
     alloc: Global,
     image: &'a str,

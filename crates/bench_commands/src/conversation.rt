@@ -1,10 +1,13 @@
 //! A conversation with the debugger: each line of an input is answered before the next one is read.
-ghost use Rattle.std.specs.Prelude.{◌≡◌, ◌≢◌, ◌≤◌, ◌⊎◌, [], IfErr, IfNone, IfOk, IfSome, OnErr, OnOk, vec_len};
+ghost use Rattle.std.specs.Prelude.{◌≡◌, ◌≢◌, ◌≤◌, ◌⊎◌, [], IfErr, IfNone, IfOk, IfSome, OnErr, OnOk, option_map};
+ghost use Rattle.std.specs.Prelude.{vec_len};
 ghost use Rattle.std.specs.Io.BufRead.{DropsThrough, strip_last, take_through};
 ghost use Rattle.std.specs.Io.KnownBytes.{Appends};
-ghost use Rattle.bench_commands.specs.Conversation.{IsConversation, IsCut, IsCutShort, IsLastTurn, IsTurn};
+ghost use Rattle.std.specs.String.{string_bytes};
+ghost use Rattle.bench_commands.specs.Conversation.{IsConversation, IsCut, IsCutShort, IsLastTurn, IsNoted, IsTurn};
 ghost use Rattle.bench_commands.specs.Fault.{IsReadingFault, IsWritingFault};
-ghost use Rattle.bench_commands.specs.Files.{IsLonger, most_bytes};
+ghost use Rattle.bench_commands.specs.Files.{most_bytes};
+ghost use Rattle.bench_commands.specs.Input.{IsLonger, IsOfLine, IsWithin, WhereKnown};
 
 use crate::answer::unwritten;
 use crate::fault::Fault;
@@ -16,22 +19,30 @@ use debug_answers::reply_to;
 use debugger::Debugger;
 use std::alloc::Global;
 
-/// Answers the lines of the input, each before the next one is read, until one asks for the end or the input ends. Of
-/// the input at most 64 MiB are read: a line that goes beyond is not answered.
+/// Answers the lines of the input, each before the next one is read, until one asks for the end or the input ends. A
+/// person gets on `errors` what is to be said of a line that is no command. Of the input at most 64 MiB are taken,
+/// whatever the end: a line that goes beyond is not answered.
 #[tactic(auto, using(crate::proofs::Conversing::begun, crate::proofs::Conversing::none_spent, crate::proofs::Conversing::go_on, crate::proofs::Conversing::spend, crate::proofs::Conversing::conversed, crate::proofs::Conversing::cut_short))]
-pub fn converse<'a, I: Input, O: Output>(
+pub fn converse<'a, I: Input, O: Output, E: Output>(
     alloc: Global,
     debugger: &mut Debugger,
     input: &mut I,
     output: &mut O,
+    errors: &mut E,
 ) -> Result<(), Refusal<'a>>
-    ensures done { OnOk result (IsConversation (I.rest input.old) (I.rest input.new) debugger.old
-        (O.taken output.old) (O.taken output.new)) }
-    ensures cut { IfErr result (λ r. IsCutShort I.fails O.refuses (I.rest input.old) debugger.old
-        (O.taken output.old) (O.taken output.new) r.fault) }
+    ensures done { OnOk result (IsConversation
+        (record { input_fails = I.fails; output_refuses = O.refuses; errors_refuse = E.refuses })
+        (record { input = I.rest input.old; output = O.taken output.old; errors = E.taken errors.old })
+        (record { input = I.rest input.new; output = O.taken output.new; errors = E.taken errors.new })
+        debugger.old) }
+    ensures cut { IfErr result (λ r. IsCutShort
+        (record { input_fails = I.fails; output_refuses = O.refuses; errors_refuse = E.refuses })
+        (record { input = I.rest input.old; output = O.taken output.old; errors = E.taken errors.old })
+        (record { input = I.rest input.new; output = O.taken output.new; errors = E.taken errors.new })
+        debugger.old r.fault) }
 {
     let mut left = most_bytes();
-    while let Some(more) = take_turn(alloc, debugger, input, output, left)? {
+    while let Some(more) = take_turn(alloc, debugger, input, output, errors, left)? {
         left = more;
     }
     Ok(())
@@ -39,19 +50,30 @@ pub fn converse<'a, I: Input, O: Output>(
 
 /// Reads a line and answers it. Returns how many bytes may still be read; none where the conversation
 /// has ended.
-fn take_turn<'a, I: Input, O: Output>(
+#[tactic(auto, using(crate::proofs::Turns::unheard, crate::proofs::Turns::line_of_line, crate::proofs::Turns::within_left))]
+fn take_turn<'a, I: Input, O: Output, E: Output>(
     alloc: Global,
     debugger: &mut Debugger,
     input: &mut I,
     output: &mut O,
+    errors: &mut E,
     left: u32,
 ) -> Result<Option<u32>, Refusal<'a>>
-    ensures turn { IfOk result (λ o. IfSome o (λ more. IsTurn (I.rest input.old) (I.rest input.new)
-        debugger.old debugger.new (O.taken output.old) (O.taken output.new) left more)) }
-    ensures last { IfOk result (λ o. IfNone o (IsLastTurn (I.rest input.old) (I.rest input.new)
-        (O.taken output.old) (O.taken output.new) left)) }
-    ensures cut { IfErr result (λ r. IsCut (I.fails ⊎ IsLonger left (I.rest input.old)) O.refuses
-        (I.rest input.old) debugger.old (O.taken output.old) (O.taken output.new) r.fault) }
+    ensures turn { IfOk result (λ o. IfSome o (λ more. IsTurn
+        (record { input_fails = I.fails; output_refuses = O.refuses; errors_refuse = E.refuses })
+        (record { input = I.rest input.old; output = O.taken output.old; errors = E.taken errors.old })
+        (record { input = I.rest input.new; output = O.taken output.new; errors = E.taken errors.new })
+        debugger.old debugger.new left more)) }
+    ensures last { IfOk result (λ o. IfNone o (IsLastTurn
+        (record { input = I.rest input.old; output = O.taken output.old; errors = E.taken errors.old })
+        (record { input = I.rest input.new; output = O.taken output.new; errors = E.taken errors.new })
+        left)) }
+    ensures cut { IfErr result (λ r. IsCut (I.fails ⊎ IsLonger left (I.rest input.old))
+        (record { input_fails = I.fails; output_refuses = O.refuses; errors_refuse = E.refuses })
+        (record { input = I.rest input.old; output = O.taken output.old; errors = E.taken errors.old })
+        (record { input = I.rest input.new; output = O.taken output.new; errors = E.taken errors.new })
+        debugger.old r.fault) }
+    ensures within { OnErr result (WhereKnown (IsWithin left) (I.rest input.old) (I.rest input.new)) }
 {
     let line = hear(alloc, input, left)?;
     if line.is_empty() {
@@ -62,6 +84,7 @@ fn take_turn<'a, I: Input, O: Output>(
         return Ok(None);
     }
     say(reply.text.as_str(), output)?;
+    add_note(&reply.note, errors);
     Ok(Some(left - line.len() as u32))
 }
 
@@ -71,6 +94,8 @@ fn hear<'a, I: Input>(alloc: Global, input: &mut I, left: u32) -> Result<Vec<u8>
     ensures line { IfOk result (λ line. IfSome (I.rest input.old) (λ bytes. line.items ≡ take_through 10 bytes)) }
     ensures rest { OnOk result (DropsThrough (I.rest input.old) (I.rest input.new) 10) }
     ensures failed { IfErr result (λ r. IsReadingFault (I.fails ⊎ IsLonger left (I.rest input.old)) r.fault) }
+    ensures part { OnErr result (WhereKnown IsOfLine (I.rest input.old) (I.rest input.new)) }
+    ensures within { OnErr result (WhereKnown (IsWithin left) (I.rest input.old) (I.rest input.new)) }
 {
     match input.next_line(alloc, left) {
         Ok(line) => Ok(line),
@@ -101,5 +126,15 @@ fn say<'a, O: Output>(text: &str, output: &mut O) -> Result<(), Refusal<'a>>
     match output.print(text) {
         Ok(()) => Ok(()),
         Err(fault) => Err(unwritten("standard output", fault)),
+    }
+}
+
+/// Prints a note for a person, if there is one. A stream that does not take it goes without.
+fn add_note<E: Output>(note: &Option<String>, errors: &mut E)
+    ensures { IsNoted E.refuses (E.taken errors.old) (E.taken errors.new)
+        (option_map (λ text. string_bytes text) note.now) }
+{
+    if let Some(text) = note {
+        let _ = errors.print(text.as_str());
     }
 }

@@ -9,6 +9,7 @@ ghost use Rattle.bench_commands.specs.Conversation.{IsConversation, IsCutShort};
 ghost use Rattle.bench_commands.specs.Debugging.{IsDebugCutAt, IsDebuggedAt};
 ghost use Rattle.bench_commands.specs.Jobs.{IsCheckRefused, IsDebugRefused};
 ghost use Rattle.bench_commands.specs.RunAnswer.{IsJudged};
+ghost use Rattle.bench_commands.specs.World.{IsIdle};
 
 use crate::answer::Answer;
 use crate::conversation::converse;
@@ -25,59 +26,79 @@ use scenario_image::Scenario;
 use std::alloc::Global;
 use trace_file::Entries;
 
-/// `debug IMAGE TRACE`: answers the lines of the input, over a run; where the trace is none, the answer says so.
+/// `debug IMAGE TRACE`: answers the lines of the input, over a run, with notes for a person on `errors`; where the
+/// trace is none, the answer says so.
 #[tactic(auto, using(crate::proofs::Debugged::debug_refused, crate::proofs::Debugged::debugged_at, crate::proofs::Debugged::image_refused, crate::proofs::Debugged::trace_refused, crate::proofs::Debugged::run_refused))]
-pub fn debug<'a, F: Files, I: Input, O: Output>(
+pub fn debug<'a, F: Files, I: Input, O: Output, E: Output>(
     alloc: Global,
     image: &'a str,
     trace: &'a str,
     files: &F,
     input: &mut I,
     output: &mut O,
+    errors: &mut E,
 ) -> Result<Option<Answer<'a>>, Refusal<'a>>
     ensures done { IfOk result (λ o. IfSome o (λ a. IsDebugRefused (F.holds files.now) image.entry.now trace.entry.now
         a.status (string_bytes a.text) (files_of a.file))) }
-    ensures unread { IfOk result (λ o. IfSome o (λ _. I.rest input.new ≡ I.rest input.old)) }
-    ensures silent { IfOk result (λ o. IfSome o (λ _. O.taken output.new ≡ O.taken output.old)) }
-    ensures debugged { IfOk result (λ o. IfNone o (IsDebuggedAt (F.holds files.now) image.entry.now trace.entry.now
-        (I.rest input.old) (I.rest input.new) (O.taken output.old) (O.taken output.new))) }
+    ensures idle { IfOk result (λ o. IfSome o (λ _. IsIdle
+        (record { input = I.rest input.old; output = O.taken output.old; errors = E.taken errors.old })
+        (record { input = I.rest input.new; output = O.taken output.new; errors = E.taken errors.new }))) }
+    ensures debugged { IfOk result (λ o. IfNone o (IsDebuggedAt (F.holds files.now)
+        (record { input_fails = I.fails; output_refuses = O.refuses; errors_refuse = E.refuses })
+        image.entry.now trace.entry.now
+        (record { input = I.rest input.old; output = O.taken output.old; errors = E.taken errors.old })
+        (record { input = I.rest input.new; output = O.taken output.new; errors = E.taken errors.new }))) }
     ensures refused { IfErr result (λ r.
-        (IsCheckRefused (F.holds files.now) (F.fails files.now) image.entry.now trace.entry.now r.fault
-        × (I.rest input.new ≡ I.rest input.old) × (O.taken output.new ≡ O.taken output.old))
-        ⊎ IsDebugCutAt (F.holds files.now) I.fails O.refuses image.entry.now trace.entry.now (I.rest input.old)
-        (O.taken output.old) (O.taken output.new) r.fault) }
+        (IsCheckRefused (F.holds files.now) (F.fails files.now) image.entry.now trace.entry.now r.fault × IsIdle
+        (record { input = I.rest input.old; output = O.taken output.old; errors = E.taken errors.old })
+        (record { input = I.rest input.new; output = O.taken output.new; errors = E.taken errors.new }))
+        ⊎ IsDebugCutAt (F.holds files.now)
+        (record { input_fails = I.fails; output_refuses = O.refuses; errors_refuse = E.refuses })
+        image.entry.now trace.entry.now
+        (record { input = I.rest input.old; output = O.taken output.old; errors = E.taken errors.old })
+        (record { input = I.rest input.new; output = O.taken output.new; errors = E.taken errors.new })
+        r.fault) }
 {
     let scenario = load_scenario(alloc, image, files)?;
     let entries = load_trace(alloc, trace, files)?;
-    debug_run(alloc, &scenario, entries, input, output)
+    debug_run(alloc, &scenario, entries, input, output, errors)
 }
 
 /// Answers the lines of the input, over a run; where the entries are none, the answer says so.
 #[tactic(auto, using(crate::proofs::Debugged::judged_none))]
-fn debug_run<'a, I: Input, O: Output>(
+fn debug_run<'a, I: Input, O: Output, E: Output>(
     alloc: Global,
     scenario: &Scenario,
     entries: Entries,
     input: &mut I,
     output: &mut O,
+    errors: &mut E,
 ) -> Result<Option<Answer<'a>>, Refusal<'a>>
     ensures told { IfOk result (λ o. IfSome o (λ a.
         IsJudged scenario.now entries a.status (string_bytes a.text))) }
     ensures no_run { IfOk result (λ o. IfSome o (λ a. a.status ≡ Status.NotRun)) }
     ensures made { IfOk result (λ o. IfSome o (λ a. files_of a.file ≡ [])) }
-    ensures unread { IfOk result (λ o. IfSome o (λ _. I.rest input.new ≡ I.rest input.old)) }
-    ensures silent { IfOk result (λ o. IfSome o (λ _. O.taken output.new ≡ O.taken output.old)) }
+    ensures idle { IfOk result (λ o. IfSome o (λ _. IsIdle
+        (record { input = I.rest input.old; output = O.taken output.old; errors = E.taken errors.old })
+        (record { input = I.rest input.new; output = O.taken output.new; errors = E.taken errors.new }))) }
     ensures run { IfOk result (λ o. IfNone o (IsRun scenario.now entries)) }
-    ensures conversed { IfOk result (λ o. IfNone o (IsConversation (I.rest input.old) (I.rest input.new)
-        (opened scenario.now entries) (O.taken output.old) (O.taken output.new))) }
-    ensures refused { IfErr result (λ r. ((r.fault ≡ Fault.Memory)
-        × (I.rest input.new ≡ I.rest input.old) × (O.taken output.new ≡ O.taken output.old))
-        ⊎ (IsRun scenario.now entries × IsCutShort I.fails O.refuses (I.rest input.old)
-        (opened scenario.now entries) (O.taken output.old) (O.taken output.new) r.fault)) }
+    ensures conversed { IfOk result (λ o. IfNone o (IsConversation
+        (record { input_fails = I.fails; output_refuses = O.refuses; errors_refuse = E.refuses })
+        (record { input = I.rest input.old; output = O.taken output.old; errors = E.taken errors.old })
+        (record { input = I.rest input.new; output = O.taken output.new; errors = E.taken errors.new })
+        (opened scenario.now entries))) }
+    ensures refused { IfErr result (λ r. ((r.fault ≡ Fault.Memory) × IsIdle
+        (record { input = I.rest input.old; output = O.taken output.old; errors = E.taken errors.old })
+        (record { input = I.rest input.new; output = O.taken output.new; errors = E.taken errors.new }))
+        ⊎ (IsRun scenario.now entries × IsCutShort
+        (record { input_fails = I.fails; output_refuses = O.refuses; errors_refuse = E.refuses })
+        (record { input = I.rest input.old; output = O.taken output.old; errors = E.taken errors.old })
+        (record { input = I.rest input.new; output = O.taken output.new; errors = E.taken errors.new })
+        (opened scenario.now entries) r.fault)) }
 {
     match Debugger::open(alloc, scenario, entries) {
         Ok(mut debugger) => {
-            converse(alloc, &mut debugger, input, output)?;
+            converse(alloc, &mut debugger, input, output, errors)?;
             Ok(None)
         }
         Err(OpenFault::NotRun(place)) => Ok(Some(no_run(alloc, place)?)),

@@ -1,9 +1,10 @@
 //! Lines that are read from an input.
 ghost use Rattle.std.specs.Prelude.{◌≡◌, ◌≢◌, ◌≤◌, ◌⊎◌, ℕ, List, [], ◌∷◌, Option, IfErr, IfNone, IfOk, IfSome, OnErr};
-ghost use Rattle.std.specs.Prelude.{OnOk, vec_len};
+ghost use Rattle.std.specs.Prelude.{OnOk, true, vec_len};
 ghost use Rattle.std.specs.Io.BufRead.{DropsThrough, take_through};
 ghost use Rattle.std.specs.Io.KnownBytes.{Consumes, IsAtEnd, Keeps};
-ghost use Rattle.bench_commands.specs.Files.{IsFailure, IsLonger};
+ghost use Rattle.bench_commands.specs.Files.{IsFailure};
+ghost use Rattle.bench_commands.specs.Input.{IsLonger, IsOfLine, IsWithin, WhereKnown};
 
 use crate::files::FileFault;
 use std::alloc::Global;
@@ -19,12 +20,14 @@ pub trait Input {
     ghost fails: { Type 0 };
 
     /// The bytes through the next line feed, or all where there is none; nothing at the end. A line of more than `most`
-    /// bytes is `Failed`.
+    /// bytes is `Failed`. Where it fails, at most `most` bytes were taken, and none that follows the line.
     fn next_line(&mut self, alloc: Global, most: u32) -> Result<Vec<u8>, FileFault>
         ensures bound { IfOk result (λ line. vec_len line ≤ most) }
         ensures line { IfOk result (λ line. IfSome (rest self.old) (λ bytes. line.items ≡ take_through 10 bytes)) }
         ensures rest { OnOk result (DropsThrough (rest self.old) (rest self.new) 10) }
-        ensures failed { IfErr result (IsFailure (fails ⊎ IsLonger most (rest self.old))) };
+        ensures failed { IfErr result (IsFailure (fails ⊎ IsLonger most (rest self.old))) }
+        ensures part { OnErr result (WhereKnown IsOfLine (rest self.old) (rest self.new)) }
+        ensures within { OnErr result (WhereKnown (IsWithin most) (rest self.old) (rest self.new)) };
 }
 
 /// Every buffered reader. Nothing is claimed of why one could not be read.
@@ -47,11 +50,37 @@ impl<B: BufRead> Input for B {
                 return Ok(line);
             }
         }
-        match next_byte(self)? {
-            None => Ok(line),
-            Some(_) => Err(FileFault::Failed("it is larger than 64 MiB")),
+        if is_at_end(self)? {
+            return Ok(line);
+        }
+        Err(FileFault::Failed("it is larger than 64 MiB"))
+    }
+}
+
+/// Whether there is no further byte. None is taken. A read that a signal interrupts is tried again.
+#[tactic(auto, using(crate::proofs::Lines::ended))]
+fn is_at_end<B: BufRead>(reader: &mut B) -> Result<bool, FileFault>
+    ensures end { IfOk result (λ b. b ≡ true → IsAtEnd (B.remaining reader.old)) }
+    ensures kept { Keeps (B.remaining reader.old) (B.remaining reader.new) }
+{
+    for _ in 0..u64::MAX {
+        match is_empty(reader) {
+            Ok(is_empty) => return Ok(is_empty),
+            Err(error) => {
+                if error.kind() != ErrorKind::Interrupted {
+                    return Err(FileFault::from(error));
+                }
+            }
         }
     }
+    Err(FileFault::Failed("input or output failed"))
+}
+
+fn is_empty<B: BufRead>(reader: &mut B) -> io::Result<bool>
+    ensures end { IfOk result (λ b. b ≡ true → IsAtEnd (B.remaining reader.old)) }
+    ensures kept { Keeps (B.remaining reader.old) (B.remaining reader.new) }
+{
+    Ok(reader.fill_buf()?.is_empty())
 }
 
 /// The next byte; none at the end. A read that a signal interrupts is tried again.
@@ -61,6 +90,7 @@ fn next_byte<B: BufRead>(reader: &mut B) -> Result<Option<u8>, FileFault>
         Consumes (B.remaining reader.old) (B.remaining reader.new) (byte ∷ []))) }
     ensures end { IfOk result (λ o. IfNone o (IsAtEnd (B.remaining reader.old))) }
     ensures kept { IfOk result (λ o. IfNone o (Keeps (B.remaining reader.old) (B.remaining reader.new))) }
+    ensures untouched { OnErr result (Keeps (B.remaining reader.old) (B.remaining reader.new)) }
 {
     for _ in 0..u64::MAX {
         match try_byte(reader) {

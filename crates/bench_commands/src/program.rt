@@ -4,6 +4,7 @@ ghost use Rattle.std.specs.String.{string_bytes};
 ghost use Rattle.bench_commands.specs.Answers.{files_of};
 ghost use Rattle.bench_commands.specs.Command.{Ends, IsCutJob, IsDebuggedJob, IsDone, IsFinished, IsRefusedJob};
 ghost use Rattle.bench_commands.specs.Command.{IsUnfinished};
+ghost use Rattle.bench_commands.specs.World.{IsIdle};
 
 use crate::answer::{Answer, deliver};
 use crate::answers;
@@ -25,8 +26,9 @@ use std::thread::Threads;
 use trace_text::Selection;
 
 /// Does what the words ask for, of which the first is the program's name. The file of the answer is made, and then its
-/// lines go to `output`; or the lines of `input` are answered there; or a device goes on at a UDP port, and its line
-/// goes there; or a fault's line goes there, and what it is about to `errors`.
+/// lines go to `output`; or the lines of `input` are answered there, and what a person is told of them goes to
+/// `errors`; or a device goes on at a UDP port, and its line goes there; or a fault's line goes there, and what it is
+/// about to `errors`.
 #[tactic(auto, using(crate::proofs::Ended::finished, crate::proofs::Ended::faulted))]
 pub fn command<R: Threads + Wait + Sync + Net + Clock, F: Files, I: Input, O: Output, E: Output>(
     rt: &R,
@@ -37,37 +39,87 @@ pub fn command<R: Threads + Wait + Sync + Net + Clock, F: Files, I: Input, O: Ou
     output: &mut O,
     errors: &mut E,
 ) -> Status
-    ensures { Ends (F.holds files.old) (F.fails files.old) F.refuses (F.made files.old) (F.made files.new)
-        I.fails (I.rest input.old) (I.rest input.new)
-        O.refuses (O.taken output.old) (O.taken output.new) E.refuses (E.taken errors.old) (E.taken errors.new)
+    ensures { Ends
+        (record { holds = F.holds files.old; fails = F.fails files.old; refuses = F.refuses })
+        (record { input_fails = I.fails; output_refuses = O.refuses; errors_refuse = E.refuses })
+        (record {
+          made = F.made files.old;
+          streams = record {
+            input = I.rest input.old;
+            output = O.taken output.old;
+            errors = E.taken errors.old;
+          };
+        })
+        (record {
+          made = F.made files.new;
+          streams = record {
+            input = I.rest input.new;
+            output = O.taken output.new;
+            errors = E.taken errors.new;
+          };
+        })
         (map string_bytes words.now) result }
 {
-    match perform(rt, alloc, words, files, input, output) {
+    match perform(rt, alloc, words, files, input, output, errors) {
         Ok(status) => status,
         Err(refusal) => tell(alloc, &refusal, output, errors),
     }
 }
 
 #[tactic(auto, using(crate::proofs::Ended::answered_if, crate::proofs::Ended::lived, crate::proofs::Ended::live_lost, crate::proofs::Ended::no_memory, crate::proofs::Ended::unanswered, crate::proofs::Ended::undelivered_if, crate::proofs::Ended::conversed_so))]
-fn perform<'a, R: Threads + Wait + Sync + Net + Clock, F: Files, I: Input, O: Output>(
+fn perform<'a, R: Threads + Wait + Sync + Net + Clock, F: Files, I: Input, O: Output, E: Output>(
     rt: &R,
     alloc: Global,
     words: &'a [String],
     files: &mut F,
     input: &mut I,
     output: &mut O,
+    errors: &mut E,
 ) -> Result<Status, Refusal<'a>>
-    ensures done { IfOk result (IsFinished (F.holds files.old) (F.made files.old) (F.made files.new)
-        (I.rest input.old) (I.rest input.new) (O.taken output.old) (O.taken output.new)
+    ensures done { IfOk result (IsFinished
+        (record { holds = F.holds files.old; fails = F.fails files.old; refuses = F.refuses })
+        (record { input_fails = I.fails; output_refuses = O.refuses; errors_refuse = E.refuses })
+        (record {
+          made = F.made files.old;
+          streams = record {
+            input = I.rest input.old;
+            output = O.taken output.old;
+            errors = E.taken errors.old;
+          };
+        })
+        (record {
+          made = F.made files.new;
+          streams = record {
+            input = I.rest input.new;
+            output = O.taken output.new;
+            errors = E.taken errors.new;
+          };
+        })
         (map string_bytes words.entry.now)) }
-    ensures refused { IfErr result (λ r.
-        IsUnfinished (F.holds files.old) (F.fails files.old) F.refuses (F.made files.old) (F.made files.new)
-        I.fails (I.rest input.old) (I.rest input.new) O.refuses (O.taken output.old) (O.taken output.new)
+    ensures refused { IfErr result (λ r. IsUnfinished
+        (record { holds = F.holds files.old; fails = F.fails files.old; refuses = F.refuses })
+        (record { input_fails = I.fails; output_refuses = O.refuses; errors_refuse = E.refuses })
+        (record {
+          made = F.made files.old;
+          streams = record {
+            input = I.rest input.old;
+            output = O.taken output.old;
+            errors = E.taken errors.old;
+          };
+        })
+        (record {
+          made = F.made files.new;
+          streams = record {
+            input = I.rest input.new;
+            output = O.taken output.new;
+            errors = E.taken errors.new;
+          };
+        })
         (map string_bytes words.entry.now) r.fault) }
 {
     match read(alloc, words)? {
         Asked::Live(asked) => live(rt, alloc, asked, files, output),
-        Asked::Job(job) => match answer_to(rt, alloc, job, files, input, output)? {
+        Asked::Job(job) => match answer_to(rt, alloc, job, files, input, output, errors)? {
             Some(answer) => deliver(&answer, files, output),
             None => Ok(Status::Done),
         },
@@ -80,24 +132,35 @@ fn perform<'a, R: Threads + Wait + Sync + Net + Clock, F: Files, I: Input, O: Ou
 
 /// What the program answers to a job; none where that is a debugger over a run: then the lines of `input` were
 /// answered.
-pub fn answer_to<'a, R: Threads + Wait + Sync, F: Files, I: Input, O: Output>(
+fn answer_to<'a, R: Threads + Wait + Sync, F: Files, I: Input, O: Output, E: Output>(
     rt: &R,
     alloc: Global,
     job: Job<'a>,
     files: &F,
     input: &mut I,
     output: &mut O,
+    errors: &mut E,
 ) -> Result<Option<Answer<'a>>, Refusal<'a>>
     ensures done { IfOk result (λ o. IfSome o (λ a.
         IsDone (F.holds files.now) job.entry a.status (string_bytes a.text) (files_of a.file))) }
-    ensures unread { IfOk result (λ o. IfSome o (λ _. I.rest input.new ≡ I.rest input.old)) }
-    ensures silent { IfOk result (λ o. IfSome o (λ _. O.taken output.new ≡ O.taken output.old)) }
-    ensures debugged { IfOk result (λ o. IfNone o (IsDebuggedJob (F.holds files.now) job.entry
-        (I.rest input.old) (I.rest input.new) (O.taken output.old) (O.taken output.new))) }
-    ensures refused { IfErr result (λ r. (IsRefusedJob (F.holds files.now) (F.fails files.now) job.entry r.fault
-        × (I.rest input.new ≡ I.rest input.old) × (O.taken output.new ≡ O.taken output.old))
-        ⊎ IsCutJob (F.holds files.now) I.fails O.refuses job.entry (I.rest input.old)
-        (O.taken output.old) (O.taken output.new) r.fault) }
+    ensures idle { IfOk result (λ o. IfSome o (λ _. IsIdle
+        (record { input = I.rest input.old; output = O.taken output.old; errors = E.taken errors.old })
+        (record { input = I.rest input.new; output = O.taken output.new; errors = E.taken errors.new }))) }
+    ensures debugged { IfOk result (λ o. IfNone o (IsDebuggedJob (F.holds files.now)
+        (record { input_fails = I.fails; output_refuses = O.refuses; errors_refuse = E.refuses })
+        job.entry
+        (record { input = I.rest input.old; output = O.taken output.old; errors = E.taken errors.old })
+        (record { input = I.rest input.new; output = O.taken output.new; errors = E.taken errors.new }))) }
+    ensures refused { IfErr result (λ r.
+        (IsRefusedJob (F.holds files.now) (F.fails files.now) job.entry r.fault × IsIdle
+        (record { input = I.rest input.old; output = O.taken output.old; errors = E.taken errors.old })
+        (record { input = I.rest input.new; output = O.taken output.new; errors = E.taken errors.new }))
+        ⊎ IsCutJob (F.holds files.now)
+        (record { input_fails = I.fails; output_refuses = O.refuses; errors_refuse = E.refuses })
+        job.entry
+        (record { input = I.rest input.old; output = O.taken output.old; errors = E.taken errors.old })
+        (record { input = I.rest input.new; output = O.taken output.new; errors = E.taken errors.new })
+        r.fault) }
 {
     match job {
         Job::One { hex } => Ok(Some(answers::one(alloc, hex)?)),
@@ -128,6 +191,6 @@ pub fn answer_to<'a, R: Threads + Wait + Sync, F: Files, I: Input, O: Output>(
             trace,
             output: path,
         } => Ok(Some(pcap(alloc, image, trace, path, files)?)),
-        Job::Debug { image, trace } => debug(alloc, image, trace, files, input, output),
+        Job::Debug { image, trace } => debug(alloc, image, trace, files, input, output, errors),
     }
 }

@@ -4,7 +4,7 @@ ghost use Rattle.std.specs.Process.{exit_status};
 ghost use Rattle.std.specs.String.{string_bytes};
 ghost use Rattle.bench_commands.specs.Command.{Ends};
 ghost use Rattle.bench_commands.specs.Status.{exit_code};
-ghost use Rattle.bench_commands.specs.Unread.{EndsUnread};
+ghost use Rattle.bench_commands.specs.Unread.{EndsUnread, IsToldUnread};
 ghost use Rattle.bench_commands.specs.declared.status.Status.{Status as Ending};
 
 use crate::answer::unwritten;
@@ -27,7 +27,7 @@ use std::thread::Threads;
 use std::{env, io};
 
 /// Does what the words of the command line ask for, over the system's files and standard output. Lines come from
-/// `input`, and complaints go to `errors`.
+/// `input`, and what is for a person goes to `errors`.
 pub fn start<
     R: Threads + Wait + Sync + Net + Clock + Env + std::rt::Files + Print + AllocGlobal,
     I: Input,
@@ -66,43 +66,51 @@ pub fn conclude<R: Threads + Wait + Sync + Net + Clock, F: Files, I: Input, O: O
     output: &mut O,
     errors: &mut E,
 ) -> ExitCode
-    ensures ran { IfOk words (λ words. (status : Ending) × (exit_status result ≡ exit_code status)
-        × Ends (F.holds files.old) (F.fails files.old) F.refuses (F.made files.old) (F.made files.new)
-        I.fails (I.rest input.old) (I.rest input.new)
-        O.refuses (O.taken output.old) (O.taken output.new) E.refuses (E.taken errors.old) (E.taken errors.new)
+    ensures ran { IfOk words (λ words. (status : Ending) × (exit_status result ≡ exit_code status) × Ends
+        (record { holds = F.holds files.old; fails = F.fails files.old; refuses = F.refuses })
+        (record { input_fails = I.fails; output_refuses = O.refuses; errors_refuse = E.refuses })
+        (record {
+          made = F.made files.old;
+          streams = record {
+            input = I.rest input.old;
+            output = O.taken output.old;
+            errors = E.taken errors.old;
+          };
+        })
+        (record {
+          made = F.made files.new;
+          streams = record {
+            input = I.rest input.new;
+            output = O.taken output.new;
+            errors = E.taken errors.new;
+          };
+        })
         (map string_bytes words.items) status) }
-    ensures unread { IfErr words (λ why. (status : Ending) × (exit_status result ≡ exit_code status)
-        × EndsUnread O.refuses (O.taken output.old) (O.taken output.new) E.refuses (E.taken errors.old)
-        (E.taken errors.new)
+    ensures unread { IfErr words (λ why. (status : Ending) × (exit_status result ≡ exit_code status) × EndsUnread
+        (record { input_fails = I.fails; output_refuses = O.refuses; errors_refuse = E.refuses })
+        (record {
+          made = F.made files.old;
+          streams = record {
+            input = I.rest input.old;
+            output = O.taken output.old;
+            errors = E.taken errors.old;
+          };
+        })
+        (record {
+          made = F.made files.new;
+          streams = record {
+            input = I.rest input.new;
+            output = O.taken output.new;
+            errors = E.taken errors.new;
+          };
+        })
         NO_TEXT.now why status) }
-    ensures untouched { IfErr words (λ _. I.rest input.new ≡ I.rest input.old) }
 {
-    let status = end(rt, alloc, words, files, input, output, errors);
-    ExitCode::from(status.code())
-}
-
-/// How the whole program ends.
-fn end<R: Threads + Wait + Sync + Net + Clock, F: Files, I: Input, O: Output, E: Output>(
-    rt: &R,
-    alloc: Global,
-    words: Result<Vec<String>, ErrorKind>,
-    files: &mut F,
-    input: &mut I,
-    output: &mut O,
-    errors: &mut E,
-) -> Status
-    ensures ran { IfOk words (λ words. Ends (F.holds files.old) (F.fails files.old) F.refuses
-        (F.made files.old) (F.made files.new) I.fails (I.rest input.old) (I.rest input.new)
-        O.refuses (O.taken output.old) (O.taken output.new) E.refuses (E.taken errors.old) (E.taken errors.new)
-        (map string_bytes words.items) result) }
-    ensures unread { IfErr words (λ why. EndsUnread O.refuses (O.taken output.old) (O.taken output.new)
-        E.refuses (E.taken errors.old) (E.taken errors.new) NO_TEXT.now why result) }
-    ensures untouched { IfErr words (λ _. I.rest input.new ≡ I.rest input.old) }
-{
-    match words {
+    let status = match words {
         Ok(words) => command(rt, alloc, words.as_slice(), files, input, output, errors),
         Err(why) => refuse(alloc, why, output, errors),
-    }
+    };
+    ExitCode::from(status.code())
 }
 
 /// Answers where the words could not be had at all: one of them is not a text, or memory ran out.
@@ -113,7 +121,7 @@ fn refuse<O: Output, E: Output>(
     output: &mut O,
     errors: &mut E,
 ) -> Status
-    ensures { EndsUnread O.refuses (O.taken output.old) (O.taken output.new)
+    ensures { IsToldUnread O.refuses (O.taken output.old) (O.taken output.new)
         E.refuses (E.taken errors.old) (E.taken errors.new) NO_TEXT.now why result }
 {
     if why == ErrorKind::OutOfMemory {

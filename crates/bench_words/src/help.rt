@@ -97,9 +97,10 @@ Example:
   ok 2 packets";
 
 pub const DEBUG: &str =
-    "Reads IMAGE, and then TRACE. Then reads commands from standard input, a line each, and answers each;
-`help` lists them. `quit` ends it, and so does the end of the input. Where the trace is not a run of the
-scenario, prints the least place, from 0, at which it is not (status 3):
+    "Reads IMAGE, and then TRACE. Then reads commands from standard input, a line each, and answers each.
+`quit` ends it, and so does the end of the input. A line that is no command is answered `bad command`,
+and shown on standard error; on the line `help`, standard error gets the list of the commands. Where the
+trace is not a run of the scenario, prints the least place, from 0, at which it is not (status 3):
   not a run at N
 Writes no file.
 

@@ -16,7 +16,7 @@ use std::process::ExitCode;
 use std::rt::Clock;
 use std::sync::Wait;
 use std::thread::Threads;
-use table::{Case, GivenFile, Table};
+use table::{Case, Table};
 
 fn main(rt: HostRuntime) -> io::Result<ExitCode> {
     let alloc = rt.alloc();
@@ -40,7 +40,8 @@ fn report_on<R: Threads + Wait + Sync + Net + Clock>(
     let is_read = table.read(text, report)?;
     let mut differing: u32 = 0;
     for case in table.cases.as_slice() {
-        if !is_right(rt, alloc, case, table.files.as_slice(), report)? {
+        let came = asking::answer_to(rt, alloc, case, table.files.as_slice())?;
+        if !is_right(case, came.as_str(), report)? {
             differing = differing.saturating_add(1);
         }
     }
@@ -53,20 +54,13 @@ fn report_on<R: Threads + Wait + Sync + Net + Clock>(
 }
 
 /// Whether what came is what a case states; else the report gets what came, as a case would state it.
-fn is_right<R: Threads + Wait + Sync + Net + Clock>(
-    rt: &R,
-    alloc: Global,
-    case: &Case,
-    files: &[GivenFile],
-    report: &mut String,
-) -> Result<bool, AllocError> {
-    let came = asking::answer_to(rt, alloc, case, files)?;
-    if is_stated(case.stated.as_str(), came.as_str()) == case.is_same {
+fn is_right(case: &Case, came: &str, report: &mut String) -> Result<bool, AllocError> {
+    if is_stated(case.stated.as_str(), came) == case.is_same {
         return Ok(true);
     }
     let line = case.line;
     writeln!(report, "line {line}: lwbench {}", case.words)?;
-    report.push_str(came.as_str())?;
+    report.push_str(came)?;
     Ok(false)
 }
 

@@ -1,3 +1,4 @@
 pub mod Left
 pub mod Observed
 pub mod Replied
+pub mod Showing

@@ -1,11 +1,14 @@
 -- The reply to a line, put together from its parts.
-use Rattle.std.proofs.Common.{◌≡◌, ◌↔◌, ℕ, Bool, true, false, List, Some, codes, refl, subst}
+use Rattle.std.proofs.Common.{◌≡◌, ◌↔◌, ℕ, Bool, true, false, List, Option, None, Some, codes, ap, refl, subst}
 use Rattle.std.proofs.lemmas.Bool.{false≢true}
 use Rattle.debug_words.specs.declared.command.Command.{Command}
 use Rattle.debug_words.specs.declared.command.Command.TheVariants.{Quit}
-use Rattle.debug_words.specs.Saying.{IsLineOf}
+use Rattle.debug_words.specs.Saying.{IsHelp, IsLineOf}
+use Rattle.debug_words.proofs.Again.{help_apart}
 use Rattle.debugger.specs.Session.{Session}
+use Rattle.debug_answers.specs.Help.{help_text}
 use Rattle.debug_answers.specs.Lines.{line}
+use Rattle.debug_answers.specs.Notes.{IsNote, no_command}
 use Rattle.debug_answers.specs.Replies.{IsAnswer, IsReply}
 
 same_command : (c d : Command) → Some c ≡ Some d → c ≡ d
@@ -25,6 +28,23 @@ pub bad_reply : (old : Session) (said text : List ℕ) → ((c : Command) → Is
 bad_reply old said text none is = record {
   answer = λ c h. absurd (none c h);
   bad = λ _. record { same = refl; said = is };
+}
+
+-- there is no note on a command
+pub no_note : (said : List ℕ) (c : Command) → IsLineOf c said → IsNote said None
+no_note said c is = record {
+  command = λ d h. refl;
+  help = λ h. absurd (help_apart c _ h.1 is.1);
+  other = λ none _. absurd (none c is);
+}
+
+-- the note on a line that says none
+pub note_of : (said text : List ℕ) → ((c : Command) → IsLineOf c said → ⊥) → (IsHelp said → text ≡ help_text)
+    → ((IsHelp said → ⊥) → text ≡ no_command said) → IsNote said (Some text)
+note_of said text none help other = record {
+  command = λ c h. absurd (none c h);
+  help = λ h. ap Some (help h);
+  other = λ _ h. ap Some (other h);
 }
 
 -- the line of a command asks for the end exactly if the command is `quit`

@@ -1,4 +1,4 @@
--- What `help` answers.
+-- What a person gets who asks for help.
 use Rattle.std.specs.Prelude.{ℕ, List, [], ◌∷◌, codes}
 use Rattle.std.specs.List.{flat_map}
 use Rattle.debug_answers.specs.Lines.{line}

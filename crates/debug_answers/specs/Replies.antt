@@ -12,7 +12,6 @@ use Rattle.debugger.specs.Shown.{value_shown, observations_shown, outputs_shown}
 use Rattle.debug_answers.specs.Lines.{line, at_line}
 use Rattle.debug_answers.specs.Printed.{printed}
 use Rattle.debug_answers.specs.Shown.{value_line, observation_lines}
-use Rattle.debug_answers.specs.Help.{help_text}
 use Rattle.debug_answers.specs.Answers.{IsKept, IsForward, IsBack, IsBreak, IsCleared, IsResumed}
 
 -- this is shown of a device, or `no device` where the scenario has no row for it
@@ -42,7 +41,6 @@ IsAnswer old (command.Observations d) new text =
     (new ≡ old) × IsShown old d (observation_lines (observations_shown old.scenario old.entries old.place d)) text
 IsAnswer old (command.Outputs d) new text =
     (new ≡ old) × IsShown old d (printed (outputs_shown old.scenario old.entries old.place d)) text
-IsAnswer old command.Help new text = (new ≡ old) × (text ≡ help_text)
 IsAnswer old command.Quit new text = (new ≡ old) × (text ≡ [])
 
 -- what is answered to a line: the answer to the command that it says, or `bad command` where it says none

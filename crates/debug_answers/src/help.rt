@@ -1,4 +1,4 @@
-//! The answer to `help`.
+//! What a person gets who asks for help.
 ghost use Rattle.std.specs.Prelude.{◌≡◌, IfOk};
 ghost use Rattle.std.specs.String.{string_bytes};
 ghost use Rattle.debug_answers.specs.Help.{help_text};
@@ -17,7 +17,7 @@ out D           the latest outputs of device D
 quit            the end
 ";
 
-/// `help`: the commands, a line for each.
+/// The commands, a line for each.
 pub fn show_help(alloc: Global) -> Result<String, AllocError>
     ensures { IfOk result (λ text. string_bytes text ≡ help_text) }
 {

@@ -1,17 +1,20 @@
 //! The answer to a line of the debugger's input.
-ghost use Rattle.std.specs.Prelude.{◌≡◌, ◌↔◌, true, IfOk, OnErr};
+ghost use Rattle.std.specs.Prelude.{◌≡◌, ◌↔◌, true, Some, IfOk, OnErr, option_map};
 ghost use Rattle.std.specs.String.{string_bytes};
 ghost use Rattle.debug_words.specs.declared.command.Command.TheVariants.{Quit};
-ghost use Rattle.debug_words.specs.Saying.{IsLineOf};
+ghost use Rattle.debug_words.specs.Saying.{IsHelp, IsLineOf};
 ghost use Rattle.debug_answers.specs.Answers.{IsAsBeforeOrAfter};
+ghost use Rattle.debug_answers.specs.Help.{help_text};
+ghost use Rattle.debug_answers.specs.Notes.{IsNote, no_command};
 ghost use Rattle.debug_answers.specs.Replies.{break_of, IsAnswer, IsReply};
 
 use crate::breaks::{add_break, clear, resume};
 use crate::help::show_help;
 use crate::lines::fixed_line;
 use crate::moves::{back, forward, place};
+use crate::notes::no_command;
 use crate::shown::{show_observations, show_outputs, show_value};
-use debug_words::{Command, Point, read_command};
+use debug_words::{Command, Point, asks_for_help, read_command};
 use debugger::{Break, Debugger};
 use std::alloc::{AllocError, Global};
 
@@ -20,6 +23,8 @@ use std::alloc::{AllocError, Global};
 pub struct Reply {
     /// The lines that are answered, each with the line feed that ends it.
     pub text: String,
+    /// The lines that a person gets beside them, if there are any.
+    pub note: Option<String>,
     /// Whether the line asks for the end.
     pub is_last: bool,
 }
@@ -52,7 +57,6 @@ fn answer(alloc: Global, debugger: &mut Debugger, command: Command) -> Result<St
         Command::Value(device, path) => show_value(alloc, debugger, device, &path),
         Command::Observations(device) => show_observations(alloc, debugger, device),
         Command::Outputs(device) => show_outputs(alloc, debugger, device),
-        Command::Help => show_help(alloc),
         Command::Quit => Ok(String::new(alloc)),
     }
 }
@@ -63,22 +67,37 @@ fn is_quit(command: Command) -> bool
     matches!(command, Command::Quit)
 }
 
+/// The note on a line that says no command: on `help` the commands, on another that it was not understood.
+fn note_on(alloc: Global, line: &[u8]) -> Result<String, AllocError>
+    ensures help { IfOk result (λ text. IsHelp line.now → string_bytes text ≡ help_text) }
+    ensures other { IfOk result (λ text. (IsHelp line.now → ⊥) → string_bytes text ≡ no_command line.now) }
+{
+    if asks_for_help(line) {
+        show_help(alloc)
+    } else {
+        no_command(alloc, line)
+    }
+}
+
 /// The answer to a line of the debugger's input, without the LF that ends it: that to the command that it says, or
-/// `bad command` where it says none. `quit` is answered by nothing, and nothing else asks for the end. Without memory
-/// the debugger is as before, or as after the command.
-#[tactic(auto, using(crate::proofs::Replied::reply_of, crate::proofs::Replied::bad_reply, crate::proofs::Left::reply_left))]
+/// `bad command` where it says none, with a note for a person. `quit` is answered by nothing, and nothing else asks for
+/// the end. Without memory the debugger is as before, or as after the command.
+#[tactic(auto, using(crate::proofs::Replied::reply_of, crate::proofs::Replied::bad_reply, crate::proofs::Replied::no_note, crate::proofs::Replied::note_of, crate::proofs::Left::reply_left))]
 pub fn reply_to(alloc: Global, debugger: &mut Debugger, line: &[u8]) -> Result<Reply, AllocError>
     ensures reply { IfOk result (λ r. IsReply debugger.old line.now debugger.new (string_bytes r.text)) }
+    ensures note { IfOk result (λ r. IsNote line.now (option_map (λ text. string_bytes text) r.note)) }
     ensures left { OnErr result (IsAsBeforeOrAfter (IsReply debugger.old line.now) debugger.old debugger.new) }
     ensures last { IfOk result (λ r. (r.is_last ≡ true) ↔ IsLineOf Quit line.now) }
 {
     match read_command(line) {
         Some(command) => Ok(Reply {
             text: answer(alloc, debugger, command)?,
+            note: None,
             is_last: is_quit(command),
         }),
         None => Ok(Reply {
             text: fixed_line(alloc, "bad command")?,
+            note: Some(note_on(alloc, line)?),
             is_last: false,
         }),
     }

@@ -1,10 +1,11 @@
 -- What words say is read.
 use Rattle.std.proofs.Common.{◌≡◌, ℕ, ◌<◌, ◌≤◌, ◌^◌, List, [], ◌∷◌, Result, Ok, Err, Some, refl, ap, sym, ◌∙◌, arith}
-use Rattle.std.specs.Prelude.{IfSome, IfNone}
+use Rattle.std.specs.Prelude.{IfSome, IfNone, codes}
 use Rattle.std.specs.Result.{result_ok}
 use Rattle.std.specs.Fmt.{decimal}
 use Rattle.object_defs.specs.declared.path.Path.{Path}
 use Rattle.scenario_words.specs.declared.cause.Cause.{Cause}
+use Rattle.scenario_words.specs.declared.cause.Cause.TheVariants.{UnknownWord}
 use Rattle.scenario_words.specs.Reading.{◌>>=◌, Reads}
 use Rattle.scenario_words.specs.Number.{number_of}
 use Rattle.scenario_words.specs.PathWord.{IsPath, path_of}
@@ -79,8 +80,11 @@ again (command.Observations d) ws h =
     ap command_of h.0 ∙ numbered (λ m. command.Observations m) 65535 d (omega arith) (omega (arith, h.1))
 again (command.Outputs d) ws h =
     ap command_of h.0 ∙ numbered (λ m. command.Outputs m) 65535 d (omega arith) (omega (arith, h.1))
-again command.Help ws h = ap command_of h
 again command.Quit ws h = ap command_of h
+
+-- `help` says no command
+pub help_apart : (c : Command) (ws : List (List ℕ)) → ws ≡ codes "help" ∷ [] → IsSaidBy c ws → ⊥
+help_apart c ws help h = let e : Err UnknownWord ≡ Ok c = sym (ap command_of help) ∙ again c ws h in cc (e)
 
 pub one : (c d : Command) (ws : List (List ℕ)) → IsSaidBy c ws → IsSaidBy d ws → c ≡ d
 one c d ws h k = let e : Ok c ≡ Ok d = sym (again c ws h) ∙ again d ws k in cc (e)

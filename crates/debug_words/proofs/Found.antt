@@ -129,9 +129,8 @@ by_found w ws c =
     (numbered IsSaidBy (λ n. command.Back n) 18446744073709551615 c w (codes "back") ws (omega arith)
     (λ n h. (refl, omega (arith, h))))
     (by_name w (codes "resume") _ _ c (IsSaidBy c (w ∷ ws)) (alone IsSaidBy command.Resume c w (codes "resume") ws refl)
-    (by_name w (codes "help") _ _ c (IsSaidBy c (w ∷ ws)) (alone IsSaidBy command.Help c w (codes "help") ws refl)
     (by_name w (codes "quit") _ _ c (IsSaidBy c (w ∷ ws)) (alone IsSaidBy command.Quit c w (codes "quit") ws refl)
-    (device_found w ws c))))))
+    (device_found w ws c)))))
 
 pub found : (ws : List (List ℕ)) (c : Command) → command_of ws ≡ Ok c → IsSaidBy c ws
 found [] c h = cc

@@ -1,6 +1,7 @@
 -- How the words of a line are read as a debug command, from the left, as clauses of private functions name it. No
 -- promise rests on it: what is promised stands in Saying.
-use Rattle.std.specs.Prelude.{ℕ, ◌+◌, ◌*◌, List, [], ◌∷◌, Option, None, Some, Result, Ok, Err, codes, if◌then◌else◌}
+use Rattle.std.specs.Prelude.{ℕ, ◌+◌, ◌*◌, Bool, true, false, List, [], ◌∷◌, Option, None, Some, Result, Ok, Err}
+use Rattle.std.specs.Prelude.{codes, if◌then◌else◌}
 use Rattle.std.specs.Str.{bytes_eq}
 use Rattle.hex.specs.Hex.{hex_digit_value}
 use Rattle.object_defs.specs.declared.path.Path.{Path}
@@ -97,11 +98,19 @@ command_by w ws =
     else (if bytes_eq w (codes "forward") then (only_number 18446744073709551615 ws >>= (λ n. Ok (command.Forward n)))
     else (if bytes_eq w (codes "back") then (only_number 18446744073709551615 ws >>= (λ n. Ok (command.Back n)))
     else (if bytes_eq w (codes "resume") then only command.Resume ws
-    else (if bytes_eq w (codes "help") then only command.Help ws
-    else (if bytes_eq w (codes "quit") then only command.Quit ws else about_device w ws)))))
+    else (if bytes_eq w (codes "quit") then only command.Quit ws else about_device w ws))))
 
 -- the command of a line's words
 abbrev pub command_of : List (List ℕ) → Result Command Cause
 command_of ws = do
   w ← first_of ws
   command_by w.0 w.1
+
+abbrev pub is_last : List (List ℕ) → Bool
+is_last [] = true
+is_last (w ∷ ws) = false
+
+-- whether the words are `help` alone
+abbrev pub is_help : List (List ℕ) → Bool
+is_help [] = false
+is_help (w ∷ ws) = if bytes_eq w (codes "help") then is_last ws else false

@@ -34,7 +34,6 @@ IsSaidBy command.Resume ws = ws ≡ codes "resume" ∷ []
 IsSaidBy (command.Value d p) ws = (ws ≡ codes "value" ∷ decimal d ∷ path_text p ∷ []) × (d < 2 ^ 16) × IsPath p
 IsSaidBy (command.Observations d) ws = (ws ≡ codes "obs" ∷ decimal d ∷ []) × (d < 2 ^ 16)
 IsSaidBy (command.Outputs d) ws = (ws ≡ codes "out" ∷ decimal d ∷ []) × (d < 2 ^ 16)
-IsSaidBy command.Help ws = ws ≡ codes "help" ∷ []
 IsSaidBy command.Quit ws = ws ≡ codes "quit" ∷ []
 
 -- a character of printable ASCII, and no `#`
@@ -44,3 +43,7 @@ is_plain line = list_all (λ b. nat_le 32 b && nat_le b 126 && not (b == 35)) li
 -- the line says this command: it is of such characters, and spaces part its words
 abbrev pub IsLineOf : Command → List ℕ → Type 0
 IsLineOf c line = (is_plain line ≡ true) × IsSaidBy c (words line)
+
+-- the line is the word `help` alone: what a person asks, and no command
+abbrev pub IsHelp : List ℕ → Type 0
+IsHelp line = (is_plain line ≡ true) × (words line ≡ codes "help" ∷ [])

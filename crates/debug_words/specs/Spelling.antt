@@ -29,7 +29,6 @@ IsCommand command.Resume = Unit {0}
 IsCommand (command.Value d p) = (d < 2 ^ 16) × IsPath p
 IsCommand (command.Observations d) = d < 2 ^ 16
 IsCommand (command.Outputs d) = d < 2 ^ 16
-IsCommand command.Help = Unit {0}
 IsCommand command.Quit = Unit {0}
 
 -- the words of a point, after `break`
@@ -51,7 +50,6 @@ words_of command.Resume = codes "resume" ∷ []
 words_of (command.Value d p) = codes "value" ∷ decimal d ∷ path_text p ∷ []
 words_of (command.Observations d) = codes "obs" ∷ decimal d ∷ []
 words_of (command.Outputs d) = codes "out" ∷ decimal d ∷ []
-words_of command.Help = codes "help" ∷ []
 words_of command.Quit = codes "quit" ∷ []
 
 -- a command as its line has it

@@ -21,8 +21,6 @@ pub enum Command {
     Observations(u16),
     /// `out D`: the latest outputs of a device.
     Outputs(u16),
-    /// `help`: the commands.
-    Help,
     /// `quit`: the end.
     Quit,
 }

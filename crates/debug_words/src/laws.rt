@@ -1,13 +1,14 @@
 ghost use Rattle.std.specs.Prelude.{◌≡◌, ℕ, List};
 ghost use Rattle.scenario_words.specs.Words.{words};
 ghost use Rattle.debug_words.specs.declared.command.Command.{Command};
-ghost use Rattle.debug_words.specs.Saying.{IsSaidBy};
+ghost use Rattle.debug_words.specs.Saying.{IsHelp, IsLineOf, IsSaidBy};
 ghost use Rattle.debug_words.specs.Spelling.{IsCommand, line_of, words_of};
 
-/// The law of lines: the same words say at most one command, and all that words say can be written.
+/// The law of lines: the same words say at most one command, all that words say can be written, and `help` is none.
 pub fn one_command()
     ensures one { (c d : Command) (ws : List (List ℕ)) → IsSaidBy c ws → IsSaidBy d ws → c ≡ d }
     ensures good { (c : Command) (ws : List (List ℕ)) → IsSaidBy c ws → IsCommand c }
+    ensures help { (c : Command) (line : List ℕ) → IsHelp line → IsLineOf c line → ⊥ }
 {}
 
 /// The law of written commands: every command whose numbers have their bits has words, which say it and are found again

@@ -8,4 +8,4 @@ mod reading;
 
 pub use command::{Command, Point};
 pub use laws::{commands_read_again, one_command};
-pub use reading::read_command;
+pub use reading::{asks_for_help, read_command};

@@ -1,15 +1,15 @@
 //! The command of a line: its first word, and a reader for the words after each.
 
-ghost use Rattle.std.specs.Prelude.{◌≡◌, Some, IfSome, IfNone};
+ghost use Rattle.std.specs.Prelude.{◌≡◌, ◌↔◌, true, Some, IfSome, IfNone};
 ghost use Rattle.scenario_words.specs.Words.{words};
 ghost use Rattle.scenario_words.specs.Reading.{Reads};
 ghost use Rattle.debug_words.specs.declared.command.Command.{Command};
-ghost use Rattle.debug_words.specs.Saying.{IsLineOf, IsSaidBy, is_plain};
-ghost use Rattle.debug_words.specs.Reading.{about_device, break_point, command_by, command_of, only};
+ghost use Rattle.debug_words.specs.Saying.{IsHelp, IsLineOf, IsSaidBy, is_plain};
+ghost use Rattle.debug_words.specs.Reading.{about_device, break_point, command_by, command_of, is_help, only};
 
 use crate::command::Command;
 use crate::points::{device_and_path, only_number, point_by};
-use scenario_words::{Cause, end, first_word, is_name};
+use scenario_words::{Cause, end, first_word, is_name, next_word};
 
 /// This command, and no further word.
 fn only(command: Command, line: &[u8]) -> Result<Command, Cause>
@@ -65,8 +65,6 @@ fn command_by(word: &[u8], line: &[u8]) -> Result<Command, Cause>
         Ok(Command::Back(count))
     } else if is_name(word, "resume") {
         only(Command::Resume, line)
-    } else if is_name(word, "help") {
-        only(Command::Help, line)
     } else if is_name(word, "quit") {
         only(Command::Quit, line)
     } else {
@@ -111,4 +109,23 @@ pub fn read_command(line: &[u8]) -> Option<Command>
         return None;
     }
     read_words(line)
+}
+
+/// Whether the words of a line are `help` alone.
+fn is_help(line: &[u8]) -> bool
+    ensures { result ≡ is_help (words line.now) }
+{
+    match next_word(line) {
+        Some((word, line)) => is_name(word, "help") && next_word(line).is_none(),
+        None => false,
+    }
+}
+
+/// Whether a line of the debugger's input is the word `help` alone, which says no command: a person asks which there
+/// are.
+#[tactic(auto, using(crate::proofs::Asking::help_line, crate::proofs::Asking::no_help))]
+pub fn asks_for_help(line: &[u8]) -> bool
+    ensures { (result ≡ true) ↔ IsHelp line.now }
+{
+    is_plain(line) && is_help(line)
 }

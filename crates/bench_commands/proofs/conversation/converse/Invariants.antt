@@ -6,8 +6,23 @@ use Rattle.bench_commands.proofs.conversation.converse.Given as goal
 
 abbrev pub invariant-loop-more : goal.invariant-loop-more
 invariant-loop-more g l = record {
-  so_far : IsExchange (g.I.Input.rest l.initial.input) (g.I.Input.rest l.input) l.initial.debugger l.debugger
-      (g.O.Output.taken l.initial.output) (g.O.Output.taken l.output);
+  so_far : IsExchange
+      (record {
+        input_fails = g.I.Input.fails;
+        output_refuses = g.O.Output.refuses;
+        errors_refuse = g.E.Output.refuses;
+      })
+      (record {
+        input = g.I.Input.rest l.initial.input;
+        output = g.O.Output.taken l.initial.output;
+        errors = g.E.Output.taken l.initial.errors;
+      })
+      (record {
+        input = g.I.Input.rest l.input;
+        output = g.O.Output.taken l.output;
+        errors = g.E.Output.taken l.errors;
+      })
+      l.initial.debugger l.debugger;
   spent : IsSpent (g.I.Input.rest l.initial.input) (g.I.Input.rest l.input) most_bytes l.left;
 }
 

@@ -1,30 +1,46 @@
-use Rattle.std.proofs.Common.{rules, ◌⊎◌}
-use Rattle.bench_commands.specs.Files.{IsLonger}
+use Rattle.std.proofs.Common.{Global, option_map, refl, rules, ◌⊎◌}
+use Rattle.std.specs.String.{string_bytes}
+use Rattle.bench_commands.specs.Input.{IsLonger}
+use Rattle.bench_commands.specs.World.{StreamFaults, Streams}
 use Rattle.bench_commands.proofs.Turns.{at_end, at_quit, turn, unsaid}
 use Rattle.bench_commands.proofs.conversation.take_turn.Goals as goal
 
 pub returns-then-is_empty-clause-last : goal.returns-then-is_empty-clause-last
 returns-then-is_empty-clause-last g c =
-    at_end _ _ _ c.in_ok-line.line.items _ c.in_ok-line.ensures.line (search rules) (search rules)
+    at_end _ _ c.in_ok-line.line.items _ c.in_ok-line.ensures.line (search rules) (search rules) (refl, refl)
 
 pub returns-then-reply-clause-last : goal.returns-then-reply-clause-last
 returns-then-reply-clause-last g c =
-    at_quit _ _ _ c.in_ok-line.line.items c.said_in.result.now _ c.in_ok-line.ensures.line (search rules) (search rules)
-    (search rules) (search rules) (search rules)
+    at_quit _ _ c.in_ok-line.line.items c.said_in.result.now _ c.in_ok-line.ensures.line (search rules) (search rules)
+    (search rules) (search rules) (search rules) (refl, refl)
 
 pub returns-in_err-say-clause-cut : goal.returns-in_err-say-clause-cut
 returns-in_err-say-clause-cut g c =
-    let cut = unsaid (g.I.Input.fails ⊎ IsLonger c.args.left (g.I.Input.rest c.args.input.now)) g.O.Output.refuses
-    (g.I.Input.rest c.args.input.now) (g.I.Input.rest c.hear.new.input)
-    c.args.debugger.now c.reply_to.new.debugger (g.O.Output.taken c.args.output.now)
-    (g.O.Output.taken c.say.new.output) c.in_ok-line.line.items c.said_in.result.now c.as_str.result.now
+    let faults : StreamFaults = record {
+      input_fails = g.I.Input.fails;
+      output_refuses = g.O.Output.refuses;
+      errors_refuse = g.E.Output.refuses;
+    } in
+    let before : Streams = record {
+      input = g.I.Input.rest c.args.input.now;
+      output = g.O.Output.taken c.args.output.now;
+      errors = g.E.Output.taken c.args.errors.now;
+    } in
+    let after : Streams = record {
+      input = g.I.Input.rest c.hear.new.input;
+      output = g.O.Output.taken c.say.new.output;
+      errors = g.E.Output.taken c.args.errors.now;
+    } in
+    let cut = unsaid (g.I.Input.fails ⊎ IsLonger c.args.left (g.I.Input.rest c.args.input.now)) faults before after
+    c.args.debugger.now c.reply_to.new.debugger c.in_ok-line.line.items c.said_in.result.now c.as_str.result.now
     c.in_err-say.field-0.0.fault
     c.in_ok-line.ensures.line (search rules) (search rules) (search rules) (search rules) (search rules)
-    (search rules) in
+    (search rules) refl in
     search (rules, cut)
 
 pub returns-clause-turn : goal.returns-clause-turn
 returns-clause-turn g c =
-    turn _ _ _ _ _ _ c.in_ok-line.line.items c.said_in.result.now c.as_str.result.now _ _ c.in_ok-line.ensures.line
-    (search rules)
+    turn _ _ _ _ _ c.in_ok-line.line.items c.said_in.result.now c.as_str.result.now
+    (option_map (string_bytes {Z = Global}) c.in_ok-reply.reply.note) _ _ c.in_ok-line.ensures.line (search rules)
     (search rules) (search rules) (search rules) (search rules) (search rules) (search rules) (search rules)
+    (search rules) (search rules)

@@ -10,7 +10,7 @@ returns-in-Some-clause-done g c =
     let words = map (string_bytes {Z = Global}) c.args.words.now in
     let same : c.in_ok-asked.field-0 ≡ asked.Job c.in-Job.job = search rules in
     let read : IsReadAs words (asked.Job c.in-Job.job) = subst (IsReadAs words) same c.in_ok-asked.ensures in
-    answered_if _ _ _ _ _ _ (g.O.Output.taken c.answer_to.new.output) _ words (asked.Job c.in-Job.job) c.in-Some.answer
+    answered_if _ _ _ _ (g.O.Output.taken c.answer_to.new.output) words (asked.Job c.in-Job.job) c.in-Some.answer
     c.deliver.result read (search rules) (search rules) (search rules) c.deliver.ensures.status c.deliver.ensures.made
     c.deliver.ensures.printed
 
@@ -19,8 +19,8 @@ returns-in-Some-clause-refused g c =
     let words = map (string_bytes {Z = Global}) c.args.words.now in
     let same : c.in_ok-asked.field-0 ≡ asked.Job c.in-Job.job = search rules in
     let read : IsReadAs words (asked.Job c.in-Job.job) = subst (IsReadAs words) same c.in_ok-asked.ensures in
-    undelivered_if _ _ _ _ _ _ _ _ _ _ (g.O.Output.taken c.answer_to.new.output) _ words (asked.Job c.in-Job.job)
-    c.in-Some.answer c.deliver.result read (search rules) (search rules) (search rules) c.deliver.ensures.refused
+    undelivered_if _ _ _ _ (g.O.Output.taken c.answer_to.new.output) words (asked.Job c.in-Job.job) c.in-Some.answer
+    c.deliver.result read (search rules) (search rules) (search rules) c.deliver.ensures.refused
 
 pub returns-in-Text-clause-done : goal.returns-in-Text-clause-done
 returns-in-Text-clause-done g c =
@@ -28,8 +28,8 @@ returns-in-Text-clause-done g c =
     let text = asked.Text c.in-Text.text c.in-Text.is_mistake in
     let same : c.in_ok-asked.field-0 ≡ text = search rules in
     let read : IsReadAs words text = subst (IsReadAs words) same c.in_ok-asked.ensures in
-    answered_if _ _ _ _ _ _ _ _ words text c.printed-answer.result c.deliver-in-Text.result read (search rules) refl refl
-    c.deliver-in-Text.ensures.status c.deliver-in-Text.ensures.made c.deliver-in-Text.ensures.printed
+    answered_if _ _ _ _ _ words text c.printed-answer.result c.deliver-in-Text.result read (search rules) (refl, refl)
+    refl c.deliver-in-Text.ensures.status c.deliver-in-Text.ensures.made c.deliver-in-Text.ensures.printed
 
 pub returns-in-Text-clause-refused : goal.returns-in-Text-clause-refused
 returns-in-Text-clause-refused g c =
@@ -37,5 +37,5 @@ returns-in-Text-clause-refused g c =
     let text = asked.Text c.in-Text.text c.in-Text.is_mistake in
     let same : c.in_ok-asked.field-0 ≡ text = search rules in
     let read : IsReadAs words text = subst (IsReadAs words) same c.in_ok-asked.ensures in
-    undelivered_if _ _ _ _ _ _ _ _ _ _ _ _ words text c.printed-answer.result c.deliver-in-Text.result read
-    (search rules) refl refl c.deliver-in-Text.ensures.refused
+    undelivered_if _ _ _ _ _ words text c.printed-answer.result c.deliver-in-Text.result read (search rules)
+    (refl, refl) refl c.deliver-in-Text.ensures.refused
