@@ -50,7 +50,7 @@ pub fn converse<'a, I: Input, O: Output, E: Output>(
 
 /// Reads a line and answers it. Returns how many bytes may still be read; none where the conversation
 /// has ended.
-#[tactic(auto, using(crate::proofs::Turns::unheard, crate::proofs::Turns::line_of_line, crate::proofs::Turns::within_left))]
+#[tactic(auto, using(crate::proofs::Turns::unheard, crate::proofs::Turns::line_of_line))]
 fn take_turn<'a, I: Input, O: Output, E: Output>(
     alloc: Global,
     debugger: &mut Debugger,

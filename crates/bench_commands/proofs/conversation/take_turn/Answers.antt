@@ -2,7 +2,7 @@ use Rattle.std.proofs.Common.{Global, option_map, refl, rules, ◌⊎◌}
 use Rattle.std.specs.String.{string_bytes}
 use Rattle.bench_commands.specs.Input.{IsLonger}
 use Rattle.bench_commands.specs.World.{StreamFaults, Streams}
-use Rattle.bench_commands.proofs.Turns.{at_end, at_quit, turn, unsaid}
+use Rattle.bench_commands.proofs.Turns.{at_end, at_quit, turn, unsaid, within_left}
 use Rattle.bench_commands.proofs.conversation.take_turn.Goals as goal
 
 pub returns-then-is_empty-clause-last : goal.returns-then-is_empty-clause-last
@@ -44,3 +44,15 @@ returns-clause-turn g c =
     (option_map (string_bytes {Z = Global}) c.in_ok-reply.reply.note) _ _ c.in_ok-line.ensures.line (search rules)
     (search rules) (search rules) (search rules) (search rules) (search rules) (search rules) (search rules)
     (search rules) (search rules)
+
+pub returns-in_err-reply-clause-within : goal.returns-in_err-reply-clause-within
+returns-in_err-reply-clause-within g c =
+    let h = within_left (g.I.Input.rest c.args.input.now) (g.I.Input.rest c.hear.new.input) c.in_ok-line.line.items
+    c.args.left c.in_ok-line.ensures.line (search rules) (search rules) in
+    search (rules, h)
+
+pub returns-in_err-say-clause-within : goal.returns-in_err-say-clause-within
+returns-in_err-say-clause-within g c =
+    let h = within_left (g.I.Input.rest c.args.input.now) (g.I.Input.rest c.hear.new.input) c.in_ok-line.line.items
+    c.args.left c.in_ok-line.ensures.line (search rules) (search rules) in
+    search (rules, h)
