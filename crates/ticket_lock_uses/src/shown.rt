@@ -6,12 +6,12 @@ use crate::claims::claim;
 use crate::ends::{is_spent_while_held, taken_once};
 use crate::items::Items;
 use crate::parts::parted;
-use crate::work::two;
+use crate::work::{add, two};
 use std::alloc::{AllocError, Global};
 use std::io;
 use std::sync::Wait;
 use std::thread::Threads;
-use ticket_lock::{OneLeft, PassesOut, TicketLock};
+use ticket_lock::{OneLeft, PassesOut, Spent, TicketLock};
 
 /// Two threads add a hundred numbers each to one list: whether all are there. That each thread's are in order is
 /// proved.
@@ -68,17 +68,35 @@ fn is_joined_to_others(alloc: Global) -> Result<bool, AllocError> {
     }
 }
 
-/// Closes a lock with a half of its pass, and then with all of it: whether the second time alone there is a value.
+/// Adds an item, gives the list back, and takes it again: whether the pass then finds its own item.
+fn is_own_found<R: Wait>(rt: &R, alloc: Global) -> Result<bool, AllocError> {
+    let (lock, pass) = TicketLock::new(Items::new(alloc), alloc)?;
+    let (pass, is_added) = add(rt, &lock, pass, 7);
+    match lock.take(rt, pass) {
+        Ok(held) => {
+            let is_found = held.value().as_slice() == [(1, 7)].as_slice();
+            drop(held.give());
+            Ok(is_added && is_found)
+        }
+        Err((pass, Spent)) => {
+            drop(pass);
+            Ok(false)
+        }
+    }
+}
+
+/// Closes a lock with a pass that lacks one number, and then with all of it: whether the second time alone there is a
+/// value.
 fn is_closed_by_all(alloc: Global) -> Result<bool, AllocError> {
     let (lock, pass) = TicketLock::new(Items::new(alloc), alloc)?;
-    let Ok((one, two)) = pass.split(&lock) else {
+    let Ok((one, others)) = pass.split(&lock) else {
         return Ok(false);
     };
-    let (lock, one) = match lock.close(one) {
+    let (lock, others) = match lock.close(others) {
         Ok(_) => return Ok(false),
-        Err((lock, one, PassesOut)) => (lock, one),
+        Err((lock, others, PassesOut)) => (lock, others),
     };
-    let pass = one.join(&lock, two);
+    let pass = one.join(&lock, others);
     match lock.close(pass) {
         Ok(items) => Ok(items.as_slice().is_empty()),
         Err(_) => Ok(false),
@@ -112,6 +130,11 @@ pub fn show<R: Threads + Wait + Sync + Print>(rt: &R, alloc: Global) -> io::Resu
     )?;
     say(
         rt,
+        "a pass that takes again finds its own item",
+        is_own_found(rt, alloc)?,
+    )?;
+    say(
+        rt,
         "the last ticket is drawn once",
         is_last_drawn_once(rt, alloc)?,
     )?;
@@ -133,7 +156,7 @@ pub fn show<R: Threads + Wait + Sync + Print>(rt: &R, alloc: Global) -> io::Resu
     )?;
     say(
         rt,
-        "a lock whose pass is split is not closed by a half",
+        "a lock is not closed by a pass that lacks one number",
         is_closed_by_all(alloc)?,
     )?;
     say(
