@@ -3,12 +3,12 @@ use Rattle.std.proofs.Common.{◌≡◌, ◌⊎◌, ◌≤◌, ◌+◌, ℕ, Lis
 use Rattle.std.proofs.Common.{inl, inr, sym, subst, arith}
 use Rattle.std.specs.Io.KnownBytes.{Appends}
 use Rattle.std.specs.String.{string_bytes}
-use Rattle.bench_words.specs.Words.{IsReadAs}
-use Rattle.bench_words.specs.declared.words.Asked.{Asked}
-use Rattle.bench_words.specs.declared.words.Asked.TheVariants as asked
-use Rattle.bench_words.specs.declared.words.Job.{Job}
-use Rattle.bench_words.specs.declared.words.Job.TheVariants as jobs
-use Rattle.bench_words.specs.declared.words.Live.{Live}
+use Rattle.command_line.specs.Words.{IsReadAs}
+use Rattle.command_line.specs.declared.words.Asked.{Asked}
+use Rattle.command_line.specs.declared.words.Asked.TheVariants as asked
+use Rattle.command_line.specs.declared.words.Job.{Job}
+use Rattle.command_line.specs.declared.words.Job.TheVariants as jobs
+use Rattle.command_line.specs.declared.words.Live.{Live}
 use Rattle.bench_commands.specs.Answers.{IsUndelivered, files_of}
 use Rattle.bench_commands.specs.Command.{Ends, IsAnswerTo, IsAnswered, IsCutJob, IsDebugCut, IsDebugged, IsDebuggedJob}
 use Rattle.bench_commands.specs.Command.{IsFinished, IsRefused, IsUnfinished}

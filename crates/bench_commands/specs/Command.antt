@@ -2,12 +2,12 @@
 use Rattle.std.specs.Prelude.{◌≡◌, ℕ, ◌⊎◌, List, [], Option, option_map}
 use Rattle.std.specs.Io.KnownBytes.{Appends}
 use Rattle.std.specs.String.{string_bytes}
-use Rattle.bench_words.specs.Words.{IsReadAs}
-use Rattle.bench_words.specs.declared.words.Asked.{Asked}
-use Rattle.bench_words.specs.declared.words.Asked.TheVariants as asked
-use Rattle.bench_words.specs.declared.words.Job.{Job}
-use Rattle.bench_words.specs.declared.words.Job.TheVariants as jobs
-use Rattle.bench_words.specs.declared.words.Live.{Live}
+use Rattle.command_line.specs.Words.{IsReadAs}
+use Rattle.command_line.specs.declared.words.Asked.{Asked}
+use Rattle.command_line.specs.declared.words.Asked.TheVariants as asked
+use Rattle.command_line.specs.declared.words.Job.{Job}
+use Rattle.command_line.specs.declared.words.Job.TheVariants as jobs
+use Rattle.command_line.specs.declared.words.Live.{Live}
 use Rattle.bench_commands.specs.Answers.{IsUndelivered, files_of}
 use Rattle.bench_commands.specs.Debugging.{IsDebugCutAt, IsDebuggedAt}
 use Rattle.bench_commands.specs.Files.{Grows, Made, most_bytes}

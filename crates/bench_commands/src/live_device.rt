@@ -19,7 +19,7 @@ use crate::refusal::Refusal;
 use crate::showing::ShownWire;
 use crate::status::Status;
 use crate::texts::image_file;
-use bench_words::Live;
+use command_line::Live;
 use device_machine::Template;
 use live_link::{
     LiveEnd, LiveSession, MachineClock, Seconds, UdpWire, Wire, WireFault, serve_class,

@@ -17,7 +17,7 @@ use crate::refusal::Refusal;
 use crate::status::Status;
 use crate::telling::tell;
 use crate::traces::{pcap, show};
-use bench_words::{Asked, Job, read};
+use command_line::{Asked, Job, read};
 use std::alloc::Global;
 use std::net::Net;
 use std::rt::Clock;

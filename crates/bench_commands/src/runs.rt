@@ -85,7 +85,7 @@ struct Ending {
     text: String,
 }
 
-/// What is said of a run of so many entries, after which these devices are not at the end of their rows.
+/// What is said of a run of `count` entries, after which the devices in `waiting` are not at the end of their rows.
 fn end_of(alloc: Global, count: usize, waiting: &[u16]) -> Result<Ending, AllocError>
     ensures text { IfOk result (λ a. string_bytes a.text ≡ end_line count waiting.now) }
     ensures status { IfOk result (λ a. a.status ≡ end_status waiting.now) }

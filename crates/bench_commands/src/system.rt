@@ -16,7 +16,7 @@ use crate::program::command;
 use crate::refusal::Refusal;
 use crate::status::Status;
 use crate::telling::tell;
-use bench_words::NO_TEXT;
+use command_line::NO_TEXT;
 use std::alloc::Global;
 use std::io::ErrorKind;
 use std::net::Net;

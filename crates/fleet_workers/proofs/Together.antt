@@ -394,7 +394,7 @@ module _ (m : ℕ) (v one two a b all : Seen) (p : Parts v one two a b all)
   joint_ends Stalled Done ea eb = stalled_all v one two a b all p ea
   joint_ends Stalled Stalled ea eb = stalled_all v one two a b all p ea
 
--- where they do not end for want of memory together, neither part does
+-- where their joint end is not Memory, neither part ends with Memory
 first_has : (first others : LoopEnd) → (joint_end first others ≡ Memory → ⊥) → first ≡ Memory → ⊥
 first_has first others not is = not (ap (λ e. joint_end e others) is)
 

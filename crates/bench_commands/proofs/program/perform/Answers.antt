@@ -1,7 +1,7 @@
 use Rattle.std.proofs.Common.{◌≡◌, Global, map, refl, rules, subst}
 use Rattle.std.specs.String.{string_bytes}
-use Rattle.bench_words.specs.Words.{IsReadAs}
-use Rattle.bench_words.specs.declared.words.Asked.TheVariants as asked
+use Rattle.command_line.specs.Words.{IsReadAs}
+use Rattle.command_line.specs.declared.words.Asked.TheVariants as asked
 use Rattle.bench_commands.proofs.Ended.{answered_if, undelivered_if}
 use Rattle.bench_commands.proofs.program.perform.Goals as goal
 

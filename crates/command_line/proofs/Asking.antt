@@ -1,0 +1,199 @@
+-- What the words ask for: a subcommand whose value is missing asks for nothing.
+use Rattle.std.proofs.Common.{◌≡◌, ◌≢◌, ◌⊎◌, ◌↔◌, IsTrue, Bool, true, false, not, ◌&&◌, List, [], None, codes, rules}
+use Rattle.std.proofs.Common.{Some, refl, inl, inr, sym, ap, subst, ◌∙◌}
+use Rattle.clap.specs.Words.{App, HasKind, HasMatchesOf, IsAmong, Row, Text as Word, fault_of, first_of, is_simple}
+use Rattle.clap.specs.Words.{is_simple_and_free, kind_of, subcommand_of, subcommand_rows_of}
+use Rattle.clap.specs.declared.parser.matches.ArgMatches.{ArgMatches}
+use Rattle.clap.specs.declared.error.Error.{Error}
+use Rattle.clap.specs.declared.error.kind.ErrorKind.TheVariants as kind
+use Rattle.command_line.specs.declared.words.Job.{Job}
+use Rattle.command_line.specs.declared.words.Job.TheVariants as jobs
+use Rattle.command_line.specs.declared.words.Live.{Live}
+use Rattle.command_line.specs.declared.words.Asked.{Asked}
+use Rattle.command_line.specs.declared.words.Asked.TheVariants as asked
+use Rattle.command_line.specs.Words.{AsksFor, AsksNothing, AsksToLive, IsReadAs, IsRefusedAs, LacksLive, LacksRun}
+use Rattle.command_line.specs.Words.{MayAskFor, bench_app, refusals}
+
+pub no_one : (rows : List Row) (job : Job) → first_of (codes "HEX") rows ≡ None → AsksFor (codes "one", rows) job → ⊥
+no_one rows (jobs.One hex) none asks = search rules
+no_one rows (jobs.Asm input output) none asks = search rules
+no_one rows (jobs.Dis input) none asks = search rules
+no_one rows (jobs.Run image workers batch trace) none asks = search rules
+no_one rows (jobs.Check image trace) none asks = search rules
+no_one rows (jobs.Show image trace device from to) none asks = search rules
+no_one rows (jobs.Pcap image trace output) none asks = search rules
+no_one rows (jobs.Debug image trace) none asks = search rules
+
+pub no_asm : (rows : List Row) (job : Job) → (first_of (codes "IN") rows ≡ None) ⊎ (first_of (codes "OUT") rows ≡ None)
+    → AsksFor (codes "asm", rows) job → ⊥
+no_asm rows (jobs.One hex) none asks = search rules
+no_asm rows (jobs.Asm input output) (inl none) asks = search rules
+no_asm rows (jobs.Asm input output) (inr none) asks = search rules
+no_asm rows (jobs.Dis input) none asks = search rules
+no_asm rows (jobs.Run image workers batch trace) none asks = search rules
+no_asm rows (jobs.Check image trace) none asks = search rules
+no_asm rows (jobs.Show image trace device from to) none asks = search rules
+no_asm rows (jobs.Pcap image trace output) none asks = search rules
+no_asm rows (jobs.Debug image trace) none asks = search rules
+
+pub no_dis : (rows : List Row) (job : Job) → first_of (codes "IN") rows ≡ None → AsksFor (codes "dis", rows) job → ⊥
+no_dis rows (jobs.One hex) none asks = search rules
+no_dis rows (jobs.Asm input output) none asks = search rules
+no_dis rows (jobs.Dis input) none asks = search rules
+no_dis rows (jobs.Run image workers batch trace) none asks = search rules
+no_dis rows (jobs.Check image trace) none asks = search rules
+no_dis rows (jobs.Show image trace device from to) none asks = search rules
+no_dis rows (jobs.Pcap image trace output) none asks = search rules
+no_dis rows (jobs.Debug image trace) none asks = search rules
+
+pub no_run : (rows : List Row) (job : Job) → LacksRun rows → AsksFor (codes "run", rows) job → ⊥
+no_run rows (jobs.One hex) lacks asks = search rules
+no_run rows (jobs.Asm input output) lacks asks = search rules
+no_run rows (jobs.Dis input) lacks asks = search rules
+no_run rows (jobs.Run image workers batch trace) (inl none) asks = search rules
+no_run rows (jobs.Run image workers batch trace) (inr (inl none)) asks = none workers asks.2
+no_run rows (jobs.Run image workers batch trace) (inr (inr none)) asks = none batch asks.3
+no_run rows (jobs.Check image trace) lacks asks = search rules
+no_run rows (jobs.Show image trace device from to) lacks asks = search rules
+no_run rows (jobs.Pcap image trace output) lacks asks = search rules
+no_run rows (jobs.Debug image trace) lacks asks = search rules
+
+pub no_check : (rows : List Row) (job : Job) → (first_of (codes "IMAGE") rows ≡ None)
+    ⊎ (first_of (codes "TRACE") rows ≡ None) → AsksFor (codes "check", rows) job → ⊥
+no_check rows (jobs.One hex) none asks = search rules
+no_check rows (jobs.Asm input output) none asks = search rules
+no_check rows (jobs.Dis input) none asks = search rules
+no_check rows (jobs.Run image workers batch trace) none asks = search rules
+no_check rows (jobs.Check image trace) (inl none) asks = search rules
+no_check rows (jobs.Check image trace) (inr none) asks = search rules
+no_check rows (jobs.Show image trace device from to) none asks = search rules
+no_check rows (jobs.Pcap image trace output) none asks = search rules
+no_check rows (jobs.Debug image trace) none asks = search rules
+
+pub no_show : (rows : List Row) (job : Job) → (first_of (codes "IMAGE") rows ≡ None)
+    ⊎ (first_of (codes "TRACE") rows ≡ None) → AsksFor (codes "show", rows) job → ⊥
+no_show rows (jobs.One hex) none asks = search rules
+no_show rows (jobs.Asm input output) none asks = search rules
+no_show rows (jobs.Dis input) none asks = search rules
+no_show rows (jobs.Run image workers batch trace) none asks = search rules
+no_show rows (jobs.Check image trace) none asks = search rules
+no_show rows (jobs.Show image trace device from to) (inl none) asks = search rules
+no_show rows (jobs.Show image trace device from to) (inr none) asks = search rules
+no_show rows (jobs.Pcap image trace output) none asks = search rules
+no_show rows (jobs.Debug image trace) none asks = search rules
+
+pub no_debug : (rows : List Row) (job : Job) → (first_of (codes "IMAGE") rows ≡ None)
+    ⊎ (first_of (codes "TRACE") rows ≡ None) → AsksFor (codes "debug", rows) job → ⊥
+no_debug rows (jobs.One hex) none asks = search rules
+no_debug rows (jobs.Asm input output) none asks = search rules
+no_debug rows (jobs.Dis input) none asks = search rules
+no_debug rows (jobs.Run image workers batch trace) none asks = search rules
+no_debug rows (jobs.Check image trace) none asks = search rules
+no_debug rows (jobs.Show image trace device from to) none asks = search rules
+no_debug rows (jobs.Pcap image trace output) none asks = search rules
+no_debug rows (jobs.Debug image trace) (inl none) asks = search rules
+no_debug rows (jobs.Debug image trace) (inr none) asks = search rules
+
+pub no_pcap : (rows : List Row) (job : Job) → (first_of (codes "IMAGE") rows ≡ None)
+    ⊎ ((first_of (codes "TRACE") rows ≡ None) ⊎ (first_of (codes "OUT") rows ≡ None))
+    → AsksFor (codes "pcap", rows) job → ⊥
+no_pcap rows (jobs.One hex) none asks = search rules
+no_pcap rows (jobs.Asm input output) none asks = search rules
+no_pcap rows (jobs.Dis input) none asks = search rules
+no_pcap rows (jobs.Run image workers batch trace) none asks = search rules
+no_pcap rows (jobs.Check image trace) none asks = search rules
+no_pcap rows (jobs.Show image trace device from to) none asks = search rules
+no_pcap rows (jobs.Pcap image trace output) (inl none) asks = search rules
+no_pcap rows (jobs.Pcap image trace output) (inr (inl none)) asks = search rules
+no_pcap rows (jobs.Pcap image trace output) (inr (inr none)) asks = search rules
+no_pcap rows (jobs.Debug image trace) none asks = search rules
+
+-- the words of a device on the network
+lacks_live : (rows : List Row) (live : Live) → LacksLive rows → AsksToLive (codes "live", rows) live → ⊥
+lacks_live rows live (inl none) asks = search rules
+lacks_live rows live (inr (inl none)) asks = none live.device asks.2
+lacks_live rows live (inr (inr (inl none))) asks = none live.port asks.3
+lacks_live rows live (inr (inr (inr none))) asks = none live.turns asks.4
+
+-- they ask for no job
+live_alone : (rows : List Row) (job : Job) → AsksFor (codes "live", rows) job → ⊥
+live_alone rows (jobs.One hex) asks = search rules
+live_alone rows (jobs.Asm input output) asks = search rules
+live_alone rows (jobs.Dis input) asks = search rules
+live_alone rows (jobs.Run image workers batch trace) asks = search rules
+live_alone rows (jobs.Check image trace) asks = search rules
+live_alone rows (jobs.Show image trace device from to) asks = search rules
+live_alone rows (jobs.Pcap image trace output) asks = search rules
+live_alone rows (jobs.Debug image trace) asks = search rules
+
+pub not_live : (rows : List Row) (wanted : Asked) → LacksLive rows → MayAskFor (codes "live", rows) wanted → ⊥
+not_live rows (asked.Job job) lacks asks = live_alone rows job asks
+not_live rows (asked.Live live) lacks asks = lacks_live rows live lacks asks
+not_live rows (asked.Text text is_mistake) lacks asks = absurd asks
+
+-- other words ask for no device on the network
+pub no_job : (name : Word) (rows : List Row) (wanted : Asked) → (name ≢ codes "live")
+    → ((job : Job) → AsksFor (name, rows) job → ⊥) → MayAskFor (name, rows) wanted → ⊥
+no_job name rows (asked.Job job) other none asks = none job asks
+no_job name rows (asked.Live live) other none asks = absurd (other asks.0)
+no_job name rows (asked.Text text is_mistake) other none asks = absurd asks
+
+-- the second of two, where the first is not
+pub second_of : {A B : Type 0} → A ⊎ B → (A → ⊥) → B
+second_of (inl a) without = absurd (without a)
+second_of (inr b) without = b
+
+-- what is plain has no global argument
+pub is_local : (groups external globals rest : Bool) → (groups && (not external && (not globals && rest))) ≡ true
+    → globals ≡ false
+is_local true false false rest plain = refl
+is_local true false true rest plain = search rules
+is_local true true globals rest plain = search rules
+is_local false external globals rest plain = search rules
+
+-- an error that is not a lack of memory is one of those that the words may have
+pub refused_as : (app : App) (words : List Word) (e : Error) (is_mistake : Bool) → app ≡ bench_app
+    → (is_simple_and_free app ≡ true → HasKind (fault_of app words) e) → (kind_of e ≢ kind.OutOfMemory)
+    → (IsTrue is_mistake ↔ ((kind_of e ≢ kind.DisplayHelp) × (kind_of e ≢ kind.DisplayVersion)))
+    → IsRefusedAs (refusals words) is_mistake
+unfolding refusals
+refused_as app words e is_mistake same kinds other mistake =
+    let simple : is_simple_and_free app ≡ true = ap is_simple_and_free same in
+    let among : IsAmong (kind_of e) (fault_of bench_app words) =
+    subst (λ a. IsAmong (kind_of e) (fault_of a words)) same (second_of (kinds simple) other) in
+    (kind_of e, among, mistake)
+
+-- words that were taken have no error
+pub taken_whole : (app : App) (words : List Word) → app ≡ bench_app
+    → (is_simple_and_free app ≡ true → fault_of app words ≡ []) → refusals words ≡ []
+unfolding refusals
+taken_whole app words same kinds =
+    let simple : is_simple_and_free app ≡ true = ap is_simple_and_free same in
+    subst (λ a. fault_of a words ≡ []) same (kinds simple)
+
+-- the subcommand that was found is that of the words
+same_subcommand : (app : App) (words : List Word) (m : ArgMatches) → app ≡ bench_app → HasMatchesOf app words m
+    → subcommand_rows_of m ≡ subcommand_of bench_app words
+same_subcommand app words m same matches =
+    let simple : is_simple app ≡ true = ap is_simple same in
+    subst (λ a. subcommand_rows_of m ≡ subcommand_of a words) same (matches simple).1
+
+-- what is made of words that were taken
+pub asked_as : (app : App) (words : List Word) (m : ArgMatches) (wanted : Asked) → app ≡ bench_app
+    → HasMatchesOf app words m → (is_simple_and_free app ≡ true → fault_of app words ≡ [])
+    → (p : Word × List Row) × (subcommand_rows_of m ≡ Some p) × MayAskFor p wanted → IsReadAs words wanted
+asked_as app words m (asked.Job job) same matches kinds (p, at, asks) = (
+  taken_whole app words same kinds,
+  record { found = p; entered = sym (same_subcommand app words m same matches) ∙ at; asks = asks },
+)
+asked_as app words m (asked.Live live) same matches kinds (p, at, asks) = (
+  taken_whole app words same kinds,
+  record { found = p; entered = sym (same_subcommand app words m same matches) ∙ at; asks = asks },
+)
+asked_as app words m (asked.Text text is_mistake) same matches kinds (p, at, asks) = absurd asks
+
+pub asked_nothing : (app : App) (words : List Word) (m : ArgMatches) → app ≡ bench_app → HasMatchesOf app words m
+    → ((p : Word × List Row) (wanted : Asked) → subcommand_rows_of m ≡ Some p → MayAskFor p wanted → ⊥)
+    → AsksNothing words
+asked_nothing app words m same matches none =
+    λ wanted is. none is.found wanted (same_subcommand app words m same matches ∙ is.entered) is.asks

@@ -1,0 +1,279 @@
+//! The subcommands of the program and their arguments, as `clap` takes them.
+ghost use Rattle.std.specs.Prelude.{◌≡◌, codes, false, true, IfOk};
+ghost use Rattle.clap.specs.Words.{App, app_of, new_app, rule_of, with_rule, with_subcommand};
+ghost use Rattle.command_line.specs.Words.{asm_app, batch, bench_app, check_app, debug_app, dis_app, file, flag};
+ghost use Rattle.command_line.specs.Words.{live_app, needed, needed_number, one_app, optional_number, pcap_app};
+ghost use Rattle.command_line.specs.Words.{run_app, show_app, with_port, with_range, with_settings, with_trace};
+ghost use Rattle.command_line.specs.Words.{workers};
+
+use crate::help;
+use clap::{Arg, ArgAction, Command, value_parser};
+use std::alloc::{AllocError, Global};
+
+/// The program, with all its subcommands.
+pub(crate) fn bench<'a>(alloc: Global) -> Result<Command<'a>, AllocError>
+    ensures { IfOk result (λ c. app_of c ≡ bench_app) }
+{
+    let texts = with_texts(alloc, top(alloc))?;
+    let runs = with_runs(alloc, texts)?;
+    with_traces(alloc, runs)
+}
+
+fn with_texts<'a>(alloc: Global, command: Command<'a>) -> Result<Command<'a>, AllocError>
+    ensures { IfOk result (λ c. app_of c ≡ with_subcommand (with_subcommand
+        (with_subcommand (app_of command.entry) one_app.top) asm_app.top) dis_app.top) }
+{
+    let one = with_subcommand(Ok(command), one_command(alloc));
+    let asm = with_subcommand(one, asm_command(alloc));
+    with_subcommand(asm, dis_command(alloc))
+}
+
+fn with_runs<'a>(alloc: Global, command: Command<'a>) -> Result<Command<'a>, AllocError>
+    ensures { IfOk result (λ c. app_of c ≡ with_subcommand (with_subcommand
+        (with_subcommand (app_of command.entry) run_app.top) check_app.top) show_app.top) }
+{
+    let run = with_subcommand(Ok(command), run_command(alloc));
+    let check = with_subcommand(run, check_command(alloc));
+    with_subcommand(check, show_command(alloc))
+}
+
+fn with_traces<'a>(alloc: Global, command: Command<'a>) -> Result<Command<'a>, AllocError>
+    ensures { IfOk result (λ c. app_of c ≡ with_subcommand (with_subcommand
+        (with_subcommand (app_of command.entry) pcap_app.top) debug_app.top) live_app.top) }
+{
+    let pcap = with_subcommand(Ok(command), pcap_command(alloc));
+    let debug = with_subcommand(pcap, debug_command(alloc));
+    with_subcommand(debug, live_command(alloc))
+}
+
+/// Adds a subcommand that has no global argument. Either may have failed, so a chain of these needs no `?`, each of
+/// which would drop a command: that makes it cheap to prove.
+fn with_subcommand<'a>(
+    command: Result<Command<'a>, AllocError>,
+    subcommand: Result<Command<'a>, AllocError>,
+) -> Result<Command<'a>, AllocError>
+    ensures { (app added : App) → IfOk command.entry (λ c. app_of c ≡ app) → IfOk subcommand.entry
+        (λ c. app_of c ≡ added) → added.top.is_plain ≡ true → IfOk result
+        (λ c. app_of c ≡ with_subcommand app added.top) }
+{
+    command?.subcommand(subcommand?)
+}
+
+/// The program, with no subcommand yet.
+fn top<'a>(alloc: Global) -> Command<'a>
+    ensures { app_of result ≡ with_settings (new_app (codes "lwbench")) }
+{
+    Command::new(alloc, "lwbench")
+        .about("A bench of emulated OMA LwM2M devices over CoAP")
+        .version(help::VERSION)
+        .after_help(help::BENCH)
+        .subcommand_required(true)
+}
+
+/// A command with no argument yet, and what its help says above and below them.
+fn described<'a>(alloc: Global, name: &'a str, about: &'a str, below: &'a str) -> Command<'a>
+    ensures { app_of result ≡ new_app name.entry.now }
+{
+    Command::new(alloc, name).about(about).after_help(below)
+}
+
+fn one_command<'a>(alloc: Global) -> Result<Command<'a>, AllocError>
+    ensures { IfOk result (λ c. app_of c ≡ one_app) }
+{
+    let about = "Gives the DEMO device one datagram from server 1";
+    described(alloc, "one", about, help::ONE).arg(needed(alloc, "HEX").help(
+        "The bytes of the datagram, in hex",
+    ))
+}
+
+fn asm_command<'a>(alloc: Global) -> Result<Command<'a>, AllocError>
+    ensures { IfOk result (λ c. app_of c ≡ asm_app) }
+{
+    let about = "Makes a scenario's image from its text";
+    described(alloc, "asm", about, help::ASM)
+        .arg(needed(alloc, "IN").help("The scenario, as text"))?
+        .arg(needed(alloc, "OUT").help("Where the image goes"))
+}
+
+fn dis_command<'a>(alloc: Global) -> Result<Command<'a>, AllocError>
+    ensures { IfOk result (λ c. app_of c ≡ dis_app) }
+{
+    let about = "Prints a scenario's text";
+    described(alloc, "dis", about, help::DIS).arg(needed(alloc, "IN").help(
+        "The scenario, as an image",
+    ))
+}
+
+fn run_command<'a>(alloc: Global) -> Result<Command<'a>, AllocError>
+    ensures { IfOk result (λ c. app_of c ≡ run_app) }
+{
+    let about = "Runs a scenario: workers let its devices step until none can";
+    let image = described(alloc, "run", about, help::RUN).arg(needed(alloc, "IMAGE").help(
+        "The scenario, as an image",
+    ))?;
+    with_numbers(alloc, image)?.arg(file(alloc, "trace").help("Where the trace of the run goes"))
+}
+
+fn with_numbers<'a>(alloc: Global, command: Command<'a>) -> Result<Command<'a>, AllocError>
+    ensures { IfOk result (λ c. app_of c ≡ with_rule (with_rule (app_of command.entry) workers) batch) }
+{
+    command.arg(workers(alloc))?.arg(batch(alloc))
+}
+
+fn workers<'a>(alloc: Global) -> Arg<'a>
+    ensures rule { rule_of result ≡ workers }
+    ensures local { result.global ≡ false }
+{
+    Arg::new(alloc, "workers")
+        .long("workers")
+        .value_name("N")
+        .value_parser(value_parser!(u16))
+        .default_value("2")
+        .help("How many workers there are")
+}
+
+fn batch<'a>(alloc: Global) -> Arg<'a>
+    ensures rule { rule_of result ≡ batch }
+    ensures local { result.global ≡ false }
+{
+    Arg::new(alloc, "batch")
+        .long("batch")
+        .value_name("N")
+        .value_parser(value_parser!(u32))
+        .default_value("16")
+        .help("The most steps that a worker makes at a time")
+}
+
+fn check_command<'a>(alloc: Global) -> Result<Command<'a>, AllocError>
+    ensures { IfOk result (λ c. app_of c ≡ check_app) }
+{
+    let about = "Says whether a trace is a run of a scenario";
+    described(alloc, "check", about, help::CHECK)
+        .arg(needed(alloc, "IMAGE").help("The scenario, as an image"))?
+        .arg(needed(alloc, "TRACE").help("The trace file"))
+}
+
+fn show_command<'a>(alloc: Global) -> Result<Command<'a>, AllocError>
+    ensures { IfOk result (λ c. app_of c ≡ show_app) }
+{
+    let about = "Prints the trace of a run as text";
+    let run = with_trace(alloc, described(alloc, "show", about, help::SHOW))?;
+    let of_device = run.arg(optional_small(alloc, "device").help(
+        "The device whose entries alone are printed",
+    ))?;
+    with_range(alloc, of_device)
+}
+
+/// Adds the words for a part of a trace.
+fn with_range<'a>(alloc: Global, command: Command<'a>) -> Result<Command<'a>, AllocError>
+    ensures { IfOk result (λ c. app_of c ≡ with_range (app_of command.entry)) }
+{
+    command
+        .arg(optional_number(alloc, "from").help("The first number that is printed"))?
+        .arg(optional_number(alloc, "to").help("The last number that is printed"))
+}
+
+fn pcap_command<'a>(alloc: Global) -> Result<Command<'a>, AllocError>
+    ensures { IfOk result (λ c. app_of c ≡ pcap_app) }
+{
+    let about = "Writes the datagrams of a run as a capture of packets";
+    let run = with_trace(alloc, described(alloc, "pcap", about, help::PCAP))?;
+    run.arg(needed(alloc, "OUT").help("Where the capture goes"))
+}
+
+fn debug_command<'a>(alloc: Global) -> Result<Command<'a>, AllocError>
+    ensures { IfOk result (λ c. app_of c ≡ debug_app) }
+{
+    let about = "Answers commands about a run of a scenario";
+    with_trace(alloc, described(alloc, "debug", about, help::DEBUG))
+}
+
+/// Adds the words for a run.
+fn with_trace<'a>(alloc: Global, command: Command<'a>) -> Result<Command<'a>, AllocError>
+    ensures { IfOk result (λ c. app_of c ≡ with_trace (app_of command.entry)) }
+{
+    command
+        .arg(needed(alloc, "IMAGE").help("The scenario that was run, as an image"))?
+        .arg(needed(alloc, "TRACE").help("The trace file of the run"))
+}
+
+fn live_command<'a>(alloc: Global) -> Result<Command<'a>, AllocError>
+    ensures { IfOk result (λ c. app_of c ≡ live_app) }
+{
+    let about = "Lets a device answer the datagrams that arrive at a UDP port";
+    let device = with_port(alloc, described(alloc, "live", about, help::LIVE))?;
+    device
+        .arg(turns(alloc))?
+        .arg(file(alloc, "save").help("Where the image of what happened goes"))?
+        .arg(flag(alloc, "show").help("Prints what happens while it goes on"))
+}
+
+/// Adds the words for a device and its port.
+fn with_port<'a>(alloc: Global, command: Command<'a>) -> Result<Command<'a>, AllocError>
+    ensures { IfOk result (λ c. app_of c ≡ with_port (app_of command.entry)) }
+{
+    command
+        .arg(needed(alloc, "IMAGE").help("The scenario, as an image"))?
+        .arg(needed_small(alloc, "DEVICE").help("The number of the device"))?
+        .arg(needed_small(alloc, "PORT").help("Its UDP port; 0: one that is free"))
+}
+
+fn turns<'a>(alloc: Global) -> Arg<'a>
+    ensures rule { rule_of result ≡ needed_number (codes "TURNS") 1 100000 }
+    ensures local { result.global ≡ false }
+{
+    Arg::new(alloc, "TURNS")
+        .required(true)
+        .value_parser(value_parser!(u32).range(1..=100_000))
+        .help("How many turns it takes, 1 to 100000")
+}
+
+fn needed_small<'a>(alloc: Global, name: &'a str) -> Arg<'a>
+    ensures rule { rule_of result ≡ needed_number name.entry.now 0 65535 }
+    ensures local { result.global ≡ false }
+{
+    Arg::new(alloc, name)
+        .required(true)
+        .value_parser(value_parser!(u16))
+}
+
+fn optional_small<'a>(alloc: Global, name: &'a str) -> Arg<'a>
+    ensures rule { rule_of result ≡ optional_number name.entry.now 65535 }
+    ensures local { result.global ≡ false }
+{
+    Arg::new(alloc, name)
+        .long(name)
+        .value_name("N")
+        .value_parser(value_parser!(u16))
+}
+
+fn optional_number<'a>(alloc: Global, name: &'a str) -> Arg<'a>
+    ensures rule { rule_of result ≡ optional_number name.entry.now 4294967295 }
+    ensures local { result.global ≡ false }
+{
+    Arg::new(alloc, name)
+        .long(name)
+        .value_name("N")
+        .value_parser(value_parser!(u32))
+}
+
+fn flag<'a>(alloc: Global, name: &'a str) -> Arg<'a>
+    ensures rule { rule_of result ≡ flag name.entry.now }
+    ensures local { result.global ≡ false }
+{
+    Arg::new(alloc, name).long(name).action(ArgAction::SetTrue)
+}
+
+fn file<'a>(alloc: Global, name: &'a str) -> Arg<'a>
+    ensures rule { rule_of result ≡ file name.entry.now }
+    ensures local { result.global ≡ false }
+{
+    Arg::new(alloc, name).long(name).value_name("FILE")
+}
+
+fn needed<'a>(alloc: Global, name: &'a str) -> Arg<'a>
+    ensures rule { rule_of result ≡ needed name.entry.now }
+    ensures local { result.global ≡ false }
+{
+    Arg::new(alloc, name).required(true)
+}

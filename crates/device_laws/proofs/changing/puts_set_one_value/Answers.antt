@@ -1,8 +1,0 @@
-use Rattle.device_laws.proofs.Changed.{puts_miss, puts_set}
-use Rattle.device_laws.proofs.changing.puts_set_one_value.Goals as goal
-
-pub returns-clause-set : goal.returns-clause-set
-returns-clause-set c = puts_set
-
-pub returns-clause-missed : goal.returns-clause-missed
-returns-clause-missed c = puts_miss

@@ -1,5 +1,0 @@
-use Rattle.device_laws.proofs.Changed.{are_done}
-use Rattle.device_laws.proofs.changing.requests_change_a_device.Goals as goal
-
-pub returns : goal.returns
-returns c = are_done c.requests_change_what_they_ask.ensures

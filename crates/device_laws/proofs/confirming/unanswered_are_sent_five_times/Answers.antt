@@ -1,5 +1,0 @@
-use Rattle.device_laws.proofs.Confirmed.{unanswered}
-use Rattle.device_laws.proofs.confirming.unanswered_are_sent_five_times.Goals as goal
-
-pub returns : goal.returns
-returns c = unanswered c.sends_five_times_at_most.ensures

@@ -1,5 +1,0 @@
-use Rattle.device_laws.proofs.Senders.{only_the_asker}
-use Rattle.device_laws.proofs.sending.only_the_asker_is_answered.Goals as goal
-
-pub returns : goal.returns
-returns c = only_the_asker

@@ -1,8 +1,0 @@
-use Rattle.discover_laws.proofs.Validity.{kept_valid, none_valid}
-use Rattle.discover_laws.proofs.laws.attributes_stay_valid.Goals as goal
-
-pub returns-clause-start : goal.returns-clause-start
-returns-clause-start c = none_valid
-
-pub returns-clause-requests : goal.returns-clause-requests
-returns-clause-requests c = kept_valid

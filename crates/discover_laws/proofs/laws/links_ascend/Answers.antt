@@ -1,8 +1,0 @@
-use Rattle.discover_laws.proofs.Ascending.{links_ascend, links_differ}
-use Rattle.discover_laws.proofs.laws.links_ascend.Goals as goal
-
-pub returns-clause-ascend : goal.returns-clause-ascend
-returns-clause-ascend c = links_ascend
-
-pub returns-clause-differ : goal.returns-clause-differ
-returns-clause-differ c = links_differ

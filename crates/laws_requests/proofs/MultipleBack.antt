@@ -1,0 +1,195 @@
+-- A multiple resource that was written is read again.
+use Rattle.std.proofs.Common.{◌≡◌, ◌≢◌, ℕ, Bool, true, false, not, ◌&&◌, ◌==◌, List, [], ◌∷◌, Option, None, Some, refl}
+use Rattle.std.proofs.Common.{sym, ap, subst, ◌∙◌, arith}
+use Rattle.std.specs.Bool.{if◌then◌else◌}
+use Rattle.std.specs.FinMap as finite
+use Rattle.std.specs.Option.{is_some, option_and_then, option_map, option_or}
+use Rattle.std.proofs.lemmas.Bool.Decides.{nat_tests}
+use Rattle.lwm2m_values.specs.Reading.{nodes_of_bytes, value_of_bytes}
+use Rattle.lwm2m_values.specs.Tree.{Tree, Trees, instance, multi, part, single, none, more}
+use Rattle.lwm2m_values.specs.declared.value.Value.{Value}
+use Rattle.object_defs.specs.Catalogue.{definition_of}
+use Rattle.object_defs.specs.Operations.{can_read}
+use Rattle.object_defs.specs.Path.{part_of}
+use Rattle.object_defs.specs.declared.definition.ResourceDef.{ResourceDef}
+use Rattle.object_defs.specs.declared.path.Path.TheVariants.{Resource}
+use Rattle.object_defs.specs.declared.path.ResourcePath.{ResourcePath}
+use Rattle.instance_store.specs.Stored.{Stored, has_instance, lies_in, resource_path, value_at}
+use Rattle.lwm2m_payloads.specs.Changes.{with_given}
+use Rattle.lwm2m_payloads.specs.Formats.{extent_as, format_for, many, one}
+use Rattle.lwm2m_payloads.specs.Given.{given_by, given_if, lone_record, number_in, parts_given, resource_given}
+use Rattle.lwm2m_payloads.specs.Given.{some_parts}
+use Rattle.lwm2m_payloads.specs.PartList.{PartList}
+use Rattle.lwm2m_payloads.specs.Written.{GivenOnce, PartsOnce, part_value}
+use Rattle.lwm2m_payloads.specs.declared.format.Format.{Format}
+use Rattle.lwm2m_payloads.specs.declared.format.Format.TheVariants.{Tlv}
+use Rattle.lwm2m_payloads.specs.declared.given.Given.{Given}
+use Rattle.lwm2m_payloads.specs.declared.given.Given.TheVariants.{Single, Parts}
+use Rattle.lwm2m_payloads.specs.declared.given.Mode.{Mode}
+use Rattle.lwm2m_payloads.specs.declared.given.Mode.TheVariants.{Replace}
+use Rattle.lwm2m_payloads.proofs.EachOnce.{resource_once}
+use Rattle.lwm2m_payloads.proofs.Written.{at_given, given_instances}
+use Rattle.device_requests.specs.declared.answer.Code.{Code}
+use Rattle.device_requests.specs.Client.{Client, with_stored}
+use Rattle.device_requests.specs.Outcomes.{write_outcome}
+use Rattle.device_requests.specs.Read.{format_at}
+use Rattle.device_requests.specs.Refusals.{refusals_of, to_write}
+use Rattle.device_requests.specs.Targets.{place_of, resource_place}
+use Rattle.device_requests.specs.Write.{given_to_resource, write_unless}
+use Rattle.laws_requests.specs.Multiples.{ArePartsReadBack, HoldsParts, MultipleIsReadBack}
+use Rattle.laws_requests.proofs.Asking.{fails}
+use Rattle.laws_requests.proofs.Holding.{holds, multiple_read}
+use Rattle.laws_requests.proofs.Writing.{comes, leaves, resource_good, unrefused}
+
+-- ---- what the payload gives
+
+-- parts are given
+abbrev AreSomeParts : Given → Type 0
+AreSomeParts g = (parts : PartList) × (g ≡ Parts parts)
+
+some_are : (mandatory : Bool) (parts : Option PartList) (g : Given) → some_parts mandatory parts ≡ Some g
+    → AreSomeParts g
+some_are mandatory None g h = cc
+some_are true (Some []) g h = cc
+some_are false (Some []) g h = ([], cc)
+some_are mandatory (Some (e ∷ parts)) g h = (e ∷ parts, cc)
+
+record_gives_parts : (d : ResourceDef) (node : Tree) (g : Given) → d.multiple ≡ true → given_by d node ≡ Some g
+    → AreSomeParts g
+record_gives_parts d (instance i inner) g k h = cc
+record_gives_parts d (multi q inner) g k h =
+    let e : (if d.multiple then some_parts d.mandatory (parts_given d.kind inner) else None) ≡ Some g = h in
+    some_are d.mandatory (parts_given d.kind inner) g (rw k at e)
+record_gives_parts d (part n bytes) g k h = cc
+record_gives_parts d (single q bytes) g k h =
+    let e : (if d.multiple then None else option_map Single (value_of_bytes d.kind bytes)) ≡ Some g = h in
+    let n : None ≡ Some g = rw k at e in
+    cc
+
+where_given : (b : Bool) (given : Option Given) (g : Given) → given_if b given ≡ Some g → given ≡ Some g
+where_given true given g h = h
+where_given false given g h = cc
+
+records_give_parts : (d : ResourceDef) (nodes : Trees) (g : Given) → d.multiple ≡ true → lone_record d nodes ≡ Some g
+    → AreSomeParts g
+records_give_parts d none g k h = cc
+records_give_parts d (more node none) g k h =
+    record_gives_parts d node g k (where_given (number_in node == d.id) (given_by d node) g h)
+records_give_parts d (more node (more next nodes)) g k h = cc
+
+nodes_give_parts : (d : ResourceDef) (nodes : Option Trees) (g : Given) → d.multiple ≡ true
+    → option_and_then (lone_record d) nodes ≡ Some g → AreSomeParts g
+nodes_give_parts d None g k h = cc
+nodes_give_parts d (Some nodes) g k h = records_give_parts d nodes g k h
+
+only_tlv : (number : Option ℕ) (f : Format) → format_for many number ≡ Some f → f ≡ Tlv
+only_tlv None f h = cc
+only_tlv (Some n) f h =
+    elim (n == 11542) as (λ b. (if b then Some Tlv else (if n == 0 then None else (if n == 42 then None else None)))
+    ≡ Some f → f ≡ Tlv) [
+      | true ↦ λ k. cc
+      | false ↦ λ k. elim (n == 0) as (λ b. (if b then None else (if n == 42 then None else None)) ≡ Some f → f ≡ Tlv) [
+        | true ↦ λ l. cc
+        | false ↦ λ l. elim (n == 42) as (λ b. (if b then None else None) ≡ Some f → f ≡ Tlv) [
+          | true ↦ λ m. cc
+          | false ↦ λ m. cc
+        ] l
+      ] k
+    ] h
+
+is_only_tlv : (client : Client) (o i r : ℕ) (d : ResourceDef) (number : Option ℕ) (f : Format)
+    → definition_of client.catalogue o r ≡ Some d → d.multiple ≡ true
+    → format_at client.catalogue (Resource o i r) number ≡ Some f → f ≡ Tlv
+is_only_tlv client o i r d number f defined_as several h =
+    only_tlv number f (sym (ap (λ (e : Option ResourceDef). format_for (extent_as e) number) defined_as
+    ∙ ap (λ (b : Bool). format_for (if b then many else one d.kind) number) several) ∙ h)
+
+-- ---- the store after it
+
+-- the firmware takes single values alone
+parts_leave : (client : Client) (mode : Mode) (o i r : ℕ) (payload : List ℕ) (f : Format) (d : ResourceDef)
+    (parts : PartList)
+    → given_to_resource (definition_of client.catalogue o r) f payload ≡ Some (Parts parts)
+    → definition_of client.catalogue o r ≡ Some d → can_read d.ops ≡ true
+    → leaves client mode (Resource o i r) payload (Some f)
+    ≡ with_given mode client.store (resource_place o i r) (Parts parts)
+parts_leave client mode o i r payload f d parts given defined_as readable =
+    let Goal : Type 0 = leaves client mode (Resource o i r) payload (Some f)
+    ≡ with_given mode client.store (resource_place o i r) (Parts parts) in
+    elim (o == 5) as (λ b. (o == 5) ≡ b → Goal) [
+      | false ↦ λ five. rw (given, five, defined_as, readable) refl
+      | true ↦ λ five. elim (r == 0) as (λ b. (r == 0) ≡ b → Goal) [
+        | true ↦ λ zero. rw (given, five, zero, defined_as, readable) refl
+        | false ↦ λ zero. elim (r == 1) as (λ b. (r == 1) ≡ b → Goal) [
+          | true ↦ λ one. rw (given, five, zero, one, defined_as, readable) refl
+          | false ↦ λ one. rw (given, five, zero, one, defined_as, readable) refl
+        ] refl
+      ] refl
+    ] refl
+
+or_none : (v : Option Value) → option_or v None ≡ v
+or_none None = refl
+or_none (Some v) = refl
+
+lies_here : (p : ResourcePath) (n : ℕ) → lies_in (resource_path p) (part_of p n) ≡ true
+lies_here p n = grind (arith, nat_tests)
+
+-- after Replace there are the parts given
+replaced : (stored : Stored) (p : ResourcePath) (parts : PartList) → PartsOnce parts
+    → HoldsParts (with_given Replace stored p (Parts parts)) p parts
+replaced stored p parts once =
+    holds (with_given Replace stored p (Parts parts)) p parts once (λ n.
+    at_given Replace (Parts parts) stored p (part_of p n) once
+    ∙ ap (λ (b : Bool). if b then option_or (part_value parts (Some n)) None else value_at stored (part_of p n))
+    (lies_here p n)
+    ∙ or_none (part_value parts (Some n)))
+
+target_there : (a b : Bool) → not (a && b) ≡ false → b ≡ true
+target_there true true h = refl
+target_there true false h = cc
+target_there false b h = cc
+
+is_nonzero : (o : ℕ) → (o == 0) ≡ false → o ≢ 0
+is_nonzero o h e = let l : true ≡ false = sym (ap (λ (k : ℕ). k == 0) e) ∙ h in cc
+
+is_given : (d : Option ResourceDef) (f : Format) (payload : List ℕ) (e : ResourceDef) (g : Given) → d ≡ Some e
+    → given_to_resource d f payload ≡ Some g → resource_given e f payload ≡ Some g
+is_given d f payload e g is h = sym (ap (λ (x : Option ResourceDef). given_to_resource x f payload) is) ∙ h
+
+pub multiple_back : MultipleIsReadBack
+multiple_back client server o i r d number payload defined_as several readable h =
+    let path = Resource o i r in
+    let p = resource_place o i r in
+    let no_line = unrefused client server Replace path number payload h in
+    let all = fails (refusals_of client server path (to_write Replace number payload)) no_line in
+    let c = comes client server Replace path number payload h in
+    let tlv = is_only_tlv client o i r d number c.format defined_as several c.served in
+    let g = resource_good client o i r payload c.format
+    (given_to_resource (definition_of client.catalogue o r) c.format payload) refl c.good in
+    let gives : resource_given d Tlv payload ≡ Some g.0 =
+    subst (λ (f : Format). resource_given d f payload ≡ Some g.0) tlv
+    (is_given (definition_of client.catalogue o r) c.format payload d g.0 defined_as g.1) in
+    let parts = nodes_give_parts d (nodes_of_bytes payload) g.0 several gives in
+    let are = ap (λ (x : Given). Some x) parts.1 in
+    let once : PartsOnce parts.0 = subst GivenOnce parts.1 (resource_once d Tlv payload g.0 gives) in
+    let stored = with_given Replace client.store p (Parts parts.0) in
+    let new : (write_outcome client server Replace path number payload).client ≡ with_stored client stored =
+    ap (λ (code : Option Code). (write_unless code client
+    (leaves client Replace path payload (format_at client.catalogue path number))).client) no_line
+    ∙ ap (λ (s : Stored). with_stored client s) (ap (leaves client Replace path payload) c.served
+    ∙ parts_leave client Replace o i r payload c.format d parts.0 (g.1 ∙ are) defined_as readable) in
+    let place : has_instance stored (place_of o i) ≡ true =
+    ap (λ m. finite.contains_key m (place_of o i)) (given_instances Replace (Parts parts.0) client.store p)
+    ∙ target_there (is_some (definition_of client.catalogue o r)) (has_instance client.store (place_of o i)) all.1.0 in
+    let back = multiple_read (with_stored client stored) o i r d (is_nonzero o all.0) defined_as several readable place
+    in
+    let held = replaced client.store p parts.0 once in
+    subst (ArePartsReadBack o i r d payload) (sym new) (record {
+      given = parts.0;
+      gives = gives ∙ are;
+      shown = back.0;
+      same = λ e.
+          let then_held = back.1.held e.0 e.1 in
+          (λ k. (held e.0 e.1).0 (then_held.1 k), λ k. then_held.0 ((held e.0 e.1).1 k));
+      read = back.1;
+    })

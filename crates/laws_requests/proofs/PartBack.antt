@@ -1,0 +1,198 @@
+-- A part that was written is read again.
+use Rattle.std.proofs.Common.{◌≡◌, ℕ, Bool, true, false, cond, not, ◌&&◌, ◌==◌, List, [], ◌∷◌, Option, None}
+use Rattle.std.proofs.Common.{Some, refl, sym, ap, subst, ◌∙◌}
+use Rattle.std.specs.Cmp.{eq_by_cmp_equiv}
+use Rattle.std.specs.Bool.{if◌then◌else◌}
+use Rattle.std.specs.Option.{is_some, option_and_then, option_map, unwrap_or}
+use Rattle.lwm2m_values.specs.Reading.{nodes_of_bytes, value_of_bytes, value_of_text}
+use Rattle.lwm2m_values.specs.Tree.{Trees, multi, part, none, more}
+use Rattle.lwm2m_values.specs.declared.kind.ValueKind.{ValueKind}
+use Rattle.lwm2m_values.specs.declared.value.Value.{Value}
+use Rattle.object_defs.specs.Catalogue.{definition_of}
+use Rattle.object_defs.specs.Lines.{first_line}
+use Rattle.object_defs.specs.Operations.{can_read}
+use Rattle.object_defs.specs.Path.{part_of}
+use Rattle.object_defs.specs.declared.definition.ResourceDef.{ResourceDef}
+use Rattle.object_defs.specs.declared.path.Path.TheVariants.{Part}
+use Rattle.object_defs.proofs.PathOrder.{path_total}
+use Rattle.instance_store.specs.Stored.{Stored, has_instance, value_at, with_value}
+use Rattle.lwm2m_payloads.specs.Given.{given_if, lone_part, one_part, part_given, part_record}
+use Rattle.lwm2m_payloads.specs.Nodes.{value_payload}
+use Rattle.lwm2m_payloads.specs.declared.format.Format.{Format}
+use Rattle.lwm2m_payloads.specs.declared.format.Format.TheVariants.{PlainText, OctetStream, Tlv}
+use Rattle.lwm2m_payloads.specs.declared.given.Given.{Given}
+use Rattle.lwm2m_payloads.specs.declared.given.Given.TheVariants.{Parts}
+use Rattle.lwm2m_payloads.specs.declared.given.Mode.{Mode}
+use Rattle.device_requests.specs.declared.answer.Code.{Code}
+use Rattle.device_requests.specs.declared.answer.Code.TheVariants.{Unauthorized, NotFound, MethodNotAllowed}
+use Rattle.device_requests.specs.declared.answer.Code.TheVariants.{NotAcceptable, InternalServerError}
+use Rattle.device_requests.specs.Access.{may_read}
+use Rattle.device_requests.specs.Answer.{bare, refused_or}
+use Rattle.device_requests.specs.Client.{Client, with_stored}
+use Rattle.device_requests.specs.Laws.{content_within}
+use Rattle.device_requests.specs.Outcomes.{read_answer, write_outcome}
+use Rattle.device_requests.specs.Read.{content_in, format_at, one_payload, payload_in, read_payload}
+use Rattle.device_requests.specs.Refusals.{is_oversized, refusals_of, to_write}
+use Rattle.device_requests.specs.Targets.{exists, is_multiple, is_readable, place_of, resource_place}
+use Rattle.device_requests.specs.Write.{given_to_part, values_given}
+use Rattle.device_requests.specs.Write.{write_unless}
+use Rattle.laws_requests.specs.Readings.{IsPartReadBack, PartIsRead}
+use Rattle.laws_requests.proofs.Asking.{fails}
+use Rattle.laws_requests.proofs.Executing.{behind}
+use Rattle.laws_requests.proofs.Writing.{comes, leaves, unrefused}
+
+-- one value is given to the part
+abbrev IsOnePart : ℕ → Given → Type 0
+IsOnePart n g = (v : Value) × (g ≡ Parts ((n, v) ∷ []))
+
+one_is : (n : ℕ) (value : Option Value) (g : Given) → one_part n value ≡ Some g → IsOnePart n g
+one_is n None g h = cc
+one_is n (Some v) g h = (v, cc)
+
+where_given : (b : Bool) (given : Option Given) (g : Given) → given_if b given ≡ Some g → given ≡ Some g
+where_given true given g h = h
+where_given false given g h = cc
+
+lone_is : (kind : ValueKind) (n : ℕ) (nodes : Trees) (g : Given) → lone_part kind n nodes ≡ Some g → IsOnePart n g
+lone_is kind n (more (part m bytes) none) g h =
+    one_is n (value_of_bytes kind bytes) g (where_given (m == n) (one_part n (value_of_bytes kind bytes)) g h)
+lone_is kind n nodes g h = cc
+
+record_is : (d : ResourceDef) (n : ℕ) (nodes : Trees) (g : Given) → part_record d n nodes ≡ Some g → IsOnePart n g
+record_is d n (more (multi r inner) none) g h =
+    lone_is d.kind n inner g (where_given (r == d.id) (lone_part d.kind n inner) g h)
+record_is d n nodes g h = lone_is d.kind n nodes g h
+
+nodes_are : (d : ResourceDef) (n : ℕ) (nodes : Option Trees) (g : Given)
+    → option_and_then (part_record d n) nodes ≡ Some g → IsOnePart n g
+nodes_are d n None g h = cc
+nodes_are d n (Some nodes) g h = record_is d n nodes g h
+
+pub gives_part : (d : ResourceDef) (n : ℕ) (format : Format) (payload : List ℕ) (g : Given)
+    → part_given d n format payload ≡ Some g → IsOnePart n g
+gives_part d n PlainText payload g h = one_is n (value_of_text d.kind payload) g h
+gives_part d n OctetStream payload g h = one_is n (value_of_bytes d.kind payload) g h
+gives_part d n Tlv payload g h = nodes_are d n (nodes_of_bytes payload) g h
+
+pub both_are : (a b : Bool) → not (a && b) ≡ false → (a ≡ true) × (b ≡ true)
+both_are true true h = (refl, refl)
+both_are true false h = cc
+both_are false b h = cc
+
+-- by the rule of a payload's length
+by_length : (long : Bool) (format wanted : Format) (payload : List ℕ) → Some format ≡ Some wanted
+    → refused_or (if long then Some InternalServerError else None) (content_in (Some format) payload)
+    ≡ (if long then bare InternalServerError else content_in (Some wanted) payload)
+by_length true format wanted payload l = refl
+by_length false format wanted payload l = ap (λ (w : Option Format). content_in w payload) l
+
+-- no rule of a Read holds but that of its payload's length
+pub shown : (a b s c : Bool) (format : Option Format) (wanted : Format) (payload : List ℕ) → a ≡ false → b ≡ false
+    → s ≡ false → c ≡ false → format ≡ Some wanted
+    → refused_or (first_line ((a, Unauthorized) ∷ (b, NotFound) ∷ (s, Unauthorized) ∷ (c, MethodNotAllowed)
+    ∷ (not (is_some format), NotAcceptable) ∷ (is_oversized payload, InternalServerError) ∷ []))
+    (content_in format payload) ≡ content_within wanted payload
+shown true b s c format wanted payload h j m k l = cc
+shown false true s c format wanted payload h j m k l = cc
+shown false false true c format wanted payload h j m k l = cc
+shown false false false true format wanted payload h j m k l = cc
+shown false false false false None wanted payload h j m k l = cc
+shown false false false false (Some format) wanted payload h j m k l =
+    by_length (is_oversized payload) format wanted payload l
+
+-- a part that can be read and has a value
+record HoldsPart (client : Client) (o i r n : ℕ) (d : ResourceDef) (value : Value) : Type 0 where
+  object : (o == 0) ≡ false
+  place : has_instance client.store (place_of o i) ≡ true
+  defined : definition_of client.catalogue o r ≡ Some d
+  several : d.multiple ≡ true
+  readable : can_read d.ops ≡ true
+  value_is : value_at client.store (part_of (resource_place o i r) n) ≡ Some value
+
+exists_by : (a b : Bool) (v : Option Value) (value : Value) → a ≡ true → b ≡ true → v ≡ Some value
+    → not (a && (b && is_some v)) ≡ false
+exists_by true true (Some w) value h k l = refl
+exists_by true true None value h k l = cc
+exists_by true false v value h k l = cc
+exists_by false b v value h k l = cc
+
+part_shown : (client : Client) (server o i r n : ℕ) (d : ResourceDef) (value : Value) (accept : Option ℕ)
+    (wanted : Format) → HoldsPart client o i r n d value
+    → may_read client server (Part o i r n) ≡ true → format_at client.catalogue (Part o i r n) accept ≡ Some wanted
+    → read_answer client server (Part o i r n) accept
+    ≡ content_within wanted (value_payload wanted (part n) value)
+part_shown client server o i r n d value accept wanted h m format =
+    let path = Part o i r n in
+    let multiple : is_multiple (definition_of client.catalogue o r) ≡ true = ap is_multiple h.defined ∙ h.several in
+    let readable : not (is_readable (definition_of client.catalogue o r)) ≡ false =
+    ap (λ (x : Option ResourceDef). not (is_readable x)) h.defined ∙ ap not h.readable in
+    let payload : read_payload client server path accept ≡ value_payload wanted (part n) value =
+    ap (λ (f : Option Format). unwrap_or (option_map (payload_in client server path) f) []) format
+    ∙ ap (one_payload wanted (part n)) h.value_is in
+    shown (o == 0) (not (exists client.catalogue client.store path)) (not (may_read client server path))
+    (not (is_readable (definition_of client.catalogue o r))) (format_at client.catalogue path accept) wanted
+    (read_payload client server path accept) h.object
+    (exists_by (has_instance client.store (place_of o i)) (is_multiple (definition_of client.catalogue o r))
+    (value_at client.store (part_of (resource_place o i r) n)) value h.place multiple h.value_is)
+    (ap not m) readable format
+    ∙ ap (content_within wanted) payload
+
+value_there : (s : Stored) (o i r n : ℕ) (v : Value)
+    → value_at (with_value s (part_of (resource_place o i r) n) v) (part_of (resource_place o i r) n) ≡ Some v
+value_there s o i r n v =
+    let p = part_of (resource_place o i r) n in
+    behind s p p v ∙ ap (λ (b : Bool). cond b (Some v) (value_at s p)) ((eq_by_cmp_equiv path_total).refl p)
+
+pub part_good : (client : Client) (o i r n : ℕ) (payload : List ℕ) (f : Format) (given : Option Given)
+    → given_to_part (definition_of client.catalogue o r) n f payload ≡ given
+    → not (is_some (values_given client.catalogue (Part o i r n) payload f)) ≡ false
+    → (g : Given) × (given ≡ Some g)
+part_good client o i r n payload f None h good = let l : true ≡ false = rw h at good in cc
+part_good client o i r n payload f (Some g) h good = (g, refl)
+
+part_leaves : (client : Client) (mode : Mode) (o i r n : ℕ) (payload : List ℕ) (f : Format) (d : ResourceDef)
+    (value : Value)
+    → given_to_part (definition_of client.catalogue o r) n f payload ≡ Some (Parts ((n, value) ∷ []))
+    → definition_of client.catalogue o r ≡ Some d → can_read d.ops ≡ true
+    → leaves client mode (Part o i r n) payload (Some f)
+    ≡ with_value client.store (part_of (resource_place o i r) n) value
+part_leaves client mode o i r n payload f d value h k l = rw (h, k, l) refl
+
+pub part_read : PartIsRead
+part_read client server mode o i r n d number payload defined readable h =
+    let path = Part o i r n in
+    let p = resource_place o i r in
+    let no_line = unrefused client server mode path number payload h in
+    let all = fails (refusals_of client server path (to_write mode number payload)) no_line in
+    let c = comes client server mode path number payload h in
+    let g = part_good client o i r n payload c.format
+    (given_to_part (definition_of client.catalogue o r) n c.format payload) refl c.good in
+    let gives : part_given d n c.format payload ≡ Some g.0 =
+    sym (ap (λ (e : Option ResourceDef). given_to_part e n c.format payload) defined) ∙ g.1 in
+    let v = gives_part d n c.format payload g.0 gives in
+    let one = ap (λ (x : Given). Some x) v.1 in
+    let target = both_are (is_multiple (definition_of client.catalogue o r)) (has_instance client.store (place_of o i))
+    all.1.0 in
+    let new : (write_outcome client server mode path number payload).client
+    ≡ with_stored client (with_value client.store (part_of p n) v.0) =
+    ap (λ (code : Option Code). (write_unless code client
+    (leaves client mode path payload (format_at client.catalogue path number))).client) no_line
+    ∙ ap (λ (s : Stored). with_stored client s) (ap (leaves client mode path payload) c.served
+    ∙ part_leaves client mode o i r n payload c.format d v.0 (g.1 ∙ one) defined readable) in
+    subst (λ (x : Client). IsPartReadBack client o i r n d number payload x) (sym new)
+    (record {
+      format = c.format;
+      served = c.served;
+      value = v.0;
+      given = gives ∙ one;
+      read = λ reader accept wanted m k.
+          part_shown (with_stored client (with_value client.store (part_of p n) v.0)) reader o i r n d v.0 accept wanted
+          (record {
+            object = all.0;
+            place = target.1;
+            defined = defined;
+            several = sym (ap is_multiple defined) ∙ target.0;
+            readable = readable;
+            value_is = value_there client.store o i r n v.0;
+          }) m k;
+    })

@@ -1,0 +1,227 @@
+-- Which paths exist.
+use Rattle.std.proofs.Common.{◌≡◌, ◌⊎◌, inl, inr, ℕ, ◌==◌, Bool, true, false, cond, not, ◌&&◌, ◌||◌, List, [], ◌∷◌}
+use Rattle.std.proofs.Common.{find, length, nat_lt, Option, None, Some, refl, sym, ap, subst, ◌∙◌, arith}
+use Rattle.std.specs.List as lists
+use Rattle.std.specs.Option.{is_some, option_and_then}
+use Rattle.std.specs.Set.{is_member}
+use Rattle.std.proofs.lemmas.Bool.Decides.{nat_tests}
+use Rattle.lwm2m_values.specs.declared.value.Value.{Value}
+use Rattle.object_defs.specs.Catalogue.{definition_of, object_of, resource_in}
+use Rattle.object_defs.specs.Operations.{can_read}
+use Rattle.object_defs.specs.Path.{part_of, single_of}
+use Rattle.object_defs.specs.declared.definition.ObjectDef.{ObjectDef}
+use Rattle.object_defs.specs.declared.definition.Ops.{Ops}
+use Rattle.object_defs.specs.declared.definition.Ops.TheVariants.{R, W, RW, E}
+use Rattle.object_defs.specs.declared.definition.ResourceDef.{ResourceDef}
+use Rattle.object_defs.specs.declared.path.Path.{Path}
+use Rattle.object_defs.specs.declared.path.Path.TheVariants.{Object, Instance, Resource, Part}
+use Rattle.object_defs.specs.declared.path.ResourcePath.{ResourcePath}
+use Rattle.instance_store.specs.Existence.{exists_as, is_held}
+use Rattle.instance_store.specs.Stored.{Stored, has_instance, parts_of, value_at}
+use Rattle.lwm2m_payloads.proofs.Held.{held_at}
+use Rattle.device_requests.specs.Laws.{IsAmong}
+use Rattle.device_requests.specs.Refusals.{is_target}
+use Rattle.device_requests.specs.Targets.{exists, is_multiple, place_of, resource_place}
+use Rattle.laws_requests.specs.Existing.{Exists, ExistsWithin, IsHeld, IsKnown, IsToWrite, WhatExists, WhatIsToWrite}
+use Rattle.laws_requests.specs.Existing.{a_part, a_resource, an_instance, an_object, around, by_part, by_value}
+use Rattle.laws_requests.specs.Existing.{write_instance, write_part, write_resource}
+use Rattle.laws_requests.proofs.Among.{and_true, both, found, number_same, same_number}
+
+there : {X : Type 0} (o : Option X) → is_some o ≡ true → (x : X) × (o ≡ Some x)
+there None h = cc
+there (Some x) h = (x, refl)
+
+finds : {X : Type 0} (p : X → Bool) (x : X) (xs : List X) → IsAmong x xs → p x ≡ true → is_some (lists.find p xs) ≡ true
+finds p x [] h k = absurd h
+finds p x (z ∷ xs) (inl is) k =
+    ap (λ (b : Bool). is_some (cond b (Some z) (lists.find p xs))) (ap p is ∙ k)
+finds p x (z ∷ xs) (inr h) k =
+    elim (p z) as (λ b. is_some (cond b (Some z) (lists.find p xs)) ≡ true) [ true ↦ refl | false ↦ finds p x xs h k ]
+
+-- ---- objects
+
+known : (catalogue : List ObjectDef) (o : ℕ) → is_some (object_of catalogue o) ≡ true → IsKnown catalogue o
+known catalogue o h =
+    let d = there (object_of catalogue o) h in
+    let f = found (λ (c : ObjectDef). c.id == o) d.0 catalogue d.1 in
+    (d.0, f.0, same_number d.0.id o f.1)
+
+has_object : (catalogue : List ObjectDef) (o : ℕ) → IsKnown catalogue o → is_some (object_of catalogue o) ≡ true
+has_object catalogue o k =
+    finds (λ (c : ObjectDef). c.id == o) k.0 catalogue k.1 (ap (λ (n : ℕ). n == o) k.2 ∙ number_same o)
+
+defined_object : (catalogue : List ObjectDef) (o r : ℕ) (d : ResourceDef) → definition_of catalogue o r ≡ Some d
+    → is_some (object_of catalogue o) ≡ true
+defined_object catalogue o r d h =
+    elim (object_of catalogue o) as (λ x. option_and_then (λ (c : ObjectDef). resource_in c.resources r) x ≡ Some d
+    → is_some x ≡ true) [ None ↦ λ k. cc | Some c ↦ λ k. refl ] h
+
+-- ---- what is held
+
+one_there : (n : ℕ) (ns : List ℕ) → nat_lt 0 (length (n ∷ ns)) ≡ true
+one_there n ns = grind (arith, nat_tests)
+
+none_there : nat_lt 0 (length {A = ℕ} []) ≡ true → ⊥
+none_there h = cc
+
+held_part : (stored : Stored) (p : ResourcePath) → nat_lt 0 (length (parts_of stored p)) ≡ true
+    → (n : ℕ) × (v : Value) × (value_at stored (part_of p n) ≡ Some v)
+held_part stored p h =
+    elim (parts_of stored p) as (λ ns. parts_of stored p ≡ ns → nat_lt 0 (length ns) ≡ true
+    → (n : ℕ) × (v : Value) × (value_at stored (part_of p n) ≡ Some v)) [
+      | [] ↦ λ is k. absurd (none_there k)
+      | n ∷ ns ↦ λ is k.
+          let first : is_member ◌==◌ (n ∷ ns) n ≡ true =
+          ap (λ (b : Bool). b || is_member ◌==◌ ns n) (number_same n) in
+          let v = there (value_at stored (part_of p n))
+          (sym (held_at stored p n) ∙ ap (λ (ms : List ℕ). is_member ◌==◌ ms n) is ∙ first) in
+          (n, v.0, v.1)
+    ] refl h
+
+part_held : (stored : Stored) (p : ResourcePath) (n : ℕ) (v : Value) → value_at stored (part_of p n) ≡ Some v
+    → nat_lt 0 (length (parts_of stored p)) ≡ true
+part_held stored p n v h =
+    elim (parts_of stored p) as (λ ns. parts_of stored p ≡ ns → nat_lt 0 (length ns) ≡ true) [
+      | [] ↦ λ is.
+          let l : false ≡ true =
+          sym (ap (λ (ms : List ℕ). is_member ◌==◌ ms n) is) ∙ (held_at stored p n ∙ ap is_some h) in cc
+      | m ∷ ns ↦ λ is. one_there m ns
+    ] refl
+
+held_by : (stored : Stored) (p : ResourcePath) (d : ResourceDef) (b : Bool) → d.multiple ≡ b
+    → is_held stored p b ≡ true → IsHeld stored p d
+held_by stored p d true many h = let k = held_part stored p h in by_part k.0 k.1 many k.2
+held_by stored p d false one h = let v = there (value_at stored (single_of p)) h in by_value v.0 one v.1
+
+by_held : (stored : Stored) (p : ResourcePath) (d : ResourceDef) → IsHeld stored p d
+    → is_held stored p d.multiple ≡ true
+by_held stored p d (by_value v one is) = ap (is_held stored p) one ∙ ap is_some is
+by_held stored p d (by_part n v many is) = ap (is_held stored p) many ∙ part_held stored p n v is
+
+abbrev CountsAs : Stored → ResourcePath → ResourceDef → Type 0
+CountsAs stored p d = (d.ops ≡ E) ⊎ ((d.ops ≡ W) ⊎ IsHeld stored p d)
+
+counts_by : (stored : Stored) (p : ResourcePath) (d : ResourceDef) (ops : Ops) → d.ops ≡ ops
+    → (not (can_read ops) || is_held stored p d.multiple) ≡ true → CountsAs stored p d
+counts_by stored p d R is h = inr (inr (held_by stored p d d.multiple refl h))
+counts_by stored p d RW is h = inr (inr (held_by stored p d d.multiple refl h))
+counts_by stored p d W is h = inr (inl is)
+counts_by stored p d E is h = inl is
+
+or_right : (a b : Bool) → b ≡ true → (a || b) ≡ true
+or_right true b h = refl
+or_right false b h = h
+
+by_count : (stored : Stored) (p : ResourcePath) (d : ResourceDef) → CountsAs stored p d
+    → (not (can_read d.ops) || is_held stored p d.multiple) ≡ true
+by_count stored p d (inl is) = ap (λ (ops : Ops). not (can_read ops) || is_held stored p d.multiple) is
+by_count stored p d (inr (inl is)) = ap (λ (ops : Ops). not (can_read ops) || is_held stored p d.multiple) is
+by_count stored p d (inr (inr held)) =
+    or_right (not (can_read d.ops)) (is_held stored p d.multiple) (by_held stored p d held)
+
+-- ---- what exists
+
+resource_there : (stored : Stored) (p : ResourcePath) (definition : Option ResourceDef)
+    → exists_as stored p definition ≡ true → (d : ResourceDef) × (definition ≡ Some d) × CountsAs stored p d
+resource_there stored p None h = cc
+resource_there stored p (Some d) h = (d, refl, counts_by stored p d d.ops refl h)
+
+multiple_there : (definition : Option ResourceDef) → is_multiple definition ≡ true
+    → (d : ResourceDef) × (definition ≡ Some d) × (d.multiple ≡ true)
+multiple_there None h = cc
+multiple_there (Some d) h = (d, refl, h)
+
+exists_so : (catalogue : List ObjectDef) (stored : Stored) (path : Path) → exists catalogue stored path ≡ true
+    → Exists catalogue stored path
+exists_so catalogue stored (Object o) h = an_object o (known catalogue o h)
+exists_so catalogue stored (Instance o i) h =
+    let k = both (is_some (object_of catalogue o)) (has_instance stored (place_of o i)) h in
+    an_instance o i (known catalogue o k.0) k.1
+exists_so catalogue stored (Resource o i r) h =
+    let p = resource_place o i r in
+    let k = both (has_instance stored (place_of o i)) (exists_as stored p (definition_of catalogue o r)) h in
+    let d = resource_there stored p (definition_of catalogue o r) k.1 in
+    a_resource o i r d.0 k.0 d.1 d.2
+exists_so catalogue stored (Part o i r n) h =
+    let q = part_of (resource_place o i r) n in
+    let k = both (has_instance stored (place_of o i))
+    (is_multiple (definition_of catalogue o r) && is_some (value_at stored q)) h in
+    let m = both (is_multiple (definition_of catalogue o r)) (is_some (value_at stored q)) k.1 in
+    let d = multiple_there (definition_of catalogue o r) m.0 in
+    let v = there (value_at stored q) m.1 in
+    a_part o i r n d.0 v.0 k.0 d.1 d.2 v.1
+
+so_exists : (catalogue : List ObjectDef) (stored : Stored) (path : Path) → Exists catalogue stored path
+    → exists catalogue stored path ≡ true
+so_exists catalogue stored path (an_object o k) = has_object catalogue o k
+so_exists catalogue stored path (an_instance o i k h) =
+    and_true (is_some (object_of catalogue o)) (has_instance stored (place_of o i)) (has_object catalogue o k) h
+so_exists catalogue stored path (a_resource o i r d h is counts) =
+    let p = resource_place o i r in
+    and_true (has_instance stored (place_of o i)) (exists_as stored p (definition_of catalogue o r)) h
+    (ap (exists_as stored p) is ∙ by_count stored p d counts)
+so_exists catalogue stored path (a_part o i r n d v h is many held) =
+    let q = part_of (resource_place o i r) n in
+    and_true (has_instance stored (place_of o i))
+    (is_multiple (definition_of catalogue o r) && is_some (value_at stored q)) h
+    (and_true (is_multiple (definition_of catalogue o r)) (is_some (value_at stored q)) (ap is_multiple is ∙ many)
+    (ap is_some held))
+
+pub what_exists : WhatExists
+what_exists catalogue stored path = (exists_so catalogue stored path, so_exists catalogue stored path)
+
+-- ---- what a Write may go to
+
+write_so : (catalogue : List ObjectDef) (stored : Stored) (path : Path) → is_target catalogue stored path ≡ true
+    → IsToWrite catalogue stored path
+write_so catalogue stored (Object o) h = cc
+write_so catalogue stored (Instance o i) h =
+    let k = both (is_some (object_of catalogue o)) (has_instance stored (place_of o i)) h in
+    write_instance o i (known catalogue o k.0) k.1
+write_so catalogue stored (Resource o i r) h =
+    let k = both (is_some (definition_of catalogue o r)) (has_instance stored (place_of o i)) h in
+    let d = there (definition_of catalogue o r) k.0 in
+    write_resource o i r d.0 k.1 d.1
+write_so catalogue stored (Part o i r n) h =
+    let k = both (is_multiple (definition_of catalogue o r)) (has_instance stored (place_of o i)) h in
+    let d = multiple_there (definition_of catalogue o r) k.0 in
+    write_part o i r n d.0 k.1 d.1 d.2
+
+so_write : (catalogue : List ObjectDef) (stored : Stored) (path : Path) → IsToWrite catalogue stored path
+    → is_target catalogue stored path ≡ true
+so_write catalogue stored path (write_instance o i k h) =
+    and_true (is_some (object_of catalogue o)) (has_instance stored (place_of o i)) (has_object catalogue o k) h
+so_write catalogue stored path (write_resource o i r d h is) =
+    and_true (is_some (definition_of catalogue o r)) (has_instance stored (place_of o i)) (ap is_some is) h
+so_write catalogue stored path (write_part o i r n d h is many) =
+    and_true (is_multiple (definition_of catalogue o r)) (has_instance stored (place_of o i))
+    (ap is_multiple is ∙ many) h
+
+not_false : (b : Bool) → not b ≡ false → b ≡ true
+not_false true h = refl
+not_false false h = cc
+
+pub what_is_to_write : WhatIsToWrite
+what_is_to_write client path mode format payload = (
+  λ h. write_so client.catalogue client.store path (not_false (is_target client.catalogue client.store path) h),
+  λ h. ap not (so_write client.catalogue client.store path h),
+)
+
+-- ---- what exists lies in what exists
+
+outer_there : (catalogue : List ObjectDef) (stored : Stored) (path outer : Path) → Exists catalogue stored path
+    → around path ≡ Some outer → Exists catalogue stored outer
+outer_there catalogue stored path outer (an_object o k) is = cc
+outer_there catalogue stored path outer (an_instance o i k h) is =
+    let same : Object o ≡ outer = cc in subst (Exists catalogue stored) same (an_object o k)
+outer_there catalogue stored path outer (a_resource o i r d h defined_as counts) is =
+    let same : Instance o i ≡ outer = cc in
+    subst (Exists catalogue stored) same
+    (an_instance o i (known catalogue o (defined_object catalogue o r d defined_as)) h)
+outer_there catalogue stored path outer (a_part o i r n d v h defined_as many held) is =
+    let same : Resource o i r ≡ outer = cc in
+    subst (Exists catalogue stored) same (a_resource o i r d h defined_as (inr (inr (by_part n v many held))))
+
+pub exists_within : ExistsWithin
+exists_within catalogue stored path outer h is =
+    so_exists catalogue stored outer (outer_there catalogue stored path outer (exists_so catalogue stored path h) is)

@@ -1,0 +1,89 @@
+-- What the firmware refuses for its State.
+use Rattle.std.proofs.Common.{◌≡◌, Bool, true, false, not, ◌==◌, [], ◌∷◌, Option, None, Some, inl, inr, sym}
+use Rattle.std.proofs.Common.{ap, ◌∙◌}
+use Rattle.std.specs.Option.{is_some}
+use Rattle.std.proofs.lemmas.Bool.{ne_eqb}
+use Rattle.coap_codec.specs.Message.{Message}
+use Rattle.object_defs.specs.Lines.{first_line}
+use Rattle.object_defs.specs.Path.{object_in}
+use Rattle.object_defs.specs.declared.path.Path.{Path}
+use Rattle.device_firmware.specs.Firmware.{firmware_after}
+use Rattle.device_firmware.specs.declared.event.FirmwareEvent.{FirmwareEvent}
+use Rattle.device_requests.specs.declared.answer.Code.{Code}
+use Rattle.device_requests.specs.declared.answer.Code.TheVariants.{BadRequest, InternalServerError, MethodNotAllowed}
+use Rattle.device_requests.specs.declared.answer.Code.TheVariants.{NotFound, Unauthorized}
+use Rattle.device_requests.specs.declared.operation.Operation.{Operation}
+use Rattle.device_requests.specs.Client.{Client}
+use Rattle.device_requests.specs.Laws.{IsAmong}
+use Rattle.device_requests.specs.Order.{OneTable}
+use Rattle.device_requests.specs.Refusals.{done_code, format_refusal, is_invalid, is_out_of_turn, is_refused_now}
+use Rattle.device_requests.specs.Refusals.{is_too_much, is_untimely, lacks_format, lacks_operation, lacks_right}
+use Rattle.device_requests.specs.Refusals.{lacks_target}
+use Rattle.device_requests.specs.Request.{outcome_of, purpose_of}
+use Rattle.laws_requests.specs.Untimely.{IsUntimely, StatesDecide, StatesPrecedeLimits}
+use Rattle.laws_requests.specs.Untimely.IsUntimely.{asks_for_update, replaces, updates_partially}
+use Rattle.laws_requests.proofs.Asking.{told}
+
+not_taken : (client : Client) (event : FirmwareEvent) (o : Option FirmwareEvent) → o ≡ Some event
+    → firmware_after client.store event ≡ None → is_refused_now client.store o ≡ true
+not_taken client event o is none = ap (is_refused_now client.store) is ∙ ap (λ after. not (is_some after)) none
+
+out_of_turn : (client : Client) (m : Message) (path : Path) (operation : Operation)
+    → IsUntimely client m path operation → is_out_of_turn client path (purpose_of m operation) ≡ true
+out_of_turn client m path operation (replaces event is none) = not_taken client event _ is none
+out_of_turn client m path operation (updates_partially event is none) = not_taken client event _ is none
+out_of_turn client m path operation (asks_for_update i is none) =
+    ap (is_untimely client.store) is ∙ ap (λ after. not (is_some after)) none
+
+-- the rule of the firmware holds: what the code may be
+turned : (a b c d e f g h : Bool) (format done code : Code) → g ≡ true
+    → first_line ((a, Unauthorized) ∷ (b, NotFound) ∷ (c, Unauthorized) ∷ (d, MethodNotAllowed) ∷ (e, format)
+    ∷ (f, BadRequest) ∷ (g, MethodNotAllowed) ∷ (h, InternalServerError) ∷ (true, done) ∷ []) ≡ Some code
+    → IsAmong code (Unauthorized ∷ NotFound ∷ MethodNotAllowed ∷ format ∷ BadRequest ∷ [])
+turned true b c d e f g h format done code late is = inl (told Unauthorized code is)
+turned false true c d e f g h format done code late is = inr (inl (told NotFound code is))
+turned false false true d e f g h format done code late is = inl (told Unauthorized code is)
+turned false false false true e f g h format done code late is = inr (inr (inl (told MethodNotAllowed code is)))
+turned false false false false true f g h format done code late is = inr (inr (inr (inl (told format code is))))
+turned false false false false false true g h format done code late is =
+    inr (inr (inr (inr (inl (told BadRequest code is)))))
+turned false false false false false false true h format done code late is =
+    inr (inr (inl (told MethodNotAllowed code is)))
+turned false false false false false false false h format done code late is = cc late
+
+-- and where no rule before it does
+decided : (a b c d e f g h : Bool) (format done code : Code) → a ≡ false → b ≡ false → c ≡ false → d ≡ false
+    → e ≡ false → f ≡ false → g ≡ true
+    → first_line ((a, Unauthorized) ∷ (b, NotFound) ∷ (c, Unauthorized) ∷ (d, MethodNotAllowed) ∷ (e, format)
+    ∷ (f, BadRequest) ∷ (g, MethodNotAllowed) ∷ (h, InternalServerError) ∷ (true, done) ∷ []) ≡ Some code
+    → code ≡ MethodNotAllowed
+decided true b c d e f g h format done code p q r s t u late is = cc p
+decided false true c d e f g h format done code p q r s t u late is = cc q
+decided false false true d e f g h format done code p q r s t u late is = cc r
+decided false false false true e f g h format done code p q r s t u late is = cc s
+decided false false false false true f g h format done code p q r s t u late is = cc t
+decided false false false false false true g h format done code p q r s t u late is = cc u
+decided false false false false false false false h format done code p q r s t u late is = cc late
+decided false false false false false false true h format done code p q r s t u late is =
+    sym (told MethodNotAllowed code is)
+
+pub states_precede : OneTable → StatesPrecedeLimits
+states_precede table client server m path operation asks untimely =
+    let purpose = purpose_of m operation in
+    turned (object_in path == 0) (lacks_target client path purpose) (lacks_right client server path purpose)
+    (lacks_operation client.catalogue path purpose) (lacks_format client.catalogue path purpose)
+    (is_invalid client server path purpose) (is_out_of_turn client path purpose)
+    (is_too_much client server path purpose) (format_refusal purpose) (done_code purpose)
+    (outcome_of client server m).answer.code (out_of_turn client m path operation untimely)
+    (table client server m path operation asks)
+
+pub states_decide : OneTable → StatesDecide
+states_decide table client server m path operation asks untimely reaches =
+    let purpose = purpose_of m operation in
+    decided (object_in path == 0) (lacks_target client path purpose) (lacks_right client server path purpose)
+    (lacks_operation client.catalogue path purpose) (lacks_format client.catalogue path purpose)
+    (is_invalid client server path purpose) (is_out_of_turn client path purpose)
+    (is_too_much client server path purpose) (format_refusal purpose) (done_code purpose)
+    (outcome_of client server m).answer.code (ne_eqb (object_in path) 0 reaches.object) reaches.target reaches.right
+    reaches.served reaches.format reaches.payload (out_of_turn client m path operation untimely)
+    (table client server m path operation asks)

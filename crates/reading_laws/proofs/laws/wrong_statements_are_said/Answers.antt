@@ -1,5 +1,0 @@
-use Rattle.reading_laws.proofs.WrongStatements.{wrong_statements_said}
-use Rattle.reading_laws.proofs.laws.wrong_statements_are_said.Goals as goal
-
-pub returns : goal.returns
-returns c = wrong_statements_said

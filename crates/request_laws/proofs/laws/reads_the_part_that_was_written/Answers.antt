@@ -1,5 +1,0 @@
-use Rattle.request_laws.proofs.PartBack.{part_read}
-use Rattle.request_laws.proofs.laws.reads_the_part_that_was_written.Goals as goal
-
-pub returns : goal.returns
-returns c = part_read

@@ -1,5 +1,0 @@
-use Rattle.request_laws.proofs.Doing.{done_is_changed}
-use Rattle.request_laws.proofs.laws.requests_change_what_they_ask.Goals as goal
-
-pub returns : goal.returns
-returns c = done_is_changed

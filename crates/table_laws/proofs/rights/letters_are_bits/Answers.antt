@@ -1,5 +1,0 @@
-use Rattle.table_laws.proofs.Bits.{letters_bits}
-use Rattle.table_laws.proofs.rights.letters_are_bits.Goals as goal
-
-pub returns-clause-bits : goal.returns-clause-bits
-returns-clause-bits c = letters_bits

@@ -1,8 +1,0 @@
-use Rattle.table_laws.proofs.Triggering.{by_saying, by_age}
-use Rattle.table_laws.proofs.triggers.triggers_are_said.Goals as goal
-
-pub returns-clause-trigger : goal.returns-clause-trigger
-returns-clause-trigger c = by_saying
-
-pub returns-clause-periods : goal.returns-clause-periods
-returns-clause-periods c = by_age
