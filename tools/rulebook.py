@@ -27,7 +27,7 @@ MARK = re.compile(r" ?\[([a-z0-9]+(?:-[a-z0-9]+)+(?: [a-z0-9]+(?:-[a-z0-9]+)+)*)
 USES = {"lock": "crates/ticket_lock_uses/stdout", "workers": "crates/fleet_workers_uses/stdout"}
 
 NAMES = {"id", "sentence", "standard", "page", "definition", "code"}
-MORE = {"shown_by", "no_case", "no_wrong_body"}
+MORE = {"shown_by", "not_shown", "no_case", "no_wrong_body"}
 
 
 class Rule:
@@ -36,7 +36,7 @@ class Rule:
     def __init__(self, file, line):
         self.file, self.line = file, line
         self.id = self.sentence = self.standard = self.page = self.definition = self.code = ""
-        self.shown_by, self.no_case, self.no_wrong_body = [], "", ""
+        self.shown_by, self.not_shown, self.no_case, self.no_wrong_body = [], "", "", ""
         self.cases, self.wrong_bodies = [], []
 
     def heading(self):
@@ -151,11 +151,12 @@ def marks(sheet, file):
             while first and lines[first - 1].startswith("# ") and not MARK.search(lines[first - 1]):
                 first -= 1
             text = " ".join(MARK.sub("", it).lstrip("# ") for it in lines[first : number + 1]).strip()
-            if sheet == "memory":
-                case = next((it for it in lines[number + 1 :] if it.startswith("case ")), "")
-                text = f"{text} ({case})" if text else case
-            elif title and sheet == "device":
-                text = f"{title}: {text}"
+            below = next((it for it in lines[number + 1 :] if it and not it.startswith("#")), "")
+            if sheet == "device" and title:
+                text = f"{title}: {text or below}"
+            elif sheet == "memory" and text:
+                text = f"{text} ({below})"
+            text = text or below
         yield Place(sheet, file, number + 1, text), found.group(1).split()
 
 
