@@ -32,6 +32,7 @@ impl<T: Logged + Drop> Held<'_, T> {
     ghost use Rattle.ticket_lock.specs.Names.{held_id, held_view, held_value, found, pass_view, IsPass, lowest_work};
     ghost use Rattle.ticket_lock.specs.Lending.{LendsValue};
 
+    /// The value as it is: as found, or as written since.
     pub fn value(&self) -> &T
         ensures { result.now ≡ held_value self.now }
     {

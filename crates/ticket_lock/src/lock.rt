@@ -81,8 +81,8 @@ impl<T: Logged + Drop> TicketLock<T> {
         Ok((TicketLock { table }, pass))
     }
 
-    // Waits while a ticket is out and another is left. Whoever has a ticket keeps all later ones waiting, even while its
-    // thread has no processor; whoever has none keeps nobody waiting. Nothing is known of what it sees.
+    // Waits while a ticket is out and another is left. Whoever has a ticket keeps all later ones waiting, even while
+    // its thread has no processor; whoever has none keeps nobody waiting. Nothing is known of what it sees.
     fn stay_outside<R: Wait>(&self, rt: &R) {
         let shared = &self.table.shared;
         let asleep = AtomicU64::new(0);
@@ -103,8 +103,8 @@ impl<T: Logged + Drop> TicketLock<T> {
         unreachable!()
     }
 
-    // Draws a ticket that is due at once, or finds that none is left, for which it does not wait. Nothing is known of the
-    // former.
+    // Draws a ticket, or finds that none is left, for which it does not wait. It draws one that is due, but no clause
+    // promises that it is due when this returns.
     fn draw<R: Wait>(&self, rt: &R, seat: &mut SeatOf<T>) -> Option<u64>
         requires { (seat.old.table_id ≡ lock_id self.now) × (is_resting seat.old.me.0.stage ≡ true) }
         ensures seat { (seat.new.table_id ≡ seat.old.table_id) × (seat.new.id ≡ seat.old.id) }
