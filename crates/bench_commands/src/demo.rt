@@ -71,7 +71,7 @@ fn add_values(alloc: Global, template: &mut Template, rows: &[(Path, Held)]) -> 
     Ok(())
 }
 
-/// The template of the DEMO device.
+/// The class of the demonstration device, or out of memory: it refuses none of its parts.
 pub fn template(alloc: Global) -> Result<Template, Fault>
     ensures made { IfOk result (λ t. t ≡ demo_class) }
     ensures refused { IfErr result (λ f. f ≡ Fault.Memory) }
@@ -83,7 +83,7 @@ pub fn template(alloc: Global) -> Result<Template, Fault>
     Ok(template)
 }
 
-/// What the DEMO device, just started, outputs where its server sends these bytes.
+/// What the demonstration device, just started, outputs if its server sends these bytes, or out of memory.
 pub fn answer(alloc: Global, bytes: Bytes) -> Result<Outputs, Fault>
     ensures put_out { IfOk result (λ outputs. outputs ≡ demo_outputs bytes) }
     ensures refused { IfErr result (λ f. f ≡ Fault.Memory) }

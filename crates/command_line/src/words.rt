@@ -119,7 +119,9 @@ pub enum Asked<'a> {
     },
 }
 
-/// Reads the words, of which the first is the program's name.
+/// What the words ask for, of which the first is the program's name: a job, or a text on how to use the program if
+/// `clap` has an error for them. Which errors there are is said in the terms of `clap`, which reads the words; what its
+/// texts say is not proved.
 pub fn read<'a>(alloc: Global, words: &'a [String]) -> Result<Asked<'a>, AllocError>
     ensures { IfOk result (IsReadAs (map string_bytes words.now)) }
 {

@@ -135,7 +135,7 @@ impl Client {
         self.accounts.len()
     }
 
-    /// Puts a value at a full path, past the rights of servers.
+    /// Puts a value at a full path, past the rights of servers. Only a path without a value takes memory.
     pub fn put(&mut self, path: FullPath, value: Value) -> Result<(), StoreFault>
         ensures ok { OnOk result (self.new ≡ with_stored self.old (with_value_at self.old.store (Some path) value)) }
         ensures absent { IsErrOf result StoreFault.Absent ↔ IsFalse (has_instance self.old.store (instance_at path)) }
@@ -148,8 +148,9 @@ impl Client {
         device_template::put(&mut self.store, path, value)
     }
 
-    /// Ends a download or an update of the firmware with this code, past the rights of servers. Answers whether
-    /// there is one that it ends.
+    /// Ends a download or an update of the firmware with this code, past the rights of servers, and returns whether
+    /// there is one that it ends. An allocation can fail only for one that it ends, and only if State and Update Result
+    /// are not both held; then nothing has changed.
     pub fn end_firmware(&mut self, code: u8) -> Result<bool, AllocError>
         ensures ended { IfOk result (λ b. b ≡ is_some (firmware_after self.old.store (Ended code))) }
         ensures change { OnOk result (self.new ≡ with_stored self.old

@@ -83,8 +83,8 @@ fn serial_entries(alloc: Global, scenario: &Scenario) -> Result<Entries, AllocEr
     Ok(fleet.into_entries())
 }
 
-/// The serial run of a scenario: always the lowest device that can go, under worker 0. Whatever is answered, all
-/// complete runs of the scenario are the same, device by device.
+/// The serial run of a scenario: always the entry of the lowest device that can step, under worker 0. All complete runs
+/// of the scenario are the same, device by device (`same`).
 pub fn run_serial(alloc: Global, scenario: &Scenario) -> Result<Entries, AllocError>
     ensures serial { IfOk result (λ es. IsSerial scenario.now es) }
     ensures same { (a : List Entry) (b : List Entry) → IsComplete scenario.now a → IsComplete scenario.now b → (d : ℕ)

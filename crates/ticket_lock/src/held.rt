@@ -49,7 +49,7 @@ impl<T: Logged + Drop> Held<'_, T> {
     }
 
     /// Gives the value back, with more entries of the pass's lowest number and that number's open work changed, and
-    /// nothing else.
+    /// nothing else. The pass comes back with the same numbers, and the value's log as its front.
     pub fn give(self) -> Pass<T>
         requires { Adds T.log (held_view self).low (found self) (held_value self) }
         ensures own { IsPass (held_id self.entry) result }

@@ -47,8 +47,8 @@ impl<T: Logged + Drop> TicketLock<T> {
     ghost use Rattle.ticket_lock.specs.Names.{lock_id, opening_value, opening_ticket, pass_view, IsPass, held_id};
     ghost use Rattle.ticket_lock.specs.Names.{held_view, held_value, lowest_work};
 
-    /// A lock on the value, and the first pass, which holds the worker numbers from 1 to `NUMBERS`. The first ticket
-    /// is 0.
+    /// A lock on the value, and the first pass, which holds the worker numbers from 1 to `NUMBERS`. The first ticket is
+    /// 0. The lock alone takes memory, here and in `with_first`.
     pub fn new(value: T, alloc: Global) -> Result<(TicketLock<T>, Pass<T>), AllocError>
         ensures pass { IfOk result (λ r. IsPass (lock_id r.0) r.1 × (pass_view r.1 ≡ whole T.log value 0)) }
         ensures lock { IfOk result (λ r. (opening_value r.0 ≡ value) × (opening_ticket r.0 ≡ 0)) }
@@ -163,8 +163,10 @@ impl<T: Logged + Drop> TicketLock<T> {
         self.table.shared.exchange(seat, 0, new)
     }
 
-    /// Draws a ticket, waits until it is due, and takes the value. The pass comes back at once if no ticket up to
-    /// 2^63 - 2 is left.
+    /// Draws a ticket, waits until it is due, and takes the value: one that begins with the pass's front, has its
+    /// subject, and under each of its numbers its own entries and open work and no others. The pass comes back with
+    /// `Spent` only if it has seen that no ticket is left. A pass that has all numbers from the make on knows the next
+    /// ticket: it gets the value if that is below the end (`left`), and `Spent` if it is the end (`none_left`).
     pub fn take<R: Wait>(&self, rt: &R, pass: Pass<T>) -> Result<Held<'_, T>, (Pass<T>, Spent)>
         requires { IsPass (lock_id self.now) pass }
         ensures lock { IfOk result (λ h. held_id h ≡ lock_id self.now) }
@@ -201,7 +203,8 @@ impl<T: Logged + Drop> TicketLock<T> {
         })
     }
 
-    /// The value, once a pass has all numbers again. Both come back where the pass lacks one.
+    /// The value, exactly if the pass has all numbers: its log is the pass's front, its subject the opening value's.
+    /// Otherwise both come back unchanged.
     pub fn close(self, pass: Pass<T>) -> Result<T, (TicketLock<T>, Pass<T>, PassesOut)>
         requires { IsPass (lock_id self) pass }
         ensures entries { IfOk result (λ x. T.log.entries x ≡ (pass_view pass).front) }
