@@ -29,7 +29,9 @@ use trace_text::Selection;
 /// the contract of its trait; at most 64 MiB of `input` are taken, whatever the end. One of these comes of it (`Ends`):
 ///
 /// - The words are answered: exactly the files of the answer are made, each once, and exactly its text is printed on
-///   `output`; nothing is read, and `errors` gets nothing (`IsDone` says what each command is answered with).
+///   `output`; nothing is read, and `errors` gets nothing. `IsDone` says what each command is answered with: for `run`,
+///   that as many workers as were asked for made a run in batches of at most as many steps, both from 1 to 64, and its
+///   trace file, if that was asked for.
 /// - `debug` over a run: the lines of `input` are answered in turn until one asks for the end or the input ends.
 ///   Exactly these answers go to `output`, and exactly the notes on these lines to `errors`; no file is made, and the
 ///   status is 0.
