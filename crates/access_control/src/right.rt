@@ -56,7 +56,7 @@ fn entry_of(store: &Store, instance: u16, server: u16) -> Option<i64>
     integer_at(store, acl.part(server))
 }
 
-/// Whether an instance of Access Control speaks of this object and instance.
+/// Whether an instance of Access Control refers to this object and instance.
 fn speaks_of(store: &Store, control: u16, object: u16, instance: u16) -> bool
     ensures { result ≡ speaks_of store.now control object instance }
 {

@@ -10,7 +10,7 @@ use object_defs::Path;
 use octets::Bytes;
 use std::alloc::{AllocError, Global};
 
-/// The Short Server ID of the one account of the DEMO device.
+/// The Short Server ID of the one account of the demonstration device.
 pub const SERVER: u16 = 1;
 
 /// A value as it stands in the table.
@@ -21,10 +21,10 @@ enum Held {
     Text(&'static str),
 }
 
-/// The instances of the DEMO device: object, then instance.
+/// The instances of the demonstration device: object, then instance.
 const INSTANCES: [(u16, u16); 3] = [(1, 0), (3, 0), (5, 0)];
 
-/// The values of the DEMO device.
+/// The values of the demonstration device.
 const VALUES: [(Path, Held); 11] = [
     (Path::Resource(1, 0, 0), Held::Whole(1)),
     (Path::Resource(1, 0, 1), Held::Whole(300)),

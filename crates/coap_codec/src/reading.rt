@@ -185,7 +185,7 @@ pub fn decode_in(alloc: Global, spare: Vec<Opt>, bytes: &[u8]) -> Result<Message
     read(alloc, spare, bytes)
 }
 
-/// The same; that there is no other reading is `decode_in`'s to say.
+/// Like `decode_in`, without the clauses that there is no other reading.
 fn read(alloc: Global, spare: Vec<Opt>, bytes: &[u8]) -> Result<Message, CoapFault>
     ensures found { IfOk result (λ m. Spells bytes.now m) }
     ensures fault { IfErr result (λ f. f ≢ CoapFault.Memory → HasFault bytes.now f) }

@@ -20,7 +20,7 @@ pub const NO_TEXT: &str =
 /// What the words ask the program to do. It borrows them.
 #[derive(Clone, Copy)]
 pub enum Job<'a> {
-    /// The DEMO device takes one datagram.
+    /// The demonstration device takes one datagram.
     One {
         /// The bytes of the datagram, in hex.
         hex: &'a str,

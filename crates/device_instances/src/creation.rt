@@ -105,7 +105,7 @@ fn clear(store: &mut Store, path: ResourcePath)
     }
 }
 
-/// Adds an instance of Access Control that speaks of a place and belongs to a server.
+/// Adds an instance of Access Control that refers to a place and has a server as owner.
 #[tactic(auto, using(crate::proofs::Instances::added))]
 fn add_control(
     store: &mut Store,

@@ -1,4 +1,4 @@
-//! What of a device the requests of device management look at and change.
+//! The part of a device that management requests read and modify.
 
 ghost use Rattle.std.specs.Prelude.{◌≡◌, ◌≢◌, ◌↔◌, false, true, length, Err, IfOk, IsErrOf, IsFalse, IsTrue, OnOk};
 ghost use Rattle.std.specs.Prelude.{OnErr};
@@ -19,8 +19,8 @@ use object_defs::{Catalog, FullPath, Path};
 use std::alloc::{AllocError, Global};
 use std::marker::Model;
 
-/// What of a device the requests of device management look at and change: the servers' accounts, the
-/// objects' definitions, instances and values, the attributes that servers set, and how the device notifies.
+/// The part of a device that management requests read and modify: the servers' accounts, the objects' definitions,
+/// instances and values, the attributes that servers set, and how the device notifies.
 #[derive(Drop)]
 pub struct Client {
     pub(crate) accounts: Vec<u16>,
