@@ -247,7 +247,7 @@ impl Template {
     }
 
     /// The kind of the values that may be added at the path; `None` where none may. A value of this kind within its
-    /// limits is not refused as `Range`.
+    /// limits is not refused.
     pub fn kind_taken(&self, path: FullPath) -> Option<ValueKind>
         ensures kind { result ≡ kind_taken self.now path }
 

@@ -48,7 +48,7 @@ impl<T: Logged + Drop> TicketLock<T> {
     ghost use Rattle.ticket_lock.specs.Names.{held_view, held_value, lowest_work};
 
     /// A lock on the value, and the first pass, which holds the worker numbers from 1 to `NUMBERS`. The first ticket is
-    /// 0. The lock alone takes memory, here and in `with_first`.
+    /// 0. Of all calls `new` and `with_first` alone take memory.
     pub fn new(value: T, alloc: Global) -> Result<(TicketLock<T>, Pass<T>), AllocError>
         ensures pass { IfOk result (λ r. IsPass (lock_id r.0) r.1 × (pass_view r.1 ≡ whole T.log value 0)) }
         ensures lock { IfOk result (λ r. (opening_value r.0 ≡ value) × (opening_ticket r.0 ≡ 0)) }
