@@ -58,7 +58,7 @@ pub enum LayoutFault {
     #[error("limit at {0}")]
     Limit(usize),
     /// No memory was left.
-    #[error("memory")]
+    #[error("out of memory")]
     Memory,
 }
 

@@ -5,7 +5,7 @@ use thiserror::Error;
 #[derive(Clone, Copy, Debug, PartialEq, Eq, Error)]
 pub enum StepFault {
     /// No memory was left; the device is spent.
-    #[error("memory")]
+    #[error("out of memory")]
     Memory,
     /// The device is spent, or the tick would take its clock past 2^63 - 1; nothing changed.
     #[error("spent")]

@@ -19,7 +19,7 @@ pub enum TemplateFault {
     #[error("full")]
     Full,
     /// No memory was left.
-    #[error("memory")]
+    #[error("out of memory")]
     Memory,
 }
 

@@ -8,7 +8,7 @@ pub enum CommitFault {
     #[error("not enabled")]
     NotEnabled,
     /// No memory was left; the fleet is spent.
-    #[error("memory")]
+    #[error("out of memory")]
     Memory,
     /// The fleet is spent; nothing changed.
     #[error("spent")]

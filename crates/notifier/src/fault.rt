@@ -10,7 +10,7 @@ pub enum ObserveFault {
     #[error("full")]
     Full,
     /// Memory ran out.
-    #[error("memory")]
+    #[error("out of memory")]
     Memory,
 }
 
@@ -43,7 +43,7 @@ pub enum WriteFault {
     #[error("inconsistent")]
     Inconsistent,
     /// Memory ran out.
-    #[error("memory")]
+    #[error("out of memory")]
     Memory,
 }
 
@@ -74,7 +74,7 @@ pub enum QueryFault {
     #[error("level")]
     Level,
     /// Memory ran out.
-    #[error("memory")]
+    #[error("out of memory")]
     Memory,
 }
 

@@ -16,7 +16,7 @@ pub enum CatalogFault {
     #[error("too many")]
     TooMany,
     /// No memory was left.
-    #[error("memory")]
+    #[error("out of memory")]
     Memory,
 }
 

@@ -15,7 +15,7 @@ pub enum ScenarioFault {
     #[error("limit")]
     Limit,
     /// No memory was left.
-    #[error("memory")]
+    #[error("out of memory")]
     Memory,
 }
 
