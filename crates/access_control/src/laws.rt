@@ -14,15 +14,15 @@ pub fn control_instances()
     ensures { NobodyMakesControls }
 {}
 
-/// With two accounts or more a server's own entry decides, whoever the owner is; and an instance that no instance of
-/// object 2 speaks of is closed to all.
+/// With two accounts or more, and outside object 2, a server's own entry in the deciding instance is its right, whoever
+/// the owner is; and an instance to which no instance of object 2 refers is closed to all.
 pub fn entries()
     ensures own { OwnEntryDecides }
     ensures none { UncontrolledIsClosed }
 {}
 
-/// The instance of object 2 that decides is the lowest of those that are there and speak of the object and the
-/// instance; where none decides, there is none.
+/// The instance of object 2 that decides exists and refers to the object and the instance, and no lower one does; where
+/// none decides, none does.
 pub fn deciding()
     ensures lowest { LowestDecides }
     ensures none { NoneDecides }

@@ -56,14 +56,14 @@ fn entry_of(store: &Store, instance: u16, server: u16) -> Option<i64>
     integer_at(store, acl.part(server))
 }
 
-/// Whether an instance of Access Control speaks of this object and instance.
+/// Whether an instance of Access Control refers to this object and instance.
 fn speaks_of(store: &Store, control: u16, object: u16, instance: u16) -> bool
     ensures { result ≡ speaks_of store.now control object instance }
 {
     names(store, control, OBJECT_ID, object) && names(store, control, OBJECT_INSTANCE_ID, instance)
 }
 
-/// The lowest instance of Access Control that speaks of this object and instance.
+/// The instance of Access Control that decides: the lowest that refers to this object and instance.
 pub fn control_of(store: &Store, object: u16, instance: u16) -> Option<u16>
     ensures { result ≡ control_of store.now object instance }
 {
@@ -101,7 +101,8 @@ fn right_on_control(store: &Store, server: u16, instance: u16) -> Rights
     }
 }
 
-/// The right of a server on an object instance, in a device that has this many accounts.
+/// The right of a server on an object instance, in a device that has this many accounts, by the first case that applies
+/// (OMA LwM2M 1.1 Core; the cases are this profile's). It holds of every store and server, and takes no memory.
 pub fn rights(store: &Store, accounts: usize, server: u16, object: u16, instance: u16) -> Rights
     ensures { result ≡ right_of store.now accounts server object instance }
 {

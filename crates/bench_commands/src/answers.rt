@@ -24,7 +24,8 @@ use std::alloc::Global;
 use std::sync::Wait;
 use std::thread::Threads;
 
-/// `one HEX`: what the DEMO device outputs for a datagram from its server, a line for each output, or `nothing`.
+/// `one HEX`: what the demonstration device outputs for a datagram from its server, a line for each output, or
+/// `nothing`.
 #[tactic(auto, using(crate::proofs::Built::one_done, crate::proofs::Faults::no_hex, crate::proofs::Faults::one_memory))]
 pub fn one<'a>(alloc: Global, hex: &'a str) -> Result<Answer<'a>, Refusal<'a>>
     ensures done { IfOk result (λ a. IsOneDone hex.entry.now a.status (string_bytes a.text) (files_of a.file)) }
@@ -45,7 +46,7 @@ pub fn one<'a>(alloc: Global, hex: &'a str) -> Result<Answer<'a>, Refusal<'a>>
     }
 }
 
-/// `asm IN OUT`: the scenario of a text, whose image goes to OUT.
+/// `asm IN OUT`: the scenario of a text, whose image goes to OUT, in version 2.
 #[tactic(auto, using(crate::proofs::Built::asm_done, crate::proofs::Faults::text_memory))]
 pub fn asm<'a, F: Files>(
     alloc: Global,
@@ -68,7 +69,7 @@ pub fn asm<'a, F: Files>(
     })
 }
 
-/// `dis IN`: the canonical text of a scenario.
+/// `dis IN`: the canonical text of the scenario of an image, of either version.
 #[tactic(auto, using(crate::proofs::Built::dis_done, crate::proofs::Faults::file_memory))]
 pub fn dis<'a, F: Files>(
     alloc: Global,

@@ -10,7 +10,7 @@ use object_defs::Path;
 use octets::Bytes;
 use std::alloc::{AllocError, Global};
 
-/// The Short Server ID of the one account of the DEMO device.
+/// The Short Server ID of the one account of the demonstration device.
 pub const SERVER: u16 = 1;
 
 /// A value as it stands in the table.
@@ -21,10 +21,10 @@ enum Held {
     Text(&'static str),
 }
 
-/// The instances of the DEMO device: object, then instance.
+/// The instances of the demonstration device: object, then instance.
 const INSTANCES: [(u16, u16); 3] = [(1, 0), (3, 0), (5, 0)];
 
-/// The values of the DEMO device.
+/// The values of the demonstration device.
 const VALUES: [(Path, Held); 11] = [
     (Path::Resource(1, 0, 0), Held::Whole(1)),
     (Path::Resource(1, 0, 1), Held::Whole(300)),
@@ -71,7 +71,7 @@ fn add_values(alloc: Global, template: &mut Template, rows: &[(Path, Held)]) -> 
     Ok(())
 }
 
-/// The template of the DEMO device.
+/// The class of the demonstration device, or out of memory: it refuses none of its parts.
 pub fn template(alloc: Global) -> Result<Template, Fault>
     ensures made { IfOk result (λ t. t ≡ demo_class) }
     ensures refused { IfErr result (λ f. f ≡ Fault.Memory) }
@@ -83,7 +83,7 @@ pub fn template(alloc: Global) -> Result<Template, Fault>
     Ok(template)
 }
 
-/// What the DEMO device, just started, outputs where its server sends these bytes.
+/// What the demonstration device, just started, outputs if its server sends these bytes, or out of memory.
 pub fn answer(alloc: Global, bytes: Bytes) -> Result<Outputs, Fault>
     ensures put_out { IfOk result (λ outputs. outputs ≡ demo_outputs bytes) }
     ensures refused { IfErr result (λ f. f ≡ Fault.Memory) }

@@ -37,17 +37,17 @@ pub enum Fault {
     Workers,
     /// A batch is not one of 1 to 64 steps.
     Batch,
-    /// A run ended since the lock had no ticket left.
+    /// A run ended because the lock ran out of tickets.
     Spent,
     /// A scenario has no device of a number.
     NoDevice,
     /// The entries of a trace end before a number.
     PastEnd,
-    /// A number that is to be the last one is below the first one.
+    /// `--to` is below `--from`.
     Range,
     /// A datagram is too long for a capture.
     TooLong,
-    /// A UDP port could not be had.
+    /// A UDP port could not be bound.
     Bind,
     /// What a device did is not the row of a scenario.
     Session(ScenarioFault),

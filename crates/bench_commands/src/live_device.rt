@@ -29,8 +29,10 @@ use std::alloc::{AllocError, Global};
 use std::net::Net;
 use std::rt::Clock;
 
-/// A device of the row's class goes on for n turns, from its start, at a UDP port and by the machine's clock. Then the
-/// line of its session is printed, and then its steps are saved as a scenario, if they are to be.
+/// A device of the row's class makes at most n turns, from its start, at a UDP port and by the machine's clock. Exactly
+/// the line of its session is printed, and before it what was shown, if that is asked for; then, if there is a path,
+/// the image, in version 2, of the scenario with one device of this class, whose row has the session's steps, is made
+/// there.
 #[tactic(auto, using(crate::proofs::Live::live_done, crate::proofs::Live::image_refused, crate::proofs::Live::device_refused, crate::proofs::Live::port_refused, crate::proofs::Live::session_cut, crate::proofs::Live::session_lost))]
 pub fn live<'a, R: Net + Clock, F: Files, O: Output>(
     rt: &R,

@@ -54,7 +54,7 @@ fn scenario_of(alloc: Global, bytes: &[u8]) -> Result<Scenario, LayoutFault>
     load(alloc, bytes)
 }
 
-/// The scenario whose image the file at this path is.
+/// The scenario whose image the file at this path is. A fault names the path.
 #[tactic(auto, using(crate::proofs::Faults::reading_file, crate::proofs::Faults::broken_at, crate::proofs::Built::scenario_at))]
 pub fn load_scenario<'a, F: Files>(
     alloc: Global,
@@ -72,7 +72,7 @@ pub fn load_scenario<'a, F: Files>(
     }
 }
 
-/// The scenario that the text in the file at this path denotes.
+/// The scenario that the text in the file at this path denotes. A fault names the path.
 #[tactic(auto, using(crate::proofs::Faults::reading_text, crate::proofs::Faults::no_text, crate::proofs::Faults::wrong_text, crate::proofs::Built::text_at))]
 pub fn load_text<'a, F: Files>(
     alloc: Global,
@@ -101,7 +101,7 @@ pub fn load_text<'a, F: Files>(
     }
 }
 
-/// The entries whose trace file the file at this path is.
+/// The entries whose trace file the file at this path is. A fault names the path.
 #[tactic(auto, using(crate::proofs::Faults::reading_file, crate::proofs::Faults::broken_at, crate::proofs::Built::trace_at))]
 pub fn load_trace<'a, F: Files>(
     alloc: Global,

@@ -25,10 +25,22 @@ use std::sync::Wait;
 use std::thread::Threads;
 use trace_text::Selection;
 
-/// Does what the words ask for, of which the first is the program's name. The file of the answer is made, and then its
-/// lines go to `output`; or the lines of `input` are answered there, and what a person is told of them goes to
-/// `errors`; or a device goes on at a UDP port, and its line goes there; or a fault's line goes there, and what it is
-/// about to `errors`.
+/// Does what the words ask for, of which the first is the program's name, over every kind of file and stream that keeps
+/// the contract of its trait; at most 64 MiB of `input` are taken, whatever the end. One of these comes of it (`Ends`):
+///
+/// - The words are answered: exactly the files of the answer are made, each once, and exactly its text is printed on
+///   `output`; nothing is read, and `errors` gets nothing. `IsDone` says what each command is answered with: for `run`,
+///   that as many workers as were asked for made a run in batches of at most as many steps, both from 1 to 64, and its
+///   trace file, if that was asked for.
+/// - `debug` over a run: the lines of `input` are answered in turn until one asks for the end or the input ends.
+///   Exactly these answers go to `output`, and exactly the notes on these lines to `errors`; no file is made, and the
+///   status is 0.
+/// - `live`: a device of the row's class makes at most as many turns as were asked for, from its start; the line of its
+///   session is printed, and the image of its steps is made, if that was asked for.
+/// - Status 1, and a fault: exactly its line is printed, and then at most one line goes to `errors`, or the stream did
+///   not take it, and `errors` got nothing. What was left at it is said too: nothing made and nothing printed where
+///   memory ran out or the words were refused; the file made where its text could not be printed; and how far a
+///   conversation or a session came.
 #[tactic(auto, using(crate::proofs::Ended::finished, crate::proofs::Ended::faulted))]
 pub fn command<R: Threads + Wait + Sync + Net + Clock, F: Files, I: Input, O: Output, E: Output>(
     rt: &R,

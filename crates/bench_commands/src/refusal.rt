@@ -55,7 +55,8 @@ impl<'a> From<AllocError> for Refusal<'a> {
     }
 }
 
-/// The line that standard error gets for a refusal.
+/// The line that standard error gets for a refusal. It begins with the path of the file that is refused, if there is
+/// one.
 #[tactic(auto, using(crate::proofs::Streams::is_about, crate::proofs::Streams::is_plain))]
 pub fn complaint(alloc: Global, refusal: &Refusal) -> Result<String, AllocError>
     ensures { IfOk result (λ text. IsAbout (option_map (λ p. p.now) refusal.now.about) (string_bytes text)) }

@@ -24,7 +24,8 @@ pub struct ShownWire<'a, W: Wire + Drop, O: Output> {
     pub fault: Option<FileFault>,
 }
 
-/// Prints the words of a datagram that was received, and what it says.
+/// Prints the lines of a datagram that was received, which are those of `trace_text`. That it is printed when it
+/// arrives is read.
 pub fn show_arrival<O: Output>(
     alloc: Global,
     packet: &Packet,
@@ -40,7 +41,8 @@ pub fn show_arrival<O: Output>(
     }
 }
 
-/// Prints a datagram that was sent, and what it says.
+/// Prints the lines of a datagram that was sent, which are those of `trace_text`. That it is printed when it is sent is
+/// read.
 pub fn show_sent<O: Output>(
     alloc: Global,
     server: u16,

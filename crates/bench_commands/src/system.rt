@@ -26,8 +26,8 @@ use std::sync::Wait;
 use std::thread::Threads;
 use std::{env, io};
 
-/// Does what the words of the command line ask for, over the system's files and standard output. Lines come from
-/// `input`, and what is for a person goes to `errors`.
+/// Gives `conclude` the words of the command line, the system's files and standard output. Lines come from `input`, and
+/// what is for a person goes to `errors`. It has no contract: that it does so is read, and run by the gate.
 pub fn start<
     R: Threads + Wait + Sync + Net + Clock + Env + std::rt::Files + Print + AllocGlobal,
     I: Input,
@@ -56,7 +56,9 @@ fn words_of<R: Env + AllocGlobal>(rt: &R) -> Result<Vec<String>, ErrorKind> {
     }
 }
 
-/// The whole program: from its words, or why they could not be had, to the status that its process ends with.
+/// The whole program: from its words to the status that its process ends with, which is that of `command` for these
+/// words (`ran`). Where the words could not be had, it is 2 with the text that says so, or a fault; nothing is read of
+/// standard input and no file is made (`unread`).
 pub fn conclude<R: Threads + Wait + Sync + Net + Clock, F: Files, I: Input, O: Output, E: Output>(
     rt: &R,
     alloc: Global,

@@ -29,7 +29,8 @@ pub trait Format {
         ensures { Gives (λ x. (view x.0, x.1.now)) result (layout.read bytes.now) };
 }
 
-/// The value whose bytes these are, all of them; else their first fault from the left.
+/// The value whose bytes these are, all of them, otherwise their first fault from the left: of any format whose layout
+/// is exact.
 pub fn load<F: Format>(alloc: Global, bytes: &[u8]) -> Result<F::Value, LayoutFault>
     requires { IsExact F.layout }
     ensures found { IfOk result (λ v. IsAll F.layout bytes.now (F.view v)) }

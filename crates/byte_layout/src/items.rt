@@ -52,7 +52,7 @@ pub trait PutItems: Items {
     ghost use Rattle.std.specs.Prelude.{◌≡◌, ◌++◌, OnOk};
     ghost use Rattle.std.specs.Io.{StartsWith};
 
-    /// Writes the item that stands after those. Where memory runs out, some of its bytes may have been written behind
+    /// Writes the item that stands after those. Where memory runs out, some of its bytes may have been written after
     /// those that stood there.
     fn put_item(
         &self,
@@ -65,7 +65,7 @@ pub trait PutItems: Items {
         ensures appends { StartsWith out.new.items out.old.items };
 }
 
-/// Writes items one after another. Where memory runs out, some of their bytes may have been written behind those that
+/// Writes items one after another. Where memory runs out, some of their bytes may have been written after those that
 /// stood there.
 pub fn put_items<I: PutItems>(
     items: &I,

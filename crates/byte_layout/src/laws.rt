@@ -8,8 +8,8 @@ ghost use Rattle.byte_layout.specs.Exact.{IsBytes, IsExact, left_of};
 
 use crate::format::Format;
 
-/// In each format bytes are those of one value or have one fault, and never both; a fault's place is among them; and
-/// `read_all` computes which it is.
+/// In each format whose layout is exact, bytes are those of one value or have one fault, never both, and always one of
+/// the two; a fault's place is among them; and `read_all` computes which it is.
 pub fn one_reading<F: Format>()
     requires { IsExact F.layout }
     ensures value { (bytes : List ℕ) (a b : F.Data) → IsAll F.layout bytes a → IsAll F.layout bytes b → a ≡ b }
@@ -26,7 +26,7 @@ pub fn one_reading<F: Format>()
         ↔ BreaksOff F.layout bytes b }
 {}
 
-/// Single fields are exact.
+/// The layouts of bytes and of single numbers are exact.
 pub fn exact_fields()
     ensures bytes { (n : ℕ) → IsExact (raw n) }
     ensures one_byte { IsExact (number w8) }

@@ -5,8 +5,8 @@ ghost use Rattle.coap_codec.specs.Reading.{reading_of};
 
 use crate::CoapFault;
 
-/// Bytes spell at most one message, have at most one fault, and never both; and what `reading_of`
-/// computes of bytes, numbers below 256, is the message that they spell, or else their fault.
+/// Bytes spell at most one message, have at most one fault, and never both; and what `reading_of` computes of bytes,
+/// numbers below 256, is the message that they spell, or else their fault.
 pub fn one_reading()
     ensures message { (bytes : List ℕ) (m k : Message) → Spells bytes m → Spells bytes k → m ≡ k }
     ensures fault { (bytes : List ℕ) (f g : CoapFault) → HasFault bytes f → HasFault bytes g → f ≡ g }

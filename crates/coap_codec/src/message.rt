@@ -46,8 +46,8 @@ impl Model for Message {
 }
 
 impl Message {
-    /// The message of these parts, where they are well formed: a token of at most 8 bytes, options
-    /// that ascend with values of at most 65,804 bytes, and nothing beside code 0.00.
+    /// The message of these parts, exactly if they are well formed: a token of at most 8 bytes, options that ascend
+    /// with values of at most 65,804 bytes, and nothing beside code 0.00 (RFC 7252 sections 3 and 4.1).
     pub fn new(
         kind: Kind,
         code: u8,

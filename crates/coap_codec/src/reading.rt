@@ -147,8 +147,10 @@ fn options_at(alloc: Global, spare: Vec<Opt>, bytes: &[u8]) -> Result<(Vec<Opt>,
     Ok((found, rest))
 }
 
-/// The message that bytes spell (RFC 7252 section 3), or the first fault of bytes that spell none;
-/// each byte is looked at once.
+/// The message that bytes spell (RFC 7252 section 3), extended options included; of bytes that spell none their one
+/// fault, the first from the left. `reading` says the same by the function `reading_of`. A fault of the header, or of
+/// what stands right after the token, is found before memory is taken (`early`); an Empty message takes none (`empty`),
+/// nor does one without options whose payload has at most 16 bytes (`no_option`).
 pub fn decode(alloc: Global, bytes: &[u8]) -> Result<Message, CoapFault>
     ensures found { IfOk result (λ m. Spells bytes.now m) }
     ensures only { (m : Message) → Spells bytes.now m → MatchResult result (λ x. x ≡ m) (λ f. f ≡ CoapFault.Memory) }
@@ -166,8 +168,8 @@ pub fn decode(alloc: Global, bytes: &[u8]) -> Result<Message, CoapFault>
     decode_in(alloc, Vec::new(alloc), bytes)
 }
 
-/// The same, where the options lie in the memory of this list: `Message::into_spare` gives it back, so that one can do
-/// for many messages.
+/// Like `decode`, with the options in the memory of this list: `Message::into_spare` gives it back, so that one list
+/// can do for many messages.
 pub fn decode_in(alloc: Global, spare: Vec<Opt>, bytes: &[u8]) -> Result<Message, CoapFault>
     ensures found { IfOk result (λ m. Spells bytes.now m) }
     ensures only { (m : Message) → Spells bytes.now m → MatchResult result (λ x. x ≡ m) (λ f. f ≡ CoapFault.Memory) }
@@ -183,7 +185,7 @@ pub fn decode_in(alloc: Global, spare: Vec<Opt>, bytes: &[u8]) -> Result<Message
     read(alloc, spare, bytes)
 }
 
-/// The same; that there is no other reading is `decode_in`'s to say.
+/// Like `decode_in`, without the clauses that there is no other reading.
 fn read(alloc: Global, spare: Vec<Opt>, bytes: &[u8]) -> Result<Message, CoapFault>
     ensures found { IfOk result (λ m. Spells bytes.now m) }
     ensures fault { IfErr result (λ f. f ≢ CoapFault.Memory → HasFault bytes.now f) }

@@ -5,7 +5,8 @@ ghost use Rattle.coap_codec.specs.Message.{extension_of, option_bytes, options_b
 use crate::{Kind, Message, Opt};
 use std::alloc::{AllocError, Global};
 
-/// The bytes of a message (RFC 7252 section 3).
+/// The bytes of a message (RFC 7252 section 3). Every message has them, so only an allocation can fail: one buffer,
+/// with room for just these bytes.
 pub fn encode(alloc: Global, message: &Message) -> Result<Vec<u8>, AllocError>
     ensures spells { IfOk result (λ v. Spells v.items message.now) }
     ensures spelling { IfOk result (λ v. v.items ≡ spelling message.now) }

@@ -20,7 +20,7 @@ pub const NO_TEXT: &str =
 /// What the words ask the program to do. It borrows them.
 #[derive(Clone, Copy)]
 pub enum Job<'a> {
-    /// The DEMO device takes one datagram.
+    /// The demonstration device takes one datagram.
     One {
         /// The bytes of the datagram, in hex.
         hex: &'a str,
@@ -119,7 +119,9 @@ pub enum Asked<'a> {
     },
 }
 
-/// Reads the words, of which the first is the program's name.
+/// What the words ask for, of which the first is the program's name: a job, or a text on how to use the program if
+/// `clap` has an error for them. Which errors there are is said in the terms of `clap`, which reads the words; what its
+/// texts say is not proved.
 pub fn read<'a>(alloc: Global, words: &'a [String]) -> Result<Asked<'a>, AllocError>
     ensures { IfOk result (IsReadAs (map string_bytes words.now)) }
 {

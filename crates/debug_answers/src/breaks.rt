@@ -7,7 +7,8 @@ use crate::lines::{break_line, cleared_line, fixed_line, stop_line};
 use debugger::{Break, Debugger};
 use std::alloc::{AllocError, Global};
 
-/// `break ..`: `break ID`, or `full`. Without memory the breakpoint may have been added, and nothing else has changed.
+/// `break ..`: `break ID` with the number of the new breakpoint, or `full`. Without memory the breakpoint may have been
+/// added, and nothing else has changed.
 #[tactic(auto, using(crate::proofs::Left::added_left))]
 pub fn add_break(alloc: Global, debugger: &mut Debugger, point: Break) -> Result<String, AllocError>
     ensures answer { IfOk result (λ text. IsBreak debugger.old point debugger.new (string_bytes text)) }

@@ -10,7 +10,7 @@ use std::alloc::{AllocError, Global};
 /// The most bytes of a line that are shown.
 const MOST_SHOWN: usize = 200;
 
-/// The line that says that another one is no command, and shows it.
+/// The line for a person that says that another one is neither `help` nor a command, and shows it.
 pub fn no_command(alloc: Global, line: &[u8]) -> Result<String, AllocError>
     ensures { IfOk result (λ text. string_bytes text ≡ no_command line.now) }
 {

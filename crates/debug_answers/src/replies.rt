@@ -79,9 +79,11 @@ fn note_on(alloc: Global, line: &[u8]) -> Result<String, AllocError>
     }
 }
 
-/// The answer to a line of the debugger's input, without the LF that ends it: that to the command that it says, or
-/// `bad command` where it says none, with a note for a person. `quit` is answered by nothing, and nothing else asks for
-/// the end. Without memory the debugger is as before, or as after the command.
+/// The answer to a line of the debugger's input, without the LF that ends it: that to the command that it says, or `bad
+/// command` where it says none, which changes nothing. There is no note on a command; on `help` it is the list of the
+/// commands, and on any other line that says none it shows at most 200 bytes of that line. `quit` is answered by
+/// nothing, and nothing else asks for the end (`last`). Without memory the debugger is as before, or as after the
+/// command (`left`).
 #[tactic(auto, using(crate::proofs::Replied::reply_of, crate::proofs::Replied::bad_reply, crate::proofs::Replied::no_note, crate::proofs::Replied::note_of, crate::proofs::Left::reply_left))]
 pub fn reply_to(alloc: Global, debugger: &mut Debugger, line: &[u8]) -> Result<Reply, AllocError>
     ensures reply { IfOk result (λ r. IsReply debugger.old line.now debugger.new (string_bytes r.text)) }

@@ -35,7 +35,7 @@ fn value_line(alloc: Global, value: Option<&Value>) -> Result<String, AllocError
     }
 }
 
-/// `value D PATH`: the value as in scenario text, `none`, or `no device`.
+/// `value D PATH`: the value as in scenario text, or `none`; `no device` exactly if there is no row.
 pub fn show_value(
     alloc: Global,
     debugger: &Debugger,
@@ -128,7 +128,8 @@ fn observation_lines(alloc: Global, observations: &Observations) -> Result<Strin
     Ok(text)
 }
 
-/// `obs D`: the observations of a device in the order of registration, or `no device`.
+/// `obs D`: `observations K`, then a line for each in the order of registration, with the Observe number of its last
+/// message, and ` open` if that awaits an acknowledgement; `no device` exactly if there is no row.
 pub fn show_observations(
     alloc: Global,
     debugger: &Debugger,
@@ -145,7 +146,7 @@ pub fn show_observations(
     }
 }
 
-/// `out D`: the outputs of the device's latest entry, or `no device`.
+/// `out D`: a line for each output of the device's latest entry, or `nothing`; `no device` exactly if there is no row.
 pub fn show_outputs(alloc: Global, debugger: &Debugger, device: u16) -> Result<String, AllocError>
     ensures { IfOk result (λ text. IsShown debugger.now device
         (printed (outputs_shown debugger.now.scenario debugger.now.entries debugger.now.place device))

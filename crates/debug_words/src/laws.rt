@@ -4,7 +4,8 @@ ghost use Rattle.debug_words.specs.declared.command.Command.{Command};
 ghost use Rattle.debug_words.specs.Saying.{IsHelp, IsLineOf, IsSaidBy};
 ghost use Rattle.debug_words.specs.Spelling.{IsCommand, line_of, words_of};
 
-/// The law of lines: the same words say at most one command, all that words say can be written, and `help` is none.
+/// The law of lines: the same words say at most one command, and the numbers of that one have their bits (`one`,
+/// `good`); `help` says none.
 pub fn one_command()
     ensures one { (c d : Command) (ws : List (List ℕ)) → IsSaidBy c ws → IsSaidBy d ws → c ≡ d }
     ensures good { (c : Command) (ws : List (List ℕ)) → IsSaidBy c ws → IsCommand c }
@@ -12,7 +13,7 @@ pub fn one_command()
 {}
 
 /// The law of written commands: every command whose numbers have their bits has words, which say it and are found again
-/// in their line.
+/// in its line; so its line, if it is of printable characters without `#`, is read as this command.
 pub fn commands_read_again()
     ensures said { (c : Command) → IsCommand c → IsSaidBy c (words_of c) }
     ensures words { (c : Command) → IsCommand c → words (line_of c) ≡ words_of c }

@@ -96,10 +96,10 @@ fn is_plain(line: &[u8]) -> bool
         .all(|byte| 32 <= *byte && *byte <= 126 && *byte != 35)
 }
 
-/// The command that a line of the debugger's input says, without the LF that ends it, or none where it says none.
-///
-/// Spaces part the words of a line, any number of them. Numbers, paths and hex digits are as in scenario text. There
-/// are no comments: a line with a `#`, or with a byte that is no printable ASCII, says none.
+/// The command that a line of the debugger's input says, without the LF that ends it, and none exactly if it says none.
+/// Spaces part the words of a line, any number of them, and no word may be left over. Numbers, paths and hex digits are
+/// as in scenario text. There are no comments: a line with a `#`, or with a byte that is not printable ASCII, says
+/// none, nor does an empty one. It takes no memory.
 pub fn read_command(line: &[u8]) -> Option<Command>
     ensures said { IfSome result (λ c. IsLineOf c line.now) }
     ensures none { IfNone result ((c : Command) → IsLineOf c line.now → ⊥) }

@@ -22,8 +22,8 @@ pub fn moves_add_up()
     ensures back { (v : Session) (n : ℕ) → at_place (at_place v (v.place + n)) (v.place + n - n) ≡ v }
 {}
 
-/// Two lists of entries that have as many of a device before their places show the same of it, whatever the order of
-/// the devices is.
+/// What is shown of a device depends on the count of its entries before the place alone: two lists of entries that have
+/// as many of it show the same, whatever the order of the devices is.
 pub fn orders_show_the_same()
     ensures value { (s : Scenario) (a : List Entry) (b : List Entry) (n : ℕ) (m : ℕ) (d : ℕ) (path : Path)
         → made_by d (take n a) ≡ made_by d (take m b) → value_shown s a n d path ≡ value_shown s b m d path }

@@ -85,9 +85,8 @@ fn latest_outputs<'a>(_scenario: &Scenario, entries: &'a [Entry], device: u16) -
 }
 
 impl<'a> Debugger<'a> {
-    /// Opens a debugger before the first entry, without a breakpoint.
-    ///
-    /// `NotRun`: the entries are not a run of the scenario; those before this one are, and with it they are not.
+    /// Opens a debugger before the first entry, without a breakpoint, over a run. `NotRun`: the entries are not a run
+    /// of the scenario; the ones before its place are, and with the one at it they are not.
     pub fn open(
         alloc: Global,
         scenario: &'a Scenario,
@@ -126,8 +125,9 @@ impl<'a> Debugger<'a> {
         self.place
     }
 
-    /// How many times `Device::step` was called in the last call of `forward` or `back` that moved, once for each
-    /// event; 0 before the first one. A post or a need is no event: the device does not hear of it.
+    /// How many events devices took in the last call of `forward` or `back` that moved; 0 before the first one. A post
+    /// or a need is no event: the device does not hear of it. That these are the calls of `Device::step` really made is
+    /// not promised: the module `steps`, whose function makes and counts them, shows it.
     pub fn replayed(&self) -> u64
         ensures { result ≡ self.now.replayed }
     {
@@ -165,8 +165,7 @@ impl<'a> Debugger<'a> {
     }
 
     /// Moves forward by this many entries. For each of them that is an event, and no post or need, its device takes it.
-    ///
-    /// `PastEnd`: there are fewer after the place. `Memory` leaves the place as it was, too.
+    /// `PastEnd`, exactly if there are fewer after the place. An error, `Memory` too, leaves all as it was.
     pub fn forward(&mut self, count: usize) -> Result<(), ForwardFault>
         ensures moved { OnOk result (self.new
             ≡ with_replayed (at_place self.old (self.old.place + count)) self.new.replayed) }
@@ -187,9 +186,8 @@ impl<'a> Debugger<'a> {
     }
 
     /// Moves back by this many entries. Each device that has one among them starts from its latest copy that is not
-    /// after the new place, or from the start of its row, and so takes at most 63 events.
-    ///
-    /// `PastStart`: there are fewer before the place. `Memory` leaves the place as it was, too.
+    /// after the new place, or from the start of its row, and so takes at most 63 events. `PastStart`, exactly if there
+    /// are fewer before the place. An error, `Memory` too, leaves all as it was.
     pub fn back(&mut self, count: usize) -> Result<(), BackFault>
         ensures moved { OnOk result (self.new
             ≡ with_replayed (at_place self.old (self.old.place - count)) self.new.replayed) }
@@ -208,7 +206,8 @@ impl<'a> Debugger<'a> {
         Ok(())
     }
 
-    /// The device's value at the path, at the place; none at a path of one or two numbers.
+    /// The device's value at the path, after as many steps of its row as it has entries before the place; none at a
+    /// path of one or two numbers. `NoDevice`, exactly if there is no row.
     pub fn value(&self, device: u16, path: &Path) -> Result<Option<&Value>, DeviceFault>
         ensures value { IfOk result (λ v. option_copied v
             ≡ value_shown self.now.scenario self.now.entries self.now.place device path.now) }
@@ -221,7 +220,7 @@ impl<'a> Debugger<'a> {
         }
     }
 
-    /// The device's observations at the place, in the order of registration.
+    /// The device's observations at the place, in the order of registration. `NoDevice`, exactly if there is no row.
     pub fn observations(&self, device: u16) -> Result<&Observations, DeviceFault>
         ensures observations { IfOk result (λ o. o.now.list
             ≡ observations_shown self.now.scenario self.now.entries self.now.place device) }
@@ -234,7 +233,8 @@ impl<'a> Debugger<'a> {
         }
     }
 
-    /// What the device output at its latest entry before the place; nothing before its first one.
+    /// What the device output at its latest entry before the place; nothing before its first one. `NoDevice`, exactly
+    /// if there is no row.
     pub fn outputs(&self, device: u16) -> Result<&[Output], DeviceFault>
         ensures outputs { IfOk result (λ o. o.now
             ≡ outputs_shown self.now.scenario self.now.entries self.now.place device) }
@@ -344,7 +344,7 @@ impl<'a> Debugger<'a> {
     }
 
     /// Moves to the least later place at which a breakpoint holds, and returns the least number of those that do; or to
-    /// the end, where none does. Without memory nothing changes.
+    /// the end, exactly if none holds at a later place. Without memory nothing changes.
     pub fn resume(&mut self) -> Result<Stop, AllocError>
         ensures stop { IfOk result (λ stop. IsNextStop self.old stop self.new.place) }
         ensures moved { OnOk result (self.new ≡ at_place self.old self.new.place) }

@@ -19,7 +19,7 @@ pub enum FirmwareEvent {
 }
 
 impl FirmwareEvent {
-    /// What writing these bytes as the Package is.
+    /// Which event it is to write these bytes as the Package.
     pub fn of_package(bytes: &[u8]) -> FirmwareEvent
         ensures { result ≡ event_of_package bytes.now }
     {
@@ -36,7 +36,7 @@ impl FirmwareEvent {
         }
     }
 
-    /// What writing this text as the Package URI is.
+    /// Which event it is to write this text as the Package URI.
     pub fn of_uri(text: Text) -> FirmwareEvent
         ensures { result ≡ event_of_uri text }
     {

@@ -3,18 +3,19 @@
 
 ghost use Rattle.device_firmware.specs.Laws.{ClearingIsTaken, OutcomeIsHeld, UriIsHeld, OthersStay};
 
-/// Clearing is taken in any state.
+/// Where the instance exists, clearing is taken, whatever State holds.
 pub fn clearing()
     ensures { ClearingIsTaken }
 {}
 
-/// After an event the State, the Update Result and the Package URI are those of the table.
+/// After an event the State and the Update Result are those of the table, and the Package URI is the new one if there
+/// is one, otherwise as it was.
 pub fn behind()
     ensures outcome { OutcomeIsHeld }
     ensures uri { UriIsHeld }
 {}
 
-/// An event changes no other value, and no instance. The bytes of a Package are not kept.
+/// An event changes no other value, that of Package included, and no instance. The bytes of a Package are not kept.
 pub fn others()
     ensures { OthersStay }
 {}

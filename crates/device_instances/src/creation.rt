@@ -53,8 +53,8 @@ fn has_too_many(resources: &[ResourceDef], given: &Assignments) -> bool
 }
 
 /// Whether a store has no room for a new instance with what it is given (this profile's limits): its object has 64
-/// instances; or, with two accounts or more, Access Control Access Control has; or a resource would have more than 32
-/// parts.
+/// instances; or, with two accounts or more, Access Control has; or a resource would have more than 32 parts. It takes
+/// no memory.
 pub fn has_no_room(
     store: &Store,
     accounts: usize,
@@ -105,7 +105,7 @@ fn clear(store: &mut Store, path: ResourcePath)
     }
 }
 
-/// Adds an instance of Access Control that speaks of a place and belongs to a server.
+/// Adds an instance of Access Control that refers to a place and has a server as owner.
 #[tactic(auto, using(crate::proofs::Instances::added))]
 fn add_control(
     store: &mut Store,
@@ -187,9 +187,10 @@ fn make(
     write(resources, store, place, given)
 }
 
-/// Creates an instance with what its resources are given, for a server of a device that has this many accounts. With
-/// two accounts or more it also adds an instance of Access Control Access Control, which speaks of it and belongs to
-/// the server.
+/// Creates an instance of an object other than 2 with what its resources are given, for a server of a device that has
+/// this many accounts. With two accounts or more it also adds an instance of object 2 Access Control, which refers to
+/// it and has the server as owner. `Exists`, otherwise `Full` exactly if there is no room (`has_no_room`); an error
+/// changes nothing.
 pub fn create(
     store: &mut Store,
     accounts: usize,

@@ -17,7 +17,8 @@ fn remove(store: &mut Store, place: InstancePath)
     }
 }
 
-/// Deletes an instance, and each instance of object 2 Access Control that speaks of it.
+/// Deletes an instance with its values, and each instance of object 2 Access Control that refers to it, also where it
+/// is one of object 2 itself. `Absent`: there is none. It takes no memory.
 pub fn delete(store: &mut Store, place: InstancePath) -> Result<(), StoreFault>
     ensures answer { result ≡ (if has_instance store.old place then Ok tt else Err StoreFault.Absent) }
     ensures ok { OnOk result (store.new ≡ without_deleted store.old place) }

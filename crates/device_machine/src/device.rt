@@ -95,18 +95,29 @@ impl Device {
 
     /// The first second after the clock's, below 2^64, in which the device sends or removes something by itself, if no
     /// other event comes: a notification, the same once more, or an answer that ends an observation; or an observation
-    /// is removed. None where there is none. Up to the second before it a Tick changes the clock alone. What a spent
-    /// device returns says nothing.
+    /// is removed. None where there is none. Up to the second before it a Tick changes the clock alone. It takes no
+    /// memory. What a spent device returns says nothing.
     pub fn due(&self) -> Option<u64>
         ensures { (f : FlatState) → Shows self.now f → MatchOption result (IsSilent f) (IsNextSending f) }
     {
         self.machine.due()
     }
 
-    /// Takes an event, and gives what the device outputs, in order.
+    /// Takes an event, and returns what the device outputs, in order. For every flat state that the device shows, the
+    /// outputs and the flat state afterwards are those of the tables, which have the list of all requests since the
+    /// start: that the device may forget those past their lifetime is proved.
     ///
-    /// `Memory` leaves the device spent. `Spent` says that it was spent, or that the tick would take its clock past
-    /// 2^63 - 1, and changes nothing.
+    /// `Memory` leaves the device spent, and nothing else does; its clock, its next message ID and its recorded
+    /// requests are as before (`left`). `Spent`: it was spent, or the tick would take its clock past 2^63 - 1; nothing
+    /// changes.
+    ///
+    /// No event ends a device for lack of memory that is (`grows`): a datagram of a server without an account, of
+    /// another version or of fewer than four bytes; an acknowledgement or a Reset, whatever follows the header; a NON
+    /// that is Empty or has a format error in its header or right after its token; seconds in which nothing is sent and
+    /// no observation removed; a Put that does not fit, or one of an Integer, Time, Flag or Link over a value that is
+    /// held and reaches no observation; an end of a download or an update that is not taken, or over a State and an
+    /// Update Result that are held and reach no observation. A value reaches an observation at or below its path, and
+    /// as one of Access Control, a Short Server ID or a default period.
     pub fn step(&mut self, event: &Event) -> Result<Outputs, StepFault>
         ensures outputs { (f : FlatState) → Shows self.old f → IfOk result (λ o. o ≡ outputs_of f event.now) }
         ensures shows { (f : FlatState) → Shows self.old f → OnOk result (Shows self.new (flat_after f event.now)) }

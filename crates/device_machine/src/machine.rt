@@ -48,7 +48,7 @@ pub(crate) struct Machine {
     alloc: Global,
     /// Memory for the options of a request. No option is in it between two of them.
     spare: Vec<Opt>,
-    /// Memory for a reply. What is in it between two of them says nothing.
+    /// Scratch buffer for replies; its content is meaningless between calls.
     buffer: Vec<u8>,
 }
 

@@ -10,56 +10,56 @@ ghost use Rattle.device_notifications.specs.Laws.{SecondsCountObserveNumbers, Se
 ghost use Rattle.device_notifications.specs.Laws.{SecondsSendBeforePmax, SendsAfterPmin, SendsBeforePmax};
 ghost use Rattle.device_notifications.specs.Reach.{OthersDoNotReach};
 
-/// A notification that keeps its observation is sent only where pmin seconds have passed since the
-/// observation's last message. Every other datagram of a second ends its observation, or is its open
-/// notification once more. And so it is of each datagram of more seconds, in one of them.
+/// Each datagram of a second is a notification of an observation whose last message was pmin seconds old or older, or
+/// ends its observation, or is its open notification once more. So is each datagram of more seconds, in one of them.
 pub fn sends_after_pmin()
     ensures one { SendsAfterPmin }
     ensures more { SecondsSendAfterPmin }
 {}
 
-/// After a second no closed observation whose pmax has effect has a last message that is pmax seconds old
-/// or older, and no open one whose last timeout has passed; and so it is after more of them.
+/// After a second, or more, no closed observation whose pmax applies has a last message that is pmax seconds old or
+/// older, and no open one is 31 first timeouts or more past its first sending.
 pub fn sends_before_pmax()
     ensures one { SendsBeforePmax }
     ensures more { SecondsSendBeforePmax }
 {}
 
-/// The observations that a second leaves are those before it in their order, each as it was or
-/// notified; one goes only where it is evaluated and its present answer is no content, or where the last
-/// timeout of its open notification has passed. What differs from its last report inside pmin, or while it
-/// is open, is not lost: the report stays.
+/// The observations that a second leaves are those before it, in their order, each as it was or notified. One is
+/// removed only if it is evaluated and its present answer is not 2.05, or if the last timeout of its open notification
+/// has passed. What differs from its last report inside pmin, or while it is open, is not lost: the report stays.
 pub fn keeps_order()
     ensures { KeepsOrder }
 {}
 
-/// The Observe numbers of an observation's messages rise by one, modulo 2^24: in its turn, and with
-/// each message through more seconds, whatever the others send between. What is sent again keeps its number.
+/// An observation that stays sent nothing, or its open notification once more, and is as it was; or it sent its Observe
+/// number, one more than before, modulo 2^24. Through more seconds its numbers rise by one with each message, whatever
+/// the others send in between, and a notification is sent again only until the next one; after the message that ends it
+/// there is none, and what is left of it has the last number.
 pub fn counts_observe_numbers()
     ensures turn { CountsObserveNumbers }
     ensures more { SecondsCountObserveNumbers }
 {}
 
-/// Each datagram of a second takes one message ID, modulo 65,536, but for those that are sent again.
+/// A second uses as many message IDs as it sends datagrams, modulo 65,536, but for those that it sends again.
 pub fn counts_message_ids()
     ensures { CountsMessageIds }
 {}
 
-/// An open notification that nothing answers is sent five times at most, with the same bytes, at seconds
-/// that only its first sending and its first timeout decide; 31 times the first timeout after the first
-/// sending its observation is removed, with no message.
+/// Of one open observation, with a first timeout above 0, that nothing answers, n seconds after its first sending have
+/// sent the same bytes once more for each of 1, 3, 7 and 15 first timeouts that have passed; after 31 it is removed,
+/// with no message.
 pub fn sends_five_times_at_most()
     ensures { SendsFiveTimesAtMost }
 {}
 
-/// After an acknowledgement nothing is lost: the observation is evaluated in the next second, and what its
-/// answer is then is compared with the report of the last notification that was sent.
+/// An observation that an acknowledgement closes is evaluated in the next second, by the report of the last
+/// notification that was sent. So nothing is lost.
 pub fn loses_nothing()
     ensures { LosesNothing }
 {}
 
-/// In a class whose notifications are Non-confirmable no observation is ever open: each is evaluated in each
-/// second, and each message is sent once, as a NON.
+/// In a class whose notifications are Non-confirmable no observation is ever open, and a closed one is evaluated in
+/// each second and sends each message once, as a NON.
 pub fn never_opens_with_nons()
     ensures turn { EvaluatesWithNons }
     ensures closed { StaysClosedWithNons }
@@ -76,9 +76,9 @@ pub fn quiet_seconds_change_nothing()
     ensures { QuietSecondsChangeNothing }
 {}
 
-/// The first second in which something is sent, or an observation is removed, is the one that
-/// `Observations::due` finds by the present answers; all seconds before it, and all where it finds none,
-/// change nothing.
+/// The second that `Observations::due` finds, where what was said is what the present answers are, is the first in
+/// which something is sent, or an observation removed; those before it, and all where it finds none, change nothing. So
+/// a tick has to visit exactly the seconds at which something is sent or removed.
 pub fn due_is_the_first_sending()
     ensures first { FindsTheFirstSending }
     ensures none { FindsNoSending }

@@ -33,10 +33,11 @@ fn second(
     Ok(())
 }
 
-/// What the observations do in n seconds, where the clock shows `clock` before the first of
-/// them: it goes up by one, then each has its turn. Nothing else changes. It takes memory only where something is sent
-/// or an observation is removed; where there is none, one of the seconds stops before it changes an observation, and
-/// those after it are still to come.
+/// What the observations do in n seconds, where the clock shows `clock` before the first of them: it goes up by one,
+/// then each has its turn. It is exactly which observations send, which datagrams, in which order, what is left of
+/// each, and the next message ID; nothing else changes. It takes memory only where something is sent or an observation
+/// is removed; where there is none, one of the seconds stops before it changes an observation, and those after it are
+/// still to come.
 pub fn seconds(
     alloc: Global,
     client: &Client,

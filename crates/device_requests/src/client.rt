@@ -1,4 +1,4 @@
-//! What of a device the requests of device management look at and change.
+//! The part of a device that management requests read and modify.
 
 ghost use Rattle.std.specs.Prelude.{◌≡◌, ◌≢◌, ◌↔◌, false, true, length, Err, IfOk, IsErrOf, IsFalse, IsTrue, OnOk};
 ghost use Rattle.std.specs.Prelude.{OnErr};
@@ -19,8 +19,8 @@ use object_defs::{Catalog, FullPath, Path};
 use std::alloc::{AllocError, Global};
 use std::marker::Model;
 
-/// What of a device the requests of device management look at and change: the servers' accounts, the
-/// objects' definitions, instances and values, the attributes that servers set, and how the device notifies.
+/// The part of a device that management requests read and modify: the servers' accounts, the objects' definitions,
+/// instances and values, the attributes that servers set, and how the device notifies.
 #[derive(Drop)]
 pub struct Client {
     pub(crate) accounts: Vec<u16>,
@@ -135,7 +135,7 @@ impl Client {
         self.accounts.len()
     }
 
-    /// Puts a value at a full path, past the rights of servers.
+    /// Puts a value at a full path, past the rights of servers. Only a path without a value takes memory.
     pub fn put(&mut self, path: FullPath, value: Value) -> Result<(), StoreFault>
         ensures ok { OnOk result (self.new ≡ with_stored self.old (with_value_at self.old.store (Some path) value)) }
         ensures absent { IsErrOf result StoreFault.Absent ↔ IsFalse (has_instance self.old.store (instance_at path)) }
@@ -148,8 +148,9 @@ impl Client {
         device_template::put(&mut self.store, path, value)
     }
 
-    /// Ends a download or an update of the firmware with this code, past the rights of servers. Answers whether
-    /// there is one that it ends.
+    /// Ends a download or an update of the firmware with this code, past the rights of servers, and returns whether
+    /// there is one that it ends. An allocation can fail only for one that it ends, and only if State and Update Result
+    /// are not both held; then nothing has changed.
     pub fn end_firmware(&mut self, code: u8) -> Result<bool, AllocError>
         ensures ended { IfOk result (λ b. b ≡ is_some (firmware_after self.old.store (Ended code))) }
         ensures change { OnOk result (self.new ≡ with_stored self.old

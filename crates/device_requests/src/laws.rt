@@ -12,19 +12,21 @@ ghost use Rattle.device_requests.specs.Order.{PathsPrecedeMethods, PayloadsPrece
 ghost use Rattle.device_requests.specs.Order.{RightsPrecedeOperations, SecurityPrecedesTargets, TargetsPrecedeRights};
 ghost use Rattle.device_requests.specs.Request.{RequestsAreSaid};
 
-/// A message is read as a request exactly where that is what its method and its options say.
+/// A message is read as a request exactly if its options are understood, and the path, the operation, the formats and
+/// the Observe are what its options and its method say.
 pub fn requests_are_said()
     ensures { RequestsAreSaid }
 {}
 
-/// A request's answer is that of the first line of the tables that it meets, of which the last is
-/// its success. So each request has exactly one answer.
+/// The code of each answer is that of the first rule that applies, of which the last is success. So each request has
+/// exactly one answer.
 pub fn first_line_answers()
     ensures { FirstLineAnswers }
 {}
 
-/// A request that is refused changes nothing, and its answer is a code alone; one whose answer is not 2.01, 2.02 or
-/// 2.04 changes nothing either; and no request changes the accounts or the catalogue.
+/// A refusal changes nothing (`nothing`), its answer has neither option nor payload (`alone`), and the device does not
+/// act; a request whose answer is not 2.01, 2.02 or 2.04 changes nothing either (`said`); and no request changes the
+/// accounts or the catalogue (`frame`).
 pub fn refusals_change_nothing()
     ensures nothing { RefusalKeeps }
     ensures said { ChangesAreSaid }
@@ -32,7 +34,22 @@ pub fn refusals_change_nothing()
     ensures frame { RequestsKeepFrame }
 {}
 
-/// Which rule decides where two refuse a request: a law for each two neighbours, whatever the operation.
+/// Which of two neighbouring rules decides if both refuse a request, for all operations alike:
+///
+/// - `options`: an unrecognized critical option is 4.02, whatever the path and the method are.
+/// - `paths`: a Uri-Path that is not a path is 4.04, whatever the method is.
+/// - `methods`: a method that has no operation at this kind of path is 4.05, at object 0 too, and whether or not the
+///   target exists.
+/// - `security`: object 0 is 4.01, whether or not the target exists.
+/// - `targets`: a target that does not exist, outside object 0, is 4.04, whatever the rights are.
+/// - `rights`: a target that exists is 4.01 without the right, whether or not it has the operation, and whatever the
+///   format and the payload are.
+/// - `operations`: a target that does not have the operation is 4.05, unless it is 4.01 or 4.04, whatever the format
+///   and the payload are.
+/// - `formats`: a format that is not served is 4.06 for a Read and otherwise 4.15, unless it is 4.01, 4.04 or 4.05,
+///   whatever the payload is, or the length of what would be shown.
+/// - `payloads`: a payload, queries or arguments that are not valid are 4.00 if the target has the operation, unless it
+///   is 4.01, 4.04 or 4.15, whatever the state of the firmware is.
 pub fn refusals_come_in_order()
     ensures options { OptionsComeFirst }
     ensures paths { PathsPrecedeMethods }
@@ -45,18 +62,26 @@ pub fn refusals_come_in_order()
     ensures payloads { PayloadsPrecedeStates }
 {}
 
-/// All operations have one table of rules, and none is refused without the reason that the code of the answer gives.
+/// Of requests whose options, path and method are not refused. `table`: whatever the operation, the code is that of the
+/// first rule of one table. `reason`: 4.01 is only for object 0 or a right that is missing, 4.04 for a target that does
+/// not exist, 4.05 for one that does not have the operation or a firmware that does not take it now, 4.06 and 4.15 for
+/// the format, 4.00 for the payload, the queries or the arguments, 5.00 for the limits of what is stored or shown.
+///
+/// The outcome of a request is defined by this table. That a condition of it is OMA's is for a reader to judge, and for
+/// the laws of `laws_requests`.
 pub fn refusals_have_reasons()
     ensures table { OneTable }
     ensures reason { RefusalsHaveReasons }
 {}
 
-/// Only a request that the first three rules leave as a Read asks anything of an observation.
+/// Only a Read whose options are understood asks anything of an observation.
 pub fn only_reads_observe()
     ensures { OnlyReadsObserve }
 {}
 
-/// A Read of a single resource answers what was written there.
+/// If a Write of a single resource that can be read, outside Firmware Update, was answered by 2.04, its payload gave
+/// one value, and a Read of the resource by a server that may read there answers that value in each format that is
+/// served; 5.00 if that is over 1,024 bytes.
 pub fn reads_what_was_written()
     ensures { WrittenIsRead }
 {}
@@ -67,13 +92,13 @@ pub fn links_what_exists()
     ensures { LinksWhatExists }
 {}
 
-/// The arguments of an Execute are tested: a payload passes exactly where it is arguments.
+/// A payload of an Execute passes exactly if it is a list of arguments.
 pub fn arguments_are_tested()
     ensures { ArgumentsAreTested }
 {}
 
-/// Where a server may not read, its Read is answered by a code alone; and a Read of an object has the same answer
-/// whatever the instances hold on which the server has no R.
+/// If a server may not read, its Read is answered by 4.01 or 4.04, a code alone (`refused`); and a Read of an object
+/// has the same answer whatever the instances hold on which the server has no R (`object`).
 pub fn unreadable_is_hidden()
     ensures refused { UnreadableIsRefused }
     ensures object { UnreadableIsHidden }

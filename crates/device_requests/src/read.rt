@@ -112,7 +112,8 @@ impl Client {
         }
     }
 
-    /// The answer to a Read of a server at a path, with the format that its Accept names.
+    /// The answer to a Read of a server at a path, with the format that its Accept names; it is also that of a
+    /// notification. Only 2.05 and 5.00 may take memory, and only where the target can be read.
     pub fn read(&self, server: u16, path: Path, accept: Option<u16>) -> Result<Answer, AllocError>
         ensures answer { IfOk result (λ a. a ≡ read_answer self.now server path accept) }
 

@@ -108,10 +108,18 @@ impl Client {
         }
     }
 
-    /// Does what a request asks for, and answers it, with what it asks of the observation of its
-    /// server and token.
+    /// Does what a request asks for, and returns its answer. The answer, and what is managed then, are those of the
+    /// first rule that refuses the request, otherwise of its success (`outcome`): Read of every kind of path, Discover,
+    /// Write (Replace and Partial Update), Execute, Create, Delete and Write-Attributes, with the rights of up to four
+    /// servers. With it comes what it asks of the observation of its server and token (`interest`): to be registered
+    /// with Observe 0, to be cancelled with 1, in a Read whose options are understood and whose path is one; and
+    /// whether a critical option is not recognized (`rejected`).
     ///
-    /// After an error some of the values that it asks for may be set; nothing else has changed.
+    /// No refusal of an option, a path, a method, a server, an operation that the target does not have or a format
+    /// takes memory (`request`, `has`); those that may are listed by code, and of 4.05 only that of a firmware that
+    /// does not take a Package, a Package URI or an Update now (`grows`). If memory runs out, some of the values and
+    /// instances that it asks for may have changed, and nothing else (`left`); nothing at all in Create, Delete and
+    /// Write-Attributes.
     pub fn answer(&mut self, server: u16, message: &Message) -> Result<Handled, AllocError>
         ensures outcome { IfOk result (λ h. Leaves h.answer self.new (outcome_of self.old server message.now)) }
         ensures interest { IfOk result (λ h. h.interest ≡ interest_of message.now) }

@@ -246,7 +246,8 @@ impl Template {
         None
     }
 
-    /// The kind of the values that may be added at the path; `None` where none may.
+    /// The kind of the values that may be added at the path; `None` where none may. A value of this kind within its
+    /// limits is not refused.
     pub fn kind_taken(&self, path: FullPath) -> Option<ValueKind>
         ensures kind { result ≡ kind_taken self.now path }
 
@@ -315,9 +316,8 @@ impl Template {
         self.notify
     }
 
-    /// The Short Server IDs of the accounts, by ascending number.
-    ///
-    /// As every other part of a template, they are what accepted additions made.
+    /// The Short Server IDs of the accounts, by ascending number. As every other part of a template, they are what
+    /// accepted additions made (`built`): so whoever writes a class down may rely on each part having been accepted.
     pub fn accounts(&self) -> &[u16]
         ensures lent { result.now ≡ self.now.accounts }
         ensures ascending { IsStrictlyIncreasing self.now.accounts }
@@ -347,7 +347,8 @@ impl Template {
         &self.store
     }
 
-    /// The store that a device of the class starts with.
+    /// The store that a device of the class starts with: that of the class, and where it has `/5/0`, an empty Package
+    /// URI, the State 0 Idle and the Update Result 0.
     pub fn start_store(&self) -> Result<Store, AllocError>
         ensures { IfOk result (λ s. s ≡ with_idle_firmware self.now.store) }
     {

@@ -117,9 +117,8 @@ fn resource_at(path: FullPath) -> ResourcePath
     }
 }
 
-/// Puts a value at a full path.
-///
-/// `Absent` (the instance is not there), then `Full` (it would be the resource's 33rd part).
+/// Puts a value at a full path. `Absent` (the instance is not there), then `Full` (it would be the resource's 33rd
+/// part). Only a path without a value takes memory.
 pub fn put(store: &mut Store, path: FullPath, value: Value) -> Result<(), StoreFault>
     ensures ok { OnOk result (store.new ≡ with_value store.old path value) }
     ensures absent { IsErrOf result StoreFault.Absent ↔ IsFalse (has_instance store.old (instance_at path)) }

@@ -29,7 +29,7 @@ fn replay(fleet: &mut Fleet, entry: &Entry) -> Result<bool, AllocError>
     }
 }
 
-/// Whether the entries are a run of the scenario, and else the least place at which they break off: the entries before
+/// Whether the entries are a run of the scenario, otherwise the least place at which they are not: the entries before
 /// it are a run, and with the one at it they are none. No device makes a step past that place.
 pub fn check(alloc: Global, scenario: &Scenario, entries: &[Entry]) -> Result<Verdict, AllocError>
     ensures { IfOk result (λ verdict. Judges scenario.now entries.now verdict) }

@@ -90,7 +90,7 @@ impl<'a> Fleet<'a> {
         }
     }
 
-    /// Whether an entry of the device can be added: its row has a next step, and this is no need of more posts than
+    /// Whether an entry of the device can be added: its row has a next step, and this is not a need of more posts than
     /// there were so far.
     pub fn enabled(&self, device: u16) -> bool
         ensures is { result ≡ is_enabled self.now.scenario self.now.entries device }
@@ -114,10 +114,9 @@ impl<'a> Fleet<'a> {
         self.entries
     }
 
-    /// Lets the device make its next step, under the worker's number, and adds the entry.
-    ///
-    /// `NotEnabled`: no entry of the device can be added. `Memory` leaves the fleet spent, with the entries as they
-    /// were; `Spent` says that it was spent.
+    /// Lets the device make its next step, under the worker's number, and adds just that entry. `NotEnabled`, exactly
+    /// if no entry of the device can be added; otherwise `Spent`, exactly if the fleet is spent; both change nothing.
+    /// `Memory` leaves the fleet spent, with the entries as they were.
     pub fn commit(&mut self, worker: u16, device: u16) -> Result<(), CommitFault>
         ensures added { OnOk result (self.new.entries ≡ self.old.entries
             ++ entry_of self.old.scenario worker device self.old.entries ∷ []) }

@@ -133,7 +133,8 @@ pub fn step_held(
     }
 }
 
-/// Lets go of the memory of a device that has no next step.
+/// Lets go of the memory of a device that has no next step. One that is held for longer takes memory, and shows the
+/// same.
 pub fn let_go_at_end(held: &mut Held, next: Option<&Step>)
     ensures { (s : Scenario) (d : ℕ) (k : ℕ) → option_copied next.entry ≡ step_at s d k → HoldsAfter s d k held.old
         → HoldsAfter s d k held.new }

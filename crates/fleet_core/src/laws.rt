@@ -16,8 +16,8 @@ ghost use Rattle.fleet_core.specs.Board.{AreStarted, ShowsAfter};
 ghost use Rattle.fleet_core.specs.Blocks.{AreOf};
 ghost use Rattle.fleet_core.specs.Waiting.{is_waiting};
 
-/// Two complete runs of a scenario have as many entries of each device, and these output the same, one after another;
-/// and no run has more entries of a device than a complete one.
+/// Two complete runs of a scenario have the same entries, device by device, except for their order and workers; no run
+/// has more entries of a device than a complete one.
 pub fn runs_agree()
     ensures same { (s : Scenario) (a : List Entry) (b : List Entry) → IsComplete s a → IsComplete s b → (d : ℕ)
         → IsSame d a b }
@@ -25,8 +25,8 @@ pub fn runs_agree()
         → made_by d a ≤ made_by d b }
 {}
 
-/// The front of a run is a run; a run with an entry more is one exactly where the entry fits; and an entry of a device
-/// fits exactly where the device is enabled.
+/// A prefix of a run is a run, and a run is continued exactly by entries that fit; an entry of a device fits exactly if
+/// the device is enabled.
 pub fn runs_grow()
     ensures front { (s : Scenario) (a : List Entry) (b : List Entry) → IsRun s (a ++ b) → IsRun s a }
     ensures fits { (s : Scenario) (es : List Entry) (e : Entry) → IsRun s (es ++ e ∷ []) → Fits s es e }
@@ -41,8 +41,8 @@ pub fn outputs_are_the_rows()
         → out_at s d k ≡ outputs }
 {}
 
-/// What a device outputs depends on its class and its steps alone: in runs of two scenarios, in which devices of the
-/// same class with the same steps have as many entries, these output the same, whatever other devices there are.
+/// What a device outputs depends on its class and its steps alone. In runs of two scenarios, devices of the same class
+/// with the same steps that have as many entries output the same, whatever other devices there are.
 pub fn devices_stand_alone()
     ensures { (s : Scenario) (t : Scenario) (a : List Entry) (b : List Entry) (d : ℕ) (e : ℕ) (class : Template)
         (steps : List Step) → IsRun s a → IsRun t b → IsRowOf s d class steps → IsRowOf t e class steps

@@ -40,7 +40,7 @@ pub fn start_of_row(scenario: &Scenario, device: u16) -> Result<Device, AllocErr
     Device::start(class)
 }
 
-/// The devices of a scenario, each at the start of its row.
+/// The devices of a scenario, each at the start of its row. There is room for just these devices.
 pub fn start_devices(alloc: Global, scenario: &Scenario) -> Result<Vec<Device>, AllocError>
     ensures count { IfOk result (λ v. length v.items ≡ length scenario.now.rows) }
     ensures started { IfOk result (λ v. AreStarted scenario.now v.items) }

@@ -13,7 +13,7 @@ use scenario_image::{Scenario, Step};
 use std::alloc::{AllocError, Global};
 use trace_file::Entries;
 
-/// Adds the entry of a device, under worker 0, if it can go, and returns whether it can.
+/// Adds the entry of a device, under worker 0, if it can step, and returns whether it can.
 fn add_entry(fleet: &mut Fleet, device: u16) -> Result<bool, AllocError>
     requires { fleet.old.spent ≡ false }
     ensures can { IfOk result (λ went. went ≡ is_enabled fleet.old.scenario fleet.old.entries device) }
@@ -28,8 +28,8 @@ fn add_entry(fleet: &mut Fleet, device: u16) -> Result<bool, AllocError>
     }
 }
 
-/// The cursor after a step of the device at it. A post may let a device go that waits for its group, so the cursor
-/// goes back to the group's mark, which is taken away. Another step lets none go that couldn't.
+/// The cursor after a step of the device at it. A post may enable a device that waits for its group, so the cursor
+/// returns to the group's mark, which is removed. No other step enables one.
 fn cursor_after(wake: &mut Vec<u16>, step: Option<&Step>, low: u16) -> u16
     requires groups { length wake.old.items ≡ 256 }
     ensures cursor { result ≡ cursor_after wake.old.items (option_copied step.entry) low }
@@ -61,8 +61,8 @@ fn mark(wake: &mut Vec<u16>, step: Option<&Step>, low: u16)
     }
 }
 
-/// The serial run. A cursor stands at a device below which none can go: where it can go, it goes; else the cursor moves
-/// on by one. Each group has a mark, at most at the lowest device below the cursor that waits for its posts.
+/// The serial run. A cursor stands at a device below which none can step: if it can step, it does; otherwise the cursor
+/// advances by one. Each group has a mark, at most at the lowest device below the cursor that waits for its posts.
 fn serial_entries(alloc: Global, scenario: &Scenario) -> Result<Entries, AllocError>
     ensures { IfOk result (λ es. IsSerial scenario.now es) }
 {
@@ -83,8 +83,8 @@ fn serial_entries(alloc: Global, scenario: &Scenario) -> Result<Entries, AllocEr
     Ok(fleet.into_entries())
 }
 
-/// The serial run of a scenario: always the lowest device that can go, under worker 0. Whatever is answered, all
-/// complete runs of the scenario are the same, device by device.
+/// The serial run of a scenario: always the entry of the lowest device that can step, under worker 0. All complete runs
+/// of the scenario are the same, device by device (`same`).
 pub fn run_serial(alloc: Global, scenario: &Scenario) -> Result<Entries, AllocError>
     ensures serial { IfOk result (λ es. IsSerial scenario.now es) }
     ensures same { (a : List Entry) (b : List Entry) → IsComplete scenario.now a → IsComplete scenario.now b → (d : ℕ)

@@ -121,8 +121,9 @@ fn run_in_scope<'s, E, R: Threads + Wait + Sync, G: Gate + Sync>(
 }
 
 /// Lets workers claim and make steps until there is nothing left to do, each on a thread of its own and under one of
-/// the lowest numbers of the pass, as `worker_loop` does under the lowest. The pass comes back, with how they ended
-/// together. Where a thread can't be started there is none: the workers that were started have ended too then.
+/// the lowest numbers of the pass: what `worker_loop` says of one worker holds of each. The pass comes back, with how
+/// they ended together. Where a thread can't be started there is none: the workers that were started have ended too
+/// then.
 pub fn run_crew<R: Threads + Wait + Sync, G: Gate + Sync>(
     rt: &R,
     lock: &TicketLock<Trace>,

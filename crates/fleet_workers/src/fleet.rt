@@ -93,7 +93,8 @@ fn stalled_run(
     }
 }
 
-/// The result for this joint end of the workers, who left these entries.
+/// The result for this joint end of the workers, who left these entries: that run, or the fault with exactly these
+/// entries. `Memory` comes before `Spent`.
 pub fn outcome(
     alloc: Global,
     scenario: &Scenario,
@@ -209,10 +210,16 @@ fn is_batch(batch: u32) -> bool
 }
 
 /// Lets this many workers, 1 to 64, each on a thread of its own, make a run of the scenario, each at most `batch` steps
-/// of a device at a time, 1 to 64.
+/// of a device at a time, 1 to 64; other numbers are refused, the workers first (`workers`, `batch`). Whatever the
+/// order in which they take the lock, what they make is a complete run, and each device has the entries of the serial
+/// run, with the same outputs; `Done` exactly if each row is at its end, otherwise `Stalled` with exactly the devices
+/// that are not (`run`).
 ///
-/// Whatever the order in which they take the trace, each device makes the steps of the serial run, and outputs the
-/// same.
+/// The own entries of each worker, in order, are exactly the blocks that it put, one after another: each stands in the
+/// run as a whole, has 1 to `batch` steps of one device, fewer only where the device could not step by what the worker
+/// had seen, and the gate was called for it (`blocks`). Where memory or tickets run out, what was made is a run
+/// (`left`), and the fault is one that some workers could have left, with all of their entries, or `Memory` without
+/// entries (`answer`). That these workers did is not said.
 pub fn run_fleet<R: Threads + Wait + Sync, G: Gate + Sync>(
     rt: &R,
     alloc: Global,

@@ -9,6 +9,7 @@ pub trait Gate {
     // call of `pass` tells so: code that promises it for any gate makes the call.
     ghost came: { Self → ℕ → ℕ → Type 0 } = { λ _ _ _. Unit {0} };
 
+    /// A worker of this number comes through the gate with this device.
     fn pass(&self, worker: u16, device: u16)
         ensures { came self.now worker device };
 }

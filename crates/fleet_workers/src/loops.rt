@@ -143,10 +143,13 @@ fn one_turn<R: Wait, G: Gate>(
 }
 
 /// Claims devices under the lowest number of the pass, lets each make at most `batch` steps outside the lock, and puts
-/// them into the trace, until there is nothing left to do. The pass comes back.
+/// them into the trace, until there is nothing left to do. The pass comes back, and has seen more of the run; nothing
+/// was added under its numbers but under the lowest (`follows`). Under that it has the own entries that it had, and
+/// then its blocks (`blocks`).
 ///
-/// The gate is called for each device that was claimed: for those that were put (`blocks`), and for one that was given
-/// up, which stays out (`gate`).
+/// At `Done` and `Stalled` the run is complete; at `Memory` the trace is stopped under the lowest number, unless no
+/// ticket was left for it (`end`); otherwise it has not stopped it (`going`). The gate is called for each device that
+/// was claimed: for those that were put, and for one that was given up, which stays out (`gate`).
 pub fn worker_loop<R: Wait, G: Gate>(
     rt: &R,
     lock: &TicketLock<Trace>,

@@ -16,7 +16,8 @@ use shared_trace::{Claim, Job, Trace};
 use std::sync::Wait;
 use ticket_lock::{Pass, TicketLock};
 
-/// Claims under the lowest number of the pass. There is no answer if no ticket is left.
+/// Claims under the lowest number of the pass, which then knows the job that it got (`claimed`). There is no answer if
+/// no ticket is left. It adds nothing.
 pub fn claim_job<R: Wait>(
     rt: &R,
     lock: &TicketLock<Trace>,
@@ -72,7 +73,9 @@ pub enum Put {
     Spent,
 }
 
-/// Puts the job under the lowest number of the pass.
+/// Puts the job under the lowest number of the pass: the own entries are those from before, followed by exactly the
+/// job's (`own`). A put that says `Memory` has stopped the trace (`memory`); without a ticket the pass has seen that
+/// none is left (`spent`). Where it is not put, nothing was added (`kept`).
 pub fn put_job<R: Wait>(
     rt: &R,
     lock: &TicketLock<Trace>,
@@ -124,8 +127,10 @@ fn put_then_claim(trace: &mut Trace, worker: u16, job: Job) -> Option<Claim>
     }
 }
 
-/// Puts the job under the lowest number of the pass, and claims in the same visit: a worker whose device can go on has
-/// it again, unless a lower one can step. The answer is the claim, or why the worker ends.
+/// Puts the job under the lowest number of the pass, as `put_job` does, and claims in the same visit: a worker whose
+/// device can go on has it again, unless a lower one can step. The answer is the claim, or why the worker ends; a put
+/// that fails says `Memory` or `Spent` (`memory_or_spent`). No device is out afterwards that was not before, but the
+/// one that the claim got (`out`).
 pub fn put_and_claim<R: Wait>(
     rt: &R,
     lock: &TicketLock<Trace>,

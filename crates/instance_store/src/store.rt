@@ -110,7 +110,7 @@ impl Store {
         }
     }
 
-    /// Adds an instance.
+    /// Adds an instance. `Exists`, then `Full`: the object has 64.
     pub fn add_instance(&mut self, place: InstancePath) -> Result<(), StoreFault>
         ensures ok { OnOk result (self.new ≡ with_instance self.old place) }
 
@@ -131,7 +131,8 @@ impl Store {
         Ok(())
     }
 
-    /// Sets the single value of a resource.
+    /// Sets the single value of a resource. `Absent`: there is no such instance. Only a path without a value takes
+    /// memory.
     pub fn put(&mut self, path: ResourcePath, value: Value) -> Result<(), StoreFault>
         ensures ok { OnOk result (self.new ≡ with_value self.old (single_of path) value) }
 
@@ -183,7 +184,8 @@ impl Store {
         }
     }
 
-    /// Sets the value of a part of a resource. A resource has at most 32 parts.
+    /// Sets the value of a part of a resource. `Absent` (no such instance), then `Full` (a new part of a resource that
+    /// has 32). Only a path without a value takes memory.
     pub fn put_part(
         &mut self,
         path: ResourcePath,
@@ -220,7 +222,8 @@ impl Store {
         self.part_count(path) >= 32
     }
 
-    /// Removes the single value and the parts of a resource.
+    /// Removes the single value and the parts of a resource; one that holds nothing stays as it is. `Absent`: there is
+    /// no such instance.
     pub fn clear_resource(&mut self, path: ResourcePath) -> Result<(), StoreFault>
         ensures answer { result ≡ (if has_instance self.old (instance_of path) then Ok tt else Err StoreFault.Absent) }
         ensures ok { OnOk result (self.new ≡ without_values self.old (resource_path path)) }
@@ -233,7 +236,7 @@ impl Store {
         Ok(())
     }
 
-    /// Removes an instance and every value below it.
+    /// Removes an instance and every value below it. `Absent`: there is none.
     pub fn remove_instance(&mut self, place: InstancePath) -> Result<(), StoreFault>
         ensures answer { result ≡ (if has_instance self.old place then Ok tt else Err StoreFault.Absent) }
         ensures ok { OnOk result (self.new ≡ without_instance self.old place) }

@@ -4,23 +4,24 @@ ghost use Rattle.laws_device.specs.Changing.{EndsAreTaken, EndsMiss, PutsMiss, P
 
 use laws_requests::requests_change_what_they_ask;
 
-/// A request that is no repeat and is done changes the values, instances and attributes that its operation
-/// changes at its path, by one table; a Read may change the observation of its server and token; all else is
-/// as before.
+/// A request that is not a repeat and is done changes of what is managed exactly what the table of
+/// `requests_change_what_they_ask` says; of the observations, only a Read may change that of its server and token, and
+/// those of other names stay as they were, in their order; the clock stays.
 pub fn requests_change_a_device()
     ensures { RequestsAreDone }
 {
     requests_change_what_they_ask();
 }
 
-/// A value that fits stands at its path then, and all else is as before; any other changes nothing.
+/// A value that fits stands at its path then; every other value, and instances, attributes, observations, clock, next
+/// message ID and recorded requests are as before (`set`). One that does not fit changes nothing (`missed`).
 pub fn puts_set_one_value()
     ensures set { PutsSetOne }
     ensures missed { PutsMiss }
 {}
 
-/// The end of a download or an update changes State, Update Result and Package URI as the table of the
-/// firmware says, and nothing else; one that is not in the table changes nothing.
+/// The end of a download or an update that the table of the firmware has changes State, Update Result and Package URI
+/// as the table says, and nothing else (`taken`); any other changes nothing (`missed`).
 pub fn firmware_ends_by_its_table()
     ensures taken { EndsAreTaken }
     ensures missed { EndsMiss }

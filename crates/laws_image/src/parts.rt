@@ -5,7 +5,8 @@ ghost use Rattle.laws_image.specs.Parts.{ValuesHaveBytes};
 
 use scenario_image::exact_layouts;
 
-/// These are the bytes of values, definitions of resources, steps and outputs, one of each kind, and of entries.
+/// The bytes of a value of each kind, of definitions with each operation and flag, of a step of each kind, of an output
+/// of each kind, and of two entries.
 pub fn parts_have_bytes()
     ensures values { ValuesHaveBytes }
     ensures definitions { DefinitionsHaveBytes }

@@ -3,18 +3,19 @@
 ghost use Rattle.laws_image.specs.WorkedImage.{HasWorkedFaults, IsEmptyImage, IsWorkedImage};
 ghost use Rattle.laws_image.specs.WorkedTrace.{IsWorkedTrace};
 
-/// These are the images of a small scenario, in version 1 and in version 2, and those of a scenario without a class.
+/// The 56 and the 57 bytes of the image of a small scenario in version 1 and 2, with one account, instance, value and
+/// step (`worked`); the images of a scenario without classes (`empty`).
 pub fn image_is_spelled()
     ensures worked { IsWorkedImage }
     ensures empty { IsEmptyImage }
 {}
 
-/// These bytes are no image, for these reasons.
+/// Bytes near those of `image_is_spelled` are no image, each for one of the six faults.
 pub fn faults_are_found()
     ensures { HasWorkedFaults }
 {}
 
-/// This is the trace file of one entry.
+/// The bytes of the trace file of one entry.
 pub fn trace_is_spelled()
     ensures { IsWorkedTrace }
 {}

@@ -11,40 +11,47 @@ ghost use Rattle.laws_reading.specs.WrongWords.{BytesAreHex, ConIsNamed, Integer
 ghost use Rattle.laws_reading.specs.WrongWords.{MandatoryIsNamed, MultipleIsNamed, NumbersAreWithin};
 ghost use Rattle.laws_reading.specs.WrongWords.{OperationsAreNamed, PathsAreSlashed, TextsAreQuoted};
 
-/// A well-formed message is read from the bytes that it is spelled with.
+/// Every well-formed message is read from the bytes that spell it.
 pub fn messages_read_again()
     ensures { (m : Message) → IsWellFormed m → reading_of (spelling m) ≡ Ok m }
 {}
 
-/// A path segment is read as a number exactly where it is the decimal form of that number, of 16 bits.
+/// A path segment is read as a number exactly if it is that number's decimal form, of 16 bits.
 pub fn decimals_are_read()
     ensures { (segment : List ℕ) (n : ℕ) → (decimal_number segment ≡ Some n) ↔ ((segment ≡ decimal n) × (n < 65536)) }
 {}
 
-/// A query of a Write-Attributes is read as a change exactly where that is what it says.
+/// A query of a Write-Attributes is read as a change exactly if it says it: a name alone unsets the attribute; a name,
+/// `=` and a number of that name's form and range sets it; the name stands at the level.
 pub fn queries_are_said()
     ensures { QueriesAreSaid }
 {}
 
-/// Queries are read from the left as what each says, no two of one name; otherwise the first that has a fault decides.
+/// Queries are read as changes exactly if each says its own, no two of one name (`changes`). They have a fault exactly
+/// if the first one that says no such change has it: no known name, or else a name that is there before, or else a text
+/// that says no number, or else a level at which the name does not stand (`fault`).
 pub fn first_fault_decides()
     ensures changes { ChangesAreSaid }
     ensures fault { FirstFaultDecides }
 {}
 
-/// A line of scenario text is cut into these words exactly where they are the words that it has.
+/// A line is cut into words exactly if it is made of them: spaces, a word without spaces or one that begins with a
+/// quoted text, then a space or the end; after them a comment or nothing. A quote that is not closed makes the rest of
+/// the line one word.
 pub fn lines_have_words()
     ensures { LinesHaveWords }
 {}
 
-/// A statement of scenario text is read exactly from the words that say it.
+/// Words are read as a statement exactly if they say it, so no other spelling is taken than in hex of either case and
+/// escapes in quotes. That holds of the words of mnemonics too.
 pub fn statements_are_said()
     ensures { StatementsAreSaid }
 {}
 
-/// A word is refused exactly where it does not have the form of a word in its place, which is `Token`, or
-/// has it and is none of the words that are allowed there: `UnknownWord` of a name, `Range` of a number, a
-/// path or a link.
+/// A word is refused exactly if it does not have the form of a word in its place (`Token`), or has it and is none of
+/// the words that are allowed there, with a clause for each kind of word. A name has bytes 21 to 7E or is a quoted text
+/// (`UnknownWord`); numbers, paths and links are of decimal numbers without needless zeros, of any size and sign
+/// (`Range`); of bytes in hex and of quoted texts the form is all.
 pub fn wrong_words_are_said()
     ensures con { ConIsNamed }
     ensures operations { OperationsAreNamed }
@@ -59,8 +66,10 @@ pub fn wrong_words_are_said()
     ensures texts { TextsAreQuoted }
 {}
 
-/// A line is refused for the first of its words that is wrong in its place, or because a word is missing
-/// or is one too many.
+/// The words of a line are refused exactly if the first is not a keyword, or if of the places that its statement or
+/// mnemonic has one is filled by a wrong word and those before it are not, or has no word (`Missing`), or if there is a
+/// word too many (`Token`); so the first wrong word from the left decides. The queries of an `attr` are wrong (`Token`)
+/// if any of them is.
 pub fn wrong_statements_are_said()
     ensures { WrongStatementsAreSaid }
 {}

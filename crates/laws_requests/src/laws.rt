@@ -23,8 +23,8 @@ ghost use Rattle.laws_requests.specs.Writes.{InstancesAreWritten, PartsAreWritte
 
 use device_requests::refusals_have_reasons;
 
-/// A request is done exactly where it meets none of the rules and keeps to the limits; it is answered 5.00 exactly
-/// where it meets none of the rules before the limits, and does not keep to these.
+/// Of requests whose options, path and method are not refused. A request is done exactly if no rule refuses it
+/// (`done`). It is 5.00 exactly if no rule before the limits refuses it, and the limits do (`limits`).
 pub fn good_requests_are_done()
     ensures done { GoodIsDone }
     ensures limits { LimitsComeLast }
@@ -32,8 +32,8 @@ pub fn good_requests_are_done()
     refusals_have_reasons();
 }
 
-/// A Package, a Package URI or an Update that the firmware does not take in its State is answered 4.05
-/// where no rule before refuses it, and never 5.00, whatever would be stored.
+/// If the firmware does not take a Package, a Package URI or an Update in its State, the answer is 4.05, unless a rule
+/// before refuses (`decide`). Such a request is never done and never 5.00, whatever would be stored (`precede`).
 pub fn firmware_states_come_before_limits()
     ensures decide { StatesDecide }
     ensures precede { StatesPrecedeLimits }
@@ -41,88 +41,106 @@ pub fn firmware_states_come_before_limits()
     refusals_have_reasons();
 }
 
-/// Attributes change by Write-Attributes and Delete alone, instances come and go by Create and Delete alone, and Read,
-/// Discover and Write-Attributes change nothing that is stored.
+/// Attributes change only by Write-Attributes and Delete, instances only by Create and Delete, and Read, Discover and
+/// Write-Attributes change no instance and no value.
 pub fn operations_keep_others()
     ensures { OperationsKeepOthers }
 {}
 
-/// A request that is done changes what its operation changes at its path, by one table, and nothing else: values,
-/// instances, attributes. What is a Package or a Package URI the firmware takes.
+/// A request that is done changes exactly what one table says for its operation at its path: Read and Discover nothing;
+/// Write the values of its target; Write-Attributes the attributes of its server at its path; Create one instance, and
+/// with two accounts or more one of Access Control; Execute what Update and Reset Error Code change; Delete its
+/// instance and what belongs to it. All else is as before: values, instances, attributes, accounts and definitions. A
+/// Write of a Package or a Package URI is in this table: State, Update Result and Package URI are then as the table of
+/// the firmware says, and no Package is kept.
 pub fn requests_change_what_they_ask()
     ensures { DoneIsChanged }
 {}
 
-/// An Execute changes nothing but the State and the Update Result, where it begins an update, and the Error Code, where
-/// it resets it.
+/// An Execute changes nothing (`nothing`) but two: Reset Error Code leaves one error code, 0 (`errors`); Update takes
+/// State from Downloaded to Updating, with the initial Update Result (`update`).
 pub fn executes_change_little()
     ensures nothing { ExecutesKeep }
     ensures errors { ErrorsAreReset }
     ensures update { UpdatesBegin }
 {}
 
-/// A Delete takes the instance and the instances of Access Control that refer to it, with their values and the
-/// attributes set at and below them, and nothing else.
+/// After a Delete answered by 2.02, gone are the instance, the instances of Access Control that refer to it, their
+/// values, and the attributes set at and below them; nothing else is.
 pub fn deletes_take_what_belongs()
     ensures { DeletesTake }
 {}
 
-/// After a Write there is what was given, where it can be read; Replace takes away what was not given, Partial Update
-/// leaves it; nothing else changes.
+/// After a Write answered by 2.04, each full path in the target has what the payload gave to a resource that can be
+/// read, nothing if Replace takes it away, and otherwise what it had; all others have what they had. Of resources
+/// outside Firmware Update, whose Package and Package URI go to the firmware.
 pub fn writes_are_kept()
     ensures instances { InstancesAreWritten }
     ensures resources { ResourcesAreWritten }
     ensures parts { PartsAreWritten }
 {}
 
-/// A Create adds one instance that holds what was given and is kept; with two accounts or more also an instance of
-/// Access Control that refers to it and names its owner; nothing else changes.
+/// After a Create answered by 2.01, the new instance has what the payload gave to resources that can be read; with two
+/// accounts or more a new instance of Access Control has the object and the instance that it refers to and the server
+/// as owner, and no entry of rights; every other value and instance is as it was.
 pub fn creates_add_one_instance()
     ensures { CreatesAdd }
 {}
 
-/// A Write-Attributes sets the attributes of its server at its path as its queries say, and no others.
+/// After a Write-Attributes answered by 2.04, the attributes of its server at its path are those before with the
+/// changes that its queries spell; all others are as they were.
 pub fn attributes_are_set()
     ensures { AttributesAreSet }
 {}
 
-/// A Read of a resource instance answers what was written there.
+/// If a Write of a resource instance that can be read was answered by 2.04, its payload gave one value, and a Read of
+/// it by a server that may read there answers that value in each format that is served; 5.00 if that is over 1,024
+/// bytes.
 pub fn reads_the_part_that_was_written()
     ensures { PartIsRead }
 {}
 
-/// A Read of a multiple resource answers exactly the parts that it holds, by ascending number; after a Write that
-/// replaces, these are the parts that were given; after a Write of a part, that part and the others from before.
+/// A Read of a multiple resource answers exactly the parts that it holds, ascending; 4.04 without parts, 5.00 over
+/// 1,024 bytes (`held`). After a Write by Replace answered by 2.04, these are exactly the parts that the payload gave
+/// (`written`); after a Write of one part, that part and the others that it held (`part`).
 pub fn reads_multiple_resources()
     ensures held { MultipleIsRead }
     ensures written { MultipleIsReadBack }
     ensures part { PartIsReadAmong }
 {}
 
-/// After a Write an instance holds each value and each part that was given to a resource that can be read; what
-/// Replace takes away is gone, and all else is as it was. Reads of its resources then answer what was given.
+/// After a Write of an instance answered by 2.04, each single value and part that was given to a resource that can be
+/// read is held; beside given parts Replace leaves none and Partial Update all; of resources that are not named Replace
+/// takes the optional writable ones away, and all else stays (`held`). A Read of each given resource answers so, in
+/// each format that is served (`read`).
 pub fn instances_hold_what_was_given()
     ensures held { InstancesHoldGiven }
     ensures read { InstancesAreReadBack }
 {}
 
-/// Values of instances that a server may not read show in no answer to it, whatever it asks for, except for what
-/// the firmware decides by its State.
+/// Of two devices that hold values at the same paths, and the same values where a server may read, all requests of that
+/// server get the same answer (`all`), but for a Write of Package or Package URI and an Execute of Update while it may
+/// not read `/5/0`. So it is of every Read, and with it of what a notification reports (`read`).
 pub fn answers_hide_the_unreadable()
     ensures read { ReadsHideUnread }
     ensures all { AnswersHideUnread }
 {}
 
-/// A Read of an object answers exactly the instances that the server may read, a Read of an instance exactly its values
-/// that can be read, by ascending number; where the object has instances, and the server may read none, it is 4.01.
+/// A Read of an object answers one Object Instance for each instance on which the server has R, and for no other, by
+/// ascending number; each holds exactly the values of that instance that can be read, single ones as Resources, parts
+/// in Multiple Resources, by ascending number (`object`). It is 4.01 exactly if there are instances and the server has
+/// R on none (`hidden`). A Read of an instance answers what its Object Instance holds (`instance`). Each is 5.00 over
+/// 1,024 bytes.
 pub fn reads_show_what_is_held()
     ensures instance { InstanceIsShown }
     ensures object { ObjectIsShown }
     ensures hidden { ObjectIsHidden }
 {}
 
-/// What a payload gives is what the grammar of its records says: to the resources of an instance, to a resource, to a
-/// part, and to a new instance. An Object Instance of another number gives nothing.
+/// A grammar of TLV records, plain text and bytes says what a payload gives, and `instance_given`, `resource_given`,
+/// `part_given` and `creation_given` are exactly that: numbers differ and are defined, each resource is open to Write,
+/// or to Create, each value is valid, a mandatory multiple resource has a part, and a Create gives each mandatory
+/// resource that can be read. One Object Instance of another number gives nothing (`other`).
 pub fn payloads_give_what_they_say()
     ensures instances { InstancesAreGiven }
     ensures other { OtherInstanceGivesNothing }
@@ -131,15 +149,17 @@ pub fn payloads_give_what_they_say()
     ensures creations { CreationsAreGiven }
 {}
 
-/// What exists, what a Write may go to besides, and that what exists lies in what exists.
+/// Which objects, instances, resources and parts exist (`exist`), what a Write may go to (`write`), and that what
+/// exists lies in what exists (`within`).
 pub fn targets_exist()
     ensures exist { WhatExists }
     ensures write { WhatIsToWrite }
     ensures within { ExistsWithin }
 {}
 
-/// Which formats a path serves, and by default; a format that is named is the one that is given. A Create takes TLV
-/// alone, an Execute plain text alone.
+/// Which formats a path serves, and its default (`served`). A format that is named is the one that is given (`named`);
+/// the default one is served where it is named (`default`). A Create takes TLV or none, an Execute plain text or none
+/// (`others`).
 pub fn formats_are_served()
     ensures served { FormatsAreServed }
     ensures named { NamedIsGiven }
@@ -147,8 +167,11 @@ pub fn formats_are_served()
     ensures others { OthersTakeOne }
 {}
 
-/// What the options of a request say: which must be understood and are not, the numbers of the first Accept,
-/// Content-Format and Observe, the segments, the path and the queries; all others can be left out.
+/// Options are refused exactly if one with an odd number stands where it is not understood: not recognized, of a wrong
+/// length, or again where it may stand once (`critical`). Accept, Content-Format and Observe are the numbers of the
+/// first one, unless that is too long (`first`). The segments and the queries stand in their order (`values`), and one
+/// to four decimal numbers name the path (`path`). Uri-Host, Uri-Port and each option with an even number that is not
+/// recognized can be left out of a request, and nothing changes (`others`).
 pub fn options_are_understood()
     ensures critical { CriticalIsUnderstood }
     ensures first { FirstNames }

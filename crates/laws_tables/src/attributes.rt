@@ -2,7 +2,8 @@
 
 ghost use Rattle.laws_tables.specs.Levels.{LowestHasEffect, NoneHasEffect};
 
-/// Of the levels at and above a path that have an attribute, the lowest decides; where none has it, there is none.
+/// An attribute has effect on a path exactly if it stands at the lowest of those levels that begin the path and have
+/// it; a level has one to three numbers. Where none has it, none has effect.
 pub fn lowest_level_has_effect()
     ensures lowest { LowestHasEffect }
     ensures none { NoneHasEffect }

@@ -4,9 +4,9 @@ ghost use Rattle.laws_tables.specs.Refusals.{AccountsAreRefused, InstancesAreRef
 ghost use Rattle.laws_tables.specs.Refusals.{PathsAreRefused, ResourcesAreRefused, TimeoutsAreRefused};
 ghost use Rattle.laws_tables.specs.Refusals.{ValuesAreRefused};
 
-/// What is added to a class is refused where it does not fit, or else where it stands in nothing that is there, or else
-/// where it is there, or else where there is no room for it; and what each of these means for accounts, first timeouts,
-/// objects, resources, instances and values.
+/// A class refuses what does not fit (`Range`), or else what stands in nothing that is there (`Missing`), or else what
+/// is there (`Duplicate`), or else what has no room (`Full`), and nothing else; a clause for each kind of addition says
+/// what each of the four is. The path of a value has three or four numbers (`paths`).
 pub fn refusals_are_in_order()
     ensures accounts { AccountsAreRefused }
     ensures timeouts { TimeoutsAreRefused }

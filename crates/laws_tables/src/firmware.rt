@@ -2,8 +2,9 @@
 
 ghost use Rattle.laws_tables.specs.Firmware.{LinesHold, OtherCodesAreRefused, WritesAreEvents};
 
-/// Which event is taken in which State, and which Package URI, State and Update Result follow, line by line; all else
-/// stays. A Write of a Package or a Package URI is one of three of the events.
+/// Each line of a table holds of every store: an event, the States in which it is taken, and the Package URI, the State
+/// and the Update Result that follow; all else stays, and in the other States the event is not taken (`lines`). Codes
+/// above 9 are not taken (`others`). Which Writes are which event (`writes`).
 pub fn firmware_follows_its_table()
     ensures lines { LinesHold }
     ensures others { OtherCodesAreRefused }

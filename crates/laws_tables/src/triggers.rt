@@ -2,8 +2,9 @@
 
 ghost use Rattle.laws_tables.specs.Triggers.{AreTriggered, SendsByAge, TriggersBySaying};
 
-/// What triggers an observation: gt or lt that its value has crossed, or a change by st, in thousandths; where none of
-/// these is set, or the target is no number, another payload. When it then sends: by pmin and pmax.
+/// If gt, lt or st is set and there are two numbers, an observation is triggered exactly if the value crossed gt or lt
+/// or changed by st, in thousandths; otherwise if the payload is another (`trigger`; nine in numbers: `examples`). It
+/// sends after pmin if it is triggered or pmax has passed (`periods`).
 pub fn triggers_are_said()
     ensures trigger { TriggersBySaying }
     ensures examples { AreTriggered }

@@ -8,8 +8,9 @@ ghost use Rattle.laws_text.specs.SameWords.{BlankLinesAddNothing, BlankLinesMove
 ghost use Rattle.laws_text.specs.WrongLine.{LaterLinesChangeNothing, NothingElseEndsWrong, NothingIsMissing};
 ghost use Rattle.laws_text.specs.WrongLine.{RefusedAtFirstWrong};
 
-/// A text is refused at the first line such that no text of a scenario begins with the lines up to it, for the same
-/// cause whatever stands in later lines; one that states nothing is refused at line 1, and no other one at its end.
+/// A text is refused at line n exactly if some scenario's text begins with the lines before it and none with these and
+/// that line; or if the text states nothing, and n is 1 (`line`). Whatever follows that line, the fault is the same
+/// (`stays`). A text without words is the only one whose fault is found at its end (`nothing`, `end`).
 pub fn refused_at_first_wrong_line()
     ensures line { RefusedAtFirstWrong }
     ensures stays { LaterLinesChangeNothing }
@@ -17,35 +18,35 @@ pub fn refused_at_first_wrong_line()
     ensures end { NothingElseEndsWrong }
 {}
 
-/// Of a line its words alone count. Lines without words add nothing, and change the number of a fault's line alone.
+/// Texts with the same words in each line have the same scenario or fault (`words`). Lines without words change only
+/// the numbers of lines (`scenario`, `fault`).
 pub fn blank_lines_add_nothing()
     ensures words { OnlyWordsCount }
     ensures scenario { BlankLinesAddNothing }
     ensures fault { BlankLinesMoveFaults }
 {}
 
-/// Each class of a text's scenario is what its own statements make of the empty class, those from its `class` up to
-/// the next `class` or `device`; each device has the class of its `device` and the steps up to the next `device`. So
-/// what the lines say, part by part, is one scenario.
+/// The classes are, in order, what the lines from each `class` to the next `class` or `device` say, and the devices
+/// what each `device` and the steps up to the next say. So what the lines say is one scenario (`one`).
 pub fn parts_are_said()
     ensures said { PartsAreSaid }
     ensures one { PartsSayOne }
 {}
 
-/// Each class of a text's scenario holds just what its part of the text states, in whatever order: its accounts, the
-/// objects of its own beside those of the base, their resources, its instances and its values.
+/// A class has exactly the first timeout, accounts, objects, resources, instances and values that its lines state, in
+/// whatever order.
 pub fn classes_hold_what_is_stated()
     ensures { ClassesHoldWhatIsStated }
 {}
 
-/// The fault of a text: the lines before it are taken, and its line is refused for the first cause of its words, from
-/// the left, or else of its statement: something is missing, does not fit, is a duplicate, or is over a limit.
+/// The fault is that of the first line that cannot be read, or else the first that applies of four tables with a row
+/// for each statement: what it needs is not stated, it does not fit, it was stated, a limit is reached.
 pub fn faults_are_first()
     ensures { FaultsAreFirst }
 {}
 
-/// What a line states and why it is refused, by relations of its words: it has the words of a statement,
-/// or one of its words is the first wrong one.
+/// A line states just what its words say, by the relations of `laws_reading` (`lines`). It is refused exactly for the
+/// first of its words that is wrong, or else by the first of the four tables of `faults_are_first` (`causes`).
 pub fn causes_are_said()
     ensures lines { LinesAreSaid }
     ensures causes { CausesAreSaid }

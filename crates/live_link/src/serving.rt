@@ -192,12 +192,21 @@ impl Serving {
     }
 }
 
-/// Puts a device on a wire, for n turns: in each the clock is read, the seconds that passed are a tick of the
-/// device, and what has then arrived on the wire is received. What the device outputs is sent before it goes on.
+/// Puts a device on a wire, for n turns: in each the clock is read, the seconds that passed are a tick of the device,
+/// and what has then arrived on the wire is received. What the device outputs is sent before the next step. Over every
+/// wire and clock that keeps the contract of its trait, the steps, what was sent and the end are a session
+/// (`IsSession`):
 ///
-/// The first reading sets the start. At most a day passes in a turn, and the rest in later ones; where the clock went
-/// back, none passes until it is beyond what was counted. A step that the device did not take, or for which no memory
-/// was left, is not among the steps, and nothing of it was sent.
+/// - What was sent is what the wire took in during the call, in order, and is what the steps output; where `send`
+///   failed or had no memory, all before the datagram that failed, and no later step was made.
+/// - The steps are those of the turns, one turn for each reading of the clock: the seconds that passed, and then what
+///   the call of `receive` after it gave; in the last turn that call may not have been made. A step that was refused,
+///   or for which no memory was left, is not among them, and nothing of it was sent.
+/// - The seconds of a turn are those from the first reading to its own, without those that have passed before, and at
+///   most a day; where the clock goes back none passes until it is beyond what was counted.
+/// - At `Turns` the clock was read and the wire asked exactly as often as there were turns. `ReceiveFault` and
+///   `SendFault` come only if the wire failed, and `Spent` only if the device was spent at the call, or the tick that
+///   was due would take its clock past 2^63 - 1.
 pub fn serve<W: Wire, C: Seconds>(
     alloc: Global,
     wire: &mut W,

@@ -10,7 +10,7 @@ use device_machine::{Device, Template};
 use std::alloc::{AllocError, Global};
 
 /// Puts a device of this class on a wire, at its start, for n turns, as `serve` does. It fails only where no memory is
-/// left for the device, and then nothing went over the wire.
+/// left for the device; then the wire was not asked and the clock not read.
 #[tactic(auto, using(crate::proofs::FromStart::served))]
 pub fn serve_class<W: Wire, C: Seconds>(
     alloc: Global,

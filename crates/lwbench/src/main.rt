@@ -3,6 +3,7 @@
 
 use std::process::ExitCode;
 
+/// Gives `start` the system, with its reader of standard input and its standard error.
 fn main(rt: HostRuntime) -> ExitCode {
     bench_commands::start(&rt, &mut rt.reader(), &mut rt.stderr())
 }

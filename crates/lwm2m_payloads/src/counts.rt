@@ -71,7 +71,8 @@ fn exceeds(
     is_too_many(mode, store, path, &assignment.given)
 }
 
-/// Whether some resource of an instance would have more than 32 parts (this profile's limit) after a Write.
+/// Whether some resource of an instance would have more than 32 parts (this profile's limit) after a Write. Each
+/// resource is counted once: that assignments name none twice is an invariant of `Assignments`.
 pub fn has_too_many(
     mode: Mode,
     resources: &[ResourceDef],

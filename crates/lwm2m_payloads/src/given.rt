@@ -18,7 +18,7 @@ pub enum Purpose {
 /// How a Write treats what it doesn't name (OMA LwM2M 1.1 Core, Write).
 #[derive(Clone, Copy, Debug, PartialEq, Eq)]
 pub enum Mode {
-    /// Replace: what can be taken away goes.
+    /// Replace: what can be removed is removed.
     Replace,
     /// Partial Update: it stays.
     Update,

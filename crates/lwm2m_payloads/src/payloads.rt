@@ -76,7 +76,8 @@ pub fn write_part(
 }
 
 /// The TLV that shows what is at or below an instance or a multiple resource: the values of readable resources by
-/// number, the parts of one in a Multiple Resource. None where it has more than 1,024 bytes (this profile).
+/// number, the parts of one in a Multiple Resource. None where it has more than 1,024 bytes (this profile); by the code
+/// all records are made before that is known.
 pub fn values_tlv(
     alloc: Global,
     store: &Store,

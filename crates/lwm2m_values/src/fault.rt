@@ -37,10 +37,10 @@ impl<T: Drop> From<AllocFailed<T>> for ValueFault {
 /// Why bytes were not read as TLV.
 #[derive(Clone, Copy, Debug, PartialEq, Eq, Error)]
 pub enum TlvFault {
-    /// A record goes past the end of what is around it.
+    /// A record extends past the end of what contains it.
     #[error("a record is cut")]
     Cut,
-    /// A record is of a type that may not stand there.
+    /// A record of this type is not allowed there.
     #[error("a record may not stand there")]
     Nesting,
     /// Memory ran out.

@@ -35,8 +35,9 @@ pub fn one_value_of_bytes()
     ensures reads_written { (v : Value) → IsGood v → value_of_bytes (kind_of v) (bytes_of v) ≡ Some v }
 {}
 
-/// The laws of TLV. Bytes are TLV of one list of nodes, or else have one fault, and never both; what is written is read
-/// again; and no TLV of the nodes is shorter. What `nodes_of_bytes` computes of bytes is the nodes whose TLV they are.
+/// The laws of TLV. Bytes are TLV of one list of nodes, or else have one fault, and never both; bytes that are TLV of
+/// no nodes have a fault. What is written is read again; and no TLV of the nodes is shorter. What `nodes_of_bytes`
+/// computes of bytes is the nodes whose TLV they are, for every list of numbers, also one that holds more than bytes.
 pub fn one_tlv()
     ensures nodes { (bytes : List ℕ) (f g : Trees) → IsTlv f bytes → IsTlv g bytes → f ≡ g }
     ensures fault { (bytes : List ℕ) (d e : TlvFault) → HasFault Top bytes d → HasFault Top bytes e → d ≡ e }

@@ -91,7 +91,8 @@ fn good_of(alloc: Global, kind: ValueKind, text: &[u8]) -> Result<Value, ValueFa
     }
 }
 
-/// The valid value of this kind whose plain text this is.
+/// The valid value of this kind whose plain text this is, otherwise `BadValue`. The text of an Opaque is padded base64
+/// (RFC 4648 section 4); that its alphabet is the standard's is shown by cases.
 pub fn read_text(alloc: Global, kind: ValueKind, text: &[u8]) -> Result<Value, ValueFault>
     ensures found { IfOk result (λ v. IsGood v × (kind_of v ≡ kind) × IsText v text.now) }
     // There is no other such value, and where there is one it is read, unless memory runs out.

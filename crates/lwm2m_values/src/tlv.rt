@@ -64,7 +64,8 @@ fn node_of(alloc: Global, kind: RecordType, id: u16, content: &[u8]) -> Result<N
     }
 }
 
-/// The nodes whose TLV the bytes are.
+/// The nodes whose records the bytes are (OMA LwM2M 1.1 Core, TLV), in any spelling; otherwise `Cut` or `Nesting`, the
+/// first from the left. By the code, each byte of a content is looked at once for each level, at most three.
 pub fn read_tlv(alloc: Global, bytes: &[u8]) -> Result<Vec<Node>, TlvFault>
     ensures found { IfOk result (λ v. IsTlv (trees_of v.items) bytes.now) }
     // There are no other nodes of these bytes, and where there are some they are read, unless memory runs out.

@@ -73,7 +73,7 @@ fn good_of(alloc: Global, kind: ValueKind, bytes: &[u8]) -> Result<Value, ValueF
     }
 }
 
-/// The valid value of this kind with these bytes, as TLV has them.
+/// The valid value of this kind with these bytes, as TLV has them, otherwise `BadValue`.
 pub fn value_of(alloc: Global, kind: ValueKind, bytes: &[u8]) -> Result<Value, ValueFault>
     ensures found { IfOk result (λ v. IsGood v × (kind_of v ≡ kind) × IsBytesOf v bytes.now) }
     // There is no other such value, and where there is one it is read, unless memory runs out.

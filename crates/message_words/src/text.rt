@@ -52,7 +52,9 @@ fn words_of(alloc: Global, message: &Message) -> Result<String, AllocError>
     Ok(out)
 }
 
-/// A message in words: `ACK 2.05 Content, message 1, token AA, text/plain "80"`, with no line feed at its end.
+/// A message in words: type, code, message ID, token, options, Content-Format and payload, in this order, as in `ACK
+/// 2.05 Content, message 1, token AA, text/plain "80"`. There is no control character in it, so no line feed, whatever
+/// bytes a sender chose (`one_line`).
 #[tactic(auto, using(crate::proofs::OneLine::message_said))]
 pub fn message_text(alloc: Global, message: &Message) -> Result<String, AllocError>
     ensures text { IfOk result (λ text. string_bytes text ≡ message_text message.now) }
@@ -86,7 +88,8 @@ fn no_message(alloc: Global, fault: CoapFault) -> Result<String, AllocError>
     format!(in alloc; "no message: {reason}")
 }
 
-/// A datagram in words: those of its message, or `no message: ` and why its bytes are none.
+/// A datagram in words: those of the message that the bytes spell, or `no message: ` and the fault that they have; for
+/// all bytes one of the two, in one line.
 pub fn datagram_text(alloc: Global, bytes: &[u8]) -> Result<String, AllocError>
     ensures text { IfOk result (λ text. string_bytes text ≡ reading_text (reading_of bytes.now)) }
     ensures message { (m : MessageData) → Spells bytes.now m → IfOk result (λ text. string_bytes text ≡ message_text m) }

@@ -220,7 +220,7 @@ impl Attributes {
         }
     }
 
-    /// A copy, which equals its source.
+    /// A copy, which equals its source. Only an attribute takes memory.
     pub fn copy(&self) -> Result<Attributes, AllocError>
         ensures same { IfOk result (λ a. a ≡ self.now) }
         ensures grows { OnErr result (self.now ≢ map.empty) }
@@ -303,8 +303,9 @@ impl Attributes {
         )
     }
 
-    /// Makes these changes for a server on a path, the later over the earlier. The levels at which
-    /// attributes stand are not looked at.
+    /// Makes these changes for a server on a path, the later over the earlier. `Inconsistent` exactly if the numbers of
+    /// this server on this path would then not keep lt < gt, or lt + 2 st < gt. An error changes nothing, and only a
+    /// change takes memory. The levels at which attributes stand are not looked at.
     pub fn write(&mut self, server: u16, path: Path, changes: &[Change]) -> Result<(), WriteFault>
         ensures ok { OnOk result (self.new ≡ written self.old server path changes.now) }
         ensures inconsistent { IsErrOf result WriteFault.Inconsistent
@@ -324,8 +325,8 @@ impl Attributes {
         Ok(())
     }
 
-    /// The attributes of a server with their paths, by the numbers of the paths, a path before
-    /// those below it, and then by name.
+    /// The attributes of a server with their paths, by the numbers of the paths, a path before those below it, and then
+    /// by name: pmin, pmax, gt, lt, st. Only an attribute of the server takes memory.
     pub fn list(&self, server: u16) -> Result<Vec<(Path, Name, i64)>, AllocError>
         ensures listed { IfOk result (λ v. v.items ≡ listed self.now server) }
 

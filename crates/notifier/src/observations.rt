@@ -64,7 +64,7 @@ impl Observations {
         }
     }
 
-    /// A copy, which equals its source.
+    /// A copy, which equals its source. Only an observation takes memory.
     pub fn copy(&self) -> Result<Observations, AllocError>
         ensures same { IfOk result (λ o. o ≡ self.now) }
         ensures grows { OnErr result (self.now.list ≢ []) }
@@ -79,11 +79,13 @@ impl Observations {
         })
     }
 
-    /// Registers an observation with the reply to its request: adds it at the end, with the Observe
-    /// number 0, or updates the one of its server and token in its place, with the next number. An update
-    /// closes. Answers the number. `now` is the second of the reply, `mid` its message ID, and `non`
-    /// whether it is a NON. A token has 8 bytes at most. Until more is said of it, nothing is pending of it, with a
-    /// pmin of 0 and no pmax.
+    /// Registers an observation with the reply to its request: adds it at the end, with the Observe number 0, or
+    /// updates the one of its server and token in its place, with the next number. Returns the number. An update
+    /// closes. `now` is the second of the reply, `mid` its message ID, and `non` whether it is a NON. A token has 8
+    /// bytes at most.
+    ///
+    /// `Full` exactly for a new server and token beside 32 observations. An error changes nothing, and only a new one
+    /// takes memory. Until more is said of it, nothing is pending of it, with a pmin of 0 and no pmax.
     pub fn register(
         &mut self,
         server: u16,
@@ -295,9 +297,9 @@ impl Observations {
         observation_at(&self.entries, place)
     }
 
-    /// The first second after `now` at which an observation sends or is removed, by what was last said of each, if
-    /// there is one below 2^64. Of one that is open it is the next second at which its notification is sent again, or
-    /// at which it is removed, whatever was said of it.
+    /// The first second after `now`, below 2^64, at which an observation sends or is removed, by what was last said of
+    /// each; none if there is none. Of one that is open it is the next second at which its notification is sent again,
+    /// or at which it is removed, whatever was said of it. It takes no memory.
     pub fn due(&self, now: u64) -> Option<u64>
         ensures { MatchOption result (IsNeverDue now self.now.list self.now.said)
             (λ first. IsFirstDue now self.now.list self.now.said first) }

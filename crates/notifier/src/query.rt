@@ -161,12 +161,12 @@ impl Changes {
     }
 }
 
-/// The changes that queries spell for a path of this level, each `name=number`, or `name` alone,
-/// which unsets it; or else the first fault from the left.
+/// The changes that queries spell for a path of this level, each `name=number`, or `name` alone, which unsets it; or
+/// else the first fault from the left. Neither no query nor a first one with a fault takes memory.
 ///
-/// pmin and pmax are 1 or more digits, at most 2,147,483,647, and stand at every level. gt, lt and
-/// st are `-` or nothing, 1 to 15 digits, and a point with 1 to 3 digits or nothing; st is above 0;
-/// they stand at a single resource of a number alone.
+/// pmin and pmax are 1 or more digits, at most 2,147,483,647, and stand at every level. gt, lt and st are `-` or
+/// nothing, 1 to 15 digits, and a point with 1 to 3 digits or nothing; st is above 0; they stand at a single resource
+/// of a number alone.
 pub fn parse_query(alloc: Global, queries: &[&[u8]], level: Level) -> Result<Changes, QueryFault>
     ensures ok { IfOk result (λ c. changes_of [] level (map (λ q. q.now) queries.now) ≡ Ok c) }
     ensures fault { IfErr result (λ e. e ≢ QueryFault.Memory

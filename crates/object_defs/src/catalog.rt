@@ -112,10 +112,9 @@ impl Catalog {
         None
     }
 
-    /// Adds a vendor's object that has no resource yet.
-    ///
-    /// `IdRange` (a number outside 10241 to 32768), then `Duplicate`, then `TooMany` (16 objects, those of the base
-    /// among them).
+    /// Adds a vendor's object that has no resource yet, in the order of the numbers. `IdRange` (a number outside 10241
+    /// to 32768), then `Duplicate`, then `TooMany` (16 objects, those of the base among them); an error changes
+    /// nothing. Then the new definition is found, and every other one as before.
     pub fn add_vendor(&mut self, id: u16) -> Result<(), CatalogFault>
         ensures added { OnOk result (self.new ≡ with_object self.old id) }
         ensures refused { IfErr result (λ f. f ≢ CatalogFault.Memory → vendor_fault self.old id ≡ Some f) }
@@ -156,10 +155,10 @@ impl Catalog {
         }
     }
 
-    /// Adds a resource to a vendor's object.
-    ///
-    /// `IdRange` (no such vendor's object, or an executable resource that is multiple or of another kind than Text),
-    /// then `Duplicate`, then `TooMany` (64 resources of the object).
+    /// Adds a resource to a vendor's object, in the order of the numbers. `IdRange` (no such vendor's object, or an
+    /// executable resource that is multiple or of another kind than Text), then `Duplicate`, then `TooMany` (64
+    /// resources of the object); an error changes nothing. Then the new definition is found, and every other one as
+    /// before.
     pub fn add_resource(&mut self, object: u16, definition: ResourceDef) -> Result<(), CatalogFault>
         ensures added { OnOk result (self.new ≡ with_resource self.old object definition) }
         ensures refused { IfErr result (λ f. f ≢ CatalogFault.Memory

@@ -30,7 +30,7 @@ impl Bytes {
         }
     }
 
-    /// A copy of these bytes. Up to 16 take no memory.
+    /// A copy of these bytes. Up to 16 take no memory, in a clone neither; where the bytes lie is not said.
     pub fn from_slice(alloc: Global, bytes: &[u8]) -> Result<Bytes, AllocError>
         ensures copy { IfOk result (λ b. b ≡ bytes.now) }
         ensures short { length bytes.now ≤ 16 → IsOk result }

@@ -8,12 +8,13 @@ use scenario_image::Scenario;
 use scenario_words::next_line;
 use std::alloc::Global;
 
-/// The scenario of a text.
+/// The scenario that a text denotes, otherwise the first line that is refused, and its one cause, the first in this
+/// order. In a line words are read from the left (`Missing`, `Token`, `UnknownWord`, `Range`), and no word may be left
+/// (`Token`). Then `Missing` (it needs what was not stated before, `scenario 1` in the first place), `Range` (it does
+/// not fit), `Duplicate` (it was stated before), `Limit` (a count or a length). A text that states nothing is `Missing`
+/// in line 1.
 ///
-/// The fault is that of the first line that is refused, with the first cause in this order. In a line words are read
-/// from the left (`Missing`, `Token`, `UnknownWord`, `Range`), and no word may be left (`Token`). Then `Missing` (it
-/// needs what was not stated before, `scenario 1` in the first place), `Range` (it does not fit), `Duplicate` (it was
-/// stated before), `Limit` (a count or a length). A text that states nothing is `Missing` in line 1.
+/// If memory runs out, the line that is named is one of the text's, and those before it were taken (`memory`).
 #[tactic(auto, using(crate::proofs::Lines::line_by_line))]
 pub fn assemble(alloc: Global, text: &str) -> Result<Scenario, AsmFault>
     ensures assembled { MatchResult result (λ s. assembled text.now ≡ Ok s)

@@ -13,33 +13,33 @@ ghost use Rattle.scenario_asm.specs.Denotes.{Denotes};
 ghost use Rattle.scenario_asm.specs.Reading.{IsScenario, said_by};
 ghost use Rattle.scenario_asm.specs.Text.{assembled};
 
-/// Each statement of a scenario is one that words can say.
+/// Each statement of a scenario can be written in words.
 pub fn statements_are_sayable()
     ensures { (s : Scenario) → IsScenario s → AllByRecursion IsSayable (statements s) }
 {}
 
-/// The lines of a canonical text are those of its statements, after whose last LF one more stands, which is empty;
-/// so what they say is these statements, and scenarios that are written alike say the same.
+/// The lines of a canonical text are those of its statements, with an empty one after the last LF (`lines`); they are
+/// read as these statements (`read`); scenarios of one text have the same statements (`one`).
 pub fn canonical_lines()
     ensures lines { (s : Scenario) → IsScenario s → lines (printed s) ≡ map line_of (statements s) ++ [] ∷ [] }
     ensures read { (s : Scenario) → IsScenario s → said_by (printed s) ≡ Ok (statements s) }
     ensures one { (s t : Scenario) → IsScenario s → IsScenario t → printed s ≡ printed t → statements s ≡ statements t }
 {}
 
-/// A class whose devices send Non-confirmable notifications does not say so: it is said by its accounts, the objects of
-/// its own, its instances and its values alone.
+/// A class whose devices send Non-confirmable notifications has no line about it: it is said by its accounts, the
+/// objects of its own, its instances and its values alone.
 pub fn non_confirmable_is_not_said()
     ensures { (c : Template) → c.notify ≡ 0 → of_class c ≡ Class ∷ (map (λ s. Account s) c.accounts
         ++ (flat_map of_object (objects_in c)
         ++ (map (λ p. Instance p) (instances_in c) ++ map of_value (values_in c)))) }
 {}
 
-/// The law of canonical texts: the canonical text of a scenario denotes it.
+/// The law of canonical texts: the canonical text of a scenario denotes it, so it assembles to that scenario.
 pub fn canonical_text()
     ensures { (s : Scenario) → IsScenario s → assembled (printed s) ≡ Ok s }
 {}
 
-/// The law of texts: a text assembles to a scenario exactly where it denotes it; so it denotes one at most.
+/// The law of texts: a text assembles to a scenario exactly if it denotes it; so it denotes one at most.
 pub fn texts_denote()
     ensures { (text : List ℕ) (s : Scenario) → (assembled text ≡ Ok s) ↔ Denotes text s }
 {}

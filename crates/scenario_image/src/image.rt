@@ -127,12 +127,13 @@ fn is_no_class(count: u16, rest: &[u8]) -> bool
     }
 }
 
-/// The scenario whose image these bytes are, all of them, in version 1 or 2; else their first fault from the left. The
-/// classes of version 1 send Non-confirmable notifications.
+/// The scenario whose image these bytes are, all of them, in version 1 or 2, otherwise their one fault, the first from
+/// the left. The classes of version 1 send Non-confirmable notifications.
 ///
 /// A count or a length above its limit is `Limit`, one that is too large for the bytes `Cut`, and any other field that
-/// does not fit `BadField`. A place counts bytes from 0 and is the first byte of the field. No room is made for more
-/// than is read. `Memory` says that no memory was left.
+/// does not fit `BadField`. A place counts bytes from 0 and is the first byte of the field. Bytes that end within the
+/// mark, the version or the count of classes have that fault, whatever memory there is (`front`); the scenario without
+/// a class and a row takes none (`empty`). No room is made for more than is read.
 pub fn load(alloc: Global, bytes: &[u8]) -> Result<Scenario, LayoutFault>
     ensures found { IfOk result (λ s. IsImage bytes.now s) }
     ensures only { (s : Scenario) → IsImage bytes.now s → MatchResult result (λ x. x ≡ s) (λ f. f ≡ Memory) }
@@ -205,7 +206,8 @@ fn put_image(out: &mut Vec<u8>, scenario: &Scenario) -> Result<(), AllocError>
     Ok(())
 }
 
-/// The image of the scenario in version 2. Every scenario has one; it fails only where memory runs out.
+/// The image of the scenario in version 2, from which `load` reads it again. Every scenario has one; it fails only
+/// where memory runs out.
 pub fn save(alloc: Global, scenario: &Scenario) -> Result<Vec<u8>, AllocError>
     ensures image { IfOk result (λ v. IsImageIn 2 v.items scenario.now) }
     ensures again { IfOk result (λ v. read_all image v.items ≡ Ok (2, scenario.now)) }

@@ -27,7 +27,7 @@ pub fn exact_layouts()
     ensures rows { (classes : List Template) → IsExact (rows classes) }
 {}
 
-/// The good steps and the rows of valid scenarios are those that have bytes.
+/// The valid steps, and the rows of valid scenarios, are those that have bytes.
 pub fn valid_have_bytes()
     ensures step { (accounts : List ℕ) (s : Step) → IsGoodStep accounts s → (step accounts).Good s }
     ensures good_step { (accounts : List ℕ) (s : Step) → (step accounts).Good s → IsBytes ((step accounts).spell s)
@@ -37,8 +37,8 @@ pub fn valid_have_bytes()
         → IsBytes ((rows s.classes).spell s.rows) → IsValid s }
 {}
 
-/// Bytes are the image of one scenario in one version or have one fault, and never both; in each version a scenario has
-/// at most one image, which is read as it again; and what has an image, in either version, is valid.
+/// An image of either version has one scenario, a scenario at most one image in each, which is read as it again; other
+/// bytes have one fault, never both; and what has an image is valid.
 pub fn one_image()
     ensures exact { IsExact image }
     ensures scenario { (bytes : List ℕ) (a b : Scenario) → IsImage bytes a → IsImage bytes b → a ≡ b }

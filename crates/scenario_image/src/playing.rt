@@ -11,9 +11,9 @@ use crate::step::Step;
 use device_machine::{Device, Outputs, StepFault, Template};
 use std::alloc::{AllocError, Global};
 
-/// Lets a device take a step, and gives what it outputs: none at a post and a need, of which the device hears nothing.
-///
-/// `Memory` leaves the device spent; `Spent` says that it was spent, and changes nothing.
+/// Lets a device take a step, and returns what it outputs: none at a post and a need, of which the device hears
+/// nothing; these are taken also by a spent device, and take no memory. `Memory` leaves the device spent. `Spent`: it
+/// was spent; nothing changes.
 pub fn take_step(device: &mut Device, step: &Step) -> Result<Option<Outputs>, StepFault>
     ensures outputs { (f : Machine) → Shows device.old f → IfOk result (λ o. outputs_in o ≡ step_outputs f step.now) }
     ensures shows { (f : Machine) → Shows device.old f → OnOk result (Shows device.new (step_after f step.now)) }
@@ -42,10 +42,9 @@ fn keep(all: &mut Vec<Option<Outputs>>, outputs: Option<Outputs>) -> Result<(), 
     Ok(())
 }
 
-/// Lets a device take steps, one after another, and gives what each outputs.
-///
-/// `Spent` says that the device refuses one of them after those before it: a spent one refuses each event. After an
-/// `Err` the device has taken some of them, or is spent.
+/// Lets a device take steps, one after another, and returns what each outputs. `Spent`: the device refuses one of them
+/// after those before it; a spent one refuses each event. After an error the device is spent, or shows the state after
+/// some of the steps.
 pub fn take_steps(
     alloc: Global,
     device: &mut Device,

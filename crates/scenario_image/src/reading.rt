@@ -133,7 +133,8 @@ fn held_at<'a>(
     }
 }
 
-/// A step of a class with these accounts, and the bytes after it.
+/// A step of a class with these accounts, and the bytes after it. A kind that is not one is that fault, and memory can
+/// only run out for a datagram or a value.
 #[tactic(auto, unfolding(crate::specs::Layout::step))]
 pub fn step_at<'a>(
     alloc: Global,

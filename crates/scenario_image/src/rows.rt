@@ -59,7 +59,7 @@ pub(crate) fn row_at<'a>(
 }
 
 /// Writes the row of a device of one of these classes. Where memory runs out, some of its bytes may have been written
-/// behind those that stood there.
+/// after those that stood there.
 #[tactic(auto, using(byte_layout::proofs::Appended::appended), unfolding(crate::specs::Layout::row))]
 pub(crate) fn put_row(out: &mut Vec<u8>, classes: &[Template], held: &Row) -> Result<(), AllocError>
     requires { (row classes.now).Good held.now }

@@ -1,4 +1,4 @@
-//! Steps, written at the end of a vector. Where memory runs out, some of their bytes may have been written behind those
+//! Steps, written at the end of a vector. Where memory runs out, some of their bytes may have been written after those
 //! that stood there.
 
 ghost use Rattle.std.specs.Prelude.{◌≡◌, ◌++◌, length, None, OnOk, unwrap_or};

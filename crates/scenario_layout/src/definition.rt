@@ -25,7 +25,7 @@ pub fn resources_at(alloc: Global, bytes: &[u8]) -> Result<(Vec<ResourceDef>, &[
     items_at(&Definitions, alloc, usize::from(count), rest)
 }
 
-/// Writes definitions of resources. Where memory runs out, some of their bytes may have been written behind those that
+/// Writes definitions of resources. Where memory runs out, some of their bytes may have been written after those that
 /// stood there.
 #[tactic(auto, using(byte_layout::proofs::Appended::appended), unfolding(crate::specs::Definition::resources))]
 pub fn put_resources(out: &mut Vec<u8>, list: &[ResourceDef]) -> Result<(), AllocError>

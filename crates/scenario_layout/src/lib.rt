@@ -1,5 +1,5 @@
-//! Paths, kinds, values, definitions and classes of devices as bytes, in this profile's formats: `specs/Value.antt`,
-//! `specs/Definition.antt` and `specs/Class.antt` have the layouts, docs/use/files.md their words.
+//! Paths, kinds, values, definitions and classes of devices as bytes, in this profile's formats. The modules `Value`,
+//! `Definition` and `Class` of its specs have the layouts, docs/use/files.md says them in words.
 #![tactic(auto)]
 
 mod class;

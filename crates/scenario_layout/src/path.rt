@@ -54,7 +54,7 @@ fn part_at(bytes: &[u8]) -> Result<(Option<u16>, &[u8]), ReadError>
     }
 }
 
-/// Writes an instance's path. Where memory runs out, some of its bytes may have been written behind those that stood
+/// Writes an instance's path. Where memory runs out, some of its bytes may have been written after those that stood
 /// there.
 #[tactic(auto, using(byte_layout::proofs::Appended::appended), unfolding(crate::specs::Value::place))]
 pub fn put_place(out: &mut Vec<u8>, at: InstancePath) -> Result<(), AllocError>
@@ -65,7 +65,7 @@ pub fn put_place(out: &mut Vec<u8>, at: InstancePath) -> Result<(), AllocError>
     put_u16(out, at.instance)
 }
 
-/// Writes a value's path. Where memory runs out, some of its bytes may have been written behind those that stood there.
+/// Writes a value's path. Where memory runs out, some of its bytes may have been written after those that stood there.
 #[tactic(auto, using(byte_layout::proofs::Appended::appended), unfolding(crate::specs::Value::path))]
 pub fn put_path(out: &mut Vec<u8>, p: FullPath) -> Result<(), AllocError>
     ensures ok { OnOk result (out.new.items ≡ out.old.items ++ path.spell p) }

@@ -25,7 +25,7 @@ pub fn put_kind(out: &mut Vec<u8>, k: ValueKind) -> Result<(), AllocError>
     put_u8(out, number)
 }
 
-/// Writes a value, whichever kind is wanted. Where memory runs out, some of its bytes may have been written behind
+/// Writes a value, whichever kind is wanted. Where memory runs out, some of its bytes may have been written after
 /// those that stood there.
 #[tactic(auto, using(byte_layout::proofs::Appended::appended), unfolding(crate::specs::Value::value))]
 pub fn put_value(out: &mut Vec<u8>, v: &Value) -> Result<(), AllocError>

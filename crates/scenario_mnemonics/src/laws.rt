@@ -8,8 +8,8 @@ ghost use Rattle.scenario_mnemonics.specs.Denoting.{mnemonic_of};
 ghost use Rattle.scenario_mnemonics.specs.MnemonicWords.{keyword_word, keyword_named, keyword_of, mnemonic_at};
 ghost use Rattle.scenario_mnemonics.specs.MnemonicWords.{behind_keyword, spelled};
 
-/// The law of mnemonics and datagrams: the mnemonic of a datagram is the one whose datagram it is, of those that text
-/// can say and that fit; so a datagram has at most one.
+/// The law of mnemonics and datagrams: `mnemonic_for` finds the mnemonic of a datagram wherever there is one
+/// (`denotes`), of those that text can say and that fit, and there is at most one (`one`).
 pub fn one_mnemonic()
     ensures denotes { (bytes : List ℕ) (m : Mnemonic) → All (λ b. b < 256) bytes
         → (mnemonic_of bytes ≡ Some m) ↔ (IsGood m × (datagram_of m ≡ bytes)) }

@@ -4,8 +4,8 @@ ghost use Rattle.scenario_statements.specs.declared.statement.Statement.{Stateme
 ghost use Rattle.scenario_statements.specs.Grammar.{statement_of};
 ghost use Rattle.scenario_statements.specs.Spelling.{IsSayable, line_of, spelled};
 
-/// The law of statements: the words of a statement that is written are found again, stand in one line, and are read
-/// as this statement; so statements that are written alike are one.
+/// The law of statements: the words of a statement that is written are found again, stand in one line, and are read as
+/// this statement; so two statements that are written alike are one.
 pub fn statements_read_again()
     ensures words { (s : Statement) → IsSayable s → words (line_of s) ≡ spelled s }
     ensures line { (s : Statement) → IsSayable s → IsLine (line_of s) }

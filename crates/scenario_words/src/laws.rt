@@ -15,8 +15,8 @@ ghost use Rattle.object_defs.specs.Path.{path_text};
 ghost use Rattle.scenario_words.specs.ValueWords.{kind_word, value_at, value_word, spelled, IsValue};
 ghost use Rattle.scenario_words.specs.Number.{number_of, integer_of};
 
-/// The law of numbers: a word is read as a number exactly where it is the number's decimal spelling and the
-/// number is in its range.
+/// The law of numbers: a word is read as a number exactly if it is the number's decimal spelling and the number is in
+/// its range.
 pub fn numbers()
     ensures natural { (low high n : ℕ) (w : List ℕ) → high < 2 ^ 64
         → (number_of low high w ≡ Ok n) ↔ ((w ≡ decimal n) × (low ≤ n) × (n ≤ high)) }
@@ -37,7 +37,7 @@ pub fn texts_in_quotes()
     ensures written { (t : List ℕ) → IsUtf8 t → AllBelowBase 256 t → IsQuoted (quoted_word t) t }
 {}
 
-/// The law of paths and links: a word is read as one exactly where it is as that is written, with numbers of 16 bits.
+/// The law of paths and links: a word is read as one exactly if it is as that is written, with numbers of 16 bits.
 pub fn paths_and_links()
     ensures path { (w : List ℕ) (p : Path) → (path_of w ≡ Ok p) ↔ ((w ≡ path_text p) × IsPath p) }
     ensures link { (w : List ℕ) (o i : ℕ) → (link_of w ≡ Ok (o, i))

@@ -61,7 +61,8 @@ pub fn next_word(line: &[u8]) -> Option<(&[u8], &[u8])>
     Some((word, rest))
 }
 
-/// The first word of a line, which may not be absent, and the line after it.
+/// The first word of a line, which may not be absent, and the line after it. A word that is missing is that fault,
+/// whatever memory there is.
 pub fn first_word(line: &[u8]) -> Result<(&[u8], &[u8]), Cause>
     ensures { Reads (λ x. (x.0.now, words x.1.now)) result (first_of (words line.now)) }
 {

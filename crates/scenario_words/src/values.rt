@@ -99,7 +99,8 @@ fn value_of(alloc: Global, kind: ValueKind, word: &[u8]) -> Result<Value, Cause>
     }
 }
 
-/// The first two words of the line as a kind and a value of it, of whatever length, and the line after them.
+/// The first two words of the line as a kind and a value of it, of whatever length, and the line after them. A word
+/// that is missing is that fault, whatever memory there is, also of a line with the name of its kind alone (`alone`).
 pub fn value(alloc: Global, line: &[u8]) -> Result<(Value, &[u8]), Cause>
     ensures read { Gives (λ x. (x.0, words x.1.now)) result (value_at (words line.now)) }
     ensures missing { words line.now ≡ [] → result ≡ Err Missing }

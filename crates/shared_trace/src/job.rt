@@ -164,11 +164,9 @@ impl Job {
         Ok(())
     }
 
-    /// Lets the device make steps, at most this many, until its row ends or a need isn't met by the posts that there
-    /// were at the claim and the job's own.
-    ///
-    /// The pass has seen the claim and is outside the lock. `Memory` leaves the job spent; then it can only be given
-    /// up.
+    /// Lets the device make steps: at least one of a fresh job and at most this many, until its row ends or a need is
+    /// not met by the posts that there were at the claim and the job's own. It borrows the pass, which has seen the
+    /// claim and is outside the lock. `Memory` leaves the job spent; then it can only be given up.
     #[tactic(auto, using(crate::proofs::Stepping::steps_made))]
     pub fn advance(
         &mut self,

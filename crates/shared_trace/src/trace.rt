@@ -111,7 +111,7 @@ impl Trace {
         })
     }
 
-    /// Whether the device's row is not at its end.
+    /// Whether the device's row is not at its end. Nothing changes.
     pub fn unfinished(&self, device: u16) -> bool
         ensures { result ≡ is_waiting self.now.subject self.now.entries device }
     {
@@ -121,7 +121,8 @@ impl Trace {
         }
     }
 
-    /// The entries so far, in order.
+    /// The entries so far, in order, each once: a run of the scenario. A parked device shows the state after its steps,
+    /// before the first and after the last too, and one that is out has a step left (`shared`).
     pub fn entries(&self) -> EntryIter<'_>
         ensures entries { result ≡ self.now.entries }
         ensures shared { IsShared self.now }
@@ -164,7 +165,8 @@ impl Trace {
         }
     }
 
-    /// Stops the trace, for this worker: each later claim answers so.
+    /// Stops the trace under the worker's number: each later claim answers so. Nothing else changes, and another
+    /// number's open work stays.
     pub fn stop(&mut self, worker: u16)
         ensures stopped { self.new ≡ stopped_under self.old worker }
         ensures adds { Adds trace_log worker self.old self.new }
@@ -260,7 +262,10 @@ impl Trace {
         }
     }
 
-    /// The lowest device that is parked and can step, as a job of the worker; else why there is none.
+    /// The lowest device that is parked and can step, as a job of the worker, or why there is none: `Done` and
+    /// `Stalled` come only of a complete run, `Done` exactly if each row is at its end; `Busy` where a device is out
+    /// that has a step left; `Stopped` before all else. It takes no memory, and leaves the entries and the open work of
+    /// every other worker.
     pub fn claim(&mut self, worker: u16) -> Claim
         ensures claims { Claims self.old self.new worker result }
         ensures stands { ClaimStands self.new worker result }
@@ -279,7 +284,7 @@ impl Trace {
         }
     }
 
-    /// Appends the job's entries, and parks its device. Without memory the job comes back, and nothing changed.
+    /// Appends exactly the job's entries, and parks its device. Without memory the job comes back, and nothing changed.
     pub fn put(&mut self, worker: u16, job: Job) -> Result<(), (Job, AllocError)>
         requires { MayPut self.old worker job }
         ensures put { OnOk result (self.new ≡ with_block self.old job.device job.held job.entries) }

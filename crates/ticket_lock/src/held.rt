@@ -32,6 +32,7 @@ impl<T: Logged + Drop> Held<'_, T> {
     ghost use Rattle.ticket_lock.specs.Names.{held_id, held_view, held_value, found, pass_view, IsPass, lowest_work};
     ghost use Rattle.ticket_lock.specs.Lending.{LendsValue};
 
+    /// The value as it is: as found, or as written since.
     pub fn value(&self) -> &T
         ensures { result.now ≡ held_value self.now }
     {
@@ -48,7 +49,7 @@ impl<T: Logged + Drop> Held<'_, T> {
     }
 
     /// Gives the value back, with more entries of the pass's lowest number and that number's open work changed, and
-    /// nothing else.
+    /// nothing else. The pass comes back with the same numbers, and the value's log as its front.
     pub fn give(self) -> Pass<T>
         requires { Adds T.log (held_view self).low (found self) (held_value self) }
         ensures own { IsPass (held_id self.entry) result }

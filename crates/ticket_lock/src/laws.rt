@@ -5,7 +5,9 @@ ghost use Rattle.ticket_lock.specs.declared.rule.TheConstants.{NUMBERS, LAST};
 
 use crate::logged::Logged;
 
-/// Every list of the lock's steps from a make keeps the rule, and one pass at most is inside.
+/// Over every list of the lock's atomic steps from every beginning its rule holds (docs/inside/lock.md): at most one
+/// pass is inside, each ticket is held once, and the value's log begins with what each pass has seen, followed by none
+/// of that pass's own entries. Every call of the lock makes its steps under this rule.
 pub fn steps<T: Logged>()
     ensures { Law T.log }
 {}

@@ -47,8 +47,8 @@ impl<T: Logged + Drop> TicketLock<T> {
     ghost use Rattle.ticket_lock.specs.Names.{lock_id, opening_value, opening_ticket, pass_view, IsPass, held_id};
     ghost use Rattle.ticket_lock.specs.Names.{held_view, held_value, lowest_work};
 
-    /// A lock on the value, and the first pass, which holds the worker numbers from 1 to `NUMBERS`. The first ticket
-    /// is 0.
+    /// A lock on the value, and the first pass, which holds the worker numbers from 1 to `NUMBERS`. The first ticket is
+    /// 0. Of all calls `new` and `with_first` alone take memory.
     pub fn new(value: T, alloc: Global) -> Result<(TicketLock<T>, Pass<T>), AllocError>
         ensures pass { IfOk result (λ r. IsPass (lock_id r.0) r.1 × (pass_view r.1 ≡ whole T.log value 0)) }
         ensures lock { IfOk result (λ r. (opening_value r.0 ≡ value) × (opening_ticket r.0 ≡ 0)) }
@@ -81,8 +81,8 @@ impl<T: Logged + Drop> TicketLock<T> {
         Ok((TicketLock { table }, pass))
     }
 
-    // Waits while a ticket is out and another is left. Whoever has a ticket keeps all later ones waiting, even while its
-    // thread has no processor; whoever has none keeps nobody waiting. Nothing is known of what it sees.
+    // Waits while a ticket is out and another is left. Whoever has a ticket keeps all later ones waiting, even while
+    // its thread has no processor; whoever has none keeps nobody waiting. Nothing is known of what it sees.
     fn stay_outside<R: Wait>(&self, rt: &R) {
         let shared = &self.table.shared;
         let asleep = AtomicU64::new(0);
@@ -103,8 +103,8 @@ impl<T: Logged + Drop> TicketLock<T> {
         unreachable!()
     }
 
-    // Draws a ticket that is due at once, or finds that none is left, for which it does not wait. Nothing is known of the
-    // former.
+    // Draws a ticket, or finds that none is left, for which it does not wait. It draws one that is due, but no clause
+    // promises that it is due when this returns.
     fn draw<R: Wait>(&self, rt: &R, seat: &mut SeatOf<T>) -> Option<u64>
         requires { (seat.old.table_id ≡ lock_id self.now) × (is_resting seat.old.me.0.stage ≡ true) }
         ensures seat { (seat.new.table_id ≡ seat.old.table_id) × (seat.new.id ≡ seat.old.id) }
@@ -163,8 +163,10 @@ impl<T: Logged + Drop> TicketLock<T> {
         self.table.shared.exchange(seat, 0, new)
     }
 
-    /// Draws a ticket, waits until it is due, and takes the value. The pass comes back at once if no ticket up to
-    /// 2^63 - 2 is left.
+    /// Draws a ticket, waits until it is due, and takes the value: one that begins with the pass's front, has its
+    /// subject, and under each of its numbers its own entries and open work and no others. The pass comes back with
+    /// `Spent` only if it has seen that no ticket is left. A pass that has all numbers from the make on knows the next
+    /// ticket: it gets the value if that is below the end (`left`), and `Spent` if it is the end (`none_left`).
     pub fn take<R: Wait>(&self, rt: &R, pass: Pass<T>) -> Result<Held<'_, T>, (Pass<T>, Spent)>
         requires { IsPass (lock_id self.now) pass }
         ensures lock { IfOk result (λ h. held_id h ≡ lock_id self.now) }
@@ -201,7 +203,8 @@ impl<T: Logged + Drop> TicketLock<T> {
         })
     }
 
-    /// The value, once a pass has all numbers again. Both come back where the pass lacks one.
+    /// The value, exactly if the pass has all numbers: its log is the pass's front, its subject the opening value's.
+    /// Otherwise both come back unchanged.
     pub fn close(self, pass: Pass<T>) -> Result<T, (TicketLock<T>, Pass<T>, PassesOut)>
         requires { IsPass (lock_id self) pass }
         ensures entries { IfOk result (λ x. T.log.entries x ≡ (pass_view pass).front) }

@@ -38,7 +38,8 @@ impl<T: Logged + Drop> Pass<T> {
         self.low
     }
 
-    /// The lowest number alone, and the others. A pass with one number comes back.
+    /// The lowest number alone, and the others; both have seen the same. `OneLeft`, with the pass unchanged, exactly if
+    /// there is one number.
     pub fn split(self, lock: &TicketLock<T>) -> Result<(Pass<T>, Pass<T>), (Pass<T>, OneLeft)>
         requires { IsPass (lock_id lock.now) self }
         ensures lower { IfOk result (λ r. IsPass (lock_id lock.now) r.0 × (pass_view r.0 ≡ lower (pass_view self))) }
@@ -69,7 +70,8 @@ impl<T: Logged + Drop> Pass<T> {
     }
 
     /// The numbers of both, which are neighbours in either order, with the longer front, of which both fronts are
-    /// prefixes. Then it looks whether a ticket is left.
+    /// prefixes; under each number it has the entries of the front that it came with. Then it looks whether a ticket is
+    /// left.
     pub fn join(self, lock: &TicketLock<T>, other: Pass<T>) -> Pass<T>
         requires this { IsPass (lock_id lock.now) self }
         requires other { IsPass (lock_id lock.now) other }

@@ -9,8 +9,8 @@ ghost use Rattle.trace_file.specs.declared.entry.Entry.{Entry};
 ghost use Rattle.trace_file.specs.Layout.{trace_file, IsTraceFile};
 ghost use Rattle.trace_file.specs.Fits.{FitsEntry};
 
-/// Bytes are the trace file of one list of entries or have one fault, and never both; the spelling of entries that have
-/// one is read as these again; and no fault is a limit's.
+/// A trace file has one list of entries, and is read as it again; other bytes have one fault, never both, which is
+/// never `Limit`.
 pub fn one_trace_file()
     ensures exact { IsExact trace_file }
     ensures entries { (bytes : List ℕ) (a b : List Entry) → IsTraceFile bytes a → IsTraceFile bytes b → a ≡ b }
@@ -24,8 +24,8 @@ pub fn one_trace_file()
     ensures no_limit { (bytes : List ℕ) (place : ℕ) → HasFault trace_file bytes (Limit place) → ⊥ }
 {}
 
-/// Entries have a trace file exactly where their numbers, their count, the count of each one's outputs and the lengths
-/// of the datagrams fit their fields.
+/// Entries have a trace file exactly if there are fewer than 2^32, each with fewer than 2^32 outputs and with datagrams
+/// below 65,536 bytes, and their numbers fit their fields.
 pub fn what_has_a_trace_file()
     ensures { (es : List Entry) → trace_file.Good es ↔ (length es < 4294967296)
         × ((i : ℕ) (e : Entry) → slice_get es i ≡ Some e → FitsEntry e) }

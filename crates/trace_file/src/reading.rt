@@ -194,10 +194,10 @@ impl Format for TraceFile {
     }
 }
 
-/// The entries whose trace file these bytes are, all of them; else their first fault from the left.
-///
-/// A count that is too large for the bytes is `Cut`, and no room is made for more than is read. There is no `Limit`. A
-/// place counts bytes from 0. `Memory` says that no memory was left.
+/// The entries whose trace file these bytes are, all of them, otherwise their one fault, the first from the left. A
+/// count that is too large for the bytes is `Cut`; there is no `Limit`. A place counts bytes from 0. Bytes that end
+/// within the mark, the version, the count of entries or the numbers of the first of them have that fault, whatever
+/// memory there is (`front`): so 9 bytes that claim entries are `Cut`. No room is made for more than is read.
 pub fn read_entries(alloc: Global, bytes: &[u8]) -> Result<Entries, LayoutFault>
     ensures found { IfOk result (λ es. IsTraceFile bytes.now es) }
     ensures only { (es : List EntryData) → IsTraceFile bytes.now es

@@ -16,8 +16,8 @@ pub fn packets_have_datagrams()
         ≡ map (λ t. t.bytes) (transmissions s es) }
 {}
 
-/// A capture file tells which datagrams a trace has, between whom, when, and in which order: traces of which it is the
-/// file have the same.
+/// Traces with the same capture file have the same datagrams, between the same devices and servers, at the same
+/// seconds, in the same order.
 pub fn one_trace()
     ensures { (bytes : List ℕ) (s : Scenario) (es : List Entry) (r : Scenario) (fs : List Entry)
         → IsCapture bytes (trace_packets s es) → IsCapture bytes (trace_packets r fs)

@@ -44,7 +44,7 @@ impl<'a> Clocks<'a> {
     }
 
     /// The second of a device before the step of this number in its row, counted from 0; after its last step where the
-    /// row has fewer, and 0 where there is no such row.
+    /// row has fewer, and 0 where there is no such row. Steps may be asked for in any order.
     pub fn second_at(&mut self, device: u16, step: usize) -> u32
         ensures second { result ≡ second_at self.old device step }
         ensures same { self.new ≡ self.old }

@@ -11,21 +11,20 @@ ghost use Rattle.trace_text.specs.Seconds.{second_at};
 ghost use Rattle.trace_text.specs.Selection.{selected_text};
 ghost use Rattle.trace_text.specs.Text.{entries_text, trace_text};
 
-/// In a run each entry follows those before it: so its device has its step, whose number is the count of the device's
-/// earlier entries.
+/// In a run each entry has its step, whose number is the count of the device's earlier entries.
 pub fn runs_have_steps()
     ensures { (s : Scenario) (es : List Entry) (n : ℕ) (e : Entry) → IsRun s es → slice_get es n ≡ Some e
         → Fits s (take n es) e }
 {}
 
-/// The second that is printed is that of the device's clock before the step.
+/// The second of an entry is that of the device's clock before the step.
 pub fn seconds_are_shown()
     ensures { (s : Scenario) (d : ℕ) (k : ℕ) (class : Template) (steps : List Step) → IsRowOf s d class steps
         → second_at s d k ≡ (state_at class steps k).kept.clock }
 {}
 
-/// The text of entries is that of the first of them, followed by that of the others; so a part of a trace, from a place
-/// to a place, has the same text alone.
+/// The text of a trace is that of a prefix followed by that of the rest; so a part of a trace, from a place to a place,
+/// has the same text alone.
 pub fn parts_join()
     ensures { (s : Scenario) (number : ℕ) (a : List Entry) (b : List Entry)
         → entries_text s number (a ++ b) ≡ entries_text s number a ++ entries_text s (number + length a) b }

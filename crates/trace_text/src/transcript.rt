@@ -50,9 +50,10 @@ impl<'a> Transcript<'a> {
         })
     }
 
-    /// The text of an entry, of this number in its trace: a line for the step, with the second of the device before
-    /// it, and a line for each output. After a datagram, one that arrives and one that is sent, comes what it says, in
-    /// a line that begins with `    # `.
+    /// The text of an entry, of this number in its trace: a line with the numbers of entry, worker, device and step,
+    /// the second of the device before the step, and the step in the words of scenario text, and a line for each
+    /// output. After a datagram, one that arrives and one that is sent, comes what it says, in a line that begins with
+    /// four spaces and `#`. Entries may be asked for in any order.
     pub fn entry_text(&mut self, number: usize, entry: &Entry) -> Result<String, AllocError>
         ensures text { IfOk result (λ t. string_bytes t ≡ entry_text self.old number entry.now) }
         ensures same { self.new ≡ self.old }
@@ -84,7 +85,8 @@ pub fn trace_text(
     text_of(alloc, scenario, entries, all)
 }
 
-/// The text of those entries of a trace that are asked for, in their order, each with its number in the whole trace.
+/// The text of those entries of a trace that are of a device and have numbers from one number to another, each as in
+/// the text of the whole trace, with its number there; or the first of what the scenario and the trace do not have.
 pub fn selected_text(
     alloc: Global,
     scenario: &Scenario,

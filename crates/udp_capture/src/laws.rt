@@ -6,14 +6,14 @@ ghost use Rattle.udp_capture.specs.Fields.{header_bytes};
 ghost use Rattle.udp_capture.specs.Packet.{ip_checksum, ip_header, total_length, udp_checksum, udp_covered};
 ghost use Rattle.udp_capture.specs.Capture.{CapturedPacket, FitsPacket, IsCapture};
 
-/// The bytes of a capture file are those of one list of packets.
+/// The bytes of a capture file are those of one list of packets: times, addresses, ports and payloads.
 pub fn one_capture()
     ensures { (bytes : List ℕ) (packets : List CapturedPacket) (others : List CapturedPacket) → IsCapture bytes packets
         → IsCapture bytes others → packets ≡ others }
 {}
 
-/// The one's complement sum of all words is FFFF, those of the header of IPv4, and those that the checksum of UDP
-/// covers: each checksum makes it so, and by this sum a receiver judges it (RFC 1071 section 1).
+/// In every packet the one's complement sum of the header of IPv4 is FFFF, and so is that of what the checksum of UDP
+/// covers, the checksum among the words (RFC 1071 section 1): so a receiver finds both right.
 pub fn sums_are_all_ones()
     ensures ip { (p : CapturedPacket) → FitsPacket p → ones_sum (sixteen_bit_words
         (header_bytes (ip_header (total_length p.payload)

@@ -51,8 +51,8 @@ pub fn put_file_header(out: &mut Vec<u8>) -> Result<(), AllocError>
     out.extend_from_slice(&FILE_HEADER)
 }
 
-/// Writes a packet with its header: a datagram of UDP with this payload in a packet of IPv4. Where memory runs out,
-/// some of its bytes may have been written.
+/// Writes a packet with its record header: a datagram of UDP with this payload in a packet of IPv4, with the lengths
+/// and the checksums of the datagram. Where memory runs out, some of its bytes may have been written.
 pub fn put_packet(out: &mut Vec<u8>, envelope: Envelope, payload: &[u8]) -> Result<(), AllocError>
     requires { length payload.now ≤ most_payload }
     ensures { OnOk result (out.new.items ≡ out.old.items

@@ -134,7 +134,7 @@ impl Machine {
         Ok(outputs)
     }
 
-    /// Does what a request asks for that is no repeat, answers and records it.
+    /// Handles a first-time request: performs, replies, records.
     fn take_fresh(&mut self, server: u16, message: &Message) -> Result<Outputs, AllocError>
         requires fresh { repeat_of self.old.flat server message.now ≡ None }
         requires lives { 0 < lifetime message.now.kind }
@@ -212,7 +212,7 @@ impl Machine {
         }
     }
 
-    /// Takes a message, and keeps the memory of its options.
+    /// Handles a message, then reclaims the memory of its options.
     fn take_owned(&mut self, server: u16, message: Message) -> Result<Outputs, AllocError>
         requires { IsUpToDate self.old }
         ensures gives { IfOk result (λ o. Gives o self.new.flat

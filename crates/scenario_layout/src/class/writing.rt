@@ -1,4 +1,4 @@
-//! A class, written at the end of a vector. Where memory runs out, some of its bytes may have been written behind those
+//! A class, written at the end of a vector. Where memory runs out, some of its bytes may have been written after those
 //! that stood there.
 
 ghost use Rattle.std.specs.Prelude.{◌≡◌, ◌≤◌, ◌<◌, ◌++◌, List, [], All, length, drop, OnOk};
@@ -25,7 +25,7 @@ use object_defs::{Catalog, FullPath, InstancePath, ObjectDef};
 use std::alloc::AllocError;
 
 /// Writes a class as version 2 has it: each that there is has bytes, so nothing is refused. Where memory runs out, some
-/// of its bytes may have been written behind those that stood there.
+/// of its bytes may have been written after those that stood there.
 #[tactic(auto, using(byte_layout::proofs::Appended::appended), unfolding(crate::specs::Class::class, crate::specs::Class::notify_in, crate::specs::Class::notify, crate::specs::Class::behind_notify, crate::specs::Class::behind_accounts, crate::specs::Class::behind_objects, crate::specs::Class::behind_instances))]
 pub fn put_class(out: &mut Vec<u8>, template: &Template) -> Result<(), AllocError>
     ensures good { (class 2).Good template.now }
