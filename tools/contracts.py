@@ -116,6 +116,7 @@ def block(text, at):
 
 
 def is_even(text):
+    """Whether each brace is closed."""
     return text.count("{") == text.count("}")
 
 
@@ -125,7 +126,7 @@ class Function:
     def __init__(self, lines, at, owner):
         indent, is_pub, self.name = FUNCTION.match(lines[at]).groups()
         is_open, kind, of_trait, self.owner = owner if indent and owner else (None, None, "", None)
-        self.of_trait = of_trait.removesuffix(" for ")
+        self.of_trait = of_trait[: -len(" for ")]
         self.is_public = bool(is_pub or of_trait or kind == "trait" and is_open or self.name == "main")
         first, comment = at, []
         while lines[first - 1].lstrip().startswith(("//", "#[")) and not lines[first - 1].lstrip().startswith("//!"):
@@ -163,7 +164,7 @@ class Source:
             if FUNCTION.match(line):
                 self.functions.append(Function(lines, at, owner))
             self.owners.append(owner)
-        self.about = " ".join(it[3:].strip() for it in lines if it.startswith("//!"))
+        self.about = "\n".join(it[3:].strip() for it in lines if it.startswith("//!"))
         self.views = [
             (self.owners[min(text.count("\n", 0, found.start()), len(self.owners) - 1)], found.group().split("=")[0],
              block(text, found.end() - 1)) for found in VIEW.finditer(text)

@@ -16,8 +16,8 @@ use shared_trace::{Claim, Job, Trace};
 use std::sync::Wait;
 use ticket_lock::{Pass, TicketLock};
 
-/// Claims under the lowest number of the pass, which then knows the job that it got (`claimed`). There is no answer if
-/// no ticket is left. It adds nothing.
+/// Claims under the lowest number of the pass, which then knows the job that it got (`claimed`). No claim is returned
+/// if no ticket is left. It adds nothing.
 pub fn claim_job<R: Wait>(
     rt: &R,
     lock: &TicketLock<Trace>,

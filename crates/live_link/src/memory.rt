@@ -38,7 +38,7 @@ pub struct ScriptedWire {
 
 impl ScriptedWire {
     /// A wire that receives what the script says, and fails at the call of `send` of that number, counted from 0, if
-    /// there is one. It has told nothing yet.
+    /// there is one. No call of it was made yet.
     pub fn new(alloc: Global, receipts: Vec<Receipt>, failing: Option<u64>) -> ScriptedWire
         ensures told { traffic_by result
             ≡ record { received = []; taken = []; failures = 0; refusals = 0 } }

@@ -28,8 +28,8 @@ fn put_parts(store: &mut Store, path: ResourcePath, parts: Parts) -> Result<(), 
 
 /// Sets what a resource is given: its single value, or parts. Under Replace it then has these parts and no others;
 /// under Update it keeps the others. `Absent`: there is no such instance; `Full`: the resource would have more than 32
-/// parts, which `is_too_many` tells before. An allocation can fail only if something is given, and kept, that replaces
-/// no value. After an error some of its values may be gone or set, and all else is as before.
+/// parts, for which `is_too_many` is the test. An allocation can fail only if something is given, and kept, that
+/// replaces no value. After an error some of its values may be gone or set, and all else is as before.
 pub fn set_given(
     mode: Mode,
     store: &mut Store,
@@ -138,9 +138,9 @@ fn clear_lost(
 
 /// Writes what an instance is given (OMA LwM2M 1.1 Core, Write). Replace first takes away the optional writable
 /// resources that are not named. Values of write-only resources are not kept. `Absent`: there is no such instance;
-/// `Full`: a resource would have more than 32 parts, which `has_too_many` tells before. An allocation can fail only if
-/// something is given, and kept, that replaces no value. After an error a part of this may be done, and all outside the
-/// instance is as before.
+/// `Full`: a resource would have more than 32 parts, for which `has_too_many` is the test. An allocation can fail only
+/// if something is given, and kept, that replaces no value. After an error a part of this may be done, and all outside
+/// the instance is as before.
 pub fn write_instance(
     mode: Mode,
     resources: &[ResourceDef],
