@@ -27,7 +27,7 @@ MARK = re.compile(r" ?\[([a-z0-9]+(?:-[a-z0-9]+)+(?: [a-z0-9]+(?:-[a-z0-9]+)+)*)
 USES = {"lock": "crates/ticket_lock_uses/stdout", "workers": "crates/fleet_workers_uses/stdout"}
 
 NAMES = {"id", "sentence", "standard", "page", "definition", "code"}
-MORE = {"shown_by", "not_shown", "no_case", "no_wrong_body"}
+MORE = {"number", "shown_by", "not_shown", "no_case", "no_wrong_body"}
 
 
 class Rule:
@@ -36,8 +36,13 @@ class Rule:
     def __init__(self, file, line):
         self.file, self.line = file, line
         self.id = self.sentence = self.standard = self.page = self.definition = self.code = ""
+        self.number = 0
         self.shown_by, self.not_shown, self.no_case, self.no_wrong_body = [], "", "", ""
         self.cases, self.wrong_bodies = [], []
+
+    def said(self):
+        """Its sentence, after its number in the order of the rules, if it has one."""
+        return f"Rule {self.number}: {self.sentence}" if self.number else self.sentence
 
     def heading(self):
         """The page and the heading that carry its id."""
