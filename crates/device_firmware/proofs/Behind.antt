@@ -9,6 +9,8 @@ use Rattle.std.specs.declared.cmp.Ordering.{Ordering}
 use Rattle.std.specs.declared.cmp.Ordering.TheVariants.{Less, Equal, Greater}
 use Rattle.std.specs.Result.{OnErr}
 use Rattle.std.specs.FinMap as map
+use Rattle.lemmas.proofs.Orders.{is_equal}
+use Rattle.lemmas.proofs.Results.{on_err}
 use Rattle.lwm2m_values.specs.declared.value.Value.{Value}
 use Rattle.lwm2m_values.specs.declared.value.Value.TheVariants.{Text, Whole}
 use Rattle.object_defs.specs.Path.{path_cmp, single_of}
@@ -29,11 +31,6 @@ use Rattle.device_firmware.specs.Laws.{uri_behind}
 behind : (s : Stored) (p q : FullPath) (v : Value)
     → value_at (with_value s p v) q ≡ cond (eq_by_cmp path_cmp q p) (Some v) (value_at s q)
 behind s p q v = map.get-insert path_total s.values p v q
-
-is_equal : (r : Ordering) → is_eq r ≡ true → r ≡ Equal
-is_equal Less h = cc
-is_equal Equal h = refl
-is_equal Greater h = cc
 
 -- elsewhere
 elsewhere : (s : Stored) (p q : FullPath) (v : Value) → q ≢ p → value_at (with_value s p v) q ≡ value_at s q
@@ -138,7 +135,3 @@ wanting-outcome s event (inl h) =
 wanting-outcome s event (inr h) =
     not_ready-outcome (is_some (held s 3)) (is_some (held s 5)) (is_none (uri_of event) || is_some (held s 1))
     (inr (ap is_some (sym (held-uri s (uri_of event) 5 refl) ∙ h)))
-
-pub on_err : {A E : Type 0} (r : Result A E) (P : Type 0) → P → OnErr r P
-on_err (Ok x) P p = tt
-on_err (Err e) P p = p

@@ -3,7 +3,7 @@ use Rattle.std.proofs.Common.{◌≡◌, ◌≢◌, ℕ, ◌<◌, ◌≤◌, Boo
 use Rattle.std.proofs.Common.{pos, refl, sym, ap, subst, ◌∙◌, ◌⊎◌, inl, inr, arith}
 use Rattle.std.specs.Option.{is_some}
 use Rattle.std.specs.FinMap as map
-use Rattle.std.proofs.lemmas.Bool.{eq-eqb, false≢true}
+use Rattle.std.proofs.lemmas.Bool.{eq-eqb, false≢true, and_from}
 use Rattle.std.proofs.lemmas.Bool.Decides.{nat_tests}
 use Rattle.lwm2m_values.specs.declared.value.Value.TheVariants.{Whole}
 use Rattle.object_defs.specs.Path.{single_of, part_of}
@@ -132,9 +132,6 @@ not_one n h = grind (arith, nat_tests)
 not_two : (n : ℕ) → n ≢ 2 → eqb n 2 ≡ false
 not_two n h = grind (arith, nat_tests)
 
-both : (a b : Bool) → a ≡ true → b ≡ true → (a && b) ≡ true
-both a b h k = ap (λ c. c && b) h ∙ k
-
 pub speaks_alike : (s t : Stored) (k o i : ℕ)
     → ((q : FullPath) → instance_in q ≡ instance_at 2 k → value_at t q ≡ value_at s q)
     → speaks_of t k o i ≡ speaks_of s k o i
@@ -162,7 +159,7 @@ module _ (s : Stored) (accounts server : ℕ) (resources : List ResourceDef) (pl
       ∙ ap (λ t. value_at t q) is_before
 
   speaks : speaks_of made j place.object place.instance ≡ true
-  speaks = both _ _
+  speaks = and_from _ _
       (ap (λ v. is_integer place.object (integer_in v))
       (value_is (single_of (control j 0)) refl ∙ object_is s j server place) ∙ is_it place.object)
       (ap (λ v. is_integer place.instance (integer_in v))
