@@ -166,7 +166,7 @@ pub fn decode(alloc: Global, bytes: &[u8]) -> Result<Message, CoapFault>
     decode_in(alloc, Vec::new(alloc), bytes)
 }
 
-/// The same, where the options lie in the memory of this list: `Message::into_spare` gives it back, so that one can do
+/// Like `decode`, with the options in the memory of this list, which `Message::into_spare` gives back: one list serves
 /// for many messages.
 pub fn decode_in(alloc: Global, spare: Vec<Opt>, bytes: &[u8]) -> Result<Message, CoapFault>
     ensures found { IfOk result (λ m. Spells bytes.now m) }
@@ -183,7 +183,7 @@ pub fn decode_in(alloc: Global, spare: Vec<Opt>, bytes: &[u8]) -> Result<Message
     read(alloc, spare, bytes)
 }
 
-/// The same; that there is no other reading is `decode_in`'s to say.
+/// Like `decode_in`, without the clauses that there is no other reading.
 fn read(alloc: Global, spare: Vec<Opt>, bytes: &[u8]) -> Result<Message, CoapFault>
     ensures found { IfOk result (λ m. Spells bytes.now m) }
     ensures fault { IfErr result (λ f. f ≢ CoapFault.Memory → HasFault bytes.now f) }

@@ -15,8 +15,8 @@ pub fn encode(alloc: Global, message: &Message) -> Result<Vec<u8>, AllocError>
     Ok(out)
 }
 
-/// Adds the bytes of a message to a buffer, so that one buffer can do for many messages. What is added where memory
-/// runs out is not said.
+/// Adds the bytes of a message to a buffer, so that one buffer serves for many messages. If an allocation fails, part
+/// of them may have been added.
 pub fn encode_into(out: &mut Vec<u8>, message: &Message) -> Result<(), AllocError>
     ensures spells { OnOk result (Spells (spelling message.now) message.now) }
     ensures spelling { OnOk result (out.new.items ≡ out.old.items ++ spelling message.now) }

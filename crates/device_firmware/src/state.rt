@@ -116,7 +116,7 @@ fn next(event: &FirmwareEvent, state: State) -> Option<Outcome>
     }
 }
 
-/// The same where the State may be wanting.
+/// Like `next`, for a State that may be missing or invalid.
 pub(crate) fn next_from(event: &FirmwareEvent, state: Option<State>) -> Option<Outcome>
     ensures { result ≡ next_from event.now state }
 {

@@ -53,7 +53,7 @@ fn has_too_many(resources: &[ResourceDef], given: &Assignments) -> bool
 }
 
 /// Whether a store has no room for a new instance with what it is given (this profile's limits): its object has 64
-/// instances; or, with two accounts or more, Access Control Access Control has; or a resource would have more than 32
+/// instances; or, with two accounts or more, object 2 Access Control has 64; or a resource would have more than 32
 /// parts.
 pub fn has_no_room(
     store: &Store,
@@ -188,8 +188,8 @@ fn make(
 }
 
 /// Creates an instance with what its resources are given, for a server of a device that has this many accounts. With
-/// two accounts or more it also adds an instance of Access Control Access Control, which speaks of it and belongs to
-/// the server.
+/// two accounts or more it also adds an instance of object 2 Access Control, which speaks of it and belongs to the
+/// server.
 pub fn create(
     store: &mut Store,
     accounts: usize,
@@ -202,7 +202,7 @@ pub fn create(
     requires { place.object ≢ 2 }
     ensures ok { OnOk result (store.new ≡ with_created store.old accounts server resources.now place given) }
 
-    // There is such an instance; or else there is no room.
+    // The instance already exists; or else there is no room.
     ensures exists { IsErrOf result StoreFault.Exists ↔ IsTrue (has_instance store.old place) }
     ensures full { IsErrOf result StoreFault.Full
         ↔ (IsFalse (has_instance store.old place) × IsTrue (has_no_room store.old accounts resources.now place given)) }

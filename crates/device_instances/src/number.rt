@@ -25,8 +25,8 @@ fn first_free(store: &Store, object: u16) -> Option<u16>
     None
 }
 
-/// The number of a new instance: the one that is named, if it is free and isn't 65535; if none is named, the smallest
-/// free one. With none of these a Create is refused.
+/// The number of a new instance: the one that is named, if it is free and not 65535; if none is named, the smallest
+/// free one. Without one a Create is refused.
 pub fn number_for(store: &Store, object: u16, named: Option<u16>) -> Option<u16>
     ensures { result ≡ number_for store.now object named }
 {

@@ -1,4 +1,4 @@
-//! What of a device the requests of device management look at and change.
+//! The part of a device that management requests read and modify.
 
 ghost use Rattle.std.specs.Prelude.{◌≡◌, ◌≢◌, ◌↔◌, false, true, length, Err, IfOk, IsErrOf, IsFalse, IsTrue, OnOk};
 ghost use Rattle.std.specs.Prelude.{OnErr};
@@ -19,8 +19,9 @@ use object_defs::{Catalog, FullPath, Path};
 use std::alloc::{AllocError, Global};
 use std::marker::Model;
 
-/// What of a device the requests of device management look at and change: the servers' accounts, the
-/// objects' definitions, instances and values, the attributes that servers set, and how the device notifies.
+/// The data of a device that management requests read and modify: the servers' accounts, the objects' definitions,
+/// instances and values, the attributes that servers set, and how the device notifies. It is not the whole LwM2M
+/// client: observations, timers and recorded requests belong to `Machine`.
 #[derive(Drop)]
 pub struct Client {
     pub(crate) accounts: Vec<u16>,
@@ -50,9 +51,9 @@ impl Model for Client {
 }
 
 impl Client {
-    /// A client of these accounts, definitions and values, with no attribute set. `notify` is 0 where its
-    /// notifications are Non-confirmable, else how many seconds it waits for the Ack of a Confirmable one
-    /// before it sends that again for the first time.
+    /// Data of these accounts, definitions and values, with no attribute set. `notify` is 0 if notifications are
+    /// Non-confirmable; otherwise how many seconds the device waits for the Ack of a Confirmable one before it sends
+    /// that again for the first time.
     pub fn new(
         alloc: Global,
         accounts: Vec<u16>,
@@ -135,7 +136,7 @@ impl Client {
         self.accounts.len()
     }
 
-    /// Puts a value at a full path, past the rights of servers.
+    /// Sets the value at a full path, whatever the rights of servers.
     pub fn put(&mut self, path: FullPath, value: Value) -> Result<(), StoreFault>
         ensures ok { OnOk result (self.new ≡ with_stored self.old (with_value_at self.old.store (Some path) value)) }
         ensures absent { IsErrOf result StoreFault.Absent ↔ IsFalse (has_instance self.old.store (instance_at path)) }
@@ -148,14 +149,14 @@ impl Client {
         device_template::put(&mut self.store, path, value)
     }
 
-    /// Ends a download or an update of the firmware with this code, past the rights of servers. Answers whether
-    /// there is one that it ends.
+    /// Ends a download or an update of the firmware with this code, whatever the rights of servers. Returns whether
+    /// there was one to end.
     pub fn end_firmware(&mut self, code: u8) -> Result<bool, AllocError>
         ensures ended { IfOk result (λ b. b ≡ is_some (firmware_after self.old.store (Ended code))) }
         ensures change { OnOk result (self.new ≡ with_stored self.old
             (unwrap_or (firmware_after self.old.store (Ended code)) self.old.store)) }
 
-        // It takes memory only where there is one, and State and Update Result are not both held.
+        // It takes memory only if there is one, and State and Update Result are not both held.
         ensures taken { OnErr result (is_some (firmware_after self.old.store (Ended code)) ≡ true) }
         ensures memory { OnErr result (is_ready self.old.store (Ended code) ≡ false) }
         ensures unchanged { OnErr result (self.new ≡ self.old) }

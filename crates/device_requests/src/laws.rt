@@ -12,13 +12,13 @@ ghost use Rattle.device_requests.specs.Order.{PathsPrecedeMethods, PayloadsPrece
 ghost use Rattle.device_requests.specs.Order.{RightsPrecedeOperations, SecurityPrecedesTargets, TargetsPrecedeRights};
 ghost use Rattle.device_requests.specs.Request.{RequestsAreSaid};
 
-/// A message is read as a request exactly where that is what its method and its options say.
+/// A message is read as a request exactly if its method and its options ask for that.
 pub fn requests_are_said()
     ensures { RequestsAreSaid }
 {}
 
-/// A request's answer is that of the first line of the tables that it meets, of which the last is
-/// its success. So each request has exactly one answer.
+/// A request's answer is that of the first line of the tables that applies, of which the last is its success. So each
+/// request has exactly one answer.
 pub fn first_line_answers()
     ensures { FirstLineAnswers }
 {}

@@ -12,13 +12,13 @@ pub enum TemplateFault {
     /// The object or the instance is not there.
     #[error("missing")]
     Missing,
-    /// It is there already.
+    /// It already exists.
     #[error("duplicate")]
     Duplicate,
     /// There are as many as there may be.
     #[error("full")]
     Full,
-    /// No memory was left.
+    /// An allocation failed.
     #[error("memory")]
     Memory,
 }

@@ -27,7 +27,7 @@ fn put_parts(store: &mut Store, path: ResourcePath, parts: Parts) -> Result<(), 
 }
 
 /// Sets what a resource is given: its single value, or parts. Under Replace it then has these parts and no others;
-/// under Update it keeps the others. After an error some of its values may be gone or set, and all else is as before.
+/// under Update it keeps the others. After an error some of its values may be removed or set; all else is unchanged.
 pub fn set_given(
     mode: Mode,
     store: &mut Store,
@@ -36,8 +36,8 @@ pub fn set_given(
 ) -> Result<(), StoreFault>
     ensures ok { OnOk result (store.new ≡ with_given mode store.old path given) }
 
-    // There is no such instance; or else the resource would have more than 32 parts. Otherwise only memory can be
-    // wanting, for a value that replaces none.
+    // There is no such instance; or else the resource would have more than 32 parts. Otherwise only an allocation can
+    // fail, for a value that replaces none.
     ensures absent { IsErrOf result StoreFault.Absent → IsFalse (has_instance store.old (instance_of path)) }
     ensures full { IsErrOf result StoreFault.Full → IsTrue (is_too_many mode store.old path given) }
     ensures never_exists { result ≢ Err StoreFault.Exists }
@@ -105,7 +105,7 @@ fn set_all(
     Ok(())
 }
 
-/// Whether Replace takes a resource away: an optional writable one that is not named.
+/// Whether Replace removes a resource: an optional writable one that is not named.
 fn is_lost(given: &Assignments, definition: ResourceDef) -> bool
     ensures { result ≡ is_lost given.now definition }
 {
@@ -134,7 +134,7 @@ fn clear_lost(
     Ok(())
 }
 
-/// Writes what an instance is given (OMA LwM2M 1.1 Core, Write). Replace first takes away the optional writable
+/// Writes what an instance is given (OMA LwM2M 1.1 Core, Write). Replace first removes the optional writable
 /// resources that are not named. Values of write-only resources are not kept. After an error a part of this may be
 /// done, and all outside the instance is as before.
 pub fn write_instance(
@@ -146,8 +146,8 @@ pub fn write_instance(
 ) -> Result<(), StoreFault>
     ensures ok { OnOk result (store.new ≡ instance_written mode resources.now store.old place given) }
 
-    // There is no such instance; or else some resource would have more than 32 parts. Otherwise only memory can be
-    // wanting, for a value that replaces none.
+    // There is no such instance; or else some resource would have more than 32 parts. Otherwise only an allocation can
+    // fail, for a value that replaces none.
     ensures absent { IsErrOf result StoreFault.Absent → IsFalse (has_instance store.old place) }
     ensures full { IsErrOf result StoreFault.Full → IsTrue (has_too_many mode resources.now store.old place given) }
     ensures never_exists { result ≢ Err StoreFault.Exists }
