@@ -74,6 +74,7 @@ fn kind_bits(kind: Kind) -> u8
 fn put_header(out: &mut Vec<u8>, message: &Message) -> Result<(), AllocError>
     ensures { OnOk result (out.new.items ≡ out.old.items ++ header_bytes message.now) }
 {
+    // For the proof alone: a message whose options are read is known to be well formed.
     let _known = message.options();
     let first = 64 + 16 * kind_bits(message.kind()) + message.token().len() as u8;
     let mid = message.mid();

@@ -51,12 +51,12 @@ impl Value {
             }
             Value::Whole(number) | Value::Moment(number) => {
                 // For the proof alone: what the code reads is known to be in its type's range.
-                let _number = *number;
+                let _known = *number;
                 true
             }
             Value::Flag(_) => true,
             Value::Link(object, instance) => {
-                let (_object, _instance) = (*object, *instance);
+                let _known = (*object, *instance);
                 true
             }
         }
