@@ -1,6 +1,5 @@
 -- What the answers of several functions need.
 use Rattle.std.proofs.Common.{Result, Ok, Err, IfOk, OnOk, OnErr}
-use Rattle.lemmas.proofs.Results.{on_err}
 
 -- what follows from a clause on one way to return
 pub ok_then : {X E : Type 0} (r : Result X E) (P Q : Type 0) → OnOk r P → (P → Q) → OnOk r Q

@@ -5,7 +5,6 @@ use Rattle.std.proofs.Common.{ap, subst, ◌∙◌, arith, inl, inr, Ordering}
 use Rattle.std.proofs.Common.{length-append, drop-cons, drop_of_length-le, Bor}
 use Rattle.std.proofs.Math.Dec.{T}
 use Rattle.std.specs.List.{filter, filter_map, dedup, dedup_from, slice_get, AllByRecursion}
-use Rattle.std.specs.Option.{unwrap_or}
 use Rattle.std.specs.Ordering.{nat_cmp, is_eq, is_lt, eq_by_cmp, ordering_then}
 use Rattle.std.specs.declared.cmp.Ordering.TheVariants.{Less, Equal, Greater}
 use Rattle.std.specs.Cmp.{IsTotalOrder, nat_cmp_total, tied_itself}

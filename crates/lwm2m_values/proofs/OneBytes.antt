@@ -1,5 +1,5 @@
 -- Bytes are those of one valid value of each kind, and the shortest bytes of a value are bytes of it; none are shorter.
-use Rattle.std.proofs.Common.{◌≡◌, ℕ, ◌<◌, ◌≤◌, ◌%◌, ◌^◌, List, [], ◌∷◌, ◌++◌, length, take, drop, get_or, ℤ, pos}
+use Rattle.std.proofs.Common.{◌≡◌, ℕ, ◌<◌, ◌≤◌, ◌^◌, List, [], ◌∷◌, ◌++◌, length, take, drop, get_or, ℤ, pos}
 use Rattle.std.proofs.Common.{negsuc, cond, eqb, ltb-true, inl, inr, Bool, true, false, refl, sym, ap, ◌∙◌, FitsSigned}
 use Rattle.std.proofs.Common.{arith}
 use Rattle.std.specs.Int.{w8, w16, w32, w64, to_be_bytes, from_be_bytes, cast_unsigned, cast_signed}
