@@ -9,7 +9,7 @@ pub fn clearing()
 {}
 
 /// After an event the State, the Update Result and the Package URI are those of the table.
-pub fn behind()
+pub fn after_event()
     ensures outcome { OutcomeIsHeld }
     ensures uri { UriIsHeld }
 {}
