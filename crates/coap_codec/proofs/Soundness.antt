@@ -6,7 +6,7 @@ use Rattle.std.proofs.Common.{length-drop, All}
 use Rattle.std.proofs.lemmas.Result.{MatchResult-at_ok, MatchResult-at_err}
 use Rattle.std.proofs.lemmas.List.{take-append-drop, length-take-le}
 use Rattle.std.proofs.lemmas.List.Elements.{All-head, All-tail, All-drop}
-use Rattle.std.proofs.lemmas.Bool.{cases_Bool, cases_lt, lt-ltb, ltb-false, eqb-true, eqb-false}
+use Rattle.std.proofs.lemmas.Bool.{cases_Bool, cases_lt, lt-ltb, ltb-false, eqb-true, eqb-false, or_parts, not-false}
 use Rattle.coap_codec.specs.declared.option.Opt.{Opt}
 use Rattle.coap_codec.specs.declared.fault.CoapFault.{CoapFault}
 use Rattle.coap_codec.specs.declared.fault.CoapFault.TheVariants.{PayloadEmpty}
@@ -100,16 +100,12 @@ past : (b : Bool) (f : CoapFault) (o : Option CoapFault) → cond b (Some f) o �
 past true f o e = absurd (cc)
 past false f o e = (refl, e)
 
-neither : (a b : Bool) → (a || b) ≡ false → (a ≡ false) × (b ≡ false)
-neither true b e = absurd (cc)
-neither false b e = (refl, e)
-
 -- an option with no fault fits each case
 no_fault_stands : (number first : ℕ) (rest : List ℕ) → option_fault number first rest ≡ None → Stands number first rest
 no_fault_stands number first rest e =
     let behind : List ℕ = drop (width (first / 16)) rest in
     let a = past _ _ _ e in
-    let n = neither _ _ a.0 in
+    let n = or_parts _ _ a.0 in
     let b = past _ _ _ a.1 in
     let c = past _ _ _ b.1 in
     let d = past _ _ _ c.1 in
@@ -275,16 +271,12 @@ record HeaderStands (first code : ℕ) (rest : List ℕ) : Type 0 where
   there : first % 16 ≤ length rest
   bare : code ≡ 0 → (first % 16 ≡ 0) × (length rest ≡ 0)
 
-not_false : (b : Bool) → not b ≡ false → b ≡ true
-not_false true e = refl
-not_false false e = absurd (cc)
-
 no_data : (code size more : ℕ) → (eqb code 0 && (not (eqb size 0) || ltb 4 more)) ≡ false → code ≡ 0 → (size ≡ 0)
     × (more ≤ 4)
 no_data code size more e z =
     let e2 : (eqb 0 0 && (not (eqb size 0) || ltb 4 more)) ≡ false = rw z at e in
-    let n = neither (not (eqb size 0)) (ltb 4 more) e2 in
-    (eqb-true size 0 (not_false (eqb size 0) n.0), ltb-false 4 more n.1)
+    let n = or_parts (not (eqb size 0)) (ltb 4 more) e2 in
+    (eqb-true size 0 (not-false (eqb size 0) n.0), ltb-false 4 more n.1)
 
 four_less : (n first code high low : ℕ) (rest : List ℕ) → 4 + n ≤ length (first ∷ code ∷ high ∷ low ∷ rest)
     → n ≤ length rest
@@ -303,7 +295,7 @@ header_stands first code high low rest e =
     let d = past _ _ _ c.1 in
     let f = past _ _ _ d.1 in
     record {
-      version = eqb-true (first / 64) 1 (not_false (eqb (first / 64) 1) b.0);
+      version = eqb-true (first / 64) 1 (not-false (eqb (first / 64) 1) b.0);
       token = ltb-false 8 (first % 16) c.0;
       there = four_less (first % 16) first code high low rest (ltb-false (length bytes) (4 + first % 16) f.0);
       bare = λ z. (let n : (first % 16 ≡ 0) × (length bytes ≤ 4) =

@@ -1,7 +1,7 @@
 use std::alloc::{AllocError, AllocFailed};
 use thiserror::Error;
 
-/// Why bytes are no message (RFC 7252 section 3), with its number; `Memory` says that no memory was left.
+/// Why bytes are not a message (RFC 7252 section 3), by number; `Memory`: an allocation failed.
 #[derive(Clone, Copy, Debug, PartialEq, Eq, Error)]
 pub enum CoapFault {
     /// Fewer than four bytes.
@@ -28,7 +28,7 @@ pub enum CoapFault {
     /// A payload marker with no payload.
     #[error("a payload marker with no payload")]
     PayloadEmpty = 8,
-    /// No memory was left.
+    /// An allocation failed.
     #[error("out of memory")]
     Memory = 9,
 }

@@ -1,5 +1,5 @@
-//! CoAP messages and their bytes (RFC 7252 section 3): what a datagram says, the one fault of a
-//! datagram that says nothing, and the bytes of a message.
+//! CoAP messages and their bytes (RFC 7252 section 3): the message that a datagram spells, the one fault of a
+//! datagram that spells none, and the bytes of a message.
 #![tactic(auto)]
 
 mod fault;

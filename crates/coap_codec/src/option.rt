@@ -123,7 +123,7 @@ impl Options {
         self.push(Opt { number, value })
     }
 
-    /// The same for a number of 16 bits.
+    /// Like `push_number`, for a number of 16 bits.
     pub fn push_short_number(
         &mut self,
         alloc: Global,

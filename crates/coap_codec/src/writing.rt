@@ -16,8 +16,8 @@ pub fn encode(alloc: Global, message: &Message) -> Result<Vec<u8>, AllocError>
     Ok(out)
 }
 
-/// Adds the bytes of a message to a buffer, so that one buffer can do for many messages. What is added where memory
-/// runs out is not said.
+/// Adds the bytes of a message to a buffer, so that one buffer serves for many messages. If an allocation fails, part
+/// of them may have been added.
 pub fn encode_into(out: &mut Vec<u8>, message: &Message) -> Result<(), AllocError>
     ensures spells { OnOk result (Spells (spelling message.now) message.now) }
     ensures spelling { OnOk result (out.new.items ≡ out.old.items ++ spelling message.now) }
@@ -75,6 +75,7 @@ fn kind_bits(kind: Kind) -> u8
 fn put_header(out: &mut Vec<u8>, message: &Message) -> Result<(), AllocError>
     ensures { OnOk result (out.new.items ≡ out.old.items ++ header_bytes message.now) }
 {
+    // For the proof alone: a message whose options are read is known to be well formed.
     let _known = message.options();
     let first = 64 + 16 * kind_bits(message.kind()) + message.token().len() as u8;
     let mid = message.mid();

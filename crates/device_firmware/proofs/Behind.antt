@@ -1,19 +1,14 @@
 -- What a store holds after an event.
-use Rattle.std.proofs.Common.{◌≡◌, ◌≢◌, ℕ, Bool, true, false, cond, ◌&&◌, ◌||◌, eqb, List, Option, None, Some, Result}
-use Rattle.std.proofs.Common.{Ok}
-use Rattle.std.proofs.Common.{Err, pos, refl, sym, ap, ◌∙◌, ◌⊎◌, inl, inr}
-use Rattle.std.specs.Ordering.{eq_by_cmp, is_eq}
+use Rattle.std.proofs.Common.{◌≡◌, ◌≢◌, ℕ, Bool, true, false, ◌&&◌, ◌||◌, eqb, List, Option, None, Some}
+use Rattle.std.proofs.Common.{pos, refl, sym, ap, ◌∙◌, ◌⊎◌, inl, inr}
 use Rattle.std.specs.Option.{option_map, is_none, is_some}
 use Rattle.std.proofs.lemmas.Bool.{eq-eqb, false≢true}
-use Rattle.std.specs.declared.cmp.Ordering.{Ordering}
-use Rattle.std.specs.declared.cmp.Ordering.TheVariants.{Less, Equal, Greater}
-use Rattle.std.specs.Result.{OnErr}
 use Rattle.std.specs.FinMap as map
+use Rattle.instance_store.proofs.SetValues.{value_after, value_elsewhere}
 use Rattle.lwm2m_values.specs.declared.value.Value.{Value}
 use Rattle.lwm2m_values.specs.declared.value.Value.TheVariants.{Text, Whole}
-use Rattle.object_defs.specs.Path.{path_cmp, single_of}
+use Rattle.object_defs.specs.Path.{single_of}
 use Rattle.object_defs.specs.declared.path.FullPath.{FullPath}
-use Rattle.object_defs.proofs.PathOrder.{path_total, path_exact}
 use Rattle.instance_store.specs.Stored.{Stored, value_at, with_value}
 use Rattle.device_firmware.specs.declared.event.FirmwareEvent.{FirmwareEvent}
 use Rattle.device_firmware.specs.declared.state.State.{State}
@@ -24,24 +19,6 @@ use Rattle.device_firmware.specs.Firmware.{state_in}
 use Rattle.device_firmware.specs.Firmware.{uri_of, with_uri, with_outcome}
 use Rattle.device_firmware.specs.Firmware.{held, is_ready}
 use Rattle.device_firmware.specs.Laws.{uri_behind}
-
--- after an insertion
-behind : (s : Stored) (p q : FullPath) (v : Value)
-    → value_at (with_value s p v) q ≡ cond (eq_by_cmp path_cmp q p) (Some v) (value_at s q)
-behind s p q v = map.get-insert path_total s.values p v q
-
-is_equal : (r : Ordering) → is_eq r ≡ true → r ≡ Equal
-is_equal Less h = cc
-is_equal Equal h = refl
-is_equal Greater h = cc
-
--- elsewhere
-elsewhere : (s : Stored) (p q : FullPath) (v : Value) → q ≢ p → value_at (with_value s p v) q ≡ value_at s q
-elsewhere s p q v other =
-    elim (eq_by_cmp path_cmp q p) as (λ b. eq_by_cmp path_cmp q p ≡ b → value_at (with_value s p v) q ≡ value_at s q) [
-      | true ↦ λ h. absurd (other (path_exact q p (is_equal _ h)))
-      | false ↦ λ h. behind s p q v ∙ ap (λ b. cond b (Some v) (value_at s q)) h
-    ] refl
 
 abbrev at : ℕ → FullPath
 at n = single_of (firmware_resource n)
@@ -58,31 +35,32 @@ read_again Updating = refl
 pub state-outcome : (s : Stored) (o : Outcome) → state_in (with_outcome s o) ≡ Some o.state
 state-outcome s o =
     let state = number (state_number o.state) in
-    ap state_as (behind (with_value s (at 3) state) (at 5) (at 3) (number o.code) ∙ behind s (at 3) (at 3) state)
+    ap state_as (value_after (with_value s (at 3) state) (at 5) (at 3) (number o.code)
+    ∙ value_after s (at 3) (at 3) state)
     ∙ read_again o.state
 
 pub code-outcome : (s : Stored) (o : Outcome) → held (with_outcome s o) 5 ≡ Some (number o.code)
-code-outcome s o = behind (with_value s (at 3) (number (state_number o.state))) (at 5) (at 5) (number o.code)
+code-outcome s o = value_after (with_value s (at 3) (number (state_number o.state))) (at 5) (at 5) (number o.code)
 
 pub uri-outcome : (s : Stored) (o : Outcome) → held (with_outcome s o) 1 ≡ held s 1
 uri-outcome s o =
-    behind (with_value s (at 3) (number (state_number o.state))) (at 5) (at 1) (number o.code)
-    ∙ behind s (at 3) (at 1) (number (state_number o.state))
+    value_after (with_value s (at 3) (number (state_number o.state))) (at 5) (at 1) (number o.code)
+    ∙ value_after s (at 3) (at 1) (number (state_number o.state))
 
 pub uri-uri : (s : Stored) (uri : Option (List ℕ)) → held (with_uri s uri) 1 ≡ uri_behind (held s 1) uri
 uri-uri s None = refl
-uri-uri s (Some text) = behind s (at 1) (at 1) (Text text)
+uri-uri s (Some text) = value_after s (at 1) (at 1) (Text text)
 
 pub other-outcome : (s : Stored) (o : Outcome) (q : FullPath) → q ≢ at 3 → q ≢ at 5
     → value_at (with_outcome s o) q ≡ value_at s q
 other-outcome s o q not3 not5 =
-    elsewhere (with_value s (at 3) (number (state_number o.state))) (at 5) q (number o.code) not5
-    ∙ elsewhere s (at 3) q (number (state_number o.state)) not3
+    value_elsewhere (with_value s (at 3) (number (state_number o.state))) (at 5) q (number o.code) not5
+    ∙ value_elsewhere s (at 3) q (number (state_number o.state)) not3
 
 pub other-uri : (s : Stored) (uri : Option (List ℕ)) (q : FullPath) → q ≢ at 1
     → value_at (with_uri s uri) q ≡ value_at s q
 other-uri s None q not1 = refl
-other-uri s (Some text) q not1 = elsewhere s (at 1) q (Text text) not1
+other-uri s (Some text) q not1 = value_elsewhere s (at 1) q (Text text) not1
 
 pub same_instances : (s : Stored) (uri : Option (List ℕ)) → (with_uri s uri).instances ≡ s.instances
 same_instances s None = refl
@@ -122,7 +100,7 @@ not_ready-uri true a None h some = cc
 not_ready-uri true a (Some text) h some = h
 
 pub still-5 : (s t : Stored) (v : Value) → t ≡ with_value s (at 3) v → held t 5 ≡ None → held s 5 ≡ None
-still-5 s t v e h = sym (behind s (at 3) (at 5) v) ∙ ap (λ u. held u 5) (sym e) ∙ h
+still-5 s t v e h = sym (value_after s (at 3) (at 5) v) ∙ ap (λ u. held u 5) (sym e) ∙ h
 
 -- by what wants of setting the Package URI, and the outcome
 pub wanting-uri : (s : Stored) (event : FirmwareEvent) → held s 1 ≡ None → is_some (uri_of event) ≡ true
@@ -138,7 +116,3 @@ wanting-outcome s event (inl h) =
 wanting-outcome s event (inr h) =
     not_ready-outcome (is_some (held s 3)) (is_some (held s 5)) (is_none (uri_of event) || is_some (held s 1))
     (inr (ap is_some (sym (held-uri s (uri_of event) 5 refl) ∙ h)))
-
-pub on_err : {A E : Type 0} (r : Result A E) (P : Type 0) → P → OnErr r P
-on_err (Ok x) P p = tt
-on_err (Err e) P p = p

@@ -54,7 +54,7 @@ next (Ended c) Updating = updating_ended c
 next (Ended c) Idle = None
 next (Ended c) Downloaded = None
 
--- the same where the State may be wanting: then clearing alone is taken
+-- the same for a State that may be missing or invalid: then clearing alone is taken
 abbrev pub next_from : FirmwareEvent → Option State → Option Outcome
 next_from event (Some state) = next event state
 next_from Cleared None = Some (to Idle 0)

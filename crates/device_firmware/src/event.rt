@@ -8,7 +8,7 @@ use lwm2m_values::Text;
 pub enum FirmwareEvent {
     /// An empty Package, one of a single zero byte, or an empty Package URI is written.
     Cleared,
-    /// Another Package is written. Its bytes aren't kept.
+    /// Another Package is written. Its bytes are not kept.
     Package,
     /// Another Package URI is written: this one.
     Uri(Text),

@@ -10,7 +10,7 @@ pub fn clearing()
 
 /// After an event the State and the Update Result are those of the table, and the Package URI is the new one if there
 /// is one, otherwise as it was.
-pub fn behind()
+pub fn after_event()
     ensures outcome { OutcomeIsHeld }
     ensures uri { UriIsHeld }
 {}

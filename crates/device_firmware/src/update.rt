@@ -96,7 +96,7 @@ fn set_outcome(store: &mut Store, outcome: Outcome) -> Result<(), AllocError>
     Ok(())
 }
 
-/// Sets what an event leads to. Where memory runs out, some of it may be set.
+/// Sets what an event leads to. If an allocation fails, some of it may be set.
 fn change(
     alloc: Global,
     store: &mut Store,
@@ -152,7 +152,7 @@ pub fn take(alloc: Global, store: &mut Store, event: FirmwareEvent) -> Result<bo
     ensures answer { IfOk result (λ taken. taken ≡ is_some (firmware_after store.old event)) }
     ensures change { OnOk result (store.new ≡ unwrap_or (firmware_after store.old event) store.old) }
 
-    // It takes memory only for an event that is taken, where what it sets isn't all held.
+    // It takes memory only for an event that is taken, and only if what it sets is not all held.
     ensures taken { OnErr result (is_some (firmware_after store.old event) ≡ true) }
     ensures memory { OnErr result (is_ready store.old event ≡ false) }
     ensures unchanged { OnErr result (store.new ≡ store.old) }

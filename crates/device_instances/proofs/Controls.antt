@@ -1,10 +1,11 @@
 -- The instance of object 2 that a Create adds.
-use Rattle.std.proofs.Common.{◌≡◌, ◌≢◌, ℕ, Bool, true, false, cond, ◌||◌, nat_le, eqb, length, Option, None, Some, pos}
+use Rattle.std.proofs.Common.{◌≡◌, ◌≢◌, ℕ, Bool, true, false, cond, nat_le, eqb, length, Option, None, Some, pos}
 use Rattle.std.proofs.Common.{refl, sym, ap, ◌∙◌, ◌⊎◌, inl, inr}
 use Rattle.std.specs.Option.{is_some}
 use Rattle.std.specs.Ordering.{eq_by_cmp}
 use Rattle.std.specs.FinMap as map
 use Rattle.std.proofs.lemmas.Bool.{eqb-true, and_parts, false≢true}
+use Rattle.lemmas.proofs.Tests.{or_first}
 use Rattle.lwm2m_values.specs.declared.value.Value.TheVariants.{Whole}
 use Rattle.object_defs.specs.Path.{instance_cmp}
 use Rattle.object_defs.specs.declared.path.FullPath.{FullPath}
@@ -99,10 +100,6 @@ pub control_full : (s : Stored) (accounts server : ℕ) (place : InstancePath) �
 control_full s accounts server place other =
     ap (λ ns. nat_le 64 (length ns)) (same_numbers s (with_control_for s accounts server place) place.object
     (λ n. control_instances s accounts server place (instance_at place.object n) (λ h. other h.0)))
-
-pub first_is_false : (a b : Bool) → (a || b) ≡ false → a ≡ false
-first_is_false true b h = cc
-first_is_false false b h = refl
 
 -- what is there was there, or is new
 only_by : (s : Stored) (b : Bool) (r : Option ℕ) (server : ℕ) (place p : InstancePath) → smallest_free s 2 ≡ r

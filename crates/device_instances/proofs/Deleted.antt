@@ -3,7 +3,8 @@ use Rattle.std.proofs.Common.{◌≡◌, ◌≢◌, ℕ, ◌<◌, ◌-◌, Bool,
 use Rattle.std.proofs.Common.{refl, sym, ap, subst, ◌∙◌, ◌⊎◌, inl, inr, arith}
 use Rattle.std.specs.Option.{is_some}
 use Rattle.std.specs.FinMap as map
-use Rattle.std.proofs.lemmas.Bool.{eqb-true, and_parts, cases_eq, false≢true}
+use Rattle.std.proofs.lemmas.Bool.{eqb-true, and_parts, cases_eq, false≢true, or_right, or_cases}
+use Rattle.lemmas.proofs.Tests.{or_second}
 use Rattle.object_defs.specs.Path.{instance_cmp}
 use Rattle.object_defs.specs.declared.path.FullPath.{FullPath}
 use Rattle.object_defs.specs.declared.path.InstancePath.{InstancePath}
@@ -61,10 +62,6 @@ pub record Progress (place : InstancePath) (old now : Stored) : Type 0 where
   pub each : (p : InstancePath) → SameAt p old now ⊎ ((goes_with old place p ≡ true) × EmptyAt p now)
   pub first : EmptyAt place now
 
-or_true : (a b : Bool) → b ≡ true → (a || b) ≡ true
-or_true true b h = refl
-or_true false b h = h
-
 goes_itself : (s : Stored) (place : InstancePath) → goes_with s place place ≡ true
 goes_itself s place = ap (λ b. b || is_control_of s place place) (is_itself place)
 
@@ -90,7 +87,7 @@ control_goes : (place : InstancePath) (old now : Stored) (j : ℕ) → SameAt (i
     → has_instance now (instance_at 2 j) ≡ true → speaks_of now j place.object place.instance ≡ true
     → goes_with old place (instance_at 2 j) ≡ true
 control_goes place old now j same has speaks =
-    or_true (is_same (instance_at 2 j) place) (is_control_of old place (instance_at 2 j))
+    or_right (is_same (instance_at 2 j) place) (is_control_of old place (instance_at 2 j))
     (ap (λ b. b && speaks_of old j place.object place.instance) (sym (ap is_some same.there) ∙ has)
     ∙ sym (speaks_alike old now j place.object place.instance same.values) ∙ speaks)
 
@@ -125,10 +122,6 @@ continued place old now j h found =
     }
 
 -- ---- at the end
-
-either : (a b : Bool) → (a || b) ≡ true → (a ≡ true) ⊎ (b ≡ true)
-either true b h = inl refl
-either false b h = inr h
 
 pub record Settled (place : InstancePath) (old now : Stored) (p : InstancePath) : Type 0 where
   pub there : map.get now.instances p ≡ cond (not (goes_with old place p)) (map.get old.instances p) None
@@ -166,7 +159,7 @@ settled place old now h none p =
           there = same.there ∙ ap (λ b. cond (not b) (map.get old.instances p) None) (sym g);
           values = λ q e. same.values q e ∙ ap (λ b. cond (not b) (value_at old q) None) (sym g);
         }
-        | true ↦ λ g. elim (either (is_same p place) (is_control_of old place p) g) [
+        | true ↦ λ g. elim (or_cases (is_same p place) (is_control_of old place p) g) [
           | inl here ↦ away_settled place old now p g
               (subst (λ o. EmptyAt o now) (sym (one_place p place here)) h.first)
           | inr control ↦ absurd (none_left place old now p same none control)
@@ -227,10 +220,6 @@ is_left : (b : Bool) (o : Option (Unit {0})) → is_some (cond (not b) o None) �
 is_left true o h = cc
 is_left false o h = (refl, h)
 
-or_false : (a b : Bool) → (a || b) ≡ false → b ≡ false
-or_false true b h = cc
-or_false false b h = h
-
 and_false : (a b : Bool) → a ≡ true → (a && b) ≡ false → b ≡ false
 and_false true b h k = k
 and_false false b h k = cc
@@ -244,4 +233,4 @@ no_control_left s place j has =
     speaks_alike s (without_deleted s place) j place.object place.instance
     (λ q e. value_left s place q ∙ ap (λ b. cond (not b) (value_at s q) None) (ap (goes_with s place) e ∙ stays.0))
     ∙ and_false (has_instance s (instance_at 2 j)) (speaks_of s j place.object place.instance) stays.1
-    (or_false (is_same (instance_at 2 j) place) (is_control_of s place (instance_at 2 j)) stays.0)
+    (or_second (is_same (instance_at 2 j) place) (is_control_of s place (instance_at 2 j)) stays.0)

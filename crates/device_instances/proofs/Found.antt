@@ -1,9 +1,10 @@
 -- The first number below a limit that passes a test.
-use Rattle.std.proofs.Common.{◌≡◌, ℕ, zero, suc, ◌<◌, Bool, true, false, cond, not, ltb, ltb-true, ltb-false, List, []}
+use Rattle.std.proofs.Common.{◌≡◌, ℕ, zero, suc, ◌<◌, Bool, true, false, cond, ltb, ltb-true, ltb-false, List, []}
 use Rattle.std.proofs.Common.{◌∷◌, Option, None, Some, refl, sym, ap, subst, ◌∙◌, arith}
 use Rattle.std.specs.List.{find}
 use Rattle.std.specs.Option.{option_or, IfSome, IfNone}
 use Rattle.std.proofs.lemmas.List.Folds.{find-append}
+use Rattle.std.proofs.lemmas.Bool.{not_from_false, not_from_true, not-true, not-false}
 use Rattle.instance_store.specs.Stored.{Stored, has_instance}
 use Rattle.device_instances.specs.Numbers.{below, is_free, instance_at, smallest_free, IsSmallestFree, AllAreTaken}
 
@@ -29,18 +30,13 @@ first_below p (suc n) m l h low =
           ∙ ap (λ b. cond b (Some n) None) (subst (λ k. p k ≡ true) e h) ∙ ap Some (sym e)
     ] refl
 
-free_is : (b : Bool) → b ≡ false → not b ≡ true
-free_is b h = ap not h
-
-taken_is : (b : Bool) → b ≡ true → not b ≡ false
-taken_is b h = ap not h
-
 pub found : (stored : Stored) (object n : ℕ) → IsSmallestFree stored object n → smallest_free stored object ≡ Some n
 found stored object n h =
-    first_below (is_free stored object) 65535 n h.small (free_is _ h.free) (λ k l. taken_is _ (h.smallest k l))
+    first_below (is_free stored object) 65535 n h.small (not_from_false _ h.free)
+    (λ k l. not_from_true _ (h.smallest k l))
 
 pub missing : (stored : Stored) (object : ℕ) → AllAreTaken stored object → smallest_free stored object ≡ None
-missing stored object h = none_below (is_free stored object) 65535 (λ k l. taken_is _ (h k l))
+missing stored object h = none_below (is_free stored object) 65535 (λ k l. not_from_true _ (h k l))
 
 pub decided : (stored : Stored) (object : ℕ) (r : Option ℕ) → IfSome r (IsSmallestFree stored object)
     → IfNone r (AllAreTaken stored object) → r ≡ smallest_free stored object
@@ -56,13 +52,9 @@ passes p (x ∷ xs) m h =
       | false ↦ λ e k. passes p xs m k
     ] refl h
 
-not_free : (b : Bool) → not b ≡ true → b ≡ false
-not_free true h = cc
-not_free false h = refl
-
 pub found_free : (stored : Stored) (object n : ℕ) → smallest_free stored object ≡ Some n
     → has_instance stored (instance_at object n) ≡ false
-found_free stored object n h = not_free _ (passes (is_free stored object) (below 65535) n h)
+found_free stored object n h = not-true _ (passes (is_free stored object) (below 65535) n h)
 
 -- where nothing is found, all fail
 both_none : (a b : Option ℕ) → option_or a b ≡ None → (a ≡ None) × (b ≡ None)
@@ -84,9 +76,5 @@ all_fail p (suc n) h k l =
           omega (arith, ltb-false k n t) in subst (λ m. p m ≡ false) (sym e) (fails_alone (p n) n parts.1)
     ] refl
 
-not_taken : (b : Bool) → not b ≡ false → b ≡ true
-not_taken true h = refl
-not_taken false h = cc
-
 pub all_taken : (stored : Stored) (object : ℕ) → smallest_free stored object ≡ None → AllAreTaken stored object
-all_taken stored object h = λ k l. not_taken _ (all_fail (is_free stored object) 65535 h k l)
+all_taken stored object h = λ k l. not-false _ (all_fail (is_free stored object) 65535 h k l)

@@ -3,15 +3,14 @@ use Rattle.std.proofs.Common.{◌≡◌, ◌≢◌, ℕ, ◌≤◌, true, false,
 use Rattle.std.proofs.Common.{Option, None, Some, refl, sym, ap, ◌∙◌, arith}
 use Rattle.std.specs.Option.{is_some}
 use Rattle.std.specs.List.{list_any}
-use Rattle.std.specs.Ordering.{nat_cmp, eq_by_cmp, is_eq}
-use Rattle.std.specs.declared.cmp.Ordering.{Ordering}
-use Rattle.std.specs.declared.cmp.Ordering.TheVariants.{Less, Equal, Greater}
+use Rattle.std.specs.Ordering.{nat_cmp, eq_by_cmp}
 use Rattle.std.specs.Cmp.{nat_cmp_total}
 use Rattle.std.specs.FinMap as map
 use Rattle.std.specs.FinMap.Entries.{same_entries, is_some-find}
 use Rattle.std.proofs.lemmas.Bool.Decides.{nat_tests}
 use Rattle.std.proofs.lemmas.Map.Lookups.{exact_unsigned}
 use Rattle.std.proofs.lemmas.Map.Steps.{le-length_from_below}
+use Rattle.lemmas.proofs.Orders.{is_equal}
 use Rattle.object_defs.specs.declared.path.InstancePath.{InstancePath}
 use Rattle.object_defs.specs.Path.{instance_cmp}
 use Rattle.object_defs.proofs.PathOrder.{instance_total, instance_exact}
@@ -34,11 +33,6 @@ same_numbers s t o h =
     (λ n. find-under o (map.entries t.instances) n ∙ sym (map.get-entries t.instances (instance_at o n)) ∙ h n
     ∙ map.get-entries s.instances (instance_at o n) ∙ sym (find-under o (map.entries s.instances) n)))
     ∙ sym (keys_of-under o (map.entries s.instances))
-
-is_equal : (r : Ordering) → is_eq r ≡ true → r ≡ Equal
-is_equal Less h = cc
-is_equal Equal h = refl
-is_equal Greater h = cc
 
 -- instances that are not one do not compare alike
 pub differs : (p q : InstancePath) → p ≢ q → eq_by_cmp instance_cmp p q ≡ false

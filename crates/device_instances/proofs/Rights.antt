@@ -1,10 +1,11 @@
 -- What a server may do to an instance that it has created.
-use Rattle.std.proofs.Common.{◌≡◌, ◌≢◌, ℕ, ◌<◌, ◌≤◌, Bool, true, false, cond, not, ◌&&◌, nat_le, eqb, List, None, Some}
+use Rattle.std.proofs.Common.{◌≡◌, ◌≢◌, ℕ, ◌<◌, ◌≤◌, true, false, cond, not, ◌&&◌, nat_le, eqb, List, None, Some}
 use Rattle.std.proofs.Common.{pos, refl, sym, ap, subst, ◌∙◌, ◌⊎◌, inl, inr, arith}
 use Rattle.std.specs.Option.{is_some}
 use Rattle.std.specs.FinMap as map
-use Rattle.std.proofs.lemmas.Bool.{eq-eqb, false≢true}
+use Rattle.std.proofs.lemmas.Bool.{eq-eqb, false≢true, and_from}
 use Rattle.std.proofs.lemmas.Bool.Decides.{nat_tests}
+use Rattle.instance_store.proofs.SetValues.{value_elsewhere}
 use Rattle.lwm2m_values.specs.declared.value.Value.TheVariants.{Whole}
 use Rattle.object_defs.specs.Path.{single_of, part_of}
 use Rattle.object_defs.specs.declared.definition.ResourceDef.{ResourceDef}
@@ -24,7 +25,7 @@ use Rattle.device_instances.specs.Deletions.{instance_in, is_same}
 use Rattle.device_instances.proofs.Instances.{added, not_added, has_free}
 use Rattle.device_instances.proofs.Controls.{IsNew, not_same, one_place, control_instances, control_values}
 use Rattle.device_instances.proofs.Controls.{control_only, old_is_not_new}
-use Rattle.device_instances.proofs.Within.{elsewhere, here, kept, is_itself, written_within}
+use Rattle.device_instances.proofs.Within.{here, kept, is_itself, written_within}
 
 -- ---- what a Create leaves
 
@@ -92,15 +93,15 @@ module _ (s : Stored) (j server : ℕ) (place : InstancePath) where
 
   pub object_is : value_at (with_control s j server place) (single_of (control j 0)) ≡ Some (Whole (pos place.object))
   object_is =
-      elsewhere two (single_of (control j 3)) (single_of (control j 0)) (Whole (pos server)) (at_once j 0 3 refl)
-      ∙ elsewhere one (single_of (control j 1)) (single_of (control j 0)) (Whole (pos place.instance))
+      value_elsewhere two (single_of (control j 3)) (single_of (control j 0)) (Whole (pos server)) (at_once j 0 3 refl)
+      ∙ value_elsewhere one (single_of (control j 1)) (single_of (control j 0)) (Whole (pos place.instance))
       (at_once j 0 1 refl)
       ∙ here bare 2 j 0 (Whole (pos place.object))
 
   pub instance_is : value_at (with_control s j server place) (single_of (control j 1))
       ≡ Some (Whole (pos place.instance))
   instance_is =
-      elsewhere two (single_of (control j 3)) (single_of (control j 1)) (Whole (pos server)) (at_once j 1 3 refl)
+      value_elsewhere two (single_of (control j 3)) (single_of (control j 1)) (Whole (pos server)) (at_once j 1 3 refl)
       ∙ here one 2 j 1 (Whole (pos place.instance))
 
   pub owner_is : value_at (with_control s j server place) (single_of (control j 3)) ≡ Some (Whole (pos server))
@@ -116,9 +117,11 @@ module _ (s : Stored) (j server : ℕ) (place : InstancePath) where
 
   pub no_entry : (n : ℕ) → value_at (with_control s j server place) (part_of (control j 2) n) ≡ None
   no_entry n =
-      elsewhere two (single_of (control j 3)) (part_of (control j 2) n) (Whole (pos server)) (other_part n 3)
-      ∙ elsewhere one (single_of (control j 1)) (part_of (control j 2) n) (Whole (pos place.instance)) (other_part n 1)
-      ∙ elsewhere bare (single_of (control j 0)) (part_of (control j 2) n) (Whole (pos place.object)) (other_part n 0)
+      value_elsewhere two (single_of (control j 3)) (part_of (control j 2) n) (Whole (pos server)) (other_part n 3)
+      ∙ value_elsewhere one (single_of (control j 1)) (part_of (control j 2) n) (Whole (pos place.instance))
+      (other_part n 1)
+      ∙ value_elsewhere bare (single_of (control j 0)) (part_of (control j 2) n) (Whole (pos place.object))
+      (other_part n 0)
       ∙ in_list n
 
 -- ---- the creator
@@ -131,9 +134,6 @@ not_one n h = grind (arith, nat_tests)
 
 not_two : (n : ℕ) → n ≢ 2 → eqb n 2 ≡ false
 not_two n h = grind (arith, nat_tests)
-
-both : (a b : Bool) → a ≡ true → b ≡ true → (a && b) ≡ true
-both a b h k = ap (λ c. c && b) h ∙ k
 
 pub speaks_alike : (s t : Stored) (k o i : ℕ)
     → ((q : FullPath) → instance_in q ≡ instance_at 2 k → value_at t q ≡ value_at s q)
@@ -162,7 +162,7 @@ module _ (s : Stored) (accounts server : ℕ) (resources : List ResourceDef) (pl
       ∙ ap (λ t. value_at t q) is_before
 
   speaks : speaks_of made j place.object place.instance ≡ true
-  speaks = both _ _
+  speaks = and_from _ _
       (ap (λ v. is_integer place.object (integer_in v))
       (value_is (single_of (control j 0)) refl ∙ object_is s j server place) ∙ is_it place.object)
       (ap (λ v. is_integer place.instance (integer_in v))

@@ -1,12 +1,11 @@
 -- Changes that stay within an instance.
 use Rattle.std.proofs.Common.{◌≡◌, ◌≢◌, ℕ, Bool, true, false, cond, not, ◌&&◌, eqb, List, [], ◌∷◌, None, Some, refl}
 use Rattle.std.proofs.Common.{sym, ap, ◌∙◌, arith}
-use Rattle.std.specs.Ordering.{eq_by_cmp, is_eq}
-use Rattle.std.specs.declared.cmp.Ordering.{Ordering}
-use Rattle.std.specs.declared.cmp.Ordering.TheVariants.{Less, Equal, Greater}
+use Rattle.std.specs.Ordering.{eq_by_cmp}
 use Rattle.std.specs.FinMap as map
 use Rattle.std.proofs.lemmas.Bool.{eq-eqb, false≢true}
 use Rattle.std.proofs.lemmas.Bool.Decides.{nat_tests}
+use Rattle.instance_store.proofs.SetValues.{value_after, value_elsewhere}
 use Rattle.lwm2m_values.specs.declared.value.Value.{Value}
 use Rattle.object_defs.specs.Path.{path_cmp, single_of, part_of}
 use Rattle.object_defs.specs.declared.definition.ResourceDef.{ResourceDef}
@@ -25,23 +24,7 @@ use Rattle.lwm2m_payloads.specs.declared.given.Given.TheVariants.{Single, Parts}
 use Rattle.lwm2m_payloads.specs.declared.given.Mode.TheVariants.{Replace}
 use Rattle.device_instances.specs.Deletions.{instance_in, is_same}
 
-is_equal : (r : Ordering) → is_eq r ≡ true → r ≡ Equal
-is_equal Less h = cc
-is_equal Equal h = refl
-is_equal Greater h = cc
-
 -- ---- one value
-
-pub behind : (s : Stored) (p q : FullPath) (v : Value)
-    → value_at (with_value s p v) q ≡ cond (eq_by_cmp path_cmp q p) (Some v) (value_at s q)
-behind s p q v = map.get-insert path_total s.values p v q
-
-pub elsewhere : (s : Stored) (p q : FullPath) (v : Value) → q ≢ p → value_at (with_value s p v) q ≡ value_at s q
-elsewhere s p q v other =
-    elim (eq_by_cmp path_cmp q p) as (λ b. eq_by_cmp path_cmp q p ≡ b → value_at (with_value s p v) q ≡ value_at s q) [
-      | true ↦ λ h. absurd (other (path_exact q p (is_equal _ h)))
-      | false ↦ λ h. behind s p q v ∙ ap (λ b. cond b (Some v) (value_at s q)) h
-    ] refl
 
 single_itself : (o i r : ℕ)
     → eq_by_cmp path_cmp (record { object = o; instance = i; resource = r; part = None })
@@ -52,7 +35,7 @@ pub here : (s : Stored) (o i r : ℕ) (v : Value)
     → value_at (with_value s (record { object = o; instance = i; resource = r; part = None }) v)
     (record { object = o; instance = i; resource = r; part = None }) ≡ Some v
 here s o i r v =
-    behind s _ _ v ∙ ap (λ b. cond b (Some v)
+    value_after s _ _ v ∙ ap (λ b. cond b (Some v)
     (value_at s (record { object = o; instance = i; resource = r; part = None }))) (single_itself o i r)
 
 pub kept : (s : Stored) (path : Path) (q : FullPath)
@@ -79,7 +62,8 @@ is_itself p = ap (λ b. b && eqb p.instance p.instance) (eq-eqb p.object p.objec
 pub value_within : (place : InstancePath) (s : Stored) (p : FullPath) (v : Value) → is_same (instance_in p) place ≡ true
     → Within place s (with_value s p v)
 value_within place s p v inside = record {
-  values = λ q h. elsewhere s p q v (λ e. false≢true (sym h ∙ ap (λ k. is_same (instance_in k) place) e ∙ inside));
+  values = λ q h. value_elsewhere s p q v (λ e. false≢true
+      (sym h ∙ ap (λ k. is_same (instance_in k) place) e ∙ inside));
   instances = refl;
 }
 

@@ -20,7 +20,7 @@ is_control_of stored place p =
     p.object == access_control_object
     && (has_instance stored p && speaks_of stored p.instance place.object place.instance)
 
--- what goes with an instance: it, and each instance of Access Control that speaks of it
+-- what is removed with an instance: it, and each instance of Access Control that speaks of it
 abbrev pub goes_with : Stored → InstancePath → InstancePath → Bool
 goes_with stored place p = is_same p place || is_control_of stored place p
 

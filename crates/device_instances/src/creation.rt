@@ -203,7 +203,7 @@ pub fn create(
     requires { place.object ≢ 2 }
     ensures ok { OnOk result (store.new ≡ with_created store.old accounts server resources.now place given) }
 
-    // There is such an instance; or else there is no room.
+    // The instance already exists; or else there is no room.
     ensures exists { IsErrOf result StoreFault.Exists ↔ IsTrue (has_instance store.old place) }
     ensures full { IsErrOf result StoreFault.Full
         ↔ (IsFalse (has_instance store.old place) × IsTrue (has_no_room store.old accounts resources.now place given)) }

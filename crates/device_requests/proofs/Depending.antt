@@ -1,12 +1,14 @@
 -- What the answer to a Read depends on: what is alike in stores that agree there.
 use Rattle.std.proofs.Common.{◌≡◌, ℕ, ℤ, Bool, true, false, cond, not, ◌&&◌, ◌||◌, ◌==◌, nat_le, nat_lt, List, [], ◌∷◌}
-use Rattle.std.proofs.Common.{length, map, Option, None, Some, refl, sym, ap, ◌∙◌, arith, if◌then◌else◌}
+use Rattle.std.proofs.Common.{length, map, Option, None, Some, refl, sym, ap, ◌∙◌, if◌then◌else◌}
 use Rattle.std.specs.FinMap as finite
 use Rattle.std.specs.FinMap.Entries.{find-where_key, is_sorted-where_key, same_entries}
 use Rattle.std.specs.List.{filter, filter_map, find as find_first, list_any}
 use Rattle.std.specs.Option.{is_some, option_map, unwrap_or}
 use Rattle.std.specs.declared.cmp.Ordering.TheVariants.{Equal}
-use Rattle.std.proofs.lemmas.Bool.Decides.{nat_tests}
+use Rattle.std.proofs.lemmas.Bool.{and_from, or_left, or_right}
+use Rattle.lemmas.proofs.Numbers.{eqb_itself}
+use Rattle.lemmas.proofs.Tests.{and_first}
 use Rattle.lwm2m_values.specs.Tlv.{shortest_tlv}
 use Rattle.lwm2m_values.specs.Tree.{instance, listed, part, single}
 use Rattle.lwm2m_values.specs.Value.{is_integer}
@@ -66,30 +68,18 @@ same_values s t path h =
     ∙ ap (λ (v : Option Value). cond (lies_in path q) v None) (finite.get-entries t.values q)
     ∙ sym (find-where_key path_cmp (lies_in path) q (as_key q) fs))
 
-same_self : (n : ℕ) → (n == n) ≡ true
-same_self n = grind (arith, nat_tests)
-
 all_three : (a b c : Bool) → a ≡ true → b ≡ true → c ≡ true → (a && b && c) ≡ true
 all_three true true true h i j = refl
 all_three false b c h i j = cc
 all_three true false c h i j = cc
 all_three true true false h i j = cc
 
-both : (a b : Bool) → a ≡ true → b ≡ true → (a && b) ≡ true
-both true true h i = refl
-both false b h i = cc
-both true false h i = cc
-
-first_of : (a b : Bool) → (a && b) ≡ true → a ≡ true
-first_of true b h = refl
-first_of false b h = cc
-
 -- the single value of a resource lies in it, and a part in itself
 pub single_in : (o i r : ℕ) → lies_in (Resource o i r) (single_of (resource_place o i r)) ≡ true
-single_in o i r = all_three (o == o) (i == i) (r == r) (same_self o) (same_self i) (same_self r)
+single_in o i r = all_three (o == o) (i == i) (r == r) (eqb_itself o) (eqb_itself i) (eqb_itself r)
 
 part_in : (o i r n : ℕ) → lies_in (Part o i r n) (part_of (resource_place o i r) n) ≡ true
-part_in o i r n = both (o == o && i == i && r == r) (n == n) (single_in o i r) (same_self n)
+part_in o i r n = and_from (o == o && i == i && r == r) (n == n) (single_in o i r) (eqb_itself n)
 
 -- ---- instances
 
@@ -190,7 +180,7 @@ shown_by resources es = shortest_tlv (nodes_of (filter (λ e. is_shown resources
 
 -- what is the same below an object is so below each of its instances
 below_object : (o i : ℕ) (s t : Stored) → SameIn (Object o) s t → SameIn (Instance o i) s t
-below_object o i s t h q lies = h q (first_of (q.object == o) (q.instance == i) lies)
+below_object o i s t h q lies = h q (and_first (q.object == o) (q.instance == i) lies)
 
 same_node : (s t : Stored) (resources : List ResourceDef) (o i : ℕ) → SameIn (Object o) s t
     → instance_node s resources o i ≡ instance_node t resources o i
@@ -226,22 +216,13 @@ read_by client path accept exists_there may payload =
     ∷ (not (is_some format), NotAcceptable) ∷ (is_oversized payload, InternalServerError) ∷ []))
     (content_in format payload)
 
-first_or : (a b : Bool) → a ≡ true → (a || b) ≡ true
-first_or true b h = refl
-first_or false b h = cc
-
-second_or : (a b : Bool) → b ≡ true → (a || b) ≡ true
-second_or true b h = refl
-second_or false true h = refl
-second_or false false h = cc
-
 pub same_answer : ReadsDependOnTheirValues
 same_answer client stored server path accept h =
     let there : SameIn path stored client.store =
-    λ q lies. h.values q (first_or (lies_in path q) (is_of_rights q) lies) in
+    λ q lies. h.values q (or_left (lies_in path q) (is_of_rights q) lies) in
     let controls : SameControls stored client.store = record {
       instances = h.instances;
-      values = λ q is. h.values q (second_or (lies_in path q) (is_of_rights q) is);
+      values = λ q is. h.values q (or_right (lies_in path q) (is_of_rights q) is);
     } in
     λ j. read_by client path accept (same_exists client.catalogue stored client.store path h.instances there j)
     (same_may client stored server path controls j)

@@ -1,13 +1,14 @@
 -- The paths that a Discover shows are those that exist.
 use Rattle.std.proofs.Common.{◌≡◌, ℕ, Bool, true, false, ◌&&◌, ◌==◌, inl, inr, List, map, Option, None, Some, is_some}
-use Rattle.std.proofs.Common.{Ordering, refl, sym, ap, subst, ◌∙◌, arith}
+use Rattle.std.proofs.Common.{refl, sym, ap, subst, ◌∙◌}
 use Rattle.std.specs.List.{filter}
 use Rattle.std.specs.Option.{option_and_then}
-use Rattle.std.specs.Ordering.{eq_by_cmp, is_eq}
-use Rattle.std.specs.declared.cmp.Ordering.TheVariants.{Less, Equal, Greater}
+use Rattle.std.specs.Ordering.{eq_by_cmp}
 use Rattle.std.specs.Cmp.{eq_by_cmp_equiv}
 use Rattle.std.specs.FinMap as map
-use Rattle.std.proofs.lemmas.Bool.Decides.{nat_tests}
+use Rattle.std.proofs.lemmas.Bool.{eqb-true, and_parts, and_from}
+use Rattle.lemmas.proofs.Numbers.{eqb_itself}
+use Rattle.lemmas.proofs.Orders.{is_equal}
 use Rattle.object_defs.specs.Catalogue.{definition_of, object_of, resource_in}
 use Rattle.object_defs.specs.Path.{instance_cmp}
 use Rattle.object_defs.specs.declared.definition.ObjectDef.{ObjectDef}
@@ -25,28 +26,10 @@ use Rattle.device_requests.specs.Targets.{defined, exists, place_of, resource_pl
 use Rattle.device_requests.proofs.Among.{among-any, among-filter, among-flat, among-map, any_found, filtered, flattened}
 use Rattle.device_requests.proofs.Among.{found, mapped}
 
-same_number : (a b : ℕ) → (a == b) ≡ true → a ≡ b
-same_number a b h = grind (arith, nat_tests)
-
-number_same : (a : ℕ) → (a == a) ≡ true
-number_same a = grind (arith, nat_tests)
-
-both : (a b : Bool) → (a && b) ≡ true → (a ≡ true) × (b ≡ true)
-both true b h = (refl, h)
-both false b h = cc
-
-and_true : (a b : Bool) → a ≡ true → b ≡ true → (a && b) ≡ true
-and_true a b h k = rw (h, k) refl
-
 -- ---- instances
 
-place_equal : (r : Ordering) → is_eq r ≡ true → r ≡ Equal
-place_equal Less h = cc
-place_equal Equal h = refl
-place_equal Greater h = cc
-
 place_found : (k : InstancePath) (o n : ℕ) → eq_by_cmp instance_cmp (place_of o n) k ≡ true → place_of o n ≡ k
-place_found k o n h = instance_exact (place_of o n) k (place_equal (instance_cmp (place_of o n) k) h)
+place_found k o n h = instance_exact (place_of o n) k (is_equal (instance_cmp (place_of o n) k) h)
 
 has_listed : (stored : Stored) (o n : ℕ) → has_instance stored (place_of o n) ≡ true → IsAmong n (instances_of stored o)
 has_listed stored o n h =
@@ -55,7 +38,7 @@ has_listed stored o n h =
     let e : place_of o n ≡ k.0 = place_found k.0 o n k.2 in
     let here : IsAmong (place_of o n) (map.keys stored.instances) = rw e k.1 in
     among-map (λ p. p.instance) (place_of o n) _ (among-filter (λ p. p.object == o) (place_of o n)
-    (map.keys stored.instances) (number_same o) here)
+    (map.keys stored.instances) (eqb_itself o) here)
 
 place_is : (k : InstancePath) (o n : ℕ) → k.object ≡ o → k.instance ≡ n → k ≡ place_of o n
 place_is k o n h i = λ j. record { object = h j; instance = i j }
@@ -64,7 +47,7 @@ listed_has : (stored : Stored) (o n : ℕ) → IsAmong n (instances_of stored o)
 listed_has stored o n h =
     let k = mapped (λ p. p.instance) n (filter (λ p. p.object == o) (map.keys stored.instances)) h in
     let f = filtered (λ p. p.object == o) k.0 (map.keys stored.instances) k.1 in
-    let e : k.0 ≡ place_of o n = place_is k.0 o n (same_number k.0.object o f.1) k.2 in
+    let e : k.0 ≡ place_of o n = place_is k.0 o n (eqb-true k.0.object o f.1) k.2 in
     map.contains_key-keys stored.instances (place_of o n)
     ∙ among-any (eq_by_cmp instance_cmp (place_of o n)) k.0 (map.keys stored.instances) f.0
     (ap (eq_by_cmp instance_cmp (place_of o n)) e ∙ (eq_by_cmp_equiv instance_total).refl (place_of o n))
@@ -80,8 +63,8 @@ definition_in (Some object) r = refl
 resource_exists : (stored : Stored) (p : ResourcePath) (definition : Option ResourceDef) (instance : Bool)
     → (instance && exists_as stored p definition) ≡ true
     → (instance ≡ true) × ((d : ResourceDef) × (definition ≡ Some d))
-resource_exists stored p None instance h = let k = both instance false h in let f : false ≡ true = k.1 in cc
-resource_exists stored p (Some d) instance h = ((both instance (exists_as stored p (Some d)) h).0, (d, refl))
+resource_exists stored p None instance h = let k = and_parts instance false h in let f : false ≡ true = k.1 in cc
+resource_exists stored p (Some d) instance h = ((and_parts instance (exists_as stored p (Some d)) h).0, (d, refl))
 
 resource_listed : (catalogue : List ObjectDef) (stored : Stored) (o i r : ℕ)
     → exists catalogue stored (Resource o i r) ≡ true
@@ -92,7 +75,7 @@ resource_listed catalogue stored o i r h =
     let d = known.1.0 in
     let f = found (λ d. d.id == r) d (defined catalogue o)
     (sym (definition_in (object_of catalogue o) r) ∙ known.1.1) in
-    let e : d.id ≡ r = same_number d.id r f.1 in
+    let e : d.id ≡ r = eqb-true d.id r f.1 in
     among-filter (exists catalogue stored) (Resource o i r) (map (λ d. Resource o i d.id) (defined catalogue o)) h
     (subst (λ n. IsAmong (Resource o i n) (map (λ d. Resource o i d.id) (defined catalogue o))) e
     (among-map (λ d. Resource o i d.id) d (defined catalogue o) f.0))
@@ -111,9 +94,9 @@ abbrev Shown : List ObjectDef → Stored → Path → Path → Type 0
 Shown catalogue stored path q = (lies_at path q ≡ true) × (exists catalogue stored q ≡ true)
 
 lies_itself : (path : Path) → is_part path ≡ false → lies_at path path ≡ true
-lies_itself (Object o) h = number_same o
-lies_itself (Instance o i) h = and_true _ _ (number_same o) (number_same i)
-lies_itself (Resource o i r) h = and_true _ _ (number_same o) (and_true _ _ (number_same i) (number_same r))
+lies_itself (Object o) h = eqb_itself o
+lies_itself (Instance o i) h = and_from _ _ (eqb_itself o) (eqb_itself i)
+lies_itself (Resource o i r) h = and_from _ _ (eqb_itself o) (and_from _ _ (eqb_itself i) (eqb_itself r))
 lies_itself (Part o i r n) h = cc
 
 below_shown : (catalogue : List ObjectDef) (stored : Stored) (path q : Path) → exists catalogue stored path ≡ true
@@ -122,14 +105,14 @@ below_shown catalogue stored (Object o) q e h =
     let n = flattened (instance_paths catalogue stored o) q (instances_of stored o) h in
     elim n.2 [
       | inl i ↦ subst (Shown catalogue stored (Object o)) i
-          (number_same o, and_true _ _ e (listed_has stored o n.0 n.1))
+          (eqb_itself o, and_from _ _ e (listed_has stored o n.0 n.1))
       | inr j ↦ let r =
           listed_resource catalogue stored o n.0 q
-          j in (subst (λ p. lies_at (Object o) p ≡ true) r.1 (number_same o), r.2)
+          j in (subst (λ p. lies_at (Object o) p ≡ true) r.1 (eqb_itself o), r.2)
     ]
 below_shown catalogue stored (Instance o i) q e h =
     let r = listed_resource catalogue stored o i q h in
-    (subst (λ p. lies_at (Instance o i) p ≡ true) r.1 (and_true _ _ (number_same o) (number_same i)), r.2)
+    (subst (λ p. lies_at (Instance o i) p ≡ true) r.1 (and_from _ _ (eqb_itself o) (eqb_itself i)), r.2)
 below_shown catalogue stored (Resource o i r) q e h = absurd h
 below_shown catalogue stored (Part o i r n) q e h = absurd h
 
@@ -140,14 +123,14 @@ linked_shown catalogue stored path q e k (inr h) = below_shown catalogue stored 
 
 shown_linked : (catalogue : List ObjectDef) (stored : Stored) (path q : Path) → lies_at path q ≡ true
     → exists catalogue stored q ≡ true → IsAmong q (linked catalogue stored path)
-shown_linked catalogue stored (Object o) (Object p) h e = inl (ap Object (sym (same_number p o h)))
+shown_linked catalogue stored (Object o) (Object p) h e = inl (ap Object (sym (eqb-true p o h)))
 shown_linked catalogue stored (Object o) (Instance p j) h e =
-    subst (λ n. IsAmong (Instance p j) (linked catalogue stored (Object n))) (same_number p o h)
+    subst (λ n. IsAmong (Instance p j) (linked catalogue stored (Object n))) (eqb-true p o h)
     (inr (among-flat (instance_paths catalogue stored p) j (Instance p j) (instances_of stored p)
-    (has_listed stored p j (both (is_some (object_of catalogue p)) (has_instance stored (place_of p j)) e).1)
+    (has_listed stored p j (and_parts (is_some (object_of catalogue p)) (has_instance stored (place_of p j)) e).1)
     (inl refl)))
 shown_linked catalogue stored (Object o) (Resource p j r) h e =
-    subst (λ n. IsAmong (Resource p j r) (linked catalogue stored (Object n))) (same_number p o h)
+    subst (λ n. IsAmong (Resource p j r) (linked catalogue stored (Object n))) (eqb-true p o h)
     (inr (among-flat (instance_paths catalogue stored p) j (Resource p j r) (instances_of stored p)
     (has_listed stored p j (resource_exists stored (resource_place p j r) (definition_of catalogue p r)
     (has_instance stored (place_of p j)) e).0)
@@ -155,19 +138,19 @@ shown_linked catalogue stored (Object o) (Resource p j r) h e =
 shown_linked catalogue stored (Object o) (Part p j r n) h e = cc
 shown_linked catalogue stored (Instance o i) (Object p) h e = cc
 shown_linked catalogue stored (Instance o i) (Instance p j) h e =
-    let k = both (p == o) (j == i) h in inl (λ t. Instance (sym (same_number p o k.0) t) (sym (same_number j i k.1) t))
+    let k = and_parts (p == o) (j == i) h in inl (λ t. Instance (sym (eqb-true p o k.0) t) (sym (eqb-true j i k.1) t))
 shown_linked catalogue stored (Instance o i) (Resource p j r) h e =
-    let k = both (p == o) (j == i) h in
-    subst (λ n. IsAmong (Resource p j r) (linked catalogue stored (Instance n i))) (same_number p o k.0)
-    (subst (λ n. IsAmong (Resource p j r) (linked catalogue stored (Instance p n))) (same_number j i k.1)
+    let k = and_parts (p == o) (j == i) h in
+    subst (λ n. IsAmong (Resource p j r) (linked catalogue stored (Instance n i))) (eqb-true p o k.0)
+    (subst (λ n. IsAmong (Resource p j r) (linked catalogue stored (Instance p n))) (eqb-true j i k.1)
     (inr (resource_listed catalogue stored p j r e)))
 shown_linked catalogue stored (Instance o i) (Part p j r n) h e = cc
 shown_linked catalogue stored (Resource o i r) (Object p) h e = cc
 shown_linked catalogue stored (Resource o i r) (Instance p j) h e = cc
 shown_linked catalogue stored (Resource o i r) (Resource p j s) h e =
-    let k = both (p == o) (j == i && s == r) h in
-    let l = both (j == i) (s == r) k.1 in
-    inl (λ t. Resource (sym (same_number p o k.0) t) (sym (same_number j i l.0) t) (sym (same_number s r l.1) t))
+    let k = and_parts (p == o) (j == i && s == r) h in
+    let l = and_parts (j == i) (s == r) k.1 in
+    inl (λ t. Resource (sym (eqb-true p o k.0) t) (sym (eqb-true j i l.0) t) (sym (eqb-true s r l.1) t))
 shown_linked catalogue stored (Resource o i r) (Part p j s n) h e = cc
 shown_linked catalogue stored (Part o i r n) (Object p) h e = cc
 shown_linked catalogue stored (Part o i r n) (Instance p j) h e = cc

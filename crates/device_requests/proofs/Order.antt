@@ -1,8 +1,8 @@
 -- The first rule that holds decides.
-use Rattle.std.proofs.Common.{◌≡◌, ℕ, Bool, true, false, cond, ◌||◌, ◌==◌, List, [], ◌∷◌, Option, None, Some}
+use Rattle.std.proofs.Common.{◌≡◌, ℕ, Bool, true, false, cond, ◌==◌, List, [], ◌∷◌, Option, None, Some}
 use Rattle.std.proofs.Common.{Err, inl, inr, refl, sym, ap, ◌∙◌}
 use Rattle.std.specs.Bool.{if◌then◌else◌}
-use Rattle.std.proofs.lemmas.Bool.{ne_eqb}
+use Rattle.std.proofs.lemmas.Bool.{ne_eqb, or_left, or_right}
 use Rattle.coap_codec.specs.Message.{Message}
 use Rattle.object_defs.specs.Lines.{first_line}
 use Rattle.object_defs.specs.Path.{object_in}
@@ -207,14 +207,6 @@ each_told p (line ∷ lines) code e h =
       | false ↦ λ k said. each_told p lines code e.1 said
     ] e.0 h
 
-left_or : (a b : Bool) → a ≡ true → (a || b) ≡ true
-left_or true b h = refl
-left_or false b h = cc
-
-right_or : (a b : Bool) → b ≡ true → (a || b) ≡ true
-right_or true b h = refl
-right_or false b h = h
-
 format_reason : (client : Client) (server : ℕ) (path : Path) (purpose : Purpose)
     → lacks_format client.catalogue path purpose ≡ true
     → has_reason client server path purpose (format_refusal purpose) ≡ true
@@ -234,19 +226,19 @@ reasons client server m path operation asks =
     let purpose = purpose_of m operation in
     each_told (has_reason client server path purpose) (rules_of client server path purpose)
     (outcome_of client server m).answer.code (
-      left_or (object_in path == 0) (lacks_right client server path purpose),
+      or_left (object_in path == 0) (lacks_right client server path purpose),
       (
         (λ h. h),
         (
-          right_or (object_in path == 0) (lacks_right client server path purpose),
+          or_right (object_in path == 0) (lacks_right client server path purpose),
           (
-            left_or (lacks_operation client.catalogue path purpose) (is_out_of_turn client path purpose),
+            or_left (lacks_operation client.catalogue path purpose) (is_out_of_turn client path purpose),
             (
               format_reason client server path purpose,
               (
                 (λ h. h),
                 (
-                  right_or (lacks_operation client.catalogue path purpose) (is_out_of_turn client path purpose),
+                  or_right (lacks_operation client.catalogue path purpose) (is_out_of_turn client path purpose),
                   (
                     (λ h. h),
                     ((λ h. done_reason client server path purpose), tt),

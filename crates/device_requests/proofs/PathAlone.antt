@@ -4,6 +4,7 @@ use Rattle.std.proofs.Common.{subst, ◌∙◌, arith}
 use Rattle.std.specs.Prelude.{◌==◌, ◌&&◌, ◌||◌, not, nat_lt, nat_le, find, count_by, option_and_then}
 use Rattle.std.specs.List.{list_any, list_all}
 use Rattle.std.proofs.lemmas.Bool.{cases_eq, ne_eqb, false≢true, le-leb}
+use Rattle.lemmas.proofs.Tests.{and_first, and_second}
 use Rattle.coap_codec.specs.OptionNumber.{uri_host_option, observe_option, uri_port_option, uri_path_option}
 use Rattle.coap_codec.specs.OptionNumber.{content_format_option, uri_query_option, accept_option}
 use Rattle.coap_codec.specs.declared.option.Opt.{Opt}
@@ -14,31 +15,23 @@ use Rattle.device_requests.specs.Inside.{is_segment, is_path_alone}
 
 -- ---- a list in which each element passes a test
 
-left : (a b : Bool) → (a && b) ≡ true → a ≡ true
-left true b h = refl
-left false b h = absurd (false≢true h)
-
-right : (a b : Bool) → (a && b) ≡ true → b ≡ true
-right true b h = h
-right false b h = absurd (false≢true h)
-
 not_found : (p q : Opt → Bool) (os : List Opt) → ((o : Opt) → p o ≡ true → q o ≡ false) → list_all p os ≡ true
     → find q os ≡ None
 not_found p q [] off h = refl
 not_found p q (o ∷ os) off h =
-    rw (off o (left (p o) (list_all p os) h)) (not_found p q os off (right (p o) (list_all p os) h))
+    rw (off o (and_first (p o) (list_all p os) h)) (not_found p q os off (and_second (p o) (list_all p os) h))
 
 not_any : (p q : Opt → Bool) (os : List Opt) → ((o : Opt) → p o ≡ true → q o ≡ false) → list_all p os ≡ true
     → list_any q os ≡ false
 not_any p q [] off h = refl
 not_any p q (o ∷ os) off h =
-    rw (off o (left (p o) (list_all p os) h)) (not_any p q os off (right (p o) (list_all p os) h))
+    rw (off o (and_first (p o) (list_all p os) h)) (not_any p q os off (and_second (p o) (list_all p os) h))
 
 not_counted : (p q : Opt → Bool) (os : List Opt) → ((o : Opt) → p o ≡ true → q o ≡ false) → list_all p os ≡ true
     → count_by q os ≡ 0
 not_counted p q [] off h = refl
 not_counted p q (o ∷ os) off h =
-    rw (off o (left (p o) (list_all p os) h)) (not_counted p q os off (right (p o) (list_all p os) h))
+    rw (off o (and_first (p o) (list_all p os) h)) (not_counted p q os off (and_second (p o) (list_all p os) h))
 
 -- ---- a segment
 
@@ -48,7 +41,7 @@ is_equal n m (inr other) h = absurd (false≢true (sym (ne_eqb n m other) ∙ h)
 
 number_is : (o : Opt) → is_segment o ≡ true → o.number ≡ 11
 number_is o h =
-    is_equal o.number 11 (cases_eq o.number 11) (left (o.number == 11) (nat_le (length o.value) 255) h)
+    is_equal o.number 11 (cases_eq o.number 11) (and_first (o.number == 11) (nat_le (length o.value) 255) h)
 
 is_known : (n : ℕ) (value : List ℕ) → n ≡ 11 → nat_le (length value) 255 ≡ true
     → list_any (λ k. k.number == n && (nat_le k.least (length value) && nat_le (length value) k.most)) known_options
@@ -64,7 +57,7 @@ and_not false b e = refl
 is_recognized : (o : Opt) → is_segment o ≡ true → (is_critical o && not (has_known_form o)) ≡ false
 is_recognized o h =
     and_not (is_critical o) (has_known_form o)
-    (is_known o.number o.value (number_is o h) (right (o.number == 11) (nat_le (length o.value) 255) h))
+    (is_known o.number o.value (number_is o h) (and_second (o.number == 11) (nat_le (length o.value) 255) h))
 
 is_other : (k : ℕ) → (11 == k) ≡ false → (o : Opt) → is_segment o ≡ true → (o.number == k) ≡ false
 is_other k other o h = subst (λ n. (n == k) ≡ false) (sym (number_is o h)) other

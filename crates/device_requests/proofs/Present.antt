@@ -2,7 +2,8 @@
 use Rattle.std.proofs.Common.{◌≡◌, ℕ, ◌==◌, Bool, true, false, not, ◌&&◌, ◌||◌, nat_le, List, [], ◌∷◌, length, Option}
 use Rattle.std.proofs.Common.{None, Some, cond, refl, sym, ap, ◌∙◌, if◌then◌else◌}
 use Rattle.std.specs.Option.{is_some, unwrap_or}
-use Rattle.std.proofs.lemmas.Bool.{and_parts}
+use Rattle.std.proofs.lemmas.Bool.{and_parts, not-false}
+use Rattle.std.proofs.Math.Bool.{and-false}
 use Rattle.object_defs.specs.Catalogue.{object_of, definition_of}
 use Rattle.object_defs.specs.Lines.{first_line}
 use Rattle.object_defs.specs.Path.{part_of}
@@ -56,33 +57,25 @@ none_holds (rule ∷ rules) h =
       | false ↦ λ k. (refl, none_holds rules k)
     ] h
 
-is_there : (b : Bool) → not b ≡ false → b ≡ true
-is_there true h = refl
-is_there false h = cc
-
 -- what no rule refuses has a target
 pub execute_has : (client : Client) (server : ℕ) (path : Path) (number : Option ℕ) (payload : List ℕ)
     → refusal_of client server path (to_execute number payload) ≡ None → has_place client.store path ≡ true
 execute_has client server path number payload h =
-    exists_has client.catalogue client.store path (is_there (exists client.catalogue client.store path)
+    exists_has client.catalogue client.store path (not-false (exists client.catalogue client.store path)
     (none_holds (refusals_of client server path (to_execute number payload)) h).1.0)
 
 pub delete_has : (client : Client) (server : ℕ) (path : Path) → refusal_of client server path to_delete ≡ None
     → has_place client.store path ≡ true
 delete_has client server path h =
-    exists_has client.catalogue client.store path (is_there (exists client.catalogue client.store path)
+    exists_has client.catalogue client.store path (not-false (exists client.catalogue client.store path)
     (none_holds (refusals_of client server path to_delete) h).1.0)
-
-and_false : (a : Bool) → (a && false) ≡ false
-and_false true = refl
-and_false false = refl
 
 -- the first part of a resource that was cleared
 pub cleared_fits : (stored : Stored) (p : ResourcePath) (n : ℕ)
     → is_full (without_values stored (resource_path p)) p n ≡ false
 cleared_fits stored p n =
     let new = not (is_some (value_at (without_values stored (resource_path p)) (part_of p n))) in
-    ap (λ ns. new && nat_le 32 (length ns)) (none_held stored p) ∙ and_false new
+    ap (λ ns. new && nat_le 32 (length ns)) (none_held stored p) ∙ and-false new
 
 free_at : (stored : Stored) (o m n : ℕ) (b : Bool) → has_instance stored (instance_at o m) ≡ b
     → (if (m == 65535) || b then None else Some m) ≡ Some n → has_instance stored (instance_at o n) ≡ false

@@ -1,5 +1,5 @@
 -- A single resource that was written is read again.
-use Rattle.std.proofs.Common.{◌≡◌, ℕ, Bool, true, false, not, ◌&&◌, ◌||◌, ◌==◌, List, [], ◌∷◌, Option, None}
+use Rattle.std.proofs.Common.{◌≡◌, ℕ, Bool, true, false, not, ◌||◌, ◌==◌, List, [], ◌∷◌, Option, None}
 use Rattle.std.proofs.Common.{Some, option_map, is_some, refl, sym, ap, subst, ◌∙◌}
 use Rattle.std.specs.Bool.{if◌then◌else◌}
 use Rattle.std.specs.Option.{option_and_then, unwrap_or}
@@ -7,6 +7,8 @@ use Rattle.std.specs.Cmp.{eq_by_cmp_equiv}
 use Rattle.std.specs.Ordering.{eq_by_cmp}
 use Rattle.std.specs.FinMap as map
 use Rattle.std.proofs.lemmas.Bool.{ne_eqb}
+use Rattle.lemmas.proofs.Options.{some_if_denied}
+use Rattle.lemmas.proofs.Tests.{second_if_denied}
 use Rattle.device_firmware.specs.declared.event.FirmwareEvent.{FirmwareEvent}
 use Rattle.lwm2m_values.specs.Reading.{value_of_text, value_of_bytes, nodes_of_bytes}
 use Rattle.lwm2m_values.specs.Tree.{Tree, Trees, instance, multi, part, single, none, more}
@@ -90,10 +92,6 @@ gives_one d PlainText payload g k h = one_value (value_of_text d.kind payload) g
 gives_one d OctetStream payload g k h = one_value (value_of_bytes d.kind payload) g h
 gives_one d Tlv payload g k h = nodes_give_one d (nodes_of_bytes payload) g k h
 
-there : {X : Type 0} (o : Option X) → not (is_some o) ≡ false → (x : X) × (o ≡ Some x)
-there None h = cc
-there (Some x) h = (x, refl)
-
 of_one : (given : Option Given) (values : NewValues) → option_map One given ≡ Some values → (g : Given)
     × (given ≡ Some g) × (values ≡ One g)
 of_one None values h = cc
@@ -171,11 +169,6 @@ payload_shown : (client : Client) (server o i r : ℕ) (d : ResourceDef) (value 
     → payload_in client server (Resource o i r) wanted ≡ value_payload wanted (single r) value
 payload_shown client server o i r d value wanted h = rw (h.defined, h.alone, h.value_is) refl
 
-instance_there : (a b : Bool) → not (a && b) ≡ false → b ≡ true
-instance_there true true h = refl
-instance_there true false h = cc
-instance_there false b h = cc
-
 same_path : (p : FullPath) → eq_by_cmp path_cmp p p ≡ true
 same_path p = (eq_by_cmp_equiv path_total).refl p
 
@@ -193,7 +186,7 @@ read_shown client server o i r d value accept wanted h m k =
     let p = resource_place o i r in
     let format : format_at client.catalogue (Resource o i r) accept ≡ Some wanted =
     format_same client o i r d accept h.defined h.alone ∙ k in
-    let there : not (has_resource client.store p (definition_of client.catalogue o r)) ≡ false =
+    let some_if_denied : not (has_resource client.store p (definition_of client.catalogue o r)) ≡ false =
     rw h.defined (resource_there client.store p d value h.place h.alone h.value_is) in
     let readable : not (is_readable (definition_of client.catalogue o r)) ≡ false = rw (h.defined, h.readable) refl in
     let payload : read_payload client server (Resource o i r) accept ≡ value_payload wanted (single r) value =
@@ -201,7 +194,7 @@ read_shown client server o i r d value accept wanted h m k =
     ∙ payload_shown client server o i r d value wanted h in
     let allowed : not (may_read client server (Resource o i r)) ≡ false = ap not m in
     shown (o == 0) _ _ _ (format_at client.catalogue (Resource o i r) accept) wanted
-    (read_payload client server (Resource o i r) accept) h.object there allowed readable format
+    (read_payload client server (Resource o i r) accept) h.object some_if_denied allowed readable format
     ∙ ap (content_within wanted) payload
 
 -- what a Write that is answered by Changed leaves
@@ -216,8 +209,8 @@ behind : (client : Client) (o i r : ℕ) (d : ResourceDef) (number : Option ℕ)
 behind client o i r d number payload stored defined alone readable object target served good is =
     let path = Resource o i r in
     let p = resource_place o i r in
-    let format = there (format_at client.catalogue path number) served in
-    let values = there (new_values client path number payload) good in
+    let format = some_if_denied (format_at client.catalogue path number) served in
+    let values = some_if_denied (new_values client path number payload) good in
     let given : option_map One (resource_given d format.0 payload) ≡ Some values.0 =
     sym (ap (λ f. option_and_then (values_given client.catalogue path payload) f) format.1
     ∙ ap (λ e. option_map One (given_to_resource e format.0 payload)) defined) ∙ values.1 in
@@ -235,7 +228,7 @@ behind client o i r d number payload stored defined alone readable object target
       read = λ server accept wanted m k. read_shown (with_stored client stored) server o i r d v.0 accept wanted
           (record {
             object = object;
-            place = ap (λ s. has_instance s (place_of o i)) stored_is ∙ instance_there _ _ target;
+            place = ap (λ s. has_instance s (place_of o i)) stored_is ∙ second_if_denied _ _ target;
             defined = defined;
             alone = alone;
             readable = readable;

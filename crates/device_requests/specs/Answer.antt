@@ -25,7 +25,7 @@ code_byte NotAcceptable = 4 * 32 + 6
 code_byte UnsupportedContentFormat = 4 * 32 + 15
 code_byte InternalServerError = 5 * 32
 
--- the code says that the request changed something (RFC 7252 section 5.9.1)
+-- the code reports a change (RFC 7252 section 5.9.1)
 abbrev pub is_change : Code → Bool
 is_change Created = true
 is_change Deleted = true

@@ -12,7 +12,7 @@ use Rattle.device_requests.specs.Answer.{Outcome, answered, bare}
 use Rattle.device_requests.specs.Client.{Client, with_attributes, with_stored}
 use Rattle.device_requests.specs.Targets.{place_of}
 
--- the instance goes, and each instance of Access Control for it
+-- the instance is removed, and each instance of Access Control for it
 abbrev pub deleted : Stored → Path → Stored
 deleted stored (Object o) = stored
 deleted stored (Instance o i) = without_deleted stored (place_of o i)

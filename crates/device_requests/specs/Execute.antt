@@ -34,7 +34,7 @@ act_of path =
     else if is_resource server_object registration_update_trigger path then Some RegUpdate
     else None
 
--- Error Code says 0, no error, alone
+-- Error Code is 0, no error, alone
 abbrev pub with_no_error : Stored → Path → Stored
 with_no_error stored (Object o) = stored
 with_no_error stored (Instance o i) = stored

@@ -54,7 +54,7 @@ PathsPrecedeMethods =
     → path_of (segments_of m.options) ≡ None
     → (outcome_of client server m).answer.code ≡ NotFound
 
--- a method that is no operation at this kind of path: 4.05, also at Security and where nothing is
+-- a method that is not an operation at this kind of path: 4.05, also at Security and where nothing is
 abbrev pub MethodsPrecedeObjects : Type 0
 MethodsPrecedeObjects =
     (client : Client) (server : ℕ) (m : Message) (path : Path) → has_unrecognized_critical m.options ≡ false

@@ -187,7 +187,7 @@ is_out_of_turn client path purpose = false
 
 -- ---- 12: the limits
 
--- what goes to the firmware is not stored
+-- what is for the firmware is not stored
 abbrev pub unless_taken : Option FirmwareEvent → Bool → Bool
 unless_taken None much = much
 unless_taken (Some event) much = false

@@ -32,12 +32,12 @@ request_with m path operation =
       observe = observe_of m.options;
     }
 
--- a method that is no operation at the path is Method Not Allowed
+-- a method that is not an operation at the path is Method Not Allowed
 abbrev pub request_by : Message → Path → Option Operation → Result Request Code
 request_by m path None = Err MethodNotAllowed
 request_by m path (Some operation) = Ok (request_with m path operation)
 
--- a Uri-Path that is no path is Not Found
+-- a Uri-Path that is not a path is Not Found
 abbrev pub request_on : Message → Option Path → Result Request Code
 request_on m None = Err NotFound
 request_on m (Some path) =

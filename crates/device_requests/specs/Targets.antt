@@ -1,4 +1,4 @@
--- The targets of operations: what the catalogue says of a path, and which paths exist.
+-- The targets of operations: how the catalogue defines a path, and which paths exist.
 use Rattle.std.specs.Prelude.{ℕ, ◌==◌, Bool, false, ◌&&◌, List, [], Option, None, Some, is_some}
 use Rattle.object_defs.specs.Catalogue.{object_of, definition_of}
 use Rattle.object_defs.specs.Operations.{can_read}

@@ -116,7 +116,7 @@ abbrev pub write_unless : Option Code → Client → Stored → Outcome
 write_unless (Some code) client stored = answered client (bare code)
 write_unless None client stored = record { answer = bare Changed; client = with_stored client stored }
 
--- the store after a Write that is not refused: a Package is not kept, it goes to the firmware, and so does a Package
+-- the store after a Write that is not refused: a Package is not kept, it is for the firmware, and so is a Package
 -- URI
 abbrev pub left : Mode → Client → Path → Option NewValues → Option FirmwareEvent → Stored
 left mode client path values (Some event) = unwrap_or (firmware_after client.store event) client.store

@@ -56,7 +56,7 @@ impl Code {
         }
     }
 
-    /// Whether it says that the request changed something: 2.01, 2.02 or 2.04 (RFC 7252 section 5.9.1).
+    /// Whether it reports a change: 2.01, 2.02 or 2.04 (RFC 7252 section 5.9.1).
     pub fn is_change(self) -> bool
         ensures { result ≡ is_change self }
     {

@@ -50,9 +50,9 @@ impl Model for Client {
 }
 
 impl Client {
-    /// A client of these accounts, definitions and values, with no attribute set. `notify` is 0 where its
-    /// notifications are Non-confirmable, else how many seconds it waits for the Ack of a Confirmable one
-    /// before it sends that again for the first time.
+    /// Data of these accounts, definitions and values, with no attribute set. `notify` is 0 if notifications are
+    /// Non-confirmable; otherwise how many seconds the device waits for the Ack of a Confirmable one before it sends
+    /// that again for the first time.
     pub fn new(
         alloc: Global,
         accounts: Vec<u16>,
@@ -156,7 +156,7 @@ impl Client {
         ensures change { OnOk result (self.new ≡ with_stored self.old
             (unwrap_or (firmware_after self.old.store (Ended code)) self.old.store)) }
 
-        // It takes memory only where there is one, and State and Update Result are not both held.
+        // It takes memory only if there is one, and State and Update Result are not both held.
         ensures taken { OnErr result (is_some (firmware_after self.old.store (Ended code)) ≡ true) }
         ensures memory { OnErr result (is_ready self.old.store (Ended code) ≡ false) }
         ensures unchanged { OnErr result (self.new ≡ self.old) }

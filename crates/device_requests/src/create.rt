@@ -123,7 +123,7 @@ impl Client {
         ensures outcome { IfOk result
             (λ a. Leaves a self.new (create_outcome self.old server path number payload.now)) }
 
-        // Only what the payload says takes memory.
+        // Only what the payload gives takes memory.
         ensures grows { OnErr result
             (takes_memory (create_outcome self.old server path number payload.now).answer.code ≡ true) }
         ensures allowed { OnErr result

@@ -1,4 +1,4 @@
-//! A Delete: its rules, and what it takes away.
+//! A Delete: its rules, and what it removes.
 
 ghost use Rattle.std.specs.Prelude.{◌≡◌, true, false, filter, not, IfOk, None, OnErr, OnOk};
 ghost use Rattle.object_defs.specs.Numbers.{access_control_object};
@@ -21,7 +21,7 @@ use object_defs::object_number::{ACCESS_CONTROL, SECURITY};
 use object_defs::{InstancePath, Path};
 use std::alloc::{AllocError, Global};
 
-/// Takes an instance that is there away, and each instance of Access Control for it.
+/// Removes an instance that exists, and each instance of Access Control for it.
 fn take_away(store: &mut Store, path: Path)
     requires { has_place store.old path ≡ true }
     ensures { store.new ≡ deleted store.old path }
@@ -53,8 +53,8 @@ fn forget(attributes: &mut Attributes, store: &Store, instances: &[u16])
     }
 }
 
-/// Takes an instance that is there away, each instance of Access Control for it, and the attributes
-/// at or below these.
+/// Removes an instance that exists, each instance of Access Control for it, and the attributes at or
+/// below these.
 fn delete_at(
     alloc: Global,
     store: &mut Store,

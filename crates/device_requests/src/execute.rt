@@ -19,7 +19,7 @@ ghost use Rattle.device_requests.specs.Targets.{definition_at, is_resource};
 
 use crate::answer::{Act, Answer, Code};
 use crate::client::Client;
-use crate::targets::{definition_at, exists, is_resource, resource_place};
+use crate::targets::{definition_at, exists_as, is_resource, resource_place};
 use device_firmware::{FirmwareEvent, take, takes};
 use instance_store::{Store, StoreFault};
 use lwm2m_payloads::{Format, are_arguments};
@@ -52,7 +52,7 @@ fn is_plain(number: Option<u16>) -> bool
     }
 }
 
-/// Whether the path is that of Update, and the firmware is in no state for it.
+/// Whether the path is that of Update, and the State of the firmware does not allow it.
 fn is_untimely(store: &Store, path: Path) -> bool
     ensures { result ≡ is_untimely store.now path }
 {
@@ -117,7 +117,7 @@ fn reset_errors(store: &mut Store, path: Path) -> Result<(), AllocError>
     }
 }
 
-/// Does what an Execute asks for in an instance that is there. At `Err` the error codes may be gone.
+/// Does what an Execute asks for in an instance that exists. After an error the error codes may have been removed.
 fn execute_at(alloc: Global, store: &mut Store, path: Path) -> Result<(), AllocError>
     requires { has_place store.old path ≡ true }
     ensures done { OnOk result (store.new ≡ executed store.old path) }
@@ -166,13 +166,14 @@ impl Client {
         if path.object() == SECURITY {
             return Some(Code::Unauthorized);
         }
-        if !exists(&self.catalog, &self.store, path) {
+        let definition = definition_at(&self.catalog, path);
+        if !exists_as(&self.catalog, &self.store, path, definition) {
             return Some(Code::NotFound);
         }
         if !self.rights(server, path).execute {
             return Some(Code::Unauthorized);
         }
-        if !is_executable(definition_at(&self.catalog, path)) {
+        if !is_executable(definition) {
             return Some(Code::MethodNotAllowed);
         }
         self.argument_refusal(path, number, payload)
@@ -190,8 +191,8 @@ impl Client {
         ensures outcome { IfOk result
             (λ a. Leaves a self.new (execute_outcome self.old server path number payload.now)) }
 
-        // Only Update and Reset Error Code take memory, where nothing refuses them. After an error the error codes may
-        // be gone.
+        // Only Update and Reset Error Code take memory, and only if nothing refuses them. After an error the error
+        // codes may have been removed.
         ensures grows { OnErr result ((is_resource firmware_update_object update path
             || is_resource device_object reset_error_code path) ≡ true) }
         ensures unrefused { OnErr result (refusal_of self.old server path (to_execute number payload.now) ≡ None) }

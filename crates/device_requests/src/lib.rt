@@ -27,4 +27,4 @@ pub use laws::{
 };
 pub use observe::Interest;
 pub use operation::Operation;
-pub use request::{Handled, Request};
+pub use request::{Request, RequestResult};

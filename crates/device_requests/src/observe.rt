@@ -10,14 +10,14 @@ use object_defs::Path;
 /// What a Read asks of the observation of its server and token.
 #[derive(Clone, Copy, Debug, PartialEq, Eq)]
 pub enum Interest {
-    /// To be there: Observe 0.
+    /// To be registered: Observe 0.
     Register {
         /// What is observed.
         path: Path,
         /// The Content-Format that the request accepts, if it names one.
         accept: Option<u16>,
     },
-    /// To go: Observe 1.
+    /// To be removed: Observe 1.
     Cancel,
 }
 

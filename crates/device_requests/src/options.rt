@@ -159,9 +159,9 @@ pub(crate) fn path_of(options: &[Opt]) -> Option<Path>
     path
 }
 
-/// What options say beside the path.
+/// The options of a request beside its path.
 #[derive(Drop)]
-pub(crate) struct Said {
+pub(crate) struct RequestOptions {
     /// The format that the first Accept names.
     pub accept: Option<u16>,
     /// Whether there is a Uri-Query.
@@ -172,9 +172,9 @@ pub(crate) struct Said {
     pub observe: Option<u32>,
 }
 
-/// What the options say beside the path, or nothing where one that must be understood is not. Most requests have a path
+/// The options beside the path, or none if one that must be understood is not. Most requests have a path
 /// alone, whose options are looked through once.
-pub(crate) fn said_by(options: &[Opt]) -> Option<Said>
+pub(crate) fn request_options(options: &[Opt]) -> Option<RequestOptions>
     ensures understood { IfSome result (λ s. has_unrecognized_critical options.now ≡ false) }
     ensures accept { IfSome result (λ s. s.accept ≡ accept_of options.now) }
     ensures query { IfSome result (λ s. s.has_query ≡ has_query options.now) }
@@ -183,7 +183,7 @@ pub(crate) fn said_by(options: &[Opt]) -> Option<Said>
     ensures rejected { IfNone result (has_unrecognized_critical options.now ≡ true) }
 {
     if is_path_alone(options) {
-        return Some(Said {
+        return Some(RequestOptions {
             accept: None,
             has_query: false,
             content_format: None,
@@ -193,7 +193,7 @@ pub(crate) fn said_by(options: &[Opt]) -> Option<Said>
     if has_unrecognized_critical(options) {
         return None;
     }
-    Some(Said {
+    Some(RequestOptions {
         accept: accept_of(options),
         has_query: has_query(options),
         content_format: content_format_of(options),

@@ -12,7 +12,7 @@ use crate::answer::{Answer, Code};
 use crate::client::Client;
 use crate::observe::{Interest, interest_at};
 use crate::operation::{Operation, select};
-use crate::options::{path_of, said_by};
+use crate::options::{path_of, request_options};
 use coap_codec::Message;
 use lwm2m_payloads::Mode;
 use object_defs::Path;
@@ -45,28 +45,28 @@ impl Request {
         ensures rejected { IfErr result (λ code. is_bad_option code ≡ has_unrecognized_critical message.now.options) }
     {
         let options = message.options().as_slice();
-        let Some(said) = said_by(options) else {
+        let Some(found) = request_options(options) else {
             return Err(Code::BadOption);
         };
         let Some(path) = path_of(options) else {
             return Err(Code::NotFound);
         };
-        let Some(operation) = select(message.code(), said.accept, said.has_query, path) else {
+        let Some(operation) = select(message.code(), found.accept, found.has_query, path) else {
             return Err(Code::MethodNotAllowed);
         };
         Ok(Request {
             path,
             operation,
-            accept: said.accept,
-            content_format: said.content_format,
-            observe: said.observe,
+            accept: found.accept,
+            content_format: found.content_format,
+            observe: found.observe,
         })
     }
 }
 
 /// What a request is answered, and what it asks of the observation of its server and token.
 #[derive(Debug, Drop)]
-pub struct Handled {
+pub struct RequestResult {
     /// The answer.
     pub answer: Answer,
     /// What it asks of the observation, if it asks something.
@@ -120,7 +120,7 @@ impl Client {
     /// does not take a Package, a Package URI or an Update now (`grows`). If memory runs out, some of the values and
     /// instances that it asks for may have changed, and nothing else (`left`); nothing at all in Create, Delete and
     /// Write-Attributes.
-    pub fn answer(&mut self, server: u16, message: &Message) -> Result<Handled, AllocError>
+    pub fn answer(&mut self, server: u16, message: &Message) -> Result<RequestResult, AllocError>
         ensures outcome { IfOk result (λ h. Leaves h.answer self.new (outcome_of self.old server message.now)) }
         ensures interest { IfOk result (λ h. h.interest ≡ interest_of message.now) }
         ensures rejected { IfOk result (λ h. h.is_rejected ≡ has_unrecognized_critical message.now.options) }
@@ -134,14 +134,14 @@ impl Client {
         ensures left { OnErr result (self.new ≡ with_stored self.old self.new.store) }
     {
         match Request::read(message) {
-            Err(code) => Ok(Handled {
+            Err(code) => Ok(RequestResult {
                 answer: Answer::bare(self.alloc, code),
                 interest: None,
                 is_rejected: code.is_bad_option(),
             }),
             Ok(request) => {
                 let answer = self.perform(server, message, request)?;
-                Ok(Handled {
+                Ok(RequestResult {
                     answer,
                     interest: interest_at(request),
                     is_rejected: false,

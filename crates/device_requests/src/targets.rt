@@ -1,4 +1,4 @@
-//! The targets of operations: what the catalogue says of a path, and which paths exist.
+//! The targets of operations: how the catalogue defines a path, and which paths exist.
 
 ghost use Rattle.std.specs.Prelude.{◌≡◌};
 ghost use Rattle.device_requests.specs.Refusals.{is_fixed};
@@ -86,7 +86,7 @@ pub(crate) fn exists(catalog: &Catalog, store: &Store, path: Path) -> bool
     exists_as(catalog, store, path, definition_at(catalog, path))
 }
 
-/// The same, where the definition of the resource has been looked up.
+/// Like `exists`, for a caller that has looked up the definition of the resource.
 pub(crate) fn exists_as(
     catalog: &Catalog,
     store: &Store,

@@ -300,7 +300,7 @@ fn write_resources(
 }
 
 /// Sets what is given in an instance that is there, where it does not exceed what a resource may
-/// have. At `Err` a part of it may be set.
+/// have. After an error a part of it may be set.
 fn write_at(
     mode: Mode,
     catalog: &Catalog,
@@ -350,14 +350,14 @@ impl Client {
         Ok(Answer::bare(self.alloc, Code::Changed))
     }
 
-    /// Gives the firmware what was written, where it is in a state for it.
+    /// Applies to the firmware what was written, if its State allows that.
     fn turn(&mut self, event: FirmwareEvent) -> Result<Answer, AllocError>
         ensures outcome { IfOk result (λ a. Leaves a self.new
             (write_unless (first_line
             ((not (is_some (firmware_after self.old.store event)), Code.MethodNotAllowed) ∷ []))
             self.old (unwrap_or (firmware_after self.old.store event) self.old.store))) }
 
-        // Only where it is in a state for it, and what changes is not all held.
+        // Only if its State allows it, and what changes is not all held.
         ensures taken { OnErr result (is_some (firmware_after self.old.store event) ≡ true) }
         ensures memory { OnErr result (is_ready self.old.store event ≡ false) }
         ensures unchanged { OnErr result (self.new ≡ self.old) }
@@ -426,7 +426,7 @@ impl Client {
         ensures outcome { IfOk result
             (λ a. Leaves a self.new (write_outcome self.old server mode path number payload.now)) }
 
-        // Only what the payload says takes memory. After an error some of it may be set.
+        // Only what the payload gives takes memory. After an error some of it may be set.
         ensures grows { OnErr result
             (takes_memory (write_outcome self.old server mode path number payload.now).answer.code ≡ true) }
         ensures allowed { OnErr result (can_be_written self.old.catalogue path ≡ true) }

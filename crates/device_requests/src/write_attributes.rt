@@ -43,7 +43,7 @@ fn is_numeric(definition: Option<ResourceDef>) -> bool
     }
 }
 
-/// What a path is to attributes.
+/// The level of a path, for attributes.
 fn level_at(catalog: &Catalog, path: Path) -> Level
     ensures { result ≡ level_at catalog.now path }
 {
@@ -170,7 +170,7 @@ impl Client {
         ensures outcome { IfOk result (λ a. Leaves a self.new
             (attributes_outcome self.old server path (queries_of options.now))) }
 
-        // Only what the queries say takes memory.
+        // Only what the queries set takes memory.
         ensures grows { OnErr result (takes_memory
             (attributes_outcome self.old server path (queries_of options.now)).answer.code ≡ true) }
         ensures begins { OnErr result

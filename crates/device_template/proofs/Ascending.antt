@@ -1,5 +1,5 @@
 -- The accounts of a class ascend.
-use Rattle.std.proofs.Common.{◌≡◌, ℕ, ◌<◌, Bool, true, false, cond, ◌||◌, eqb, ltb, List, [], ◌∷◌, None, Some, refl}
+use Rattle.std.proofs.Common.{◌≡◌, ℕ, ◌<◌, Bool, true, false, cond, eqb, ltb, List, [], ◌∷◌, None, Some, refl}
 use Rattle.std.proofs.Common.{sym, arith}
 use Rattle.std.specs.List.{AllByRecursion, list_any}
 use Rattle.std.specs.List.Sorted.{IsStrictlyIncreasing, IsStrictlySortedBy}
@@ -8,6 +8,8 @@ use Rattle.std.specs.declared.cmp.Ordering.TheVariants.{Less}
 use Rattle.std.specs.Cmp.{nat_cmp_is}
 use Rattle.std.proofs.lemmas.Bool.Decides.{nat_tests}
 use Rattle.std.proofs.lemmas.Map.Keys.{IsStrictlyIncreasing-from_sorted}
+use Rattle.lemmas.proofs.Numbers.{above_from_tests}
+use Rattle.lemmas.proofs.Tests.{or_first, or_second}
 use Rattle.object_defs.specs.Lines.{first_line}
 use Rattle.object_defs.specs.Vendor.{inserted}
 use Rattle.device_template.specs.Template.{Template}
@@ -42,19 +44,8 @@ all_inserted P x (y ∷ ys) h k =
       | false ↦ (k.0, all_inserted P x ys h k.1)
     ]
 
-above : (x y : ℕ) → ltb x y ≡ false → eqb y x ≡ false → y < x
-above x y h k = grind (arith, nat_tests)
-
 below : (x y : ℕ) → ltb x y ≡ true → x < y
 below x y h = grind (arith, nat_tests)
-
-first_of : (a b : Bool) → (a || b) ≡ false → a ≡ false
-first_of true b h = h
-first_of false b h = refl
-
-second_of : (a b : Bool) → (a || b) ≡ false → b ≡ false
-second_of true b h = let e : true ≡ false = h in cc
-second_of false b h = h
 
 pub rises-inserted : (x : ℕ) (xs : List ℕ) → list_any (λ a. eqb a x) xs ≡ false → Rises xs
     → Rises (inserted (λ a. a) x xs)
@@ -63,8 +54,8 @@ rises-inserted x (y ∷ ys) new h =
     elim (ltb x y) as (λ b. ltb x y ≡ b → Rises (cond b (x ∷ y ∷ ys) (y ∷ inserted (λ a. a) x ys))) [
       | true ↦ λ e. let l = below x y e in ((l, below_all x y ys l h.0), h)
       | false ↦ λ e. (
-        all_inserted (λ z. y < z) x ys (above x y e (first_of (eqb y x) _ new)) h.0,
-        rises-inserted x ys (second_of (eqb y x) _ new) h.1,
+        all_inserted (λ z. y < z) x ys (above_from_tests x y e (or_first (eqb y x) _ new)) h.0,
+        rises-inserted x ys (or_second (eqb y x) _ new) h.1,
       )
     ] refl
 

@@ -12,7 +12,7 @@ pub enum TemplateFault {
     /// The object or the instance is not there.
     #[error("missing")]
     Missing,
-    /// It is there already.
+    /// It already exists.
     #[error("duplicate")]
     Duplicate,
     /// There are as many as there may be.

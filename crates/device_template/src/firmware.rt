@@ -1,4 +1,4 @@
-//! How Firmware Update stands at the start.
+//! The values of Firmware Update at the start of a device.
 
 ghost use Rattle.std.specs.Prelude.{◌≡◌, true, OnOk};
 ghost use Rattle.object_defs.specs.Numbers.{firmware_update_object};

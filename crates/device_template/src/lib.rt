@@ -1,5 +1,5 @@
 //! What a class of devices starts from: its accounts, its objects, its instances and values, and how it notifies; and
-//! when a value may stand at a path.
+//! which values may be held at a path.
 #![tactic(auto)]
 
 mod accounts;

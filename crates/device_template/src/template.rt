@@ -65,7 +65,7 @@ impl Model for Template {
     }) };
 }
 
-/// Whether an instance may have these numbers.
+/// Whether a class may have an instance of these numbers.
 fn may_stand(place: InstancePath) -> bool
     ensures { result ≡ may_stand place }
 {
@@ -290,8 +290,8 @@ impl Template {
         }
     }
 
-    /// Says how the devices of the class notify: 0 for Non-confirmable notifications, 2 or 3 for Confirmable ones that
-    /// are sent again for the first time after that many seconds. The last call counts.
+    /// Sets how the devices of the class notify: 0 for Non-confirmable notifications, 2 or 3 for Confirmable ones that
+    /// are sent again for the first time after that many seconds. The last call decides.
     ///
     /// `Range` for any other number.
     pub fn set_notify(&mut self, seconds: u8) -> Result<(), TemplateFault>

@@ -1,4 +1,4 @@
-//! When a value may stand at a path, and how it comes there.
+//! Which values may be held at a path, and how one is set.
 
 ghost use Rattle.std.specs.Prelude.{◌≡◌, ◌≢◌, ◌↔◌, IsErrOf, IsFalse, IsTrue, Err, OnOk, OnErr, None, Some};
 ghost use Rattle.lwm2m_values.specs.Value.{IsGood};
@@ -134,7 +134,7 @@ pub fn put(store: &mut Store, path: FullPath, value: Value) -> Result<(), StoreF
     }
 }
 
-/// Whether a new value does not fit: not at its path, in no instance that is there, or as a 33rd
+/// Whether a new value does not fit: its path or kind is wrong, its instance does not exist, or it would be a 33rd
 /// part.
 pub fn misses(catalog: &Catalog, store: &Store, path: FullPath, value: &Value) -> bool
     ensures { result ≡ misses catalog.now store.now (Some path) value.now }

@@ -1,10 +1,6 @@
 -- What the answers of several functions need.
 use Rattle.std.proofs.Common.{Result, Ok, Err, IfOk, OnOk, OnErr}
 
-pub on_err : {X E : Type 0} (r : Result X E) (P : Type 0) → P → OnErr r P
-on_err (Ok x) P p = tt
-on_err (Err e) P p = p
-
 -- what follows from a clause on one way to return
 pub ok_then : {X E : Type 0} (r : Result X E) (P Q : Type 0) → OnOk r P → (P → Q) → OnOk r Q
 ok_then (Ok x) P Q h k = k h

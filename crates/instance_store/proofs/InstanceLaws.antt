@@ -1,5 +1,5 @@
 -- The instances of one object among those of all, by their numbers.
-use Rattle.std.proofs.Common.{◌≡◌, ℕ, Bool, true, false, cond, ◌&&◌, eqb, List, [], ◌∷◌}
+use Rattle.std.proofs.Common.{◌≡◌, ℕ, true, false, cond, eqb, List, [], ◌∷◌}
 use Rattle.std.proofs.Common.{map, Some, refl, ap, subst, ◌∙◌}
 use Rattle.std.proofs.Common.{arith}
 use Rattle.std.specs.List.{filter}
@@ -8,6 +8,7 @@ use Rattle.std.specs.FinMap.{find, is_sorted}
 use Rattle.std.specs.FinMap.Entries.{below_all}
 use Rattle.std.proofs.Math.Dec.{T}
 use Rattle.std.proofs.lemmas.Bool.Decides.{nat_tests}
+use Rattle.lemmas.proofs.Tests.{T_both, T_first, T_second}
 use Rattle.object_defs.specs.declared.path.InstancePath.{InstancePath}
 use Rattle.object_defs.specs.Path.{instance_cmp}
 
@@ -53,18 +54,6 @@ find-under o (e ∷ es) n =
           (apart_under o n e.0 h)
     ] refl
 
-both : (a b : Bool) → T a → T b → T (a && b)
-both true b p q = q
-both false b p q = p
-
-first : (a b : Bool) → T (a && b) → T a
-first true b p = tt
-first false b p = p
-
-second : (a b : Bool) → T (a && b) → T b
-second true b p = p
-second false b p = absurd p
-
 less_under : (o : ℕ) (k x : InstancePath) → eqb k.object o ≡ true → eqb x.object o ≡ true
     → is_lt (instance_cmp k x) ≡ is_lt (nat_cmp k.instance x.instance)
 less_under o k x g h = grind (arith, nat_tests)
@@ -74,10 +63,10 @@ below-under : (o : ℕ) (k : InstancePath) (es : List (InstancePath × Unit {0})
 unfolding under
 below-under o k [] g h = tt
 below-under o k (e ∷ es) g h =
-    let rest = below-under o k es g (second _ _ h) in
+    let rest = below-under o k es g (T_second _ _ h) in
     elim (eqb e.0.object o) as (λ b. eqb e.0.object o ≡ b
     → T (below_all nat_cmp k.instance (cond b ((e.0.instance, e.1) ∷ under o es) (under o es)))) [
-      | true ↦ λ i. both _ _ (subst T (less_under o k e.0 g i) (first _ _ h)) rest
+      | true ↦ λ i. T_both _ _ (subst T (less_under o k e.0 g i) (T_first _ _ h)) rest
       | false ↦ λ i. rest
     ] refl
 
@@ -86,9 +75,9 @@ pub sorted-under : (o : ℕ) (es : List (InstancePath × Unit {0})) → T (is_so
 unfolding under
 sorted-under o [] h = tt
 sorted-under o (e ∷ es) h =
-    let rest = sorted-under o es (second _ _ h) in
+    let rest = sorted-under o es (T_second _ _ h) in
     elim (eqb e.0.object o) as (λ b. eqb e.0.object o ≡ b
     → T (is_sorted nat_cmp (cond b ((e.0.instance, e.1) ∷ under o es) (under o es)))) [
-      | true ↦ λ i. both _ _ (below-under o e.0 es i (first _ _ h)) rest
+      | true ↦ λ i. T_both _ _ (below-under o e.0 es i (T_first _ _ h)) rest
       | false ↦ λ i. rest
     ] refl

@@ -11,6 +11,8 @@ use Rattle.std.specs.FinMap.{find, is_sorted}
 use Rattle.std.specs.FinMap.Entries.{below_all, find-where_key, is_sorted-where_key}
 use Rattle.std.proofs.lemmas.Map.Lookups.{CmpEqualImpliesEq}
 use Rattle.std.proofs.lemmas.List.Elements.{filter-append}
+use Rattle.lemmas.proofs.Tests.{T_both, T_first, T_second}
+use Rattle.lemmas.proofs.Orders.{is_less, is_equal}
 use Rattle.instance_store.specs.Nested.{block, flat, joined}
 
 -- how the joined keys go with the outer and the inner ones
@@ -63,28 +65,6 @@ unfolding or_else
 or_none None = refl
 or_none (Some x) = refl
 
-both : (a b : Bool) → T a → T b → T (a && b)
-both true b p q = q
-both false b p q = p
-
-first : (a b : Bool) → T (a && b) → T a
-first true b p = tt
-first false b p = p
-
-second : (a b : Bool) → T (a && b) → T b
-second true b p = p
-second false b p = absurd p
-
-less : (o : Ordering) → T (is_lt o) → o ≡ Less
-less Less p = refl
-less Equal p = absurd p
-less Greater p = absurd p
-
-equal : (o : Ordering) → is_eq o ≡ true → o ≡ Equal
-equal Less h = cc
-equal Equal h = refl
-equal Greater h = cc
-
 get_kept : {A B : Type 0} {W : A → A → Ordering} → CmpEqualImpliesEq W → (m : map.FinMap W B) (p : A → Bool) (q : A)
     → map.get (map.retain_keys m p) q ≡ cond (p q) (map.get m q) None
 get_kept exact m p q = map.get-retain_keys m p q (λ x h. ap p (sym (exact q x h)))
@@ -133,10 +113,10 @@ module _ {N K P : Type 0} {Q : N → N → Ordering} {S : K → K → Ordering} 
       ∙ ap (λ j. eq_by_cmp Q (outer q) n && eq_by_cmp S (inner q) j) (law.inner_is n k)
 
   outer_same : (a n : N) → eq_by_cmp Q a n ≡ true → a ≡ n
-  outer_same a n h = law.outer_exact a n (equal _ h)
+  outer_same a n h = law.outer_exact a n (is_equal _ h)
 
   not_less : (a n m : N) → eq_by_cmp Q a n ≡ true → T (is_lt (Q n m)) → eq_by_cmp Q a m ≡ false
-  not_less a n m h l = ap (λ k. is_eq (Q k m)) (outer_same a n h) ∙ ap is_eq (less _ l)
+  not_less a n m h l = ap (λ k. is_eq (Q k m)) (outer_same a n h) ∙ ap is_eq (is_less _ l)
 
   same_block : (n : N) (k j : K) → S k j ≡ R (up n k) (up n j)
   same_block n k j =
@@ -177,8 +157,8 @@ module _ {N K P V : Type 0} {Q : N → N → Ordering} {S : K → K → Ordering
   find-below n (f ∷ es) q h e =
       find_beside R (block up f.0 (map.entries f.1)) (flat up es) q
       ∙ ap (λ o. or_else o (find R q (flat up es))) (find-block f.0 (map.entries f.1) q
-      ∙ ap (λ b. cond b (find S (inner q) (map.entries f.1)) None) (not_less law (outer q) n f.0 e (first _ _ h)))
-      ∙ find-below n es q (second _ _ h) e
+      ∙ ap (λ b. cond b (find S (inner q) (map.entries f.1)) None) (not_less law (outer q) n f.0 e (T_first _ _ h)))
+      ∙ find-below n es q (T_second _ _ h) e
 
   chosen : (a : Bool) (m : map.FinMap S V) (o : Option (map.FinMap S V)) (k : K) (r : Option V)
       → (a ≡ true → r ≡ None) → r ≡ inside o k
@@ -195,7 +175,7 @@ module _ {N K P V : Type 0} {Q : N → N → Ordering} {S : K → K → Ordering
       ∙ ap (λ o. or_else o (find R q (flat up es))) (find-block e.0 (map.entries e.1) q
       ∙ ap (λ g. cond (eq_by_cmp Q (outer q) e.0) g None) (sym (map.get-entries e.1 (inner q))))
       ∙ chosen (eq_by_cmp Q (outer q) e.0) e.1 (find Q (outer q) es) (inner q) (find R q (flat up es))
-      (find-below e.0 es q (first _ _ h)) (find-flat es q (second _ _ h))
+      (find-below e.0 es q (T_first _ _ h)) (find-flat es q (T_second _ _ h))
 
   pub get-joined : (m : map.FinMap Q (map.FinMap S V)) (q : P)
       → map.get (joined {R = R} up m) q ≡ inside (map.get m (outer q)) (inner q)
@@ -226,33 +206,33 @@ module _ {N K P V : Type 0} {Q : N → N → Ordering} {S : K → K → Ordering
   above-flat : (n : N) (es : List (N × map.FinMap S V)) → T (below_all Q n es) → Above n (flat up es)
   above-flat n [] h = tt
   above-flat n (e ∷ es) h =
-      above-block n e.0 (map.entries e.1) (flat up es) (less _ (first _ _ h)) (above-flat n es (second _ _ h))
+      above-block n e.0 (map.entries e.1) (flat up es) (is_less _ (T_first _ _ h)) (above-flat n es (T_second _ _ h))
 
   below-above : (n : N) (k : K) (ps : List (P × V)) → Above n ps → T (below_all R (up n k) ps)
   below-above n k [] h = tt
   below-above n k (p ∷ ps) h =
       let first_less : R (up n k) p.0 ≡ Less =
       law.order (up n k) p.0 ∙ then_less _ _ (ap (λ m. Q m (outer p.0)) (law.outer_is n k) ∙ h.0) in
-      both _ _ (subst (λ r. T (is_lt r)) (sym first_less) tt) (below-above n k ps h.1)
+      T_both _ _ (subst (λ r. T (is_lt r)) (sym first_less) tt) (below-above n k ps h.1)
 
   below-block : (n : N) (k : K) (es : List (K × V)) (ps : List (P × V)) → T (below_all S k es) → Above n ps
       → T (below_all R (up n k) (block up n es ++ ps))
   below-block n k [] ps h a = below-above n k ps a
   below-block n k (e ∷ es) ps h a =
-      both _ _ (subst (λ r. T (is_lt r)) (same_block law n k e.0) (first _ _ h))
-      (below-block n k es ps (second _ _ h) a)
+      T_both _ _ (subst (λ r. T (is_lt r)) (same_block law n k e.0) (T_first _ _ h))
+      (below-block n k es ps (T_second _ _ h) a)
 
   sorted-block : (n : N) (es : List (K × V)) (ps : List (P × V)) → T (is_sorted S es) → Above n ps → T (is_sorted R ps)
       → T (is_sorted R (block up n es ++ ps))
   sorted-block n [] ps h a s = s
   sorted-block n (e ∷ es) ps h a s =
-      both _ _ (below-block n e.0 es ps (first _ _ h) a) (sorted-block n es ps (second _ _ h) a s)
+      T_both _ _ (below-block n e.0 es ps (T_first _ _ h) a) (sorted-block n es ps (T_second _ _ h) a s)
 
   sorted-flat : (es : List (N × map.FinMap S V)) → T (is_sorted Q es) → T (is_sorted R (flat up es))
   sorted-flat [] h = tt
   sorted-flat (e ∷ es) h =
-      sorted-block e.0 (map.entries e.1) (flat up es) (map.entries_sorted e.1) (above-flat e.0 es (first _ _ h))
-      (sorted-flat es (second _ _ h))
+      sorted-block e.0 (map.entries e.1) (flat up es) (map.entries_sorted e.1) (above-flat e.0 es (T_first _ _ h))
+      (sorted-flat es (T_second _ _ h))
 
   pub entries-joined : (m : map.FinMap Q (map.FinMap S V))
       → map.entries (joined {R = R} up m) ≡ flat up (map.entries m)
@@ -367,8 +347,8 @@ module _ {N K P V : Type 0} {Q : N → N → Ordering} {S : K → K → Ordering
         filter-append (λ e. p e.0) (block up e.0 (map.entries e.1)) (flat up es)
         ∙ ap (λ r. r ++ filter (λ e. p e.0) (flat up es)) (filter-block e.0 (map.entries e.1)
         ∙ ap (λ b. cond b (block up e.0 (filter (λ e. t e.0) (map.entries e.1))) [])
-        (higher law n m e.0 h (first _ _ l)))
-        ∙ filter-above m es h (second _ _ l)
+        (higher law n m e.0 h (T_first _ _ l)))
+        ∙ filter-above m es h (T_second _ _ l)
 
     no_more : (xs : List (P × V)) → xs ++ [] ≡ xs
     no_more [] = refl
@@ -393,7 +373,7 @@ module _ {N K P V : Type 0} {Q : N → N → Ordering} {S : K → K → Ordering
         ∙ ap (λ r. r ++ filter (λ e. p e.0) (flat up es)) (filter-block e.0 (map.entries e.1)
         ∙ ap (λ b. cond b (block up e.0 (filter (λ e. t e.0) (map.entries e.1))) [])
         ((eq_by_cmp_equiv law.outer_total).symm e.0 n))
-        ∙ picked e es (eq_by_cmp Q n e.0) refl (first _ _ h) (filter-flat es (second _ _ h))
+        ∙ picked e es (eq_by_cmp Q n e.0) refl (T_first _ _ h) (filter-flat es (T_second _ _ h))
 
     -- the entries of one outer key are those of its inner map
     pub filter-joined : (m : map.FinMap Q (map.FinMap S V))

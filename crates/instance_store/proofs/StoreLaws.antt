@@ -15,6 +15,9 @@ use Rattle.std.proofs.lemmas.Bool.Decides.{nat_tests}
 use Rattle.std.proofs.lemmas.List.{map-append}
 use Rattle.std.proofs.lemmas.List.Filters.{length-filter_both}
 use Rattle.std.proofs.lemmas.Map.Lookups.{CmpEqualImpliesEq}
+use Rattle.lemmas.proofs.Orders.{is_equal}
+use Rattle.lemmas.proofs.Tests.{T_both, T_first, T_second}
+use Rattle.lemmas.proofs.Options.{none_from_test}
 use Rattle.lwm2m_values.specs.declared.value.Value.{Value}
 use Rattle.object_defs.specs.declared.path.FullPath.{FullPath}
 use Rattle.object_defs.specs.declared.path.InstancePath.{InstancePath}
@@ -62,23 +65,6 @@ mark_known true x None h = let e = h refl in cc
 mark_known true x (Some y) h = refl
 mark_known false x o h = refl
 
-equal : (o : Ordering) → is_eq o ≡ true → o ≡ Equal
-equal Less h = cc
-equal Equal h = refl
-equal Greater h = cc
-
-both : (a b : Bool) → T a → T b → T (a && b)
-both true b p q = q
-both false b p q = p
-
-first : (a b : Bool) → T (a && b) → T a
-first true b p = tt
-first false b p = p
-
-second : (a b : Bool) → T (a && b) → T b
-second true b p = p
-second false b p = absurd p
-
 abbrev marks : {K X : Type 0} → List (K × X) → List (K × Unit {0})
 marks es = map_list (λ e. (e.0, tt)) es
 
@@ -117,7 +103,7 @@ module _ {K X : Type 0} {R : K → K → Ordering} (total : IsTotalOrder R) (exa
       get-keys (map.insert m k v) q
       ∙ ap mark (map.get-insert total m k v q)
       ∙ mark_known (eq_by_cmp R q k) v (map.get m q)
-      (λ e. ap (λ j. is_some (map.get m j)) (exact q k (equal _ e)) ∙ h)
+      (λ e. ap (λ j. is_some (map.get m j)) (exact q k (is_equal _ e)) ∙ h)
       ∙ sym (get-keys m q))
 
   pub keys-remove : (m : map.FinMap R X) (k : K) → keys_as_set (map.remove m k) ≡ map.remove (keys_as_set m) k
@@ -130,11 +116,11 @@ module _ {K X : Type 0} {R : K → K → Ordering} (total : IsTotalOrder R) (exa
 
   below-marks : (k : K) (es : List (K × X)) → T (below_all R k es) → T (below_all R k (marks es))
   below-marks k [] h = tt
-  below-marks k (e ∷ es) h = both _ _ (first _ _ h) (below-marks k es (second _ _ h))
+  below-marks k (e ∷ es) h = T_both _ _ (T_first _ _ h) (below-marks k es (T_second _ _ h))
 
   sorted-marks : (es : List (K × X)) → T (is_sorted R es) → T (is_sorted R (marks es))
   sorted-marks [] h = tt
-  sorted-marks (e ∷ es) h = both _ _ (below-marks e.0 es (first _ _ h)) (sorted-marks es (second _ _ h))
+  sorted-marks (e ∷ es) h = T_both _ _ (below-marks e.0 es (T_first _ _ h)) (sorted-marks es (T_second _ _ h))
 
   keys-marks : (es : List (K × X)) → map_list (λ (e : K × Unit {0}). e.0) (marks es) ≡ map_list (λ e. e.0) es
   keys-marks [] = refl
@@ -151,8 +137,8 @@ module _ {K X : Type 0} {R : K → K → Ordering} (total : IsTotalOrder R) (exa
   no_entry q [] h = refl
   no_entry q (e ∷ es) h =
       ap (λ b. cond b (e ∷ filter (λ e. eq_by_cmp R q e.0) es) (filter (λ e. eq_by_cmp R q e.0) es))
-      (not_equal (R q e.0) (first _ _ h))
-      ∙ no_entry q es (second _ _ h)
+      (not_equal (R q e.0) (T_first _ _ h))
+      ∙ no_entry q es (T_second _ _ h)
     where
       not_equal : (o : Ordering) → T (is_lt o) → is_eq o ≡ false
       not_equal Less p = refl
@@ -164,7 +150,7 @@ module _ {K X : Type 0} {R : K → K → Ordering} (total : IsTotalOrder R) (exa
       → cond b (e ∷ filter (λ e. eq_by_cmp R q e.0) es) (filter (λ e. eq_by_cmp R q e.0) es)
       ≡ entry_of q (cond b (Some e.1) (find R q es))
   one_at q e es true t h rest =
-      let same : q ≡ e.0 = exact q e.0 (equal _ t) in
+      let same : q ≡ e.0 = exact q e.0 (is_equal _ t) in
       ap (λ r. e ∷ r) (ap (λ k. filter (λ e. eq_by_cmp R k e.0) es) same ∙ no_entry e.0 es h)
       ∙ ap (λ k. (k, e.1) ∷ []) (sym same)
   one_at q e es false t h rest = rest
@@ -173,7 +159,7 @@ module _ {K X : Type 0} {R : K → K → Ordering} (total : IsTotalOrder R) (exa
       → filter (λ e. eq_by_cmp R q e.0) es ≡ entry_of q (find R q es)
   one_entry q [] h = refl
   one_entry q (e ∷ es) h =
-      one_at q e es (eq_by_cmp R q e.0) refl (first _ _ h) (one_entry q es (second _ _ h))
+      one_at q e es (eq_by_cmp R q e.0) refl (T_first _ _ h) (one_entry q es (T_second _ _ h))
 
 -- ---- the instances
 
@@ -548,13 +534,9 @@ pub no_instance : (o : Objects) (at : InstancePath) → has_instance (stored_fro
     ≡ None → ⊥
 no_instance o at h e = absurd (subst T (sym h ∙ has-tree o at ∙ ap is_some e) tt)
 
-nothing : {X : Type 0} (s : Option X) → is_some s ≡ false → s ≡ None
-nothing None h = refl
-nothing (Some x) h = cc
-
 pub none_there : (o : Objects) (at : InstancePath) → has_instance (stored_from o) at ≡ false → map.get (tree o) at
     ≡ None
-none_there o at h = nothing (map.get (tree o) at) (sym (has-tree o at) ∙ h)
+none_there o at h = none_from_test (map.get (tree o) at) (sym (has-tree o at) ∙ h)
 
 tree-empty : tree map.empty ≡ map.empty
 tree-empty = map.same_map instance_total instance_exact _ _ (λ q.

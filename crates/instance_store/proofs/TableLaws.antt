@@ -14,7 +14,7 @@ use Rattle.std.specs.Cmp.{nat_cmp_total}
 use Rattle.std.specs.FinMap as map
 use Rattle.std.specs.FinMap.{find}
 use Rattle.std.specs.FinMap.Entries.{find-where_key}
-use Rattle.std.proofs.lemmas.Bool.{cases_eq, cases_lt}
+use Rattle.std.proofs.lemmas.Bool.{cases_eq, cases_lt, eq-eqb, ne_eqb}
 use Rattle.std.proofs.lemmas.Bool.Decides.{nat_tests}
 use Rattle.std.proofs.lemmas.List.Edits.{length-insert, get_or-insert_below, get_or-insert_at}
 use Rattle.std.proofs.lemmas.List.Edits.{get_or-insert_above}
@@ -24,16 +24,11 @@ use Rattle.std.proofs.lemmas.Map.Made.{keys_of-zip}
 use Rattle.std.proofs.lemmas.Option.{slice_get_past, slice_get-get_or}
 use Rattle.std.proofs.lemmas.Map.Lookups.{exact_unsigned}
 use Rattle.std.proofs.lemmas.Slice.Zip.{firsts-zip, seconds-zip}
+use Rattle.lemmas.proofs.Numbers.{eqb_below}
 use Rattle.object_defs.proofs.MapLaws.{entries-from_entries}
 use Rattle.instance_store.specs.Table.{table_of, index_in, IsTable}
 
 -- ---- comparisons of numbers, and choices
-
-eqb_same : (x n : ℕ) → x ≡ n → eqb x n ≡ true
-eqb_same x n h = grind (arith, nat_tests)
-
-eqb_other : (x n : ℕ) → x ≢ n → eqb x n ≡ false
-eqb_other x n h = grind (arith, nat_tests)
 
 flipped : (n k : ℕ) → eq_by_cmp nat_cmp n k ≡ eqb k n
 flipped n k = grind (arith, nat_tests)
@@ -92,15 +87,15 @@ increasing-insert xs i x rises found k inside =
 index_found : (ns : List ℕ) (i n : ℕ) → i < length ns → get_or ns i 0 ≡ n → ((k : ℕ) → k < i → get_or ns k 0 < n)
     → index_in ns n ≡ i
 index_found [] i n inside at low = absurd (omega (arith, inside))
-index_found (x ∷ ns) zero n inside at low = ap (λ b. cond b 0 (suc (index_in ns n))) (eqb_same x n at)
+index_found (x ∷ ns) zero n inside at low = ap (λ b. cond b 0 (suc (index_in ns n))) (eq-eqb x n at)
 index_found (x ∷ ns) (suc i) n inside at low =
-    ap (λ b. cond b 0 (suc (index_in ns n))) (eqb_other x n (λ e. omega (arith, e, low 0 (omega arith))))
+    ap (λ b. cond b 0 (suc (index_in ns n))) (ne_eqb x n (λ e. omega (arith, e, low 0 (omega arith))))
     ∙ ap suc (index_found ns i n (omega (arith, inside)) at (λ k h. low (suc k) (omega (arith, h))))
 
 index_missing : (ns : List ℕ) (n : ℕ) → ((k : ℕ) → k < length ns → get_or ns k 0 ≢ n) → index_in ns n ≡ length ns
 index_missing [] n out = refl
 index_missing (x ∷ ns) n out =
-    ap (λ b. cond b 0 (suc (index_in ns n))) (eqb_other x n (out 0 (omega arith)))
+    ap (λ b. cond b 0 (suc (index_in ns n))) (ne_eqb x n (out 0 (omega arith)))
     ∙ ap suc (index_missing ns n (λ k h. out (suc k) (omega (arith, h))))
 
 -- what a search says of ascending numbers
@@ -202,9 +197,6 @@ pub table-set : {X : Type 0} (ns : List ℕ) (xs : List X) (n : ℕ) (v : X) →
 table-set ns xs n v h inside =
     one_put (zip ns xs) (zip ns (set xs (index_in ns n) v)) n v (λ q. found_set ns xs n v q h inside)
 
-below : (k n : ℕ) → k < n → eqb k n ≡ false
-below k n h = grind (arith, nat_tests)
-
 found_insert : {X : Type 0} (ns : List ℕ) (xs : List X) (i n : ℕ) (v : X) (q : ℕ) → length xs ≡ length ns
     → i ≤ length ns → ((k : ℕ) → k < i → get_or ns k 0 < n)
     → find nat_cmp q (zip (insert ns i n) (insert xs i v))
@@ -218,7 +210,7 @@ found_insert (k ∷ ns) (x ∷ xs) (suc i) n v q h inside low =
     ap (cond (eq_by_cmp nat_cmp q k) (Some x)) (found_insert ns xs i n v q (omega (arith, h)) (omega (arith, inside))
     (λ j l. low (suc j) (omega (arith, l))))
     ∙ beside (eq_by_cmp nat_cmp q k) (eq_by_cmp nat_cmp q n) (Some v) (Some x) (find nat_cmp q (zip ns xs))
-    (apart q k n (below k n (low 0 (omega arith))))
+    (apart q k n (eqb_below k n (low 0 (omega arith))))
 
 -- an item at a number that has none
 pub table-insert : {X : Type 0} (ns : List ℕ) (xs : List X) (i n : ℕ) (v : X) → IsTable ns xs
@@ -245,7 +237,7 @@ others_kept [] xs n out = refl
 others_kept (k ∷ ns) [] n out = refl
 others_kept (k ∷ ns) (x ∷ xs) n out =
     let rest = filter (λ e. not (eqb e.0 n)) (zip ns xs) in
-    ap (λ b. cond (not b) ((k, x) ∷ rest) rest) (eqb_other k n (out 0 (omega arith)))
+    ap (λ b. cond (not b) ((k, x) ∷ rest) rest) (ne_eqb k n (out 0 (omega arith)))
     ∙ ap (λ t. (k, x) ∷ t) (others_kept ns xs n (λ j l. out (suc j) (omega (arith, l))))
 
 removed : {X : Type 0} (ns : List ℕ) (xs : List X) (i n : ℕ) → length xs ≡ length ns → i < length ns
@@ -255,13 +247,13 @@ removed [] xs i n h inside at out = absurd (omega (arith, inside))
 removed (k ∷ ns) [] i n h inside at out = absurd (omega (arith, h))
 removed (k ∷ ns) (x ∷ xs) zero n h inside at out =
     let rest = filter (λ e. not (eqb e.0 n)) (zip ns xs) in
-    sym (ap (λ b. cond (not b) ((k, x) ∷ rest) rest) (eqb_same k n at)
+    sym (ap (λ b. cond (not b) ((k, x) ∷ rest) rest) (eq-eqb k n at)
     ∙ others_kept ns xs n (λ j l. out (suc j) (omega (arith, l)) (λ e. omega (arith, e))))
 removed (k ∷ ns) (x ∷ xs) (suc i) n h inside at out =
     let rest = filter (λ e. not (eqb e.0 n)) (zip ns xs) in
     ap (λ t. (k, x) ∷ t) (removed ns xs i n (omega (arith, h)) (omega (arith, inside)) at
     (λ j l e. out (suc j) (omega (arith, l)) (λ f. e (omega (arith, f)))))
-    ∙ sym (ap (λ b. cond (not b) ((k, x) ∷ rest) rest) (eqb_other k n (out 0 (omega arith) (λ e. omega (arith, e)))))
+    ∙ sym (ap (λ b. cond (not b) ((k, x) ∷ rest) rest) (ne_eqb k n (out 0 (omega arith) (λ e. omega (arith, e)))))
 
 -- the other numbers differ from the one found
 others_differ : (ns : List ℕ) (i n : ℕ) → IsStrictlyIncreasing ns → i < length ns → get_or ns i 0 ≡ n → (k : ℕ)

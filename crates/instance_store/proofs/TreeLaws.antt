@@ -5,7 +5,6 @@ use Rattle.std.proofs.Common.{ap, subst, ◌∙◌, arith, inl, inr, Ordering}
 use Rattle.std.proofs.Common.{length-append, drop-cons, drop_of_length-le, Bor}
 use Rattle.std.proofs.Math.Dec.{T}
 use Rattle.std.specs.List.{filter, filter_map, dedup, dedup_from, slice_get, AllByRecursion}
-use Rattle.std.specs.Option.{unwrap_or}
 use Rattle.std.specs.Ordering.{nat_cmp, is_eq, is_lt, eq_by_cmp, ordering_then}
 use Rattle.std.specs.declared.cmp.Ordering.TheVariants.{Less, Equal, Greater}
 use Rattle.std.specs.Cmp.{IsTotalOrder, nat_cmp_total, tied_itself}
@@ -17,8 +16,10 @@ use Rattle.std.proofs.lemmas.Bool.{cases_eq}
 use Rattle.std.proofs.lemmas.Bool.Decides.{nat_tests}
 use Rattle.std.proofs.lemmas.Cmp.{on_total, then_total}
 use Rattle.std.proofs.lemmas.List.{length-map, map-append}
-use Rattle.std.proofs.lemmas.Option.{slice_get_within, get_or_from_slice_get}
+use Rattle.std.proofs.lemmas.Option.{slice_get_within, get_or_from_slice_get, same_Some}
 use Rattle.std.proofs.lemmas.Map.Lookups.{CmpEqualImpliesEq, exact_pairs, exact_unsigned}
+use Rattle.lemmas.proofs.Tests.{T_both, T_first, T_second}
+use Rattle.lemmas.proofs.Numbers.{eqb_itself, same_from_tie}
 use Rattle.lwm2m_values.specs.declared.value.Value.{Value}
 use Rattle.object_defs.specs.declared.path.FullPath.{FullPath}
 use Rattle.object_defs.specs.declared.path.InstancePath.{InstancePath}
@@ -101,18 +102,6 @@ value_nesting = record {
 
 -- ---- the values of a resource
 
-both : (a b : Bool) → T a → T b → T (a && b)
-both true b p q = q
-both false b p q = p
-
-first : (a b : Bool) → T (a && b) → T a
-first true b p = tt
-first false b p = p
-
-second : (a b : Bool) → T (a && b) → T b
-second true b p = p
-second false b p = absurd p
-
 find_part : (es : List (ℕ × Value)) (n : ℕ) → find part_cmp (Some n) (part_entries es) ≡ find nat_cmp n es
 find_part [] n = refl
 find_part (e ∷ es) n = ap (cond (eq_by_cmp nat_cmp n e.0) (Some e.1)) (find_part es n)
@@ -139,11 +128,11 @@ get-part (Some v) t n =
 below_part : (n : ℕ) (es : List (ℕ × Value)) → T (below_all nat_cmp n es)
     → T (below_all part_cmp (Some n) (part_entries es))
 below_part n [] h = tt
-below_part n (e ∷ es) h = both _ _ (first _ _ h) (below_part n es (second _ _ h))
+below_part n (e ∷ es) h = T_both _ _ (T_first _ _ h) (below_part n es (T_second _ _ h))
 
 sorted_parts : (es : List (ℕ × Value)) → T (is_sorted nat_cmp es) → T (is_sorted part_cmp (part_entries es))
 sorted_parts [] h = tt
-sorted_parts (e ∷ es) h = both _ _ (below_part e.0 es (first _ _ h)) (sorted_parts es (second _ _ h))
+sorted_parts (e ∷ es) h = T_both _ _ (below_part e.0 es (T_first _ _ h)) (sorted_parts es (T_second _ _ h))
 
 below_single : (es : List (ℕ × Value)) → T (below_all part_cmp None (part_entries es))
 below_single [] = tt
@@ -152,7 +141,7 @@ below_single (e ∷ es) = below_single es
 sorted_resource : (s : Option Value) (es : List (ℕ × Value)) → T (is_sorted nat_cmp es)
     → T (is_sorted part_cmp (single_entries s ++ part_entries es))
 sorted_resource None es h = sorted_parts es h
-sorted_resource (Some v) es h = both _ _ (below_single es) (sorted_parts es h)
+sorted_resource (Some v) es h = T_both _ _ (below_single es) (sorted_parts es h)
 
 pub entries-resource : (s : Option Value) (t : TableOf Value)
     → map.entries (resource_values s t) ≡ single_entries s ++ part_entries (map.entries t)
@@ -218,9 +207,6 @@ resource-empty = map.same_map part_total part_exact _ _ at
 some_of_none : {A : Type 0} {P : Type 0} (x : A) → None ≡ Some x → P
 some_of_none x e = absurd (subst T (ap is_some (sym e)) tt)
 
-same_some : {A : Type 0} (x y : A) → Some x ≡ Some y → x ≡ y
-same_some x y e = ap (λ o. unwrap_or o x) e
-
 -- a map that has a value at a key is not empty
 pub not_empty : (m : ResourceValues) (k : Option ℕ) (v : Value) → map.get m k ≡ Some v → 0 < map.len m
 not_empty m k v h =
@@ -240,7 +226,7 @@ HoldValues-empty n values h = some_of_none values (sym (map.get-empty nat_cmp n)
 
 put_here : (b : Bool) (m values : ResourceValues) (o : Option ResourceValues) → 0 < map.len m
     → (o ≡ Some values → 0 < map.len values) → cond b (Some m) o ≡ Some values → 0 < map.len values
-put_here true m values o held rest e = subst (λ (x : ResourceValues). 0 < map.len x) (same_some m values e) held
+put_here true m values o held rest e = subst (λ (x : ResourceValues). 0 < map.len x) (same_Some m values e) held
 put_here false m values o held rest e = rest e
 
 pub HoldValues-insert : (t : TableOf ResourceValues) (n : ℕ) (m : ResourceValues) → HoldValues t → 0 < map.len m
@@ -308,9 +294,6 @@ parts_some t r m h = ap (filter_map (λ e. e.0.1)) (resource_some t r m h) ∙ p
 
 -- ---- the numbers of the resources
 
-eqb_itself : (n : ℕ) → eqb n n ≡ true
-eqb_itself n = grind (arith, nat_tests)
-
 eqb_less : (n m : ℕ) → T (is_lt (nat_cmp n m)) → eqb n m ≡ false
 eqb_less n m h = grind (arith, nat_tests, h)
 
@@ -357,8 +340,8 @@ once_after : (n : ℕ) (es : List (ℕ × ResourceValues)) → T (below_all nat_
 once_after n [] h s held = refl
 once_after n (e ∷ es) h s held =
     ap (dedup_from eqb n) (numbers_next e es)
-    ∙ after_lower n e.0 (map.entries e.1) (resource_numbers es) held.0 (apart_numbers n e.0 (first _ _ h))
-    ∙ ap (λ t. n ∷ t) (once_after e.0 es (first _ _ s) (second _ _ s) held.1)
+    ∙ after_lower n e.0 (map.entries e.1) (resource_numbers es) held.0 (apart_numbers n e.0 (T_first _ _ h))
+    ∙ ap (λ t. n ∷ t) (once_after e.0 es (T_first _ _ s) (T_second _ _ s) held.1)
 
 each_once : (es : List (ℕ × ResourceValues)) → T (is_sorted nat_cmp es) → EachHolds es
     → dedup eqb (resource_numbers es) ≡ map_list (λ e. e.0) es
@@ -366,7 +349,7 @@ each_once [] s held = refl
 each_once (e ∷ es) s held =
     ap (dedup eqb) (numbers_next e es)
     ∙ from_start e.0 (map.entries e.1) (resource_numbers es) held.0
-    ∙ once_after e.0 es (first _ _ s) (second _ _ s) held.1
+    ∙ once_after e.0 es (T_first _ _ s) (T_second _ _ s) held.1
 
 less_is : (o : Ordering) → T (is_lt o) → is_eq o ≡ false
 less_is Less p = refl
@@ -376,16 +359,13 @@ less_is Greater p = absurd p
 none_below : (n : ℕ) (es : List (ℕ × ResourceValues)) → T (below_all nat_cmp n es) → find nat_cmp n es ≡ None
 none_below n [] h = refl
 none_below n (e ∷ es) h =
-    ap (λ b. cond b (Some e.1) (find nat_cmp n es)) (less_is _ (first _ _ h)) ∙ none_below n es (second _ _ h)
-
-same_number : (q n : ℕ) → eq_by_cmp nat_cmp q n ≡ true → q ≡ n
-same_number q n h = grind (arith, nat_tests)
+    ap (λ b. cond b (Some e.1) (find nat_cmp n es)) (less_is _ (T_first _ _ h)) ∙ none_below n es (T_second _ _ h)
 
 passed : (b : Bool) (e : ℕ × ResourceValues) (es : List (ℕ × ResourceValues)) (q : ℕ) (m : ResourceValues)
     → eq_by_cmp nat_cmp q e.0 ≡ b → T (below_all nat_cmp e.0 es) → find nat_cmp q es ≡ Some m
     → cond b (Some e.1) (find nat_cmp q es) ≡ Some m
 passed true e es q m t h f =
-    some_of_none m (sym (none_below e.0 es h) ∙ ap (λ k. find nat_cmp k es) (sym (same_number q e.0 t)) ∙ f)
+    some_of_none m (sym (none_below e.0 es h) ∙ ap (λ k. find nat_cmp k es) (sym (same_from_tie q e.0 t)) ∙ f)
 passed false e es q m t h f = f
 
 each_holds : (es : List (ℕ × ResourceValues)) → T (is_sorted nat_cmp es)
@@ -394,8 +374,8 @@ each_holds [] s h = tt
 each_holds (e ∷ es) s h = (
   subst (λ n. 0 < n) (map.len-entries e.1) (h e.0 e.1 (ap (λ b. cond b (Some e.1) (find nat_cmp e.0 es))
       (ap is_eq (tied_itself nat_cmp_total e.0)))),
-  each_holds es (second _ _ s)
-      (λ n m f. h n m (passed (eq_by_cmp nat_cmp n e.0) e es n m refl (first _ _ s) f)),
+  each_holds es (T_second _ _ s)
+      (λ n m f. h n m (passed (eq_by_cmp nat_cmp n e.0) e es n m refl (T_first _ _ s) f)),
 )
 
 -- the numbers of the resources, each once
@@ -437,7 +417,7 @@ put_back false x o h = refl
 pub insert_same : {X : Type 0} (t : TableOf X) (n : ℕ) (x : X) → map.get t n ≡ Some x → map.insert t n x ≡ t
 insert_same t n x h = map.same_map nat_cmp_total exact_unsigned _ _ (λ q.
     map.get-insert nat_cmp_total t n x q
-    ∙ put_back (eq_by_cmp nat_cmp q n) x (map.get t q) (λ e. ap (map.get t) (same_number q n e) ∙ h))
+    ∙ put_back (eq_by_cmp nat_cmp q n) x (map.get t q) (λ e. ap (map.get t) (same_from_tie q n e) ∙ h))
 
 pub remove_resource : (t : TableOf ResourceValues) (r : ℕ)
     → instance_values (map.remove t r) ≡ map.retain_keys (instance_values t) (λ k. not (eqb k.0 r))

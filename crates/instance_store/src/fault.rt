@@ -9,13 +9,13 @@ pub enum StoreFault {
     /// There is no such instance.
     #[error("no such instance")]
     Absent,
-    /// There is such an instance already.
+    /// The instance already exists.
     #[error("there is such an instance")]
     Exists,
     /// The object has 64 instances, or the resource 32 parts.
     #[error("no room for another")]
     Full,
-    /// Memory ran out.
+    /// An allocation failed.
     #[error("out of memory")]
     Memory,
 }

@@ -114,7 +114,7 @@ impl Store {
     pub fn add_instance(&mut self, place: InstancePath) -> Result<(), StoreFault>
         ensures ok { OnOk result (self.new ≡ with_instance self.old place) }
 
-        // There is such an instance; or else the object has 64.
+        // The instance already exists; or else the object has 64.
         ensures exists { IsErrOf result StoreFault.Exists ↔ IsTrue (has_instance self.old place) }
         ensures full { IsErrOf result StoreFault.Full
             ↔ (IsFalse (has_instance self.old place) × (64 ≤ length (instances_of self.old place.object))) }
@@ -136,7 +136,7 @@ impl Store {
     pub fn put(&mut self, path: ResourcePath, value: Value) -> Result<(), StoreFault>
         ensures ok { OnOk result (self.new ≡ with_value self.old (single_of path) value) }
 
-        // There is no such instance. Otherwise only memory can be wanting.
+        // There is no such instance. Otherwise only an allocation can fail.
         ensures absent { IsErrOf result StoreFault.Absent ↔ IsFalse (has_instance self.old (instance_of path)) }
         ensures never_exists { result ≢ Err StoreFault.Exists }
         ensures never_full { result ≢ Err StoreFault.Full }

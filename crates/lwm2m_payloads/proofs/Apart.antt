@@ -11,6 +11,8 @@ use Rattle.std.proofs.lemmas.Bool.Decides.{nat_tests}
 use Rattle.std.proofs.lemmas.Cmp.{nat_eq_equiv}
 use Rattle.std.proofs.lemmas.List.Folds.{list_any-append}
 use Rattle.std.proofs.lemmas.Map.Made.{length-from_same_keys}
+use Rattle.std.proofs.lemmas.Bool.{or_parts}
+use Rattle.lemmas.proofs.Numbers.{eqb_turned}
 use Rattle.object_defs.specs.Path.{part_of}
 use Rattle.object_defs.specs.Operations.{can_write}
 use Rattle.object_defs.specs.declared.definition.ResourceDef.{ResourceDef}
@@ -29,7 +31,6 @@ use Rattle.lwm2m_payloads.specs.Changes.{is_too_many, has_too_many, is_lost, wit
 use Rattle.lwm2m_payloads.specs.Once.{ResourcesOnce}
 use Rattle.lwm2m_payloads.specs.PartList.{PartList}
 use Rattle.lwm2m_payloads.specs.Written.{is_taken_away}
-use Rattle.lwm2m_payloads.proofs.Distinct.{none_of_both}
 use Rattle.lwm2m_payloads.proofs.Held.{held_distinct, held_at}
 use Rattle.lwm2m_payloads.proofs.New.{later}
 use Rattle.lwm2m_payloads.proofs.Places.{at_number, at_part, at_single, at_without, lies_own}
@@ -105,7 +106,7 @@ all_elsewhere : (mode : Mode) (resources : List ResourceDef) (given : List Assig
     ≡ value_at stored (at_number (resource_of place r) n)
 all_elsewhere mode resources [] stored place r n h = refl
 all_elsewhere mode resources (a ∷ given) stored place r n h =
-    let t = none_of_both (a.resource == r) (list_any (λ b. b.resource == r) given) h in
+    let t = or_parts (a.resource == r) (list_any (λ b. b.resource == r) given) h in
     all_elsewhere mode resources given (assigned mode resources stored place a) place r n t.1
     ∙ one_elsewhere mode resources stored place a r n t.0
 
@@ -136,19 +137,16 @@ same_room Update (Parts parts) s t p h =
     (kept_distinct (is_other parts) (parts_of t p) (held_distinct t p))
     (λ n. others parts s p n ∙ ap (λ o. is_some o && is_other parts n) (h n) ∙ sym (others parts t p n)))
 
-turned : (a b : ℕ) → (a == b) ≡ (b == a)
-turned a b = grind (arith, nat_tests)
-
 -- an assignment is to none of the resources before it
 before : (done : List Assignment) (a : Assignment) (rest : List Assignment) → ResourcesOnce (done ++ a ∷ rest)
     → list_any (λ b. b.resource == a.resource) done ≡ false
 before [] a rest once = refl
 before (d ∷ done) a rest once =
-    let t = none_of_both (list_any (λ b. b.resource == d.resource) done)
+    let t = or_parts (list_any (λ b. b.resource == d.resource) done)
     (list_any (λ b. b.resource == d.resource) (a ∷ rest))
     (sym (list_any-append (λ b. b.resource == d.resource) done (a ∷ rest)) ∙ once.0) in
-    let u = none_of_both (a.resource == d.resource) (list_any (λ b. b.resource == d.resource) rest) t.1 in
-    ap (λ b. b || list_any (λ b. b.resource == a.resource) done) (turned d.resource a.resource ∙ u.0)
+    let u = or_parts (a.resource == d.resource) (list_any (λ b. b.resource == d.resource) rest) t.1 in
+    ap (λ b. b || list_any (λ b. b.resource == a.resource) done) (eqb_turned d.resource a.resource ∙ u.0)
     ∙ before done a rest once.1
 
 -- what a test says of what a resource is given, by the values of that resource alone
@@ -242,7 +240,8 @@ named : (done : List Assignment) (a : Assignment) (rest : List Assignment)
 named done a rest =
     let own : (a.resource == a.resource) ≡ true = grind (arith, nat_tests) in
     list_any-append (λ b. b.resource == a.resource) done (a ∷ rest)
-    ∙ ap (λ t. list_any (λ b. b.resource == a.resource) done || (t || list_any (λ b. b.resource == a.resource) rest)) own
+    ∙ ap (λ t. list_any (λ b. b.resource == a.resource) done || (t || list_any (λ b. b.resource == a.resource) rest))
+    own
     ∙ later (list_any (λ b. b.resource == a.resource) done) (list_any (λ b. b.resource == a.resource) rest)
 
 left_new : (mode : Mode) (resources : List ResourceDef) (stored : Stored) (place : InstancePath)
@@ -269,10 +268,10 @@ pub once_more : (given : List Assignment) (a : Assignment) → ResourcesOnce giv
     → list_any (λ b. b.resource == a.resource) given ≡ false → ResourcesOnce (given ++ a ∷ [])
 once_more [] a once h = (refl, tt)
 once_more (d ∷ given) a once h =
-    let t = none_of_both (d.resource == a.resource) (list_any (λ b. b.resource == a.resource) given) h in (
+    let t = or_parts (d.resource == a.resource) (list_any (λ b. b.resource == a.resource) given) h in (
       list_any-append (λ b. b.resource == d.resource) given (a ∷ [])
           ∙ ap (λ b. b || ((a.resource == d.resource) || false)) once.0
-          ∙ ap (λ b. b || false) (turned a.resource d.resource ∙ t.0),
+          ∙ ap (λ b. b || false) (eqb_turned a.resource d.resource ∙ t.0),
       once_more given a once.1 t.1,
     )
 

@@ -4,6 +4,7 @@ use Rattle.std.proofs.Common.{ap, subst, ◌∙◌, arith, if◌then◌else◌}
 use Rattle.std.specs.List.{list_any}
 use Rattle.std.proofs.lemmas.Bool.Decides.{nat_tests}
 use Rattle.std.proofs.lemmas.List.Folds.{list_any-append}
+use Rattle.std.proofs.lemmas.Bool.{or_right, or_parts, or_from}
 
 -- an element before others, where its key is none of theirs
 abbrev pub front : {A : Type 0} → (A → ℕ) → Option A → Option (List A) → Option (List A)
@@ -40,17 +41,13 @@ has_own key a (Some others) =
       | false ↦ ap (λ t. t || list_any (λ b. key b == key a) others) same
     ]
 
-or_true : (a b : Bool) → b ≡ true → (a || b) ≡ true
-or_true true b e = refl
-or_true false b e = e
-
 keeps_key : {A : Type 0} (key : A → ℕ) (n : ℕ) (a : A) (others : Option (List A)) → HasKey key n others
     → HasKey key n (front key (Some a) others)
 keeps_key key n a None h = tt
 keeps_key key n a (Some others) h =
     elim (list_any (λ b. key b == key a) others) as (λ t. HasKey key n (if t then None else Some (a ∷ others))) [
       | true ↦ tt
-      | false ↦ or_true (key a == n) (list_any (λ b. key b == n) others) h
+      | false ↦ or_right (key a == n) (list_any (λ b. key b == n) others) h
     ]
 
 all_keep : {A : Type 0} (key : A → ℕ) (n : ℕ) (xs : List A) (others : Option (List A)) → HasKey key n others
@@ -102,24 +99,16 @@ front_is : {A : Type 0} (key : A → ℕ) (b : A) (bs : List A) (others : Option
 front_is key b bs None h = absurd cc
 front_is key b bs (Some others) h = tail_of key b bs others (list_any (λ c. key c == key b) others) refl h
 
-pub none_of_both : (a b : Bool) → (a || b) ≡ false → (a ≡ false) × (b ≡ false)
-none_of_both true b e = absurd cc
-none_of_both false b e = (refl, e)
-
-both_false : (a b : Bool) → a ≡ false → b ≡ false → (a || b) ≡ false
-both_false true b e f = absurd cc
-both_false false b e f = f
-
 -- distinct keys, and one more
 pub joined_push : {A : Type 0} (key : A → ℕ) (xs : List A) (a : A) → joined key xs (Some []) ≡ Some xs
     → list_any (λ c. key c == key a) xs ≡ false → joined key (xs ++ a ∷ []) (Some []) ≡ Some (xs ++ a ∷ [])
 joined_push key [] a h apart = refl
 joined_push key (b ∷ xs) a h apart =
     let p = front_is key b xs (joined key xs (Some [])) h in
-    let q = none_of_both (key b == key a) (list_any (λ c. key c == key a) xs) apart in
+    let q = or_parts (key b == key a) (list_any (λ c. key c == key a) xs) apart in
     let other : (key a == key b) ≡ false = grind (arith, nat_tests, q.0) in
     let none : list_any (λ c. key c == key b) (xs ++ a ∷ []) ≡ false =
-    list_any-append (λ c. key c == key b) xs (a ∷ []) ∙ both_false _ _ p.apart (both_false _ _ other refl) in
+    list_any-append (λ c. key c == key b) xs (a ∷ []) ∙ or_from _ _ p.apart (or_from _ _ other refl) in
     ap (front key (Some b)) (joined_push key xs a p.rest q.1)
     ∙ ap (λ t. if t then None else Some (b ∷ (xs ++ a ∷ []))) none
 

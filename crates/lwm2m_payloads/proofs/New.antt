@@ -5,6 +5,7 @@ use Rattle.std.specs.Option.{is_some}
 use Rattle.std.specs.List.{list_any}
 use Rattle.std.proofs.lemmas.Bool.Decides.{nat_tests}
 use Rattle.std.proofs.lemmas.List.Folds.{list_any-append}
+use Rattle.std.proofs.lemmas.Bool.{or_parts}
 use Rattle.lwm2m_values.specs.declared.value.Value.{Value}
 use Rattle.object_defs.specs.Path.{part_of}
 use Rattle.object_defs.specs.declared.path.ResourcePath.{ResourcePath}
@@ -13,7 +14,6 @@ use Rattle.lwm2m_payloads.specs.declared.given.Given.TheVariants.{Parts}
 use Rattle.lwm2m_payloads.specs.declared.given.Mode.TheVariants.{Replace, Update}
 use Rattle.lwm2m_payloads.specs.Changes.{with_parts, gives_new}
 use Rattle.lwm2m_payloads.specs.PartList.{PartList}
-use Rattle.lwm2m_payloads.proofs.Distinct.{none_of_both}
 use Rattle.lwm2m_payloads.proofs.Room.{has_part, all_set}
 
 pub later : (a b : Bool) → (a || (true || b)) ≡ true
@@ -26,7 +26,7 @@ pub part_new : (stored : Stored) (p : ResourcePath) (parts done : PartList) (e :
     → gives_new Update stored p (Parts parts) ≡ true
 part_new stored p parts done e rest is none =
     let test = λ (d : ℕ × Value). not (has_part stored p d.0) in
-    let t = none_of_both (list_any (λ d. d.0 == e.0) done) (has_part stored p e.0)
+    let t = or_parts (list_any (λ d. d.0 == e.0) done) (has_part stored p e.0)
     (sym (all_set done stored p e.0) ∙ ap is_some none) in
     ap (list_any test) is ∙ list_any-append test done (e ∷ rest)
     ∙ ap (λ b. list_any test done || (not b || list_any test rest)) t.1

@@ -1,12 +1,13 @@
 -- What a store has at a full path after a change of one resource.
-use Rattle.std.proofs.Common.{◌≡◌, ℕ, ◌==◌, Bool, true, false, cond, not, ◌&&◌, Ordering, Option, None, Some, refl, sym}
+use Rattle.std.proofs.Common.{◌≡◌, ℕ, ◌==◌, Bool, true, false, cond, not, ◌&&◌, Option, None, Some, refl, sym}
 use Rattle.std.proofs.Common.{ap, ◌∙◌, arith, if◌then◌else◌}
 use Rattle.std.specs.Option.{is_some}
-use Rattle.std.specs.Ordering.{is_eq, eq_by_cmp}
-use Rattle.std.specs.declared.cmp.Ordering.TheVariants.{Less, Equal, Greater}
+use Rattle.std.specs.Ordering.{eq_by_cmp}
 use Rattle.std.specs.Cmp.{eq_by_cmp_equiv}
 use Rattle.std.specs.FinMap as map
 use Rattle.std.proofs.lemmas.Bool.Decides.{nat_tests}
+use Rattle.std.proofs.lemmas.Bool.{and_parts, and_from}
+use Rattle.lemmas.proofs.Orders.{is_equal}
 use Rattle.lwm2m_values.specs.declared.value.Value.{Value}
 use Rattle.object_defs.specs.Path.{single_of, part_of, path_cmp}
 use Rattle.object_defs.specs.declared.path.Path.{Path}
@@ -15,10 +16,6 @@ use Rattle.object_defs.specs.declared.path.ResourcePath.{ResourcePath}
 use Rattle.object_defs.proofs.MapLaws.{get_kept}
 use Rattle.object_defs.proofs.PathOrder.{path_total, path_exact}
 use Rattle.instance_store.specs.Stored.{Stored, value_at, with_value, without_values, resource_path, lies_in, is_part}
-
-pub and_true : (a b : Bool) → (a && b) ≡ true → (a ≡ true) × (b ≡ true)
-and_true true b h = (refl, h)
-and_true false b h = absurd cc
 
 same_bool : (a b : Bool) → (a ≡ true → b ≡ true) → (b ≡ true → a ≡ true) → a ≡ b
 same_bool true true f g = refl
@@ -37,11 +34,6 @@ same_path q p n h part =
     let inst : q.instance ≡ p.instance = grind (arith, nat_tests) in
     let res : q.resource ≡ p.resource = grind (arith, nat_tests) in
     λ i. record { object = object i; instance = inst i; resource = res i; part = part i }
-
-is_equal : (r : Ordering) → is_eq r ≡ true → r ≡ Equal
-is_equal Less h = cc
-is_equal Equal h = refl
-is_equal Greater h = cc
 
 equal_path : (q p : FullPath) → eq_by_cmp path_cmp q p ≡ true → q ≡ p
 equal_path q p h = path_exact q p (is_equal _ h)
@@ -74,12 +66,8 @@ not_some : (o : Option ℕ) → not (is_some o) ≡ true → o ≡ None
 not_some None h = refl
 not_some (Some n) h = absurd cc
 
-both : (a b : Bool) → a ≡ true → b ≡ true → (a && b) ≡ true
-both true b h k = k
-both false b h k = h
-
 own_part : (p : ResourcePath) (m : ℕ) → (lies_in (resource_path p) (part_of p m) && is_part m (Some m)) ≡ true
-own_part p m = let e : (m == m) ≡ true = grind (arith, nat_tests) in both _ _ (lies_own p (Some m)) e
+own_part p m = let e : (m == m) ≡ true = grind (arith, nat_tests) in and_from _ _ (lies_own p (Some m)) e
 
 pub is_at_part : (q : FullPath) (p : ResourcePath) (m : ℕ)
     → eq_by_cmp path_cmp q (part_of p m) ≡ (lies_in (resource_path p) q && is_part m q.part)
@@ -87,7 +75,7 @@ is_at_part q p m =
     same_bool _ _ (λ h. ap (λ k. lies_in (resource_path p) k && is_part m k.part) (equal_path q (part_of p m) h)
     ∙ own_part p m)
     (λ h.
-    let t = and_true (lies_in (resource_path p) q) (is_part m q.part) h in
+    let t = and_parts (lies_in (resource_path p) q) (is_part m q.part) h in
     ap (λ k. eq_by_cmp path_cmp k (part_of p m)) (same_path q p (Some m) t.0 (is_part_some m q.part t.1))
     ∙ (eq_by_cmp_equiv path_total).refl (part_of p m))
 
@@ -95,9 +83,9 @@ is_at_single : (q : FullPath) (p : ResourcePath)
     → eq_by_cmp path_cmp q (single_of p) ≡ (lies_in (resource_path p) q && not (is_some q.part))
 is_at_single q p =
     same_bool _ _ (λ h. ap (λ k. lies_in (resource_path p) k && not (is_some k.part)) (equal_path q (single_of p) h)
-    ∙ both _ _ (lies_own p None) refl)
+    ∙ and_from _ _ (lies_own p None) refl)
     (λ h.
-    let t = and_true (lies_in (resource_path p) q) (not (is_some q.part)) h in
+    let t = and_parts (lies_in (resource_path p) q) (not (is_some q.part)) h in
     ap (λ k. eq_by_cmp path_cmp k (single_of p)) (same_path q p None t.0 (not_some q.part t.1))
     ∙ (eq_by_cmp_equiv path_total).refl (single_of p))
 

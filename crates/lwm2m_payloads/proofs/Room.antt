@@ -11,6 +11,8 @@ use Rattle.std.proofs.lemmas.Cmp.{nat_eq_equiv}
 use Rattle.std.proofs.lemmas.List.{length-append, length-map}
 use Rattle.std.proofs.lemmas.List.Folds.{list_any-append}
 use Rattle.std.proofs.lemmas.Map.Made.{length-le_from_is_member, is_member-filter}
+use Rattle.std.proofs.lemmas.Bool.{eqb-true}
+use Rattle.lemmas.proofs.Numbers.{eqb_turned}
 use Rattle.lwm2m_values.specs.declared.value.Value.{Value}
 use Rattle.object_defs.specs.Path.{part_of}
 use Rattle.object_defs.specs.declared.path.InstancePath.{InstancePath}
@@ -23,9 +25,6 @@ use Rattle.lwm2m_payloads.specs.PartList.{PartList}
 use Rattle.lwm2m_payloads.proofs.Held.{held_distinct, held_at}
 use Rattle.lwm2m_payloads.proofs.Places.{at_part, lies_own}
 use Rattle.lwm2m_payloads.proofs.Written.{parts_instances}
-
-turned : (a b : ℕ) → (a == b) ≡ (b == a)
-turned a b = grind (arith, nat_tests)
 
 abbrev pub has_part : Stored → ResourcePath → ℕ → Bool
 has_part stored p n = is_some (value_at stored (part_of p n))
@@ -40,7 +39,7 @@ one_set stored p e n =
     ap is_some (at_part stored p e.0 e.1 (part_of p n))
     ∙ ap (λ b. is_some (if b && (n == e.0) then Some e.1 else value_at stored (part_of p n))) (lies_own p (Some n))
     ∙ is_set (n == e.0) e.1 (value_at stored (part_of p n))
-    ∙ ap (λ b. b || has_part stored p n) (turned n e.0)
+    ∙ ap (λ b. b || has_part stored p n) (eqb_turned n e.0)
 
 either : (a b c : Bool) → (a || (b || c)) ≡ ((b || a) || c)
 either true true c = refl
@@ -60,16 +59,13 @@ all_set (e ∷ parts) stored p n =
 numbered : (parts : PartList) (n : ℕ) → is_member ◌==◌ (map_list (λ e. e.0) parts) n ≡ list_any (λ e. e.0 == n) parts
 numbered [] n = refl
 numbered (e ∷ parts) n =
-    ap (λ b. b || is_member ◌==◌ (map_list (λ e. e.0) parts) n) (turned n e.0)
+    ap (λ b. b || is_member ◌==◌ (map_list (λ e. e.0) parts) n) (eqb_turned n e.0)
     ∙ ap (λ b. (e.0 == n) || b) (numbered parts n)
-
-same : (m n : ℕ) → (m == n) ≡ true → m ≡ n
-same m n h = grind (arith, nat_tests)
 
 pub others : (parts : PartList) (stored : Stored) (p : ResourcePath) (n : ℕ)
     → is_member ◌==◌ (filter (is_other parts) (parts_of stored p)) n ≡ (has_part stored p n && is_other parts n)
 others parts stored p n =
-    is_member-filter nat_eq_equiv (is_other parts) n (λ x e. ap (is_other parts) (same n x e)) (parts_of stored p)
+    is_member-filter nat_eq_equiv (is_other parts) n (λ x e. ap (is_other parts) (eqb-true n x e)) (parts_of stored p)
     ∙ ap (λ b. b && is_other parts n) (held_at stored p n)
 
 -- the parts given, and the others that there were
@@ -117,7 +113,7 @@ new_fits stored p done e rest few new =
     is_behind parts stored p n
     ∙ ap (λ b. b || (has_part stored p n && not b)) (list_any-append (λ e. e.0 == n) done (e ∷ rest))
     ∙ among (list_any (λ e. e.0 == n) done) (e.0 == n) (list_any (λ e. e.0 == n) rest) (has_part stored p n)
-    (ap (λ b. b || (list_any (λ e. e.0 == n) done || has_part stored p n)) (turned e.0 n)
+    (ap (λ b. b || (list_any (λ e. e.0 == n) done || has_part stored p n)) (eqb_turned e.0 n)
     ∙ ap (λ b. (n == e.0) || b) (sym (held_at now p n ∙ all_set done stored p n))
     ∙ h)) in
     let sum = length-append (map_list (λ e. e.0) parts) (filter (is_other parts) (parts_of stored p))

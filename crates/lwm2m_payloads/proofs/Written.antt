@@ -4,6 +4,8 @@ use Rattle.std.proofs.Common.{option_map, refl, sym, ap, ◌∙◌, arith, if◌
 use Rattle.std.specs.Option.{is_some, option_or}
 use Rattle.std.specs.List.{list_any}
 use Rattle.std.proofs.lemmas.Bool.Decides.{nat_tests}
+use Rattle.std.proofs.lemmas.Bool.{or_parts}
+use Rattle.lemmas.proofs.Numbers.{eqb_turned}
 use Rattle.lwm2m_values.specs.declared.value.Value.{Value}
 use Rattle.object_defs.specs.Path.{part_of}
 use Rattle.object_defs.specs.declared.definition.ResourceDef.{ResourceDef}
@@ -22,18 +24,14 @@ use Rattle.lwm2m_payloads.specs.Changes.{without_lost, instance_written}
 use Rattle.lwm2m_payloads.specs.PartList.{PartList}
 use Rattle.lwm2m_payloads.specs.Written.{part_value, value_given, value_with, is_taken_away, value_by, value_behind}
 use Rattle.lwm2m_payloads.specs.Written.{PartsOnce, GivenOnce, EachOnce}
-use Rattle.lwm2m_payloads.proofs.Distinct.{none_of_both}
 use Rattle.lwm2m_payloads.proofs.Places.{at_part, at_single, at_without}
 use Rattle.lwm2m_payloads.proofs.Writing.{assigned}
-
-turned : (a b : ℕ) → (a == b) ≡ (b == a)
-turned a b = grind (arith, nat_tests)
 
 not_there : (parts : PartList) (n m : ℕ) → n ≡ m → list_any (λ p. p.0 == n) parts ≡ false
     → part_value parts (Some m) ≡ None
 not_there [] n m e h = refl
 not_there (d ∷ parts) n m e h =
-    let t = none_of_both (d.0 == n) (list_any (λ p. p.0 == n) parts) h in
+    let t = or_parts (d.0 == n) (list_any (λ p. p.0 == n) parts) h in
     let other : (d.0 == m) ≡ false = ap (λ k. d.0 == k) (sym e) ∙ t.0 in
     ap (λ b. option_map (λ (e : ℕ × Value). e.1) (if b then Some d else find (λ e. e.0 == m) parts)) other
     ∙ not_there parts n m e t.1
@@ -53,7 +51,7 @@ one_more : (e : ℕ × Value) (parts : PartList) (k : Option ℕ) (before : Opti
     ≡ option_or (part_value (e ∷ parts) k) before
 one_more e parts None before h = refl
 one_more e parts (Some n) before h =
-    ap (λ b. option_or (part_value parts (Some n)) (if b then Some e.1 else before)) (turned n e.0)
+    ap (λ b. option_or (part_value parts (Some n)) (if b then Some e.1 else before)) (eqb_turned n e.0)
     ∙ one_more_at e parts n before (e.0 == n) refl h
 
 no_part : (k : Option ℕ) → part_value [] k ≡ None
@@ -140,7 +138,7 @@ not_named : (given : List Assignment) (r s : ℕ) → r ≡ s → list_any (λ b
     → find (λ a. a.resource == s) given ≡ None
 not_named [] r s e h = refl
 not_named (a ∷ given) r s e h =
-    let t = none_of_both (a.resource == r) (list_any (λ b. b.resource == r) given) h in
+    let t = or_parts (a.resource == r) (list_any (λ b. b.resource == r) given) h in
     let other : (a.resource == s) ≡ false = ap (λ k. a.resource == k) (sym e) ∙ t.0 in
     ap (λ b. if b then Some a else find (λ a. a.resource == s) given) other ∙ not_named given r s e t.1
 
@@ -174,7 +172,7 @@ at_assignments mode resources (a ∷ given) stored place q once =
     ∙ ap (λ o. if lies_in (instance_path place) q then later o else o)
     (at_assigned mode resources stored place a q once.1)
     ∙ ap (λ t. if lies_in (instance_path place) q then later (if lies_in (instance_path place) q && t then first else x)
-    else (if lies_in (instance_path place) q && t then first else x)) (turned q.resource a.resource)
+    else (if lies_in (instance_path place) q && t then first else x)) (eqb_turned q.resource a.resource)
     ∙ (elim (lies_in (instance_path place) q) as
     (λ b. (if b then later (if b && (a.resource == q.resource) then first else x)
     else (if b && (a.resource == q.resource) then first else x))
@@ -219,7 +217,7 @@ at_lost (d ∷ resources) given stored place q =
     ])
     ∙ ap (λ t. if here then (if gone then None else (if lost then (if t then None else x) else x))
     else (if lost then (if t then None else x) else x))
-    (lies_split place d.id q ∙ ap (λ t. here && t) (turned q.resource d.id))
+    (lies_split place d.id q ∙ ap (λ t. here && t) (eqb_turned q.resource d.id))
     ∙ (elim here as (λ b. (if b then (if gone then None
     else (if lost then (if b && (d.id == q.resource) then None else x) else x))
     else (if lost then (if b && (d.id == q.resource) then None else x) else x))

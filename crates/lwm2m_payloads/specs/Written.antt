@@ -90,7 +90,7 @@ WritesResource =
     ≡ (if lies_in (resource_path p) q then value_with mode given q.part (value_at stored q) else value_at stored q))
     × ((with_given mode stored p given).instances ≡ stored.instances)
 
--- and no instance comes or goes
+-- and no instance is added or removed
 abbrev pub KeepsInstances : Type 0
 KeepsInstances =
     (mode : Mode) (resources : List ResourceDef) (stored : Stored) (place : InstancePath) (given : List Assignment)

@@ -38,8 +38,8 @@ pub fn set_given(
 ) -> Result<(), StoreFault>
     ensures ok { OnOk result (store.new ≡ with_given mode store.old path given) }
 
-    // There is no such instance; or else the resource would have more than 32 parts. Otherwise only memory can be
-    // wanting, for a value that replaces none.
+    // There is no such instance; or else the resource would have more than 32 parts. Otherwise only an allocation can
+    // fail, for a value that replaces none.
     ensures absent { IsErrOf result StoreFault.Absent → IsFalse (has_instance store.old (instance_of path)) }
     ensures full { IsErrOf result StoreFault.Full → IsTrue (is_too_many mode store.old path given) }
     ensures never_exists { result ≢ Err StoreFault.Exists }
@@ -107,7 +107,7 @@ fn set_all(
     Ok(())
 }
 
-/// Whether Replace takes a resource away: an optional writable one that is not named.
+/// Whether Replace removes a resource: an optional writable one that is not named.
 fn is_lost(given: &Assignments, definition: ResourceDef) -> bool
     ensures { result ≡ is_lost given.now definition }
 {
@@ -150,8 +150,8 @@ pub fn write_instance(
 ) -> Result<(), StoreFault>
     ensures ok { OnOk result (store.new ≡ instance_written mode resources.now store.old place given) }
 
-    // There is no such instance; or else some resource would have more than 32 parts. Otherwise only memory can be
-    // wanting, for a value that replaces none.
+    // There is no such instance; or else some resource would have more than 32 parts. Otherwise only an allocation can
+    // fail, for a value that replaces none.
     ensures absent { IsErrOf result StoreFault.Absent → IsFalse (has_instance store.old place) }
     ensures full { IsErrOf result StoreFault.Full → IsTrue (has_too_many mode resources.now store.old place given) }
     ensures never_exists { result ≢ Err StoreFault.Exists }

@@ -12,7 +12,7 @@ pub(crate) fn definition_in(resources: &[ResourceDef], id: u16) -> Option<&Resou
     resources.iter().find(|r| r.id == id)
 }
 
-/// Whether the value of the resource of this number is kept: that of a write-only one isn't.
+/// Whether the value of the resource of this number is kept: that of a write-only one is not.
 pub fn is_kept(resources: &[ResourceDef], id: u16) -> bool
     ensures { result ≡ is_kept_as (resource_in resources.now id) }
 {

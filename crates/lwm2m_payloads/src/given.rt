@@ -15,12 +15,12 @@ pub enum Purpose {
     Create,
 }
 
-/// How a Write treats what it doesn't name (OMA LwM2M 1.1 Core, Write).
+/// How a Write treats what it does not name (OMA LwM2M 1.1 Core, Write).
 #[derive(Clone, Copy, Debug, PartialEq, Eq)]
 pub enum Mode {
     /// Replace: what can be removed is removed.
     Replace,
-    /// Partial Update: it stays.
+    /// Partial Update: it is kept.
     Update,
 }
 

@@ -13,7 +13,7 @@ use object_defs::{FullPath, Path, ResourceDef};
 use octets::Bytes;
 use std::alloc::{AllocError, Global};
 
-/// The parts of a Multiple Resource of this number; another record is given back.
+/// The parts of a Multiple Resource of this number; another record is returned as it is.
 fn into_parts(node: Node, resource: u16) -> Result<Vec<Node>, Node>
     ensures parts { IfOk result (λ parts. tree_of node ≡ multi resource (trees_of parts.items)) }
     ensures other { IfErr result (λ other. tree_of other ≡ tree_of node) }
@@ -34,7 +34,7 @@ fn into_parts(node: Node, resource: u16) -> Result<Vec<Node>, Node>
     }
 }
 
-/// Takes away the last record, where it is the Multiple Resource of this number, and gives its parts; else no parts.
+/// Removes the last record, if it is the Multiple Resource of this number, and returns its parts; otherwise no parts.
 fn take_parts(alloc: Global, nodes: &mut Vec<Node>, resource: u16) -> Result<Vec<Node>, AllocError>
     ensures { IfOk result (λ parts. (p : Tree)
         → with_last (trees_of nodes.new.items) (multi resource (with_last (trees_of parts.items) p))

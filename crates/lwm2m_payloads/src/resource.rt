@@ -92,7 +92,7 @@ fn lone_part(
     }
 }
 
-/// The same, or a Multiple Resource of the resource's number with it alone.
+/// Like `lone_part`, or for a Multiple Resource of the resource's number that holds that part alone.
 fn part_record(
     alloc: Global,
     definition: ResourceDef,

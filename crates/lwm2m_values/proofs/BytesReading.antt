@@ -1,5 +1,5 @@
 -- The value that is read of bytes is the good one whose bytes they are.
-use Rattle.std.proofs.Common.{◌≡◌, ℕ, zero, suc, ◌%◌, ◌^◌, ◌<◌, ◌≤◌, List, [], ◌∷◌, ◌++◌, length, get_or, take, drop, ℤ}
+use Rattle.std.proofs.Common.{◌≡◌, ℕ, zero, suc, ◌^◌, ◌<◌, ◌≤◌, List, [], ◌∷◌, ◌++◌, length, get_or, take, drop, ℤ}
 use Rattle.std.proofs.Common.{Bool, true, false, ◌&&◌, if◌then◌else◌, ◌==◌, Option, Some, None, Result, Ok, Err, ◌≢◌}
 use Rattle.std.proofs.Common.{option_map, inl, inr, refl, sym, ap, subst, ◌∙◌, ◌↔◌, arith, lt-ltb, eqb-true, FitsSigned}
 use mir.Val.{bits}
@@ -12,6 +12,7 @@ use Rattle.std.proofs.lemmas.Nat.{from_be_bytes-to_be_bytes_4, from_be_bytes-to_
 use Rattle.std.specs.Str.{IsUtf8}
 use Rattle.base64.specs.GeneralPurpose.{IsBytes}
 use Rattle.std.specs.Result.{IfOk, IfErr, MatchResult}
+use Rattle.lemmas.proofs.Numbers.{small_byte}
 use Rattle.lwm2m_values.specs.declared.fault.ValueFault.{ValueFault}
 use Rattle.lwm2m_values.specs.declared.fault.ValueFault.TheVariants.{BadValue, Memory}
 use Rattle.lwm2m_values.specs.declared.value.Value.{Value}
@@ -27,9 +28,6 @@ use Rattle.lwm2m_values.proofs.GoodValue.{bytes_from, good_kept, good_back}
 use Rattle.lwm2m_values.proofs.OneBytes.{bits_8, bits_16, bits_32, bits_64, bytes_written}
 
 -- an Integer
-
-small_byte : (n : ℕ) → n < 256 → n % 256 ≡ n
-small_byte n h = omega arith
 
 integer_made : (w : Width) (bytes : List ℕ) (n : ℕ) (z : ℤ) → n < 2 ^ bits w → to_be_bytes w n ≡ bytes
     → cast_signed w n ≡ z → IsIntegerOf w z bytes

@@ -1,11 +1,12 @@
 -- Bytes are those of one valid value of each kind, and the shortest bytes of a value are bytes of it; none are shorter.
-use Rattle.std.proofs.Common.{◌≡◌, ℕ, ◌<◌, ◌≤◌, ◌%◌, ◌^◌, List, [], ◌∷◌, ◌++◌, length, take, drop, get_or, ℤ, pos}
+use Rattle.std.proofs.Common.{◌≡◌, ℕ, ◌<◌, ◌≤◌, ◌^◌, List, [], ◌∷◌, ◌++◌, length, take, drop, get_or, ℤ, pos}
 use Rattle.std.proofs.Common.{negsuc, cond, eqb, ltb-true, inl, inr, Bool, true, false, refl, sym, ap, ◌∙◌, FitsSigned}
 use Rattle.std.proofs.Common.{arith}
 use Rattle.std.specs.Int.{w8, w16, w32, w64, to_be_bytes, from_be_bytes, cast_unsigned, cast_signed}
 use Rattle.std.proofs.lemmas.Int.{to_z-of_z}
 use Rattle.std.proofs.lemmas.Bool.Decides.{nat_tests}
 use Rattle.std.proofs.lemmas.Nat.{from_be_bytes-to_be_bytes_2, from_be_bytes-to_be_bytes_4, from_be_bytes-to_be_bytes_8}
+use Rattle.lemmas.proofs.Numbers.{small_byte}
 use Rattle.lwm2m_values.specs.declared.value.Value.{Value}
 use Rattle.lwm2m_values.specs.declared.value.Value.TheVariants as value
 use Rattle.lwm2m_values.specs.declared.value.Value.TheVariants.{Text, Whole, Flag, Opaque, Moment, Link}
@@ -29,10 +30,6 @@ pub bits_64 : (z : ℤ) → FitsSigned w64 z → cast_unsigned w64 z < 2 ^ 64
 bits_64 (pos n) fits = omega (arith, fits.sfits)
 bits_64 (negsuc n) fits = omega (arith, fits.sfits)
 
--- the number that n bytes are
-small_mod : (n : ℕ) → n < 256 → n % 256 ≡ n
-small_mod n small = omega arith
-
 decoded : List ℕ → ℤ
 decoded bytes =
     cond (eqb (length bytes) 1) (cast_signed w8 (get_or bytes 0 0))
@@ -43,7 +40,7 @@ decoded bytes =
 decoded_is : (z : ℤ) (bytes : List ℕ) → IsInteger z bytes → decoded bytes ≡ z
 unfolding decoded
 decoded_is z bytes (inl p) =
-    ap decoded p.1 ∙ ap (cast_signed w8) (small_mod (cast_unsigned w8 z) (bits_8 z p.0)) ∙ to_z-of_z w8 z p.0
+    ap decoded p.1 ∙ ap (cast_signed w8) (small_byte (cast_unsigned w8 z) (bits_8 z p.0)) ∙ to_z-of_z w8 z p.0
 decoded_is z bytes (inr (inl p)) =
     ap decoded p.1 ∙ ap (cast_signed w16) (from_be_bytes-to_be_bytes_2 (cast_unsigned w16 z) (bits_16 z p.0))
     ∙ to_z-of_z w16 z p.0

@@ -81,7 +81,7 @@ IsTlv nodes bytes = IsNodes nodes Top bytes
 abbrev pub IsFront : Around → List ℕ → Trees → List ℕ → Type 0
 IsFront level bytes nodes rest = (front : List ℕ) × IsNodes nodes level front × (bytes ≡ front ++ rest)
 
--- After whole records stands the first fault from the left: a record that is cut, one that may not stand there, or one
+-- After whole records stands the first fault from the left: a record that is cut, one that is not allowed there, or one
 -- with a fault in its content.
 pub data HasFault : Around → List ℕ → TlvFault → Type 0 where
   cut : (level : Around) (bytes : List ℕ) (nodes : Trees) (rest : List ℕ) → IsFront level bytes nodes rest
@@ -94,7 +94,7 @@ pub data HasFault : Around → List ℕ → TlvFault → Type 0 where
       → IsHead head kind id (length content) → is_allowed level kind ≡ true → inside kind ≡ Some inner
       → HasFault inner content fault → HasFault level bytes fault
 
--- The first record is at fault: it is cut, or may not stand there, or so is the first record of its content.
+-- The first record is at fault: it is cut, or not allowed there, or so is the first record of its content.
 pub data HasEarlyFault : Around → List ℕ → TlvFault → Type 0 where
   early_cut : (level : Around) (bytes : List ℕ) → 0 < length bytes → IsCut bytes → HasEarlyFault level bytes Cut
   early_nesting : (level : Around) (bytes : List ℕ) (kind : RecordType) (id : ℕ) (head content rest : List ℕ)

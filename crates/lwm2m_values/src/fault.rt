@@ -1,13 +1,13 @@
 use std::alloc::{AllocError, AllocFailed};
 use thiserror::Error;
 
-/// Why bytes or a text were not read as a value.
+/// Why bytes or a text are not a value.
 #[derive(Clone, Copy, Debug, PartialEq, Eq, Error)]
 pub enum ValueFault {
     /// No valid value of the kind is spelled so.
     #[error("not a value of its kind")]
     BadValue,
-    /// Memory ran out.
+    /// An allocation failed.
     #[error("out of memory")]
     Memory,
 }
@@ -34,7 +34,7 @@ impl<T: Drop> From<AllocFailed<T>> for ValueFault {
     }
 }
 
-/// Why bytes were not read as TLV.
+/// Why bytes are not TLV.
 #[derive(Clone, Copy, Debug, PartialEq, Eq, Error)]
 pub enum TlvFault {
     /// A record extends past the end of what contains it.
@@ -43,7 +43,7 @@ pub enum TlvFault {
     /// A record of this type is not allowed there.
     #[error("a record may not stand there")]
     Nesting,
-    /// Memory ran out.
+    /// An allocation failed.
     #[error("out of memory")]
     Memory,
 }

@@ -37,7 +37,7 @@ pub(crate) fn type_of(first: u8) -> RecordType
     }
 }
 
-/// Whether a record of this type may stand there.
+/// Whether a record of this type is allowed there.
 pub(crate) fn may_stand(level: Around, kind: RecordType) -> bool
     ensures { result ≡ is_allowed level kind }
 {

@@ -4,7 +4,7 @@ ghost use Rattle.std.specs.Str.Parse.{AllDigits};
 ghost use Rattle.std.specs.Int.{w64};
 ghost use Rattle.lwm2m_values.specs.Value.{IsDecimal, IsSigned, IsPair};
 
-/// The number below 65,536 that decimal digits write. There is no sign.
+/// The number below 65,536 that decimal digits write, without a sign; leading zeros are allowed.
 pub(crate) fn half_of(text: &str) -> Option<u16>
     ensures found { IfSome result (λ n. IsDecimal n text.now) }
     ensures only { (n : ℕ) → n < 65536 → IsDecimal n text.now → result ≡ Some n }

@@ -95,14 +95,14 @@ fn good_of(alloc: Global, kind: ValueKind, text: &[u8]) -> Result<Value, ValueFa
 /// (RFC 4648 section 4); that its alphabet is the standard's is shown by cases.
 pub fn read_text(alloc: Global, kind: ValueKind, text: &[u8]) -> Result<Value, ValueFault>
     ensures found { IfOk result (λ v. IsGood v × (kind_of v ≡ kind) × IsText v text.now) }
-    // There is no other such value, and where there is one it is read, unless memory runs out.
+    // There is no other such value, and if there is one it is read, unless an allocation fails.
     ensures only { (v : Value) → IsGood v → kind_of v ≡ kind → IsText v text.now
         → MatchResult result (λ x. x ≡ v) (λ f. f ≡ Memory) }
     ensures refused { IfErr result (λ f.
         f ≢ Memory → (v : Value) → IsGood v → kind_of v ≡ kind → ¬ (IsText v text.now)) }
     ensures reading { MatchResult result (λ v. value_of_text kind text.now ≡ Some v)
         (λ f. f ≢ Memory → value_of_text kind text.now ≡ None) }
-    // Memory runs out for a Text or an Opaque alone, and for no Text that is too long or not UTF-8.
+    // Only a Text or an Opaque takes memory, and no Text that is too long or not UTF-8.
     ensures fixed { holds_bytes kind ≡ false → IfErr result (λ f. f ≡ BadValue) }
     ensures bad { kind ≢ kinds.Opaque → value_of_text kind text.now ≡ None → result ≡ Err BadValue }
 {

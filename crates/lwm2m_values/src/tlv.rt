@@ -16,8 +16,8 @@ use octets::Bytes;
 use std::alloc::Global;
 
 /// The nodes whose records the bytes are, at this level.
-// Each call within goes to records that hold less, and no record may stand below the third level, so no input runs
-// the stack out.
+// Each call within reads records that hold less, and no record is allowed below the third level: no input can exhaust
+// the stack.
 #[cycle(reading)]
 fn nodes_of(alloc: Global, level: Around, bytes: &[u8]) -> Result<Vec<Node>, TlvFault>
     ensures found { IfOk result (λ v. IsNodes (trees_of v.items) level bytes.now) }
@@ -68,14 +68,14 @@ fn node_of(alloc: Global, kind: RecordType, id: u16, content: &[u8]) -> Result<N
 /// first from the left. By the code, each byte of a content is looked at once for each level, at most three.
 pub fn read_tlv(alloc: Global, bytes: &[u8]) -> Result<Vec<Node>, TlvFault>
     ensures found { IfOk result (λ v. IsTlv (trees_of v.items) bytes.now) }
-    // There are no other nodes of these bytes, and where there are some they are read, unless memory runs out.
+    // There are no other nodes of these bytes, and if there are some they are read, unless an allocation fails.
     ensures only { (nodes : Trees) → IsTlv nodes bytes.now
         → MatchResult result (λ v. trees_of v.items ≡ nodes) (λ f. f ≡ Memory) }
     ensures fault { IfErr result (λ f. f ≢ Memory → HasFault Top bytes.now f) }
     ensures refused { (f : TlvFault) → HasFault Top bytes.now f → IsErrAnd result (λ g. g ≢ Memory → g ≡ f) }
     ensures reading { MatchResult result (λ v. nodes_of_bytes bytes.now ≡ Some (trees_of v.items))
         (λ f. f ≢ Memory → nodes_of_bytes bytes.now ≡ None) }
-    // A fault of the first record is found before memory is taken; no bytes take none.
+    // A fault of the first record is found before memory is taken; an empty payload takes none.
     ensures early { (f : TlvFault) → HasEarlyFault Top bytes.now f → result ≡ Err f }
     ensures none { length bytes.now ≡ 0 → IsOk result }
 {

@@ -76,14 +76,14 @@ fn good_of(alloc: Global, kind: ValueKind, bytes: &[u8]) -> Result<Value, ValueF
 /// The valid value of this kind with these bytes, as TLV has them, otherwise `BadValue`.
 pub fn value_of(alloc: Global, kind: ValueKind, bytes: &[u8]) -> Result<Value, ValueFault>
     ensures found { IfOk result (λ v. IsGood v × (kind_of v ≡ kind) × IsBytesOf v bytes.now) }
-    // There is no other such value, and where there is one it is read, unless memory runs out.
+    // There is no other such value, and if there is one it is read, unless an allocation fails.
     ensures only { (v : Value) → IsGood v → kind_of v ≡ kind → IsBytesOf v bytes.now
         → MatchResult result (λ x. x ≡ v) (λ f. f ≡ Memory) }
     ensures refused { IfErr result (λ f. f ≢ Memory → (v : Value) → IsGood v → kind_of v ≡ kind
         → ¬ (IsBytesOf v bytes.now)) }
     ensures reading { MatchResult result (λ v. value_of_bytes kind bytes.now ≡ Some v)
         (λ f. f ≢ Memory → value_of_bytes kind bytes.now ≡ None) }
-    // Memory runs out for a Text or an Opaque alone, whose bytes are those of a valid value.
+    // Only a Text or an Opaque takes memory, and only bytes that are those of a valid value.
     ensures fixed { holds_bytes kind ≡ false → IfErr result (λ f. f ≡ BadValue) }
     ensures bad { value_of_bytes kind bytes.now ≡ None → result ≡ Err BadValue }
 {

@@ -191,7 +191,7 @@ fn all_fit(level: Around, nodes: &[Node]) -> bool
     true
 }
 
-// A record that may not stand there ends the walk, so no tree runs the stack out.
+// A record that is not allowed where it stands ends the walk: no tree can exhaust the stack.
 #[cycle(fitting)]
 fn fits(level: Around, node: &Node) -> bool
     ensures { IsTrue result ↔ (IsNested level (tree_of node.now) × IsShort (tree_of node.now)) }

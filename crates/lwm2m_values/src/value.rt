@@ -38,7 +38,7 @@ impl Value {
         }
     }
 
-    /// Whether the value keeps to the lengths of its kind: a Text 255 bytes, an Opaque 1,024.
+    /// Whether the value is within the length of its kind: 255 bytes for a Text, 1,024 for an Opaque.
     pub fn is_good(&self) -> bool
         ensures good { IsTrue result ↔ IsGood self.now }
         ensures length { result ≡ has_good_length self.now }
@@ -50,13 +50,13 @@ impl Value {
                 bytes.len() <= 1024
             }
             Value::Whole(number) | Value::Moment(number) => {
-                // A number that is read is known to be in its type's range.
-                let _number = *number;
+                // For the proof alone: what the code reads is known to be in its type's range.
+                let _known = *number;
                 true
             }
             Value::Flag(_) => true,
             Value::Link(object, instance) => {
-                let (_object, _instance) = (*object, *instance);
+                let _known = (*object, *instance);
                 true
             }
         }

@@ -3,8 +3,9 @@ use Rattle.std.proofs.Common.{◌≡◌, ◌≢◌, ℕ, Bool, true, false, cond
 use Rattle.std.proofs.Common.{sym, ap, ◌∙◌, arith, eqb-true}
 use Rattle.std.specs.List.{find}
 use Rattle.std.specs.Option.{is_some, option_map, option_and_then}
-use Rattle.std.proofs.lemmas.Bool.{false≢true}
+use Rattle.std.proofs.lemmas.Bool.{false≢true, ne_eqb}
 use Rattle.std.proofs.lemmas.Bool.Decides.{nat_tests}
+use Rattle.lemmas.proofs.Options.{none_from_test}
 use Rattle.object_defs.specs.declared.definition.ResourceDef.{ResourceDef}
 use Rattle.object_defs.specs.declared.definition.ObjectDef.{ObjectDef}
 use Rattle.object_defs.specs.Catalogue.{object_of, resource_in, definition_of}
@@ -14,9 +15,6 @@ use Rattle.object_defs.specs.Vendor.{with_definition, with_object, with_resource
 
 pub same_number : (n : ℕ) → eqb n n ≡ true
 same_number n = grind (arith, nat_tests)
-
-pub other_number : (n m : ℕ) → n ≢ m → eqb n m ≡ false
-other_number n m h = grind (arith, nat_tests)
 
 pub skipped : {X : Type 0} (b : Bool) (x : X) (o : Option X) → cond b (Some x) o ≡ None → (b ≡ false) × (o ≡ None)
 skipped true x o h = let f : ⊥ = cc in absurd f
@@ -49,18 +47,14 @@ second true b d x y z h = let f : ⊥ = cc in absurd f
 second false true d x y z h = let f : ⊥ = cc in absurd f
 second false false d x y z h = refl
 
-not_some : {X : Type 0} (o : Option X) → is_some o ≡ false → o ≡ None
-not_some None h = refl
-not_some (Some x) h = let f : ⊥ = cc in absurd f
-
 -- an object that can be added is not there
 pub object_absent : (c : List ObjectDef) (id : ℕ) → vendor_fault c id ≡ None → object_of c id ≡ None
-object_absent c id h = not_some (object_of c id) (second _ _ _ _ _ _ h)
+object_absent c id h = none_from_test (object_of c id) (second _ _ _ _ _ _ h)
 
 resource_absent_in : (d : ResourceDef) (o : Option ObjectDef) → resource_fault_in d o ≡ None
     → option_and_then (λ o. resource_in o.resources d.id) o ≡ None
 resource_absent_in d None h = refl
-resource_absent_in d (Some o) h = not_some (resource_in o.resources d.id) (second _ _ _ _ _ _ h)
+resource_absent_in d (Some o) h = none_from_test (resource_in o.resources d.id) (second _ _ _ _ _ _ h)
 
 vendor_is : (b : Bool) (d : ResourceDef) (o : Option ObjectDef) → resource_fault_in d (cond b o None) ≡ None
     → (b ≡ true) × (resource_fault_in d o ≡ None)
@@ -89,13 +83,13 @@ object_of-with_object_same c id h =
 pub object_of-with_object_other : (c : List ObjectDef) (id q : ℕ) → q ≢ id
     → object_of (with_object c id) q ≡ object_of c q
 object_of-with_object_other c id q h =
-    find-inserted_other (λ o. o.id) (λ o. eqb o.id q) (new_object id) c (other_number id q (λ e. h (sym e)))
+    find-inserted_other (λ o. o.id) (λ o. eqb o.id q) (new_object id) c (ne_eqb id q (λ e. h (sym e)))
 
 other_head : (o : ObjectDef) (os rest : List ObjectDef) (id : ℕ) (d : ResourceDef) (q : ℕ) (b : Bool) → eqb o.id id ≡ b
     → q ≢ id → object_of rest q ≡ object_of os q
     → object_of (cond b (with_definition o d ∷ os) (o ∷ rest)) q ≡ object_of (o ∷ os) q
 other_head o os rest id d q true e h ih =
-    let f = other_number o.id q (λ k. h (sym k ∙ eqb-true _ _ e)) in
+    let f = ne_eqb o.id q (λ k. h (sym k ∙ eqb-true _ _ e)) in
     ap (λ b. cond b (Some (with_definition o d)) (object_of os q)) f
     ∙ sym (ap (λ b. cond b (Some o) (object_of os q)) f)
 other_head o os rest id d q false e h ih = ap (cond (eqb o.id q) (Some o)) ih
@@ -150,7 +144,7 @@ other_definition c id d q r true e h =
     let same : q ≡ id = eqb-true _ _ e in
     ap (λ n. definition_of (with_resource c id d) n r) same
     ∙ ap (option_and_then (λ p. resource_in p.resources r)) (object_of-with_resource_same c id d)
-    ∙ others_in d r (object_of c id) (other_number d.id r (λ k. h (same, sym k)))
+    ∙ others_in d r (object_of c id) (ne_eqb d.id r (λ k. h (same, sym k)))
     ∙ sym (ap (λ n. definition_of c n r) same)
 other_definition c id d q r false e h =
     ap (option_and_then (λ p. resource_in p.resources r))

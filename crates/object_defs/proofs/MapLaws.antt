@@ -1,13 +1,13 @@
 -- Finite maps that are made of an ordered map's entries: what they have at a key, and how a change of one key changes
 -- them.
-use Rattle.std.proofs.Common.{◌≡◌, Bool, true, false, cond, ◌&&◌, ◌||◌, List, [], ◌∷◌, map, Option, None, Some}
+use Rattle.std.proofs.Common.{◌≡◌, Bool, true, false, cond, ◌||◌, List, [], ◌∷◌, map, Option, None, Some}
 use Rattle.std.proofs.Common.{Ordering, refl, sym, ap, subst, ◌∙◌}
 use Rattle.std.proofs.Math.Dec.{T}
 use Rattle.std.specs.Option.{is_some}
 use Rattle.std.specs.List.{filter, list_any, AllByRecursion}
 use Rattle.std.specs.List.Sorted.{IsStrictlySortedBy}
-use Rattle.std.specs.Ordering.{is_eq, is_lt, eq_by_cmp}
-use Rattle.std.specs.declared.cmp.Ordering.TheVariants.{Less, Equal, Greater}
+use Rattle.std.specs.Ordering.{is_lt, eq_by_cmp}
+use Rattle.std.specs.declared.cmp.Ordering.TheVariants.{Less, Equal}
 use Rattle.std.specs.Cmp.{IsTotalOrder, eq_by_cmp_equiv}
 use Rattle.std.specs.Map.{keys_of, lookup}
 use Rattle.std.specs.BTreeMap.{is_at}
@@ -17,6 +17,8 @@ use Rattle.std.specs.FinMap.{get-remove, get-retain_keys, same_map}
 use Rattle.std.specs.FinMap.Entries.{below_all}
 use Rattle.std.proofs.lemmas.Map.Lookups.{CmpEqualImpliesEq}
 use Rattle.std.proofs.lemmas.Map.Entries.{lookup-filter-keys}
+use Rattle.lemmas.proofs.Orders.{is_equal}
+use Rattle.lemmas.proofs.Tests.{T_both}
 
 -- the two look-ups in a list of entries
 pub find_lookup : {K X : Type 0} (R : K → K → Ordering) (es : List (K × X)) (q : K)
@@ -24,30 +26,21 @@ pub find_lookup : {K X : Type 0} (R : K → K → Ordering) (es : List (K × X))
 find_lookup R [] q = refl
 find_lookup R (e ∷ es) q = ap (cond (is_at (R q) e.0) (Some e.1)) (find_lookup R es q)
 
-is_equal : (r : Ordering) → is_eq r ≡ true → r ≡ Equal
-is_equal Less h = cc
-is_equal Equal h = refl
-is_equal Greater h = cc
-
 -- a key that ties is the key
 alike_key : {K : Type 0} (R : K → K → Ordering) → CmpEqualImpliesEq R → (p : K → Bool) (q x : K) → R q x ≡ Equal
     → p x ≡ p q
 alike_key R exact p q x h = ap p (sym (exact q x h))
 
-both : (a b : Bool) → T a → T b → T (a && b)
-both true b p q = q
-both false b p q = p
-
 below_sorted : {K X : Type 0} (R : K → K → Ordering) (k : K) (es : List (K × X))
     → AllByRecursion (λ y. R k y ≡ Less) (keys_of es) → T (below_all R k es)
 below_sorted R k [] h = tt
-below_sorted R k (e ∷ es) h = both _ _ (subst (λ r. T (is_lt r)) (sym h.0) tt) (below_sorted R k es h.1)
+below_sorted R k (e ∷ es) h = T_both _ _ (subst (λ r. T (is_lt r)) (sym h.0) tt) (below_sorted R k es h.1)
 
 sorted_list : {K X : Type 0} (R : K → K → Ordering) (es : List (K × X)) → IsStrictlySortedBy R (keys_of es)
     → T (is_sorted R es)
 unfolding IsStrictlySortedBy
 sorted_list R [] h = tt
-sorted_list R (e ∷ es) h = both _ _ (below_sorted R e.0 es h.0) (sorted_list R es h.1)
+sorted_list R (e ∷ es) h = T_both _ _ (below_sorted R e.0 es h.0) (sorted_list R es h.1)
 
 module _ {K X : Type 0} {R : K → K → Ordering} (total : IsTotalOrder R) where
   -- what the map of some entries has at a key

@@ -1,11 +1,13 @@
 -- A catalogue stays in order as it grows.
-use Rattle.std.proofs.Common.{◌≡◌, ℕ, zero, suc, ◌+◌, ◌<◌, Bool, true, false, cond, ◌&&◌, eqb, ltb, List, [], ◌∷◌, map}
+use Rattle.std.proofs.Common.{◌≡◌, ℕ, zero, suc, ◌+◌, ◌<◌, Bool, true, false, cond, eqb, ltb, List, [], ◌∷◌, map}
 use Rattle.std.proofs.Common.{length, get_or, None, Some, refl, sym, ap, subst, ◌∙◌, arith}
 use Rattle.std.specs.List.{find, list_all}
 use Rattle.std.specs.List.Sorted.{IsStrictlyIncreasing}
 use Rattle.std.specs.Option.{option_and_then}
 use Rattle.std.proofs.lemmas.List.Sums.{AllPass-from_list_all}
 use Rattle.std.proofs.lemmas.Bool.Decides.{nat_tests}
+use Rattle.std.proofs.lemmas.Bool.{and_parts, and_from}
+use Rattle.lemmas.proofs.Numbers.{above_from_tests}
 use Rattle.object_defs.specs.declared.definition.ResourceDef.{ResourceDef}
 use Rattle.object_defs.specs.declared.definition.ObjectDef.{ObjectDef}
 use Rattle.object_defs.specs.Base.{base}
@@ -15,31 +17,23 @@ use Rattle.object_defs.specs.Vendor.{inserted, vendor_fault, resource_fault, wit
 use Rattle.object_defs.specs.Vendor.{with_resource, new_object}
 use Rattle.object_defs.proofs.LookUps.{skipped, object_absent, resource_absent}
 
-split : (a b : Bool) → (a && b) ≡ true → (a ≡ true) × (b ≡ true)
-split true b h = (refl, h)
-split false b h = let f : ⊥ = cc in absurd f
-
-both : (a b : Bool) → a ≡ true → b ≡ true → (a && b) ≡ true
-both true b h k = k
-both false b h k = let f : ⊥ = cc in absurd f
-
 rises : (n : ℕ) (ns : List ℕ) → is_below n ns ≡ true → ascends ns ≡ true → (k : ℕ) → k + 1 < length (n ∷ ns)
     → get_or (n ∷ ns) k 0 < get_or (n ∷ ns) (k + 1) 0
 rises n [] h a k short = absurd (omega arith)
 rises n (m ∷ ms) h a zero short = grind (arith, nat_tests)
 rises n (m ∷ ms) h a (suc k) short =
     let e : suc k + 1 ≡ suc (k + 1) = omega arith in
-    let parts = split (is_below m ms) (ascends ms) a in
+    let parts = and_parts (is_below m ms) (ascends ms) a in
     subst (λ j. get_or (m ∷ ms) k 0 < get_or (n ∷ m ∷ ms) j 0) (sym e) (rises m ms parts.0 parts.1 k (omega arith))
 
 pub ascends-increasing : (ns : List ℕ) → ascends ns ≡ true → IsStrictlyIncreasing ns
 ascends-increasing [] h = λ k short. absurd (omega arith)
 ascends-increasing (n ∷ ns) h = let parts =
-    split (is_below n ns) (ascends ns) h in λ k short. rises n ns parts.0 parts.1 k short
+    and_parts (is_below n ns) (ascends ns) h in λ k short. rises n ns parts.0 parts.1 k short
 
 pub in_order : (c : List ObjectDef) → is_in_order c ≡ true → IsInOrder c
 in_order c h =
-    let parts = split (ascends (map (λ o. o.id) c)) (list_all (λ o. ascends (map (λ r. r.id) o.resources)) c) h in
+    let parts = and_parts (ascends (map (λ o. o.id) c)) (list_all (λ o. ascends (map (λ r. r.id) o.resources)) c) h in
     record {
       objects = ascends-increasing (map (λ o. o.id) c) parts.0;
       resources = λ k d short. ascends-increasing (map (λ r. r.id) (get_or c k d).resources)
@@ -57,40 +51,37 @@ below-inserted number x n (y ∷ ys) h k =
     elim (ltb (number x) (number y)) as (λ b. is_below n (map number (cond b (x ∷ y ∷ ys) (y ∷ inserted number x ys)))
     ≡ true) [ true ↦ first | false ↦ k ]
 
-above : (n m : ℕ) → ltb n m ≡ false → eqb m n ≡ false → m < n
-above n m h k = grind (arith, nat_tests)
-
 placed_at : {X : Type 0} (number : X → ℕ) (x y : X) (ys rest : List X) (b : Bool) → ltb (number x) (number y) ≡ b
     → ascends (map number (y ∷ ys)) ≡ true → (b ≡ false → ascends (map number (y ∷ rest)) ≡ true)
     → ascends (map number (cond b (x ∷ y ∷ ys) (y ∷ rest))) ≡ true
-placed_at number x y ys rest true e a h = both _ _ e a
+placed_at number x y ys rest true e a h = and_from _ _ e a
 placed_at number x y ys rest false e a h = h refl
 
 pub ascends-inserted : {X : Type 0} (number : X → ℕ) (x : X) (xs : List X) → ascends (map number xs) ≡ true
     → find (λ y. eqb (number y) (number x)) xs ≡ None → ascends (map number (inserted number x xs)) ≡ true
 ascends-inserted number x [] a absent = refl
 ascends-inserted number x (y ∷ ys) a absent =
-    let parts = split (is_below (number y) (map number ys)) (ascends (map number ys)) a in
+    let parts = and_parts (is_below (number y) (map number ys)) (ascends (map number ys)) a in
     let later = skipped (eqb (number y) (number x)) y (find (λ y. eqb (number y) (number x)) ys) absent in
     placed_at number x y ys (inserted number x ys) (ltb (number x) (number y)) refl a (λ e.
-    both _ _ (below-inserted number x (number y) ys (above (number x) (number y) e later.0) parts.0)
+    and_from _ _ (below-inserted number x (number y) ys (above_from_tests (number x) (number y) e later.0) parts.0)
     (ascends-inserted number x ys parts.1 later.1))
 
 all-inserted : {X : Type 0} (number : X → ℕ) (test : X → Bool) (x : X) (xs : List X) → test x ≡ true
     → list_all test xs ≡ true → list_all test (inserted number x xs) ≡ true
-all-inserted number test x [] h a = both _ _ h refl
+all-inserted number test x [] h a = and_from _ _ h refl
 all-inserted number test x (y ∷ ys) h a =
-    let parts = split (test y) (list_all test ys) a in
+    let parts = and_parts (test y) (list_all test ys) a in
     elim (ltb (number x) (number y)) as (λ b. list_all test (cond b (x ∷ y ∷ ys) (y ∷ inserted number x ys)) ≡ true) [
-      | true ↦ both _ _ h a
-      | false ↦ both _ _ parts.0 (all-inserted number test x ys h parts.1)
+      | true ↦ and_from _ _ h a
+      | false ↦ and_from _ _ parts.0 (all-inserted number test x ys h parts.1)
     ]
 
 pub in_order-with_object : (c : List ObjectDef) (id : ℕ) → vendor_fault c id ≡ None → is_in_order c ≡ true
     → is_in_order (with_object c id) ≡ true
 in_order-with_object c id h a =
-    let parts = split (ascends (map (λ o. o.id) c)) (list_all (λ o. ascends (map (λ r. r.id) o.resources)) c) a in
-    both _ _ (ascends-inserted (λ o. o.id) (new_object id) c parts.0 (object_absent c id h))
+    let parts = and_parts (ascends (map (λ o. o.id) c)) (list_all (λ o. ascends (map (λ r. r.id) o.resources)) c) a in
+    and_from _ _ (ascends-inserted (λ o. o.id) (new_object id) c parts.0 (object_absent c id h))
     (all-inserted (λ o. o.id) (λ o. ascends (map (λ r. r.id) o.resources)) (new_object id) c refl parts.1)
 
 same_numbers : (c : List ObjectDef) (id : ℕ) (d : ResourceDef)
@@ -109,16 +100,17 @@ all-with_resource : (c : List ObjectDef) (id : ℕ) (d : ResourceDef) → defini
 all-with_resource [] id d absent a = refl
 all-with_resource (o ∷ os) id d absent a =
     let test = λ (p : ObjectDef). ascends (map (λ r. r.id) p.resources) in
-    let parts = split (test o) (list_all test os) a in
+    let parts = and_parts (test o) (list_all test os) a in
     elim (eqb o.id id) as (λ b. option_and_then (λ p. resource_in p.resources d.id) (cond b (Some o) (object_of os id))
     ≡ None → list_all (λ o. ascends (map (λ r. r.id) o.resources))
     (cond b (with_definition o d ∷ os) (o ∷ with_resource os id d)) ≡ true) [
-      | true ↦ λ k. both _ _ (ascends-inserted (λ r. r.id) d o.resources parts.0 k) parts.1
-      | false ↦ λ k. both _ _ parts.0 (all-with_resource os id d k parts.1)
+      | true ↦ λ k. and_from _ _ (ascends-inserted (λ r. r.id) d o.resources parts.0 k) parts.1
+      | false ↦ λ k. and_from _ _ parts.0 (all-with_resource os id d k parts.1)
     ] absent
 
 pub in_order-with_resource : (c : List ObjectDef) (id : ℕ) (d : ResourceDef) → resource_fault c id d ≡ None
     → is_in_order c ≡ true → is_in_order (with_resource c id d) ≡ true
 in_order-with_resource c id d h a =
-    let parts = split (ascends (map (λ o. o.id) c)) (list_all (λ o. ascends (map (λ r. r.id) o.resources)) c) a in
-    both _ _ (ap ascends (same_numbers c id d) ∙ parts.0) (all-with_resource c id d (resource_absent c id d h) parts.1)
+    let parts = and_parts (ascends (map (λ o. o.id) c)) (list_all (λ o. ascends (map (λ r. r.id) o.resources)) c) a in
+    and_from _ _ (ap ascends (same_numbers c id d) ∙ parts.0)
+    (all-with_resource c id d (resource_absent c id d h) parts.1)

@@ -81,14 +81,14 @@ impl Catalog {
         self.clone()
     }
 
-    /// The place of the first object of a higher number.
+    /// The index of the first object of a higher number.
     fn first_above(&self, id: u16) -> Option<usize>
         ensures { result ≡ position (λ o. nat_lt id o.id) self.now }
     {
         self.objects.iter().position(|o| o.id > id)
     }
 
-    /// The place of an object of this number that is not there yet: before the first of a higher number.
+    /// The index at which an object of this number, which is not there yet, belongs: that of the first higher number.
     #[tactic(auto, using(crate::proofs::Inserting::place_or_end))]
     fn place_for(&self, id: u16) -> usize
         ensures { result ≡ position_or_len (λ o. nat_lt id o.id) self.now }
@@ -134,14 +134,14 @@ impl Catalog {
         Ok(())
     }
 
-    /// The place of the object of this number.
+    /// The index of the object of this number.
     fn place_of(&self, id: u16) -> Option<usize>
         ensures { result ≡ position (λ o. o.id == id) self.now }
     {
         self.objects.iter().position(|o| o.id == id)
     }
 
-    /// The place of the vendor's object of this number.
+    /// The index of the vendor's object of this number.
     fn vendor_place(&self, id: u16) -> Option<usize>
         ensures none { IfNone result (vendor_object self.now id ≡ None) }
         ensures first { IfSome result (λ i. i ≡ position_or_len (λ o. o.id == id) self.now) }

@@ -71,7 +71,7 @@ pub struct ResourceDef {
 }
 
 impl ResourceDef {
-    /// Whether the resource, where it is executable, is single and stands as Text.
+    /// Whether the resource, if it is executable, is single and has kind Text.
     pub(crate) fn is_sound(&self) -> bool
         ensures { result ≡ is_sound self.now }
     {
@@ -114,14 +114,14 @@ impl Resources {
         }
     }
 
-    /// The place of the first definition of a higher number.
+    /// The index of the first definition of a higher number.
     fn first_above(&self, id: u16) -> Option<usize>
         ensures { result ≡ position (λ r. nat_lt id r.id) self.now }
     {
         self.items.iter().position(|r| r.id > id)
     }
 
-    /// The place of a definition of this number that is not there yet: before the first of a higher number.
+    /// The index at which a definition of this number, which is not there yet, belongs: that of the first higher one.
     #[tactic(auto, using(crate::proofs::Inserting::place_or_end))]
     fn place_for(&self, id: u16) -> usize
         ensures { result ≡ position_or_len (λ r. nat_lt id r.id) self.now }

@@ -5,7 +5,7 @@ use thiserror::Error;
 /// nothing.
 #[derive(Clone, Copy, Debug, PartialEq, Eq, Error)]
 pub enum CatalogFault {
-    /// The number is no vendor object's, or there is no such vendor object, or an executable resource is multiple or
+    /// The number is not a vendor object's, or there is no such vendor object, or an executable resource is multiple or
     /// of another kind than Text.
     #[error("id range")]
     IdRange,

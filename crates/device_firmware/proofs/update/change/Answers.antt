@@ -1,7 +1,8 @@
 use Rattle.std.proofs.Common.{◌≡◌, false, None, ap, ◌∙◌, sym, subst, ◌⊎◌}
 use Rattle.std.specs.Option.{is_some}
+use Rattle.lemmas.proofs.Results.{on_err}
 use Rattle.device_firmware.specs.Firmware.{held, is_ready, uri_of, with_uri}
-use Rattle.device_firmware.proofs.Behind.{on_err, wanting-uri, wanting-outcome}
+use Rattle.device_firmware.proofs.Behind.{wanting-uri, wanting-outcome}
 use Rattle.device_firmware.proofs.update.change.Goals as goal
 
 pub returns-in_err-set_uri-clause-grows : goal.returns-in_err-set_uri-clause-grows
@@ -16,5 +17,6 @@ returns-in_err-set_outcome-clause-grows c =
     let uri : c.uri_of.result ≡ uri_of c.args.event = c.uri_of.ensures in
     on_err c.from_residual-in_err-set_outcome.result (is_ready c.args.store.now c.args.event ≡ false)
     (wanting-outcome c.args.store.now c.args.event
-    (subst (λ t. (held t 3 ≡ None) ⊎ (held t 5 ≡ None)) (c.in_ok-set_uri.ensures.ok ∙ ap (with_uri c.args.store.now) uri)
+    (subst (λ t. (held t 3 ≡ None) ⊎ (held t 5 ≡ None))
+    (c.in_ok-set_uri.ensures.ok ∙ ap (with_uri c.args.store.now) uri)
     c.in_err-set_outcome.ensures.grows))

@@ -1,6 +1,7 @@
 use Rattle.std.proofs.Common.{◌≡◌, None, ◌⊎◌, inr}
+use Rattle.lemmas.proofs.Results.{on_err}
 use Rattle.device_firmware.specs.Firmware.{held}
-use Rattle.device_firmware.proofs.Behind.{on_err, still-5}
+use Rattle.device_firmware.proofs.Behind.{still-5}
 use Rattle.device_firmware.proofs.update.set_outcome.Goals as goal
 
 pub returns-in_err-put-2-clause-grows : goal.returns-in_err-put-2-clause-grows

@@ -1,7 +1,8 @@
 use Rattle.std.proofs.Common.{ap, ◌∙◌}
+use Rattle.lemmas.proofs.Tests.{or_first}
 use Rattle.instance_store.specs.Stored.{has_instance}
 use Rattle.device_instances.specs.Creations.{is_full}
-use Rattle.device_instances.proofs.Controls.{control_free, control_full, first_is_false}
+use Rattle.device_instances.proofs.Controls.{control_free, control_full}
 use Rattle.device_instances.proofs.Counting.{counts_alike, last_is_false}
 use Rattle.device_instances.proofs.Instances.{added}
 use Rattle.device_instances.proofs.creation.make.Goals as goal
@@ -15,7 +16,7 @@ pub add-requires-clause-room : goal.add-requires-clause-room
 add-requires-clause-room c =
     ap (λ s. is_full s c.args.place.object) c.in_ok-add_control_for.ensures
     ∙ control_full c.args.store.now c.args.accounts c.args.server c.args.place c.requires.other
-    ∙ first_is_false _ _ c.requires.room
+    ∙ or_first _ _ c.requires.room
 
 pub write-requires-clause-there : goal.write-requires-clause-there
 write-requires-clause-there c =

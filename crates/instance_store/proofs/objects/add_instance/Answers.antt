@@ -1,7 +1,7 @@
 use Rattle.std.proofs.Common.{sym, ap, ◌∙◌}
 use Rattle.std.specs.FinMap as map
+use Rattle.lemmas.proofs.Results.{on_err}
 use Rattle.instance_store.specs.Tree.{tree, stored_from}
-use Rattle.instance_store.proofs.Answers.{on_err}
 use Rattle.instance_store.proofs.StoreLaws.{tree-insert, tree-new, add-stored, none_there}
 use Rattle.instance_store.proofs.TreeLaws.{insert_same}
 use Rattle.instance_store.proofs.objects.add_instance.Goals as goal

@@ -1,7 +1,7 @@
 use Rattle.std.proofs.Common.{sym}
 use Rattle.device_requests.proofs.PathAlone.{alone_understood, alone_accept, alone_query, alone_content_format}
 use Rattle.device_requests.proofs.PathAlone.{alone_observe}
-use Rattle.device_requests.proofs.options.said_by.Goals as goal
+use Rattle.device_requests.proofs.options.request_options.Goals as goal
 
 pub returns-then-is_path_alone-clause-understood : goal.returns-then-is_path_alone-clause-understood
 returns-then-is_path_alone-clause-understood c =
