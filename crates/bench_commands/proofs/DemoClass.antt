@@ -9,7 +9,7 @@ use Rattle.std.proofs.lemmas.Bool.{and_parts}
 use Rattle.std.proofs.lemmas.List.{at_drop_more, nil_from_length}
 use Rattle.lwm2m_values.specs.declared.value.Value.{Value}
 use Rattle.object_defs.specs.Base.{base}
-use Rattle.object_defs.specs.Catalogue.{object_of}
+use Rattle.object_defs.specs.Catalog.{object_of}
 use Rattle.object_defs.specs.Lines.{first_line}
 use Rattle.object_defs.specs.Path.{full_path, path_cmp, instance_cmp}
 use Rattle.object_defs.specs.declared.definition.ObjectDef.{ObjectDef}
@@ -82,7 +82,7 @@ fault_in objects instances p =
     )
 
 fault_in_is : (class : Template) (p : InstancePath)
-    → instance_fault class p ≡ fault_in class.catalogue (instances_in class) p
+    → instance_fault class p ≡ fault_in class.catalog (instances_in class) p
 fault_in_is class p = rw (finite.get-entries class.store.instances p) refl
 
 -- none of the instances is refused
@@ -93,15 +93,15 @@ instances_fit objects instances (place ∷ places) =
     && instances_fit objects (put_instance instances place) places
 
 instances_fit_is : (class : Template) (places : List (ℕ × ℕ))
-    → takes_instances class places ≡ instances_fit class.catalogue (instances_in class) places
+    → takes_instances class places ≡ instances_fit class.catalog (instances_in class) places
 unfolding takes_instances
 instances_fit_is class [] = refl
 instances_fit_is class (place ∷ places) =
     let p : InstancePath = place_of place.0 place.1 in
     ap (λ f. is_none f && takes_instances (with_place class place) places) (fault_in_is class p)
-    ∙ ap (λ b. is_none (fault_in class.catalogue (instances_in class) p) && b)
+    ∙ ap (λ b. is_none (fault_in class.catalog (instances_in class) p) && b)
     (instances_fit_is (with_place class place) places
-    ∙ ap (λ es. instances_fit class.catalogue es places) (put_instance_is class place))
+    ∙ ap (λ es. instances_fit class.catalog es places) (put_instance_is class place))
 
 -- ---- values
 
@@ -143,7 +143,7 @@ fault_at objects instances values (Some p) value =
     )
 
 fault_at_is : (class : Template) (q : Option FullPath) (value : Value)
-    → value_fault class q value ≡ fault_at class.catalogue (instances_in class) (values_in class) q value
+    → value_fault class q value ≡ fault_at class.catalog (instances_in class) (values_in class) q value
 fault_at_is class None value = refl
 fault_at_is class (Some p) value =
     let value_there = finite.get-entries class.store.values p in
@@ -158,17 +158,17 @@ values_fit objects instances values (row ∷ rows) =
     && values_fit objects instances (put_value values (full_path row.0) row.1) rows
 
 values_fit_is : (class : Template) (rows : List (Path × Value))
-    → takes_values class rows ≡ values_fit class.catalogue (instances_in class) (values_in class) rows
+    → takes_values class rows ≡ values_fit class.catalog (instances_in class) (values_in class) rows
 unfolding takes_values
 values_fit_is class [] = refl
 values_fit_is class (row ∷ rows) =
     let q : Option FullPath = full_path row.0 in
     ap (λ f. is_none f && takes_values (with_row class row) rows) (fault_at_is class q row.1)
-    ∙ ap (λ b. is_none (fault_at class.catalogue (instances_in class) (values_in class) q row.1) && b)
+    ∙ ap (λ b. is_none (fault_at class.catalog (instances_in class) (values_in class) q row.1) && b)
     (values_fit_is (with_row class row) rows
-    ∙ ap (λ m. values_fit class.catalogue (finite.entries m) (values_in (with_row class row)) rows)
+    ∙ ap (λ m. values_fit class.catalog (finite.entries m) (values_in (with_row class row)) rows)
     (same_instances class q row.1)
-    ∙ ap (λ es. values_fit class.catalogue (instances_in class) es rows) (put_value_is class q row.1))
+    ∙ ap (λ es. values_fit class.catalog (instances_in class) es rows) (put_value_is class q row.1))
 
 -- ---- the class
 

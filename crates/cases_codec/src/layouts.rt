@@ -4,7 +4,7 @@
 ghost use Rattle.std.specs.Prelude.{◌≡◌, nat_lt};
 ghost use Rattle.std.specs.List.{list_all};
 
-use crate::catalogue::put_definition;
+use crate::catalog::put_definition;
 use crate::forms::{last_bytes, put_hex};
 use crate::places::{put_full_path, put_numbers, put_path};
 use crate::question::Question;

@@ -4,7 +4,7 @@
 
 mod attributes;
 mod case;
-mod catalogue;
+mod catalog;
 mod fields;
 mod firmware;
 mod forms;
@@ -38,7 +38,7 @@ fn answer(subject: &str, question: &mut Question<'_>, out: &mut Sheet) -> bool {
     messages::answer(subject, question, out)
         || values::answer(subject, question, out)
         || records::answer(subject, question, out)
-        || catalogue::answer(subject, question, out)
+        || catalog::answer(subject, question, out)
         || words::answer(subject, question, out)
         || payloads::answer(subject, question, out)
         || notifying::answer(subject, question, out)

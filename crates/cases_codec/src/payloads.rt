@@ -40,7 +40,7 @@ pub fn answer(subject: &str, question: &mut Question<'_>, out: &mut Sheet) -> bo
     true
 }
 
-/// Answers a question about resources, which a catalogue defines.
+/// Answers a question about resources, which a catalog defines.
 fn answer_by(catalog: &Catalog, subject: &str, question: &mut Question<'_>, out: &mut Sheet) {
     match subject {
         "shows" => shows(catalog, question, out),

@@ -34,7 +34,7 @@ behind_option first rest =
 
 -- an option before what was found after it
 abbrev pub with_option : Opt → Result Found CoapFault → Result Found CoapFault
-with_option o (Ok found) = Ok (record { options = o ∷ found.options; payload = found.payload })
+with_option o (Ok found) = Ok (record found { options = o ∷ found.options })
 with_option o (Err fault) = Err fault
 
 -- options and payload at a place: what is wrong there, and how the bytes after an option are read

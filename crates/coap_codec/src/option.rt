@@ -80,7 +80,7 @@ impl Options {
     pub fn push(&mut self, option: Opt) -> Result<(), AllocError>
         ensures ok { OnOk result (self.new ≡ self.old ++ option ∷ []) }
         ensures err { OnErr result (self.new ≡ self.old) }
-        ensures grows { OnErr result (0 < length self.old) }
+        ensures may_lack_memory { OnErr result (0 < length self.old) }
     {
         match &mut self.items {
             Items::Listed(items) => {
@@ -113,7 +113,7 @@ impl Options {
     ) -> Result<(), AllocError>
         ensures ok { OnOk result (self.new ≡ self.old ++ number_option number value) }
         ensures err { OnErr result (self.new ≡ self.old) }
-        ensures grows { OnErr result (is_some value ≡ true) }
+        ensures may_lack_memory { OnErr result (is_some value ≡ true) }
         ensures further { OnErr result (0 < length self.old) }
     {
         let Some(value) = value else {
@@ -132,7 +132,7 @@ impl Options {
     ) -> Result<(), AllocError>
         ensures ok { OnOk result (self.new ≡ self.old ++ number_option number value) }
         ensures err { OnErr result (self.new ≡ self.old) }
-        ensures grows { OnErr result (is_some value ≡ true) }
+        ensures may_lack_memory { OnErr result (is_some value ≡ true) }
         ensures further { OnErr result (0 < length self.old) }
     {
         let Some(value) = value else {

@@ -36,33 +36,15 @@ opened s es =
 
 -- the same at another place
 abbrev pub at_place : Session → ℕ → Session
-at_place v n = record {
-  scenario = v.scenario;
-  entries = v.entries;
-  place = n;
-  breaks = v.breaks;
-  replayed = v.replayed;
-}
+at_place v n = record v { place = n }
 
 -- the same with other breakpoints
 abbrev pub with_breaks : Session → List (Option Break) → Session
-with_breaks v breaks = record {
-  scenario = v.scenario;
-  entries = v.entries;
-  place = v.place;
-  breaks = breaks;
-  replayed = v.replayed;
-}
+with_breaks v breaks = record v { breaks = breaks }
 
 -- the same with another number of steps
 abbrev pub with_replayed : Session → ℕ → Session
-with_replayed v n = record {
-  scenario = v.scenario;
-  entries = v.entries;
-  place = v.place;
-  breaks = v.breaks;
-  replayed = n;
-}
+with_replayed v n = record v { replayed = n }
 
 -- each device is in the state after this many steps of its row
 pub record AreAt (s : Scenario) (made : List ℕ) (devices : List Device) : Type 0 where

@@ -25,14 +25,14 @@ OutcomeIsHeld =
     × (held after update_result ≡ Some (Whole (pos outcome.code)))
 
 -- the Package URI is the new one, where there is one; else it stays
-abbrev pub uri_behind : Option Value → Option (List ℕ) → Option Value
-uri_behind old None = old
-uri_behind old (Some text) = Some (Text text)
+abbrev pub uri_after : Option Value → Option (List ℕ) → Option Value
+uri_after old None = old
+uri_after old (Some text) = Some (Text text)
 
 abbrev pub UriIsHeld : Type 0
 UriIsHeld =
     (stored after : Stored) (event : FirmwareEvent) → firmware_after stored event ≡ Some after
-    → held after package_uri ≡ uri_behind (held stored package_uri) (uri_of event)
+    → held after package_uri ≡ uri_after (held stored package_uri) (uri_of event)
 
 -- no other value changes, the Package's among them, and no instance
 abbrev pub OthersStay : Type 0

@@ -60,7 +60,7 @@ fn uri_of(alloc: Global, event: FirmwareEvent) -> Option<Text>
 fn put(store: &mut Store, number: u16, value: Value) -> Result<(), AllocError>
     requires { has_instance store.old firmware ≡ true }
     ensures ok { OnOk result (store.new ≡ with_value store.old (single_of (firmware_resource number)) value) }
-    ensures grows { OnErr result (held store.old number ≡ None) }
+    ensures may_lack_memory { OnErr result (held store.old number ≡ None) }
 {
     match store.put(resource(number), value) {
         Ok(()) => Ok(()),
@@ -73,7 +73,7 @@ fn put(store: &mut Store, number: u16, value: Value) -> Result<(), AllocError>
 fn set_uri(store: &mut Store, uri: Option<Text>) -> Result<(), AllocError>
     requires { has_instance store.old firmware ≡ true }
     ensures ok { OnOk result (store.new ≡ with_uri store.old uri) }
-    ensures grows { OnErr result ((held store.old package_uri ≡ None) × (is_some uri ≡ true)) }
+    ensures may_lack_memory { OnErr result ((held store.old package_uri ≡ None) × (is_some uri ≡ true)) }
 {
     match uri {
         Some(text) => put(store, PACKAGE_URI, Value::Text(text)),
@@ -85,7 +85,8 @@ fn set_uri(store: &mut Store, uri: Option<Text>) -> Result<(), AllocError>
 fn set_outcome(store: &mut Store, outcome: Outcome) -> Result<(), AllocError>
     requires { has_instance store.old firmware ≡ true }
     ensures ok { OnOk result (store.new ≡ with_outcome store.old outcome) }
-    ensures grows { OnErr result ((held store.old update_state ≡ None) ⊎ (held store.old update_result ≡ None)) }
+    ensures may_lack_memory { OnErr result ((held store.old update_state ≡ None)
+        ⊎ (held store.old update_result ≡ None)) }
 {
     put(
         store,
@@ -105,7 +106,7 @@ fn change(
 ) -> Result<(), AllocError>
     requires { has_instance store.old firmware ≡ true }
     ensures ok { OnOk result (store.new ≡ with_outcome (with_uri store.old (uri_of event)) outcome) }
-    ensures grows { OnErr result (is_ready store.old event ≡ false) }
+    ensures may_lack_memory { OnErr result (is_ready store.old event ≡ false) }
 {
     set_uri(store, uri_of(alloc, event))?;
     set_outcome(store, outcome)?;
@@ -154,7 +155,7 @@ pub fn take(alloc: Global, store: &mut Store, event: FirmwareEvent) -> Result<bo
 
     // It takes memory only for an event that is taken, and only if what it sets is not all held.
     ensures taken { OnErr result (is_some (firmware_after store.old event) ≡ true) }
-    ensures memory { OnErr result (is_ready store.old event ≡ false) }
+    ensures may_lack_memory { OnErr result (is_ready store.old event ≡ false) }
     ensures unchanged { OnErr result (store.new ≡ store.old) }
 {
     let Some(outcome) = outcome_in(store, &event) else {

@@ -22,8 +22,9 @@ use Rattle.coap_codec.specs.declared.option.Opt.{Opt}
 use Rattle.coap_codec.specs.Reading.{reading_of}
 use Rattle.coap_codec.proofs.Soundness.{AreBytes, reading_of_there}
 use Rattle.device_requests.specs.Client.{has_account}
-use Rattle.device_machine.specs.Memory.{claims_non_confirmable, datagram_grows, early_fault, is_copied, is_ignored}
-use Rattle.device_machine.specs.Memory.{message_grows}
+use Rattle.device_machine.specs.Memory.{claims_non_confirmable, datagram_takes_memory, early_fault, is_copied}
+use Rattle.device_machine.specs.Memory.{is_ignored}
+use Rattle.device_machine.specs.Memory.{message_takes_memory}
 use Rattle.device_machine.specs.Reactions.{claims_confirmable, is_request, on_acknowledgement, on_datagram, on_message}
 use Rattle.device_machine.specs.Reactions.{claimed_mid, on_reset, reaction_to, reset, sends, silence}
 use Rattle.device_machine.specs.declared.event.Event.TheVariants.{Recv}
@@ -130,7 +131,7 @@ heeded false false false h i k = absurd cc
 -- bytes that are read, and whose header does not say that they are ignored, take memory only where they are copied
 pub grows_wanting : (bytes : List ℕ) (r : Result Message CoapFault)
     → ((f : CoapFault) → HasEarlyFault bytes f → r ≡ Err f) → (is_empty_message bytes ≡ true → IsOk r)
-    → is_ignored bytes ≡ false → r ≡ Err Memory → datagram_grows bytes ≡ true
+    → is_ignored bytes ≡ false → r ≡ Err Memory → datagram_takes_memory bytes ≡ true
 grows_wanting bytes r early empty heed wanting =
     heeded (claims_confirmable bytes) (claims_non_confirmable bytes) (is_empty_message bytes)
     (is_none (early_fault bytes)) heed (copied bytes r early empty wanting)
@@ -276,7 +277,8 @@ or_last true n k h e = refl
 or_last false n k h e = rw (h, e) refl
 
 grows_of : (f : Machine) (server : ℕ) (bytes : List ℕ) (m : Message) (kind : Kind) → Spells bytes m
-    → early_fault bytes ≡ None → m.kind ≡ kind → message_grows f server m kind ≡ true → datagram_grows bytes ≡ true
+    → early_fault bytes ≡ None → m.kind ≡ kind → message_takes_memory f server m kind ≡ true
+    → datagram_takes_memory bytes ≡ true
 grows_of f server bytes m Con spells whole k g =
     ap (λ b. b || (claims_non_confirmable bytes && is_copied bytes)) (type_claimed bytes m Con spells k)
 grows_of f server bytes m Non spells whole k g =
@@ -287,7 +289,7 @@ grows_of f server bytes m Ack spells whole k g = absurd cc
 grows_of f server bytes m Rst spells whole k g = absurd cc
 
 pub grows_taken : (f : Machine) (server : ℕ) (bytes : List ℕ) (m : Message) → Spells bytes m
-    → ((f : CoapFault) → HasEarlyFault bytes f → Ok m ≡ Err f) → message_grows f server m m.kind ≡ true
-    → datagram_grows bytes ≡ true
+    → ((f : CoapFault) → HasEarlyFault bytes f → Ok m ≡ Err f) → message_takes_memory f server m m.kind ≡ true
+    → datagram_takes_memory bytes ≡ true
 grows_taken f server bytes m spells early =
     grows_of f server bytes m m.kind spells (no_early bytes (Ok m) early (λ fault there is. cc)) refl

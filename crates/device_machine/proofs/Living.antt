@@ -227,7 +227,7 @@ alike_event k xs ys h (Recv server bytes) =
     alike_choice (has_account k.client server) _ _ _ _ (alike_datagram k xs ys server bytes (reading_of bytes) h)
     (alike_quiet k xs ys _ h)
 alike_event k xs ys h (Put path value) =
-    alike_choice (misses k.client.catalogue k.client.store (full_path path) value) _ _ _ _ (alike_quiet k xs ys _ h)
+    alike_choice (misses k.client.catalog k.client.store (full_path path) value) _ _ _ _ (alike_quiet k xs ys _ h)
     (alike_put k xs ys (full_path path) value h)
 alike_event k xs ys h (Firmware code) = alike_firmware k xs ys (firmware_after k.client.store (Ended code)) h
 alike_event k xs ys h (Tick n) =

@@ -3,7 +3,7 @@ use Rattle.std.proofs.Common.{◌≡◌, Bool, true, false, not, ◌||◌, List,
 use Rattle.std.specs.Option.{is_some}
 use Rattle.std.proofs.lemmas.Bool.{and_parts}
 use Rattle.lwm2m_values.specs.declared.value.Value.{Value}
-use Rattle.object_defs.specs.Catalogue.{object_of}
+use Rattle.object_defs.specs.Catalog.{object_of}
 use Rattle.object_defs.specs.declared.definition.ObjectDef.{ObjectDef}
 use Rattle.object_defs.specs.declared.path.FullPath.{FullPath}
 use Rattle.instance_store.specs.Stored.{Stored, has_instance}
@@ -19,13 +19,13 @@ room_of true true o e = e
 room_of true false o e = absurd cc
 room_of false h o e = absurd cc
 
-pub has_its_instance : (catalogue : List ObjectDef) (stored : Stored) (p : FullPath) (v : Value)
-    → misses catalogue stored (Some p) v ≡ false → has_instance stored (instance_at p) ≡ true
-has_its_instance catalogue stored p v e =
-    (and_parts (is_some (object_of catalogue p.object)) (has_instance stored (instance_at p))
-    (place_of (fits catalogue p v) (has_place catalogue stored p) (is_one_too_many stored p) e)).1
+pub has_its_instance : (catalog : List ObjectDef) (stored : Stored) (p : FullPath) (v : Value)
+    → misses catalog stored (Some p) v ≡ false → has_instance stored (instance_at p) ≡ true
+has_its_instance catalog stored p v e =
+    (and_parts (is_some (object_of catalog p.object)) (has_instance stored (instance_at p))
+    (place_of (fits catalog p v) (has_place catalog stored p) (is_one_too_many stored p) e)).1
 
-pub has_room : (catalogue : List ObjectDef) (stored : Stored) (p : FullPath) (v : Value)
-    → misses catalogue stored (Some p) v ≡ false → is_one_too_many stored p ≡ false
-has_room catalogue stored p v e =
-    room_of (fits catalogue p v) (has_place catalogue stored p) (is_one_too_many stored p) e
+pub has_room : (catalog : List ObjectDef) (stored : Stored) (p : FullPath) (v : Value)
+    → misses catalog stored (Some p) v ≡ false → is_one_too_many stored p ≡ false
+has_room catalog stored p v e =
+    room_of (fits catalog p v) (has_place catalog stored p) (is_one_too_many stored p) e

@@ -150,7 +150,7 @@ pub record OnlyCloses (f : Machine) (server mid : ℕ) (reaction : Reaction) : T
   pub others : (place : ℕ) (o : Observation) → slice_get f.kept.observations place ≡ Some o
       → is_awaited server mid o ≡ false → slice_get reaction.flat.kept.observations place ≡ Some o
   pub frame : reaction.flat
-      ≡ record { kept = with_observations f.kept reaction.flat.kept.observations; recorded = f.recorded }
+      ≡ record f { kept = with_observations f.kept reaction.flat.kept.observations }
 
 -- an Empty ACK does no more than that (RFC 7252 section 4.2)
 abbrev pub AcknowledgementsClose : Type 0

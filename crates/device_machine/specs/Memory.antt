@@ -25,23 +25,23 @@ use Rattle.object_defs.specs.Path.{full_path, single_of}
 use Rattle.object_defs.specs.declared.path.FullPath.{FullPath}
 
 -- what a repeated request gets takes memory where it is a datagram
-abbrev pub again_grows : Kind → Option (List ℕ) → Bool
-again_grows Con reply = is_some reply
-again_grows Non reply = false
-again_grows Ack reply = false
-again_grows Rst reply = false
+abbrev pub again_takes_memory : Kind → Option (List ℕ) → Bool
+again_takes_memory Con reply = is_some reply
+again_takes_memory Non reply = false
+again_takes_memory Ack reply = false
+again_takes_memory Rst reply = false
 
 -- a request that is no repeat is answered and recorded
-abbrev pub request_grows : Kind → Option Recorded → Bool
-request_grows kind None = true
-request_grows kind (Some r) = again_grows kind r.reply
+abbrev pub request_takes_memory : Kind → Option Recorded → Bool
+request_takes_memory kind None = true
+request_takes_memory kind (Some r) = again_takes_memory kind r.reply
 
 -- so may a message take memory that is a request, or is reset
-abbrev pub message_grows : Machine → ℕ → Message → Kind → Bool
-message_grows f server m Con = not (is_request m.code) || request_grows Con (repeat_of f server m)
-message_grows f server m Non = is_request m.code && request_grows Non (repeat_of f server m)
-message_grows f server m Ack = false
-message_grows f server m Rst = false
+abbrev pub message_takes_memory : Machine → ℕ → Message → Kind → Bool
+message_takes_memory f server m Con = not (is_request m.code) || request_takes_memory Con (repeat_of f server m)
+message_takes_memory f server m Non = is_request m.code && request_takes_memory Non (repeat_of f server m)
+message_takes_memory f server m Ack = false
+message_takes_memory f server m Rst = false
 
 -- there is a header of version 1, and its type is non-confirmable (RFC 7252 section 3)
 abbrev pub claims_non_confirmable : List ℕ → Bool
@@ -59,8 +59,8 @@ is_copied bytes = is_none (early_fault bytes) && not (is_empty_message bytes)
 
 -- a datagram may take memory that claims to be confirmable, since it is answered or reset (section 4.2), or
 -- non-confirmable, where it is copied (section 4.3); so no acknowledgement, no Reset and no other version does
-abbrev pub datagram_grows : List ℕ → Bool
-datagram_grows bytes = claims_confirmable bytes || (claims_non_confirmable bytes && is_copied bytes)
+abbrev pub datagram_takes_memory : List ℕ → Bool
+datagram_takes_memory bytes = claims_confirmable bytes || (claims_non_confirmable bytes && is_copied bytes)
 
 -- the header says that the bytes are ignored, whatever follows: it is no CON's, no NON's and not Empty
 abbrev pub is_ignored : List ℕ → Bool
@@ -72,9 +72,9 @@ is_observed kept paths = is_one_reached paths kept.observations
 
 -- a value may take memory that fits: a Text or an Opaque, one in a place where none is held, and one that reaches an
 -- observation
-abbrev pub put_grows : Kept → Option FullPath → Value → Bool
-put_grows kept place value =
-    not (misses kept.client.catalogue kept.client.store place value)
+abbrev pub put_takes_memory : Kept → Option FullPath → Value → Bool
+put_takes_memory kept place value =
+    not (misses kept.client.catalog kept.client.store place value)
     && ((holds_bytes (kind_of value) || is_none (value_in kept place)) || is_observed kept (option_to_list place))
 
 -- the State and the Update Result, which an end of a download or an update sets
@@ -83,18 +83,18 @@ outcome_paths = single_of (firmware_resource update_state) ∷ single_of (firmwa
 
 -- an end of a download or an update may take memory that there is: where the two are not both held, and where one of
 -- them reaches an observation
-abbrev pub end_grows : Kept → ℕ → Bool
-end_grows kept code =
+abbrev pub end_takes_memory : Kept → ℕ → Bool
+end_takes_memory kept code =
     is_some (firmware_after kept.client.store (Ended code))
     && (not (is_ready kept.client.store (Ended code)) || is_observed kept outcome_paths)
 
 -- an event may take memory: such a datagram of a server that has an account, such a value, such an end of a download or
 -- an update, and seconds in which something is sent for an observation, or one is removed
-abbrev pub event_grows : Kept → Event → Bool
-event_grows kept (Recv server bytes) = has_account kept.client server && datagram_grows bytes
-event_grows kept (Put path value) = put_grows kept (full_path path) value
-event_grows kept (Firmware code) = end_grows kept code
-event_grows kept (Tick count) = does_act (sweep_in kept count) kept.observations
+abbrev pub event_takes_memory : Kept → Event → Bool
+event_takes_memory kept (Recv server bytes) = has_account kept.client server && datagram_takes_memory bytes
+event_takes_memory kept (Put path value) = put_takes_memory kept (full_path path) value
+event_takes_memory kept (Firmware code) = end_takes_memory kept code
+event_takes_memory kept (Tick count) = does_act (sweep_in kept count) kept.observations
 
 -- the clock, the next message ID and the recorded requests are as they were
 pub record KeepsRecords (old new : Machine) : Type 0 where

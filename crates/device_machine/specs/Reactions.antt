@@ -93,14 +93,7 @@ is_request code = code / 32 == 0 && not (code == 0)
 
 -- the next message ID is counted on, modulo 65,536
 abbrev pub counted : Kept → Kept
-counted kept =
-    record {
-      client = kept.client;
-      observations = kept.observations;
-      clock = kept.clock;
-      next_id =
-          (kept.next_id + 1) % 65536;
-    }
+counted kept = record kept { next_id = (kept.next_id + 1) % 65536 }
 
 -- a confirmable request is acknowledged; a non-confirmable one is answered by a message of the device's next
 -- message ID, or not at all where an option isn't understood
@@ -177,11 +170,7 @@ abbrev pub on_reset : Machine → ℕ → ℕ → Reaction
 on_reset f server mid =
     record {
       outputs = [];
-      flat = record {
-        kept = with_observations f.kept (without_reset f.kept.observations server mid);
-        recorded =
-            f.recorded;
-      };
+      flat = record f { kept = with_observations f.kept (without_reset f.kept.observations server mid) };
     }
 
 -- an Empty ACK closes the observations of its server whose last message is a CON with its message ID that no
@@ -190,10 +179,7 @@ abbrev pub on_acknowledgement : Machine → ℕ → ℕ → Reaction
 on_acknowledgement f server mid =
     record {
       outputs = [];
-      flat = record {
-        kept = with_observations f.kept (with_acknowledged f.kept.observations server mid);
-        recorded = f.recorded;
-      };
+      flat = record f { kept = with_observations f.kept (with_acknowledged f.kept.observations server mid) };
     }
 
 -- requests are answered; another confirmable message is reset, all else but an Empty Reset and an Empty ACK ignored
@@ -248,13 +234,12 @@ on_tick f count = record { outputs = map send_of (sweep_in f.kept count).sent; f
 -- a value is set where it fits; else the device does no more than say so
 abbrev pub on_put : Machine → Option FullPath → Value → Reaction
 on_put f place value =
-    if misses f.kept.client.catalogue f.kept.client.store place value
+    if misses f.kept.client.catalog f.kept.client.store place value
     then record { outputs = Act Missed ∷ []; flat = f }
     else record {
       outputs = [];
-      flat = record {
+      flat = record f {
         kept = with_client f.kept (with_stored f.kept.client (with_value_at f.kept.client.store place value));
-        recorded = f.recorded;
       };
     }
 
@@ -264,7 +249,7 @@ on_firmware f None = record { outputs = Act Missed ∷ []; flat = f }
 on_firmware f (Some stored) =
     record {
       outputs = [];
-      flat = record { kept = with_client f.kept (with_stored f.kept.client stored); recorded = f.recorded };
+      flat = record f { kept = with_client f.kept (with_stored f.kept.client stored) };
     }
 
 -- a datagram from a server that is no account changes nothing and gives nothing

@@ -19,13 +19,11 @@ pub record Kept : Type 0 where
 
 -- the same with this client
 abbrev pub with_client : Kept → Client → Kept
-with_client kept client =
-    record { client = client; observations = kept.observations; clock = kept.clock; next_id = kept.next_id }
+with_client kept client = record kept { client = client }
 
 -- the same with these observations
 abbrev pub with_observations : Kept → List Observation → Kept
-with_observations kept observations =
-    record { client = kept.client; observations = observations; clock = kept.clock; next_id = kept.next_id }
+with_observations kept observations = record kept { observations = observations }
 
 -- the flat state: what is kept, and all the requests since the start, oldest first
 pub record Machine : Type 0 where
@@ -45,7 +43,7 @@ is_live clock r = nat_lt (clock - r.second) (lifetime r.kind)
 
 -- the flat state with those of the recorded requests that an answer can still depend on
 abbrev pub living : Machine → Machine
-living f = record { kept = f.kept; recorded = filter (λ r. is_live f.kept.clock r) f.recorded }
+living f = record f { recorded = filter (λ r. is_live f.kept.clock r) f.recorded }
 
 -- what contracts see of a device: of the recorded requests, those that live
 pub record Device : Type 0 where

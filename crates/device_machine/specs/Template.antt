@@ -10,7 +10,7 @@ start_of class =
     record {
       client = record {
         accounts = class.accounts;
-        catalogue = class.catalogue;
+        catalog = class.catalog;
         store =
             with_idle_firmware class.store;
         attributes = map.empty;

@@ -2,7 +2,7 @@ ghost use Rattle.std.specs.Prelude.{◌≡◌, ◌↔◌, [], IfOk, MatchOption,
 ghost use Rattle.std.specs.Option.{option_copied};
 ghost use Rattle.object_defs.specs.Path.{full_path};
 ghost use Rattle.device_machine.specs.Template.{start_of};
-ghost use Rattle.device_machine.specs.Memory.{KeepsRecords, event_grows};
+ghost use Rattle.device_machine.specs.Memory.{KeepsRecords, event_takes_memory};
 ghost use Rattle.device_machine.specs.Held.{IsNextSending, IsSilent};
 ghost use Rattle.device_machine.specs.State.{Machine as FlatState, Shows, value_in};
 ghost use Rattle.device_machine.specs.Reactions.{outputs_of, flat_after, is_refused, passes_end};
@@ -127,7 +127,8 @@ impl Device {
 
         // Some events take no memory, so they never end a device: each datagram of a server without an account, each
         // acknowledgement and Reset, and each second without an observation.
-        ensures grows { result ≡ Err StepFault.Memory → IsTrue (event_grows self.old.flat.kept event.now) }
+        ensures may_lack_memory { result ≡ Err StepFault.Memory
+            → IsTrue (event_takes_memory self.old.flat.kept event.now) }
         ensures left { result ≡ Err StepFault.Memory → KeepsRecords self.old.flat self.new.flat }
     {
         if self.spent || passes_end(self.machine.clock(), event) {

@@ -7,7 +7,7 @@ ghost use Rattle.device_template.specs.Values.{instance_at, is_one_too_many, wit
 ghost use Rattle.device_requests.specs.Client.{with_stored};
 ghost use Rattle.object_defs.specs.Path.{full_path};
 ghost use Rattle.device_machine.specs.Template.{start_of};
-ghost use Rattle.device_machine.specs.Memory.{KeepsRecords, event_grows, put_grows};
+ghost use Rattle.device_machine.specs.Memory.{KeepsRecords, event_takes_memory, put_takes_memory};
 ghost use Rattle.device_machine.specs.declared.event.Event.TheVariants.{Firmware, Tick};
 ghost use Rattle.device_machine.specs.Reactions.{Gives, on_firmware, on_put, passes_end, sweep_in};
 ghost use Rattle.device_machine.specs.Records.{remembering};
@@ -95,7 +95,7 @@ fn put_fitting(client: &mut Client, path: FullPath, value: Value) -> Result<(), 
     requires there { has_instance client.old.store (instance_at path) ≡ true }
     requires room { is_one_too_many client.old.store path ≡ false }
     ensures put { OnOk result (client.new ≡ with_stored client.old (with_value_at client.old.store (Some path) value)) }
-    ensures grows { OnErr result (value_at client.old.store path ≡ None) }
+    ensures may_lack_memory { OnErr result (value_at client.old.store path ≡ None) }
     ensures unchanged { OnErr result (client.new ≡ client.old) }
 {
     match client.put(path, value) {
@@ -194,7 +194,7 @@ impl Machine {
         ensures up_to_date { OnOk result (IsUpToDate self.new) }
 
         // It takes memory only where something is sent or an observation is removed.
-        ensures grows { OnErr result
+        ensures may_lack_memory { OnErr result
             (does_act (sweep_in self.old.flat.kept count) self.old.flat.kept.observations ≡ true) }
         ensures left { OnErr result (KeepsRecords self.old.flat self.new.flat) }
     {
@@ -222,7 +222,7 @@ impl Machine {
         requires { IsUpToDate self.old }
         ensures gives { IfOk result (λ o. Gives o self.new.flat (on_put self.old.flat (full_path path) value.now)) }
         ensures up_to_date { OnOk result (IsUpToDate self.new) }
-        ensures grows { OnErr result (put_grows self.old.flat.kept (full_path path) value.now ≡ true) }
+        ensures may_lack_memory { OnErr result (put_takes_memory self.old.flat.kept (full_path path) value.now ≡ true) }
         ensures left { OnErr result (KeepsRecords self.old.flat self.new.flat) }
     {
         let Some(full) = path.full() else {
@@ -243,7 +243,7 @@ impl Machine {
         ensures gives { IfOk result (λ o. Gives o self.new.flat
             (on_firmware self.old.flat (firmware_after self.old.flat.kept.client.store (Ended code)))) }
         ensures up_to_date { OnOk result (IsUpToDate self.new) }
-        ensures grows { OnErr result (event_grows self.old.flat.kept (Firmware code) ≡ true) }
+        ensures may_lack_memory { OnErr result (event_takes_memory self.old.flat.kept (Firmware code) ≡ true) }
         ensures left { OnErr result (KeepsRecords self.old.flat self.new.flat) }
     {
         if self.client.end_firmware(code)? {
@@ -260,7 +260,7 @@ impl Machine {
         requires up_to_date { IsUpToDate self.old }
         ensures gives { IfOk result (λ o. Gives o self.new.flat (remembering self.old.flat event.now)) }
         ensures up_to_date { OnOk result (IsUpToDate self.new) }
-        ensures grows { OnErr result (event_grows self.old.flat.kept event.now ≡ true) }
+        ensures may_lack_memory { OnErr result (event_takes_memory self.old.flat.kept event.now ≡ true) }
         ensures left { OnErr result (KeepsRecords self.old.flat self.new.flat) }
     {
         match event {

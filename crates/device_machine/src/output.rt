@@ -75,7 +75,7 @@ impl Outputs {
         datagrams: Vec<Datagram>,
     ) -> Result<Outputs, AllocError>
         ensures sends { IfOk result (λ o. o ≡ map send_of datagrams.items) }
-        ensures grows { OnErr result (datagrams.items ≢ []) }
+        ensures may_lack_memory { OnErr result (datagrams.items ≢ []) }
     {
         let mut items = Vec::with_capacity(alloc, datagrams.len())?;
         for datagram in datagrams {
@@ -115,7 +115,7 @@ impl Outputs {
     /// Adds what the device does after the others, if there is something.
     pub(crate) fn act(&mut self, act: Option<Act>) -> Result<(), AllocError>
         ensures acts { OnOk result (self.new ≡ self.old ++ acted act) }
-        ensures grows { OnErr result (acted act ≢ []) }
+        ensures may_lack_memory { OnErr result (acted act ≢ []) }
         ensures unchanged { OnErr result (self.new ≡ self.old) }
     {
         match act {

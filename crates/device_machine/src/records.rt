@@ -328,7 +328,7 @@ impl Records {
     /// A copy, which equals its source.
     pub(crate) fn copy(&self) -> Result<Records, AllocError>
         ensures same { IfOk result (λ r. r ≡ self.now) }
-        ensures grows { OnErr result (self.now ≢ []) }
+        ensures may_lack_memory { OnErr result (self.now ≢ []) }
     {
         if self.index.is_empty() {
             return Ok(Records::new(self.alloc));

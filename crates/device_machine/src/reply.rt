@@ -36,7 +36,7 @@ fn push_location(
 ) -> Result<(), AllocError>
     ensures options { OnOk result (options.new ≡ options.old ++ location_options location) }
     ensures short { OnOk result (IsShort location) }
-    ensures grows { OnErr result (is_some location ≡ true) }
+    ensures may_lack_memory { OnErr result (is_some location ≡ true) }
 {
     let Some(place) = location else {
         return Ok(());
@@ -135,7 +135,7 @@ pub(crate) fn sent_to(
     datagram: &Option<Bytes>,
 ) -> Result<Outputs, AllocError>
     ensures sends { IfOk result (λ o. o ≡ sent_to server datagram.now) }
-    ensures grows { OnErr result (is_some datagram.now ≡ true) }
+    ensures may_lack_memory { OnErr result (is_some datagram.now ≡ true) }
 {
     match datagram {
         None => Ok(Outputs::none(alloc)),

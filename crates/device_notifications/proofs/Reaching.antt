@@ -7,7 +7,7 @@ use Rattle.std.proofs.lemmas.List.{length-map, map-append}
 use Rattle.std.specs.List.{AllByRecursion, find}
 use Rattle.std.specs.Option.{option_and_then, option_or, unwrap_or}
 use Rattle.lwm2m_values.specs.Value.{is_integer}
-use Rattle.object_defs.specs.Catalogue.{definition_of}
+use Rattle.object_defs.specs.Catalog.{definition_of}
 use Rattle.object_defs.specs.Path.{single_of}
 use Rattle.object_defs.specs.declared.path.FullPath.{FullPath}
 use Rattle.object_defs.specs.declared.path.Path.{Path}
@@ -76,7 +76,7 @@ same_number : (client : Client) (stored : Stored) (path : Path) → SameIn path 
 same_number client stored (Object o) h = refl
 same_number client stored (Instance o i) h = refl
 same_number client stored (Resource o i r) h =
-    ap (single_number (is_multiple (definition_of client.catalogue o r)))
+    ap (single_number (is_multiple (definition_of client.catalog o r)))
     (h (single_of (resource_place o i r)) (single_in o i r))
 same_number client stored (Part o i r n) h = refl
 
@@ -156,7 +156,8 @@ same_tail x y xs ys h = cc
 -- one more, of which it is so still
 kept_said : (client before : Client) (os : List Observation) (old said : List Outlook) (n : ℕ) (o : Observation)
     → slice_get os n ≡ Some o → n < length os → old ≡ outlooks_of before os
-    → outlook_of before o ≡ outlook_of client o → SaidBefore client os old said n → SaidBefore client os old said (n + 1)
+    → outlook_of before o ≡ outlook_of client o → SaidBefore client os old said n
+    → SaidBefore client os old said (n + 1)
 kept_said client before os old said n o at within known same h =
     let here = there said n (subst (λ m. n < m) (sym h.count) within) in
     let was = there old n

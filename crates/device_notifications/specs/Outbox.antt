@@ -17,4 +17,4 @@ posted box datagram = record { sent = box.sent ++ datagram ∷ []; next_id = id_
 
 -- with one more that is sent again: it has its message ID already
 abbrev pub reposted : Outbox → Datagram → Outbox
-reposted box datagram = record { sent = box.sent ++ datagram ∷ []; next_id = box.next_id }
+reposted box datagram = record box { sent = box.sent ++ datagram ∷ [] }

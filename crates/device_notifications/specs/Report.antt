@@ -2,7 +2,7 @@
 use Rattle.std.specs.Prelude.{ℕ, ℤ, Bool, true, false, List, Option, None, Some}
 use Rattle.lwm2m_values.specs.declared.value.Value.{Value}
 use Rattle.lwm2m_values.specs.declared.value.Value.TheVariants.{Text, Whole, Flag, Opaque, Moment, Link}
-use Rattle.object_defs.specs.Catalogue.{definition_of}
+use Rattle.object_defs.specs.Catalog.{definition_of}
 use Rattle.object_defs.specs.Path.{single_of}
 use Rattle.object_defs.specs.declared.path.Path.{Path}
 use Rattle.object_defs.specs.declared.path.Path.TheVariants.{Object, Instance, Resource, Part}
@@ -31,7 +31,7 @@ abbrev pub number_at : Client → Path → Option ℤ
 number_at client (Object _) = None
 number_at client (Instance _ _) = None
 number_at client (Resource o i r) =
-    single_number (is_multiple (definition_of client.catalogue o r))
+    single_number (is_multiple (definition_of client.catalog o r))
     (value_at client.store (single_of (resource_place o i r)))
 number_at client (Part _ _ _ _) = None
 

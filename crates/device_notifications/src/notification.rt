@@ -106,7 +106,7 @@ pub(crate) fn next_notification(
 /// What a notification is sent again by, if it is Confirmable.
 pub(crate) fn timer_of(client: &Client, datagram: &Datagram) -> Result<Option<Timer>, AllocError>
     ensures timer { IfOk result (λ t. t ≡ timer_of client.now datagram.now.bytes) }
-    ensures grows { OnErr result (client.now.notify ≢ 0) }
+    ensures may_lack_memory { OnErr result (client.now.notify ≢ 0) }
 {
     let first = client.notify();
     if first == 0 {

@@ -101,7 +101,7 @@ pub(crate) fn say(
 pub fn say_all(client: &Client, observations: &mut Observations) -> Result<(), AllocError>
     ensures list { observations.new.list ≡ observations.old.list }
     ensures known { OnOk result (IsKnown client.now observations.new) }
-    ensures grows { OnErr result (observations.old.list ≢ []) }
+    ensures may_lack_memory { OnErr result (observations.old.list ≢ []) }
 {
     for place in 0..observations.len() {
         say(client, observations, place)?;

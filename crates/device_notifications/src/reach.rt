@@ -95,7 +95,7 @@ fn say_if_reached(
     ensures said { OnOk result ((o : Observation) → slice_get observations.old.list place ≡ Some o
         → observations.new.said ≡ (if is_reached paths.now o
         then slice_set observations.old.said place (outlook_of client.now o) else observations.old.said)) }
-    ensures grows { OnErr result ((o : Observation) → slice_get observations.old.list place ≡ Some o
+    ensures may_lack_memory { OnErr result ((o : Observation) → slice_get observations.old.list place ≡ Some o
         → is_reached paths.now o ≡ true) }
 {
     if is_reached_at(observations, place, paths) {
@@ -115,7 +115,7 @@ pub fn say_reached(
     ensures list { observations.new.list ≡ observations.old.list }
     ensures known { OnOk result ((before : Stored) → DifferAt paths.now before client.now.store
         → IsKnown (with_stored client.now before) observations.old → IsKnown client.now observations.new) }
-    ensures grows { OnErr result (is_one_reached paths.now observations.old.list ≡ true) }
+    ensures may_lack_memory { OnErr result (is_one_reached paths.now observations.old.list ≡ true) }
 {
     for place in 0..observations.len() {
         say_if_reached(client, observations, place, paths)?;

@@ -1,6 +1,6 @@
 ghost use Rattle.std.specs.Prelude.{◌≡◌};
 ghost use Rattle.instance_store.specs.Stored.{value_at};
-ghost use Rattle.object_defs.specs.Catalogue.{definition_of};
+ghost use Rattle.object_defs.specs.Catalog.{definition_of};
 ghost use Rattle.device_requests.specs.Targets.{is_multiple};
 ghost use Rattle.device_notifications.specs.Report.{number_in, number_at, report_of};
 

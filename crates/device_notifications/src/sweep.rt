@@ -51,7 +51,7 @@ pub fn seconds(
     ensures done { OnOk result (Leaves outbox.old
         (seconds client.now clock count outbox.old.next_id observations.old.list) observations.new.list outbox.new) }
     ensures known { IsKnown client.now observations.new }
-    ensures grows { OnErr result (does_act
+    ensures may_lack_memory { OnErr result (does_act
         (seconds client.now clock count outbox.old.next_id observations.old.list) observations.old.list ≡ true) }
     ensures stops { OnErr result (StopsIn client.now clock count outbox.old.next_id observations.old.list
         observations.new.list) }

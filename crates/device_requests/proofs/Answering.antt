@@ -135,13 +135,13 @@ says_at : (client : Client) (server : ℕ) (m : Message) (path : Path) (operatio
     → Says (outcome_at client server m (request_with m path operation)).answer
     (rules_of client server path (purpose_of m operation))
 says_at client server m path Read =
-    read_says (object_in path == 0) (not (exists client.catalogue client.store path))
-    (not (may_read client server path)) (not (can_be_read client.catalogue path))
+    read_says (object_in path == 0) (not (exists client.catalog client.store path))
+    (not (may_read client server path)) (not (can_be_read client.catalog path))
     (is_oversized (read_payload client server path (accept_of m.options)))
-    (format_at client.catalogue path (accept_of m.options)) (read_payload client server path (accept_of m.options))
+    (format_at client.catalog path (accept_of m.options)) (read_payload client server path (accept_of m.options))
 says_at client server m path Discover = discover_says client server path
 says_at client server m path WriteAttributes =
-    attributes_says (object_in path == 0) (not (exists client.catalogue client.store path))
+    attributes_says (object_in path == 0) (not (exists client.catalog client.store path))
     (not (may_annotate client server path)) client
     (attributes_given client server path (queries_of m.options))
 says_at client server m path WriteReplace =
@@ -150,7 +150,7 @@ says_at client server m path WritePartial = write_says client server Update path
 says_at client server m path Create =
     let o = object_in path in
     let new = newborn client o m.payload in
-    create_says (o == 0) (not (exists client.catalogue client.store path)) (not (rights_on client server path).create)
+    create_says (o == 0) (not (exists client.catalog client.store path)) (not (rights_on client server path).create)
     (is_fixed o)
     (not (is_tlv (content_format_of m.options))) (lacks_room client o new) client server o new
 says_at client server m path Execute =

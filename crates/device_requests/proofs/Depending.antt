@@ -13,7 +13,7 @@ use Rattle.lwm2m_values.specs.Tlv.{shortest_tlv}
 use Rattle.lwm2m_values.specs.Tree.{instance, listed, part, single}
 use Rattle.lwm2m_values.specs.Value.{is_integer}
 use Rattle.lwm2m_values.specs.declared.value.Value.{Value}
-use Rattle.object_defs.specs.Catalogue.{definition_of, object_of}
+use Rattle.object_defs.specs.Catalog.{definition_of, object_of}
 use Rattle.object_defs.specs.Lines.{first_line}
 use Rattle.object_defs.specs.Operations.{can_read}
 use Rattle.object_defs.specs.Path.{object_in, part_of, path_cmp, single_of}
@@ -104,17 +104,17 @@ same_as : (s t : Stored) (p : ResourcePath) (d : Option ResourceDef) → SameIn 
 same_as s t p None h = refl
 same_as s t p (Some d) h = ap (λ (b : Bool). not (can_read d.ops) || b) (same_held s t p d.multiple h)
 
-same_exists : (catalogue : List ObjectDef) (s t : Stored) (path : Path) → s.instances ≡ t.instances → SameIn path s t
-    → exists catalogue s path ≡ exists catalogue t path
-same_exists catalogue s t (Object o) i h = refl
-same_exists catalogue s t (Instance o n) i h =
-    ap (λ (b : Bool). is_some (object_of catalogue o) && b) (same_instance s t (place_of o n) i)
-same_exists catalogue s t (Resource o n r) i h =
+same_exists : (catalog : List ObjectDef) (s t : Stored) (path : Path) → s.instances ≡ t.instances → SameIn path s t
+    → exists catalog s path ≡ exists catalog t path
+same_exists catalog s t (Object o) i h = refl
+same_exists catalog s t (Instance o n) i h =
+    ap (λ (b : Bool). is_some (object_of catalog o) && b) (same_instance s t (place_of o n) i)
+same_exists catalog s t (Resource o n r) i h =
     let p = resource_place o n r in
-    λ j. same_instance s t (place_of o n) i j && same_as s t p (definition_of catalogue o r) h j
-same_exists catalogue s t (Part o n r m) i h =
+    λ j. same_instance s t (place_of o n) i j && same_as s t p (definition_of catalog o r) h j
+same_exists catalog s t (Part o n r m) i h =
     λ j. same_instance s t (place_of o n) i j
-    && (is_multiple (definition_of catalogue o r)
+    && (is_multiple (definition_of catalog o r)
     && is_some (h (part_of (resource_place o n r) m) (part_in o n r m) j))
 
 -- ---- rights
@@ -192,16 +192,16 @@ same_payload : (client : Client) (stored : Stored) (server : ℕ) (path : Path) 
     → SameControls stored client.store → SameIn path stored client.store
     → payload_in (with_stored client stored) server path format ≡ payload_in client server path format
 same_payload client stored server (Object o) format c h =
-    λ j. shortest_tlv (listed (map (λ i. same_node stored client.store (defined client.catalogue o) o i h j)
+    λ j. shortest_tlv (listed (map (λ i. same_node stored client.store (defined client.catalog o) o i h j)
     (filter (λ i. same_reads stored client.store (length client.accounts) server o i c j)
     (same_list stored client.store o c.instances j))))
 same_payload client stored server (Instance o i) format c h =
-    ap (shown_by (defined client.catalogue o)) (same_values stored client.store (Instance o i) h)
+    ap (shown_by (defined client.catalog o)) (same_values stored client.store (Instance o i) h)
 same_payload client stored server (Resource o i r) format c h =
     let all = same_values stored client.store (Resource o i r) h in
     let one = h (single_of (resource_place o i r)) (single_in o i r) in
-    λ j. if is_multiple (definition_of client.catalogue o r)
-    then shown_by (defined client.catalogue o) (all j) else one_payload format (single r) (one j)
+    λ j. if is_multiple (definition_of client.catalog o r)
+    then shown_by (defined client.catalog o) (all j) else one_payload format (single r) (one j)
 same_payload client stored server (Part o i r n) format c h =
     ap (one_payload format (part n)) (h (part_of (resource_place o i r) n) (part_in o i r n))
 
@@ -210,9 +210,9 @@ same_payload client stored server (Part o i r n) format c h =
 -- the answer to a Read, by whether the target exists and may be read, and by the payload
 abbrev pub read_by : Client → Path → Option ℕ → Bool → Bool → List ℕ → Answer
 read_by client path accept exists_there may payload =
-    let format = format_at client.catalogue path accept in
+    let format = format_at client.catalog path accept in
     refused_or (first_line ((object_in path == 0, Unauthorized) ∷ (not exists_there, NotFound)
-    ∷ (not may, Unauthorized) ∷ (not (can_be_read client.catalogue path), MethodNotAllowed)
+    ∷ (not may, Unauthorized) ∷ (not (can_be_read client.catalog path), MethodNotAllowed)
     ∷ (not (is_some format), NotAcceptable) ∷ (is_oversized payload, InternalServerError) ∷ []))
     (content_in format payload)
 
@@ -224,7 +224,7 @@ same_answer client stored server path accept h =
       instances = h.instances;
       values = λ q is. h.values q (or_right (lies_in path q) (is_of_rights q) is);
     } in
-    λ j. read_by client path accept (same_exists client.catalogue stored client.store path h.instances there j)
+    λ j. read_by client path accept (same_exists client.catalog stored client.store path h.instances there j)
     (same_may client stored server path controls j)
     (unwrap_or (option_map (λ format. same_payload client stored server path format controls there j)
-    (format_at client.catalogue path accept)) [])
+    (format_at client.catalog path accept)) [])

@@ -44,7 +44,7 @@ late_values : (client : Client) (mode : Mode) (path : Path) (values : Option New
 late_values client mode path None stored = refl
 late_values client mode path (Some values) stored =
     late_turn client (event_of path (Some values))
-    (exceeds (mode_at mode path) client.catalogue client.store path (Some values)) stored
+    (exceeds (mode_at mode path) client.catalog client.store path (Some values)) stored
 
 late_write : (o t r w f : Bool) (lines : List (Bool × Code)) → o ≡ false → t ≡ true → r ≡ true → w ≡ true → f ≡ true
     → first_line
@@ -60,17 +60,18 @@ late_write o t r w f lines other target may can served =
     ∷ (not (served j), UnsupportedContentFormat) ∷ lines)
 
 -- a Write whose target, server and format are not refused may take memory
-pub write_grows : (client : Client) (server : ℕ) (mode : Mode) (path : Path) (number : Option ℕ) (payload : List ℕ)
-    → (object_in path == 0) ≡ false → is_target client.catalogue client.store path ≡ true
-    → (rights_on client server path).write ≡ true → can_be_written client.catalogue path ≡ true
-    → is_some (format_at client.catalogue path number) ≡ true
+pub write_takes_memory : (client : Client) (server : ℕ) (mode : Mode) (path : Path) (number : Option ℕ)
+    (payload : List ℕ)
+    → (object_in path == 0) ≡ false → is_target client.catalog client.store path ≡ true
+    → (rights_on client server path).write ≡ true → can_be_written client.catalog path ≡ true
+    → is_some (format_at client.catalog path number) ≡ true
     → takes_memory (write_outcome client server mode path number payload).answer.code ≡ true
-write_grows client server mode path number payload other target may can served =
+write_takes_memory client server mode path number payload other target may can served =
     let values = new_values client path number payload in
     let stored = left (mode_at mode path) client path values (event_of path values) in
     ap (λ code. takes_memory (write_unless code client stored).answer.code)
-    (late_write (object_in path == 0) (is_target client.catalogue client.store path)
+    (late_write (object_in path == 0) (is_target client.catalog client.store path)
     (rights_on client server path).write
-    (can_be_written client.catalogue path) (is_some (format_at client.catalogue path number))
+    (can_be_written client.catalog path) (is_some (format_at client.catalog path number))
     (value_rules client mode path values) other target may can served)
     ∙ late_values client mode path values stored

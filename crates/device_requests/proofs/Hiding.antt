@@ -5,7 +5,7 @@ use Rattle.std.specs.List.{filter, list_any}
 use Rattle.std.specs.Option.{option_map, unwrap_or}
 use Rattle.lwm2m_values.specs.Tlv.{shortest_tlv}
 use Rattle.lwm2m_values.specs.Tree.{Tree, listed}
-use Rattle.object_defs.specs.Catalogue.{object_of}
+use Rattle.object_defs.specs.Catalog.{object_of}
 use Rattle.object_defs.specs.Lines.{first_line}
 use Rattle.object_defs.specs.Path.{object_in}
 use Rattle.object_defs.specs.declared.path.Path.TheVariants.{Object}
@@ -34,11 +34,11 @@ stopped false false false lines answer h = inl refl
 
 pub refused : UnreadableIsRefused
 refused client server path accept h =
-    stopped (object_in path == 0) (not (exists client.catalogue client.store path)) (may_read client server path)
-    ((not (can_be_read client.catalogue path), MethodNotAllowed)
-    ∷ (not (is_some (format_at client.catalogue path accept)), NotAcceptable)
+    stopped (object_in path == 0) (not (exists client.catalog client.store path)) (may_read client server path)
+    ((not (can_be_read client.catalog path), MethodNotAllowed)
+    ∷ (not (is_some (format_at client.catalog path accept)), NotAcceptable)
     ∷ (is_oversized (read_payload client server path accept), InternalServerError) ∷ [])
-    (content_in (format_at client.catalogue path accept) (read_payload client server path accept)) h
+    (content_in (format_at client.catalog path accept) (read_payload client server path accept)) h
 
 -- maps that agree on what passes
 same_map : (p : ℕ → Bool) (f g : ℕ → Tree) → ((i : ℕ) → p i ≡ true → f i ≡ g i) → (ns : List ℕ) → map f (filter p ns)
@@ -54,10 +54,10 @@ same_map p f g h (n ∷ ns) =
 -- the answer to a Read of an object, by whether it may be read and by its payload
 abbrev answer_with : Client → ℕ → Option ℕ → Bool → List ℕ → Answer
 answer_with client o accept may payload =
-    let format = format_at client.catalogue (Object o) accept in
+    let format = format_at client.catalog (Object o) accept in
     let shown = unwrap_or (option_map (λ f. payload) format) [] in
     refused_or (first_line (
-    (o == 0, Unauthorized) ∷ (not (is_some (object_of client.catalogue o)), NotFound) ∷ (not may, Unauthorized)
+    (o == 0, Unauthorized) ∷ (not (is_some (object_of client.catalog o)), NotFound) ∷ (not may, Unauthorized)
     ∷ (false, MethodNotAllowed)
     ∷ (not (is_some format), NotAcceptable) ∷ (is_oversized shown, InternalServerError) ∷ []))
     (content_in format shown)
@@ -68,8 +68,8 @@ payload_with o instances p node = shortest_tlv (listed (map node (filter p insta
 pub hidden : UnreadableIsHidden
 hidden client stored server o accept h =
     let p = reads client.store (length client.accounts) server o in
-    let new = instance_node stored (defined client.catalogue o) o in
-    let old = instance_node client.store (defined client.catalogue o) o in
+    let new = instance_node stored (defined client.catalog o) o in
+    let old = instance_node client.store (defined client.catalog o) o in
     let tests : reads stored (length client.accounts) server o ≡ p = λ j i. h.rights i j in
     let may : may_read (with_stored client stored) server (Object o) ≡ may_read client server (Object o) =
     ap (λ (t : (ℕ → Bool) × List ℕ). length t.1 == 0 || list_any t.0 t.1) (λ j. (tests j, h.instances j)) in

@@ -1,4 +1,4 @@
--- No request changes the accounts or the catalogue.
+-- No request changes the accounts or the catalog.
 use Rattle.std.proofs.Common.{ℕ, Bool, true, false, List, Option, None, Some, Result, Err, refl}
 use Rattle.std.specs.Bool.{if◌then◌else◌}
 use Rattle.coap_codec.specs.Message.{Message}
@@ -31,11 +31,11 @@ use Rattle.device_requests.specs.Laws.{KeepsFrame}
 
 unless_keeps : (code : Option Code) (client : Client) (stored : Stored)
     → KeepsFrame client (write_unless code client stored).client
-unless_keeps None client stored = record { accounts = refl; catalogue = refl }
-unless_keeps (Some code) client stored = record { accounts = refl; catalogue = refl }
+unless_keeps None client stored = record { accounts = refl; catalog = refl }
+unless_keeps (Some code) client stored = record { accounts = refl; catalog = refl }
 
 same : (client : Client) → KeepsFrame client client
-same client = record { accounts = refl; catalogue = refl }
+same client = record { accounts = refl; catalog = refl }
 
 write_keeps : (client : Client) (server : ℕ) (mode : Mode) (path : Path) (number : Option ℕ) (payload : List ℕ)
     → KeepsFrame client (write_outcome client server mode path number payload).client
@@ -46,25 +46,25 @@ write_keeps client server mode path number payload =
 
 create_keeps : (code : Option Code) (client : Client) (server o : ℕ) (new : Option Newborn)
     → KeepsFrame client (create_unless code client server o new).client
-create_keeps None client server o None = record { accounts = refl; catalogue = refl }
-create_keeps None client server o (Some n) = record { accounts = refl; catalogue = refl }
-create_keeps (Some code) client server o new = record { accounts = refl; catalogue = refl }
+create_keeps None client server o None = record { accounts = refl; catalog = refl }
+create_keeps None client server o (Some n) = record { accounts = refl; catalog = refl }
+create_keeps (Some code) client server o new = record { accounts = refl; catalog = refl }
 
 execute_keeps : (code : Option Code) (client : Client) (path : Path)
     → KeepsFrame client (execute_unless code client path).client
-execute_keeps None client path = record { accounts = refl; catalogue = refl }
-execute_keeps (Some code) client path = record { accounts = refl; catalogue = refl }
+execute_keeps None client path = record { accounts = refl; catalog = refl }
+execute_keeps (Some code) client path = record { accounts = refl; catalog = refl }
 
 delete_keeps : (code : Option Code) (client : Client) (path : Path)
     → KeepsFrame client (delete_unless code client path).client
-delete_keeps None client path = record { accounts = refl; catalogue = refl }
-delete_keeps (Some code) client path = record { accounts = refl; catalogue = refl }
+delete_keeps None client path = record { accounts = refl; catalog = refl }
+delete_keeps (Some code) client path = record { accounts = refl; catalog = refl }
 
 attributes_keep : (code : Option Code) (client : Client) (given : Option Numbers)
     → KeepsFrame client (annotate_unless code client given).client
-attributes_keep None client None = record { accounts = refl; catalogue = refl }
-attributes_keep None client (Some m) = record { accounts = refl; catalogue = refl }
-attributes_keep (Some code) client given = record { accounts = refl; catalogue = refl }
+attributes_keep None client None = record { accounts = refl; catalog = refl }
+attributes_keep None client (Some m) = record { accounts = refl; catalog = refl }
+attributes_keep (Some code) client given = record { accounts = refl; catalog = refl }
 
 keeps_at : (client : Client) (server : ℕ) (m : Message) (path : Path) (operation : Operation)
     → KeepsFrame client (outcome_at client server m (request_with m path operation)).client
@@ -102,7 +102,7 @@ keeps_if : (b : Bool) (client : Client) (server : ℕ) (m : Message) (request : 
 keeps_if true client server m request k = same client
 keeps_if false client server m request k = k
 
--- a request leaves the accounts and the catalogue
+-- a request leaves the accounts and the catalog
 pub keeps : (client : Client) (server : ℕ) (m : Message) → KeepsFrame client (outcome_of client server m).client
 keeps client server m =
     keeps_if (has_unrecognized_critical m.options) client server m (request_on m (path_of (segments_of m.options)))

@@ -9,7 +9,7 @@ use Rattle.std.specs.FinMap as map
 use Rattle.std.proofs.lemmas.Bool.{eqb-true, and_parts, and_from}
 use Rattle.lemmas.proofs.Numbers.{eqb_itself}
 use Rattle.lemmas.proofs.Orders.{is_equal}
-use Rattle.object_defs.specs.Catalogue.{definition_of, object_of, resource_in}
+use Rattle.object_defs.specs.Catalog.{definition_of, object_of, resource_in}
 use Rattle.object_defs.specs.Path.{instance_cmp}
 use Rattle.object_defs.specs.declared.definition.ObjectDef.{ObjectDef}
 use Rattle.object_defs.specs.declared.definition.ResourceDef.{ResourceDef}
@@ -66,32 +66,32 @@ resource_exists : (stored : Stored) (p : ResourcePath) (definition : Option Reso
 resource_exists stored p None instance h = let k = and_parts instance false h in let f : false ≡ true = k.1 in cc
 resource_exists stored p (Some d) instance h = ((and_parts instance (exists_as stored p (Some d)) h).0, (d, refl))
 
-resource_listed : (catalogue : List ObjectDef) (stored : Stored) (o i r : ℕ)
-    → exists catalogue stored (Resource o i r) ≡ true
-    → IsAmong (Resource o i r) (resources_below catalogue stored o i)
-resource_listed catalogue stored o i r h =
-    let known = resource_exists stored (resource_place o i r) (definition_of catalogue o r)
+resource_listed : (catalog : List ObjectDef) (stored : Stored) (o i r : ℕ)
+    → exists catalog stored (Resource o i r) ≡ true
+    → IsAmong (Resource o i r) (resources_below catalog stored o i)
+resource_listed catalog stored o i r h =
+    let known = resource_exists stored (resource_place o i r) (definition_of catalog o r)
     (has_instance stored (place_of o i)) h in
     let d = known.1.0 in
-    let f = found (λ d. d.id == r) d (defined catalogue o)
-    (sym (definition_in (object_of catalogue o) r) ∙ known.1.1) in
+    let f = found (λ d. d.id == r) d (defined catalog o)
+    (sym (definition_in (object_of catalog o) r) ∙ known.1.1) in
     let e : d.id ≡ r = eqb-true d.id r f.1 in
-    among-filter (exists catalogue stored) (Resource o i r) (map (λ d. Resource o i d.id) (defined catalogue o)) h
-    (subst (λ n. IsAmong (Resource o i n) (map (λ d. Resource o i d.id) (defined catalogue o))) e
-    (among-map (λ d. Resource o i d.id) d (defined catalogue o) f.0))
+    among-filter (exists catalog stored) (Resource o i r) (map (λ d. Resource o i d.id) (defined catalog o)) h
+    (subst (λ n. IsAmong (Resource o i n) (map (λ d. Resource o i d.id) (defined catalog o))) e
+    (among-map (λ d. Resource o i d.id) d (defined catalog o) f.0))
 
-listed_resource : (catalogue : List ObjectDef) (stored : Stored) (o i : ℕ) (q : Path)
-    → IsAmong q (resources_below catalogue stored o i)
-    → (r : ℕ) × (Resource o i r ≡ q) × (exists catalogue stored q ≡ true)
-listed_resource catalogue stored o i q h =
-    let f = filtered (exists catalogue stored) q (map (λ d. Resource o i d.id) (defined catalogue o)) h in
-    let m = mapped (λ d. Resource o i d.id) q (defined catalogue o) f.0 in
+listed_resource : (catalog : List ObjectDef) (stored : Stored) (o i : ℕ) (q : Path)
+    → IsAmong q (resources_below catalog stored o i)
+    → (r : ℕ) × (Resource o i r ≡ q) × (exists catalog stored q ≡ true)
+listed_resource catalog stored o i q h =
+    let f = filtered (exists catalog stored) q (map (λ d. Resource o i d.id) (defined catalog o)) h in
+    let m = mapped (λ d. Resource o i d.id) q (defined catalog o) f.0 in
     (m.0.id, m.2, f.1)
 
 -- ---- the links
 
 abbrev Shown : List ObjectDef → Stored → Path → Path → Type 0
-Shown catalogue stored path q = (lies_at path q ≡ true) × (exists catalogue stored q ≡ true)
+Shown catalog stored path q = (lies_at path q ≡ true) × (exists catalog stored q ≡ true)
 
 lies_itself : (path : Path) → is_part path ≡ false → lies_at path path ≡ true
 lies_itself (Object o) h = eqb_itself o
@@ -99,64 +99,64 @@ lies_itself (Instance o i) h = and_from _ _ (eqb_itself o) (eqb_itself i)
 lies_itself (Resource o i r) h = and_from _ _ (eqb_itself o) (and_from _ _ (eqb_itself i) (eqb_itself r))
 lies_itself (Part o i r n) h = cc
 
-below_shown : (catalogue : List ObjectDef) (stored : Stored) (path q : Path) → exists catalogue stored path ≡ true
-    → IsAmong q (paths_below catalogue stored path) → Shown catalogue stored path q
-below_shown catalogue stored (Object o) q e h =
-    let n = flattened (instance_paths catalogue stored o) q (instances_of stored o) h in
+below_shown : (catalog : List ObjectDef) (stored : Stored) (path q : Path) → exists catalog stored path ≡ true
+    → IsAmong q (paths_below catalog stored path) → Shown catalog stored path q
+below_shown catalog stored (Object o) q e h =
+    let n = flattened (instance_paths catalog stored o) q (instances_of stored o) h in
     elim n.2 [
-      | inl i ↦ subst (Shown catalogue stored (Object o)) i
+      | inl i ↦ subst (Shown catalog stored (Object o)) i
           (eqb_itself o, and_from _ _ e (listed_has stored o n.0 n.1))
       | inr j ↦ let r =
-          listed_resource catalogue stored o n.0 q
+          listed_resource catalog stored o n.0 q
           j in (subst (λ p. lies_at (Object o) p ≡ true) r.1 (eqb_itself o), r.2)
     ]
-below_shown catalogue stored (Instance o i) q e h =
-    let r = listed_resource catalogue stored o i q h in
+below_shown catalog stored (Instance o i) q e h =
+    let r = listed_resource catalog stored o i q h in
     (subst (λ p. lies_at (Instance o i) p ≡ true) r.1 (and_from _ _ (eqb_itself o) (eqb_itself i)), r.2)
-below_shown catalogue stored (Resource o i r) q e h = absurd h
-below_shown catalogue stored (Part o i r n) q e h = absurd h
+below_shown catalog stored (Resource o i r) q e h = absurd h
+below_shown catalog stored (Part o i r n) q e h = absurd h
 
-linked_shown : (catalogue : List ObjectDef) (stored : Stored) (path q : Path) → exists catalogue stored path ≡ true
-    → is_part path ≡ false → IsAmong q (linked catalogue stored path) → Shown catalogue stored path q
-linked_shown catalogue stored path q e k (inl h) = subst (Shown catalogue stored path) h (lies_itself path k, e)
-linked_shown catalogue stored path q e k (inr h) = below_shown catalogue stored path q e h
+linked_shown : (catalog : List ObjectDef) (stored : Stored) (path q : Path) → exists catalog stored path ≡ true
+    → is_part path ≡ false → IsAmong q (linked catalog stored path) → Shown catalog stored path q
+linked_shown catalog stored path q e k (inl h) = subst (Shown catalog stored path) h (lies_itself path k, e)
+linked_shown catalog stored path q e k (inr h) = below_shown catalog stored path q e h
 
-shown_linked : (catalogue : List ObjectDef) (stored : Stored) (path q : Path) → lies_at path q ≡ true
-    → exists catalogue stored q ≡ true → IsAmong q (linked catalogue stored path)
-shown_linked catalogue stored (Object o) (Object p) h e = inl (ap Object (sym (eqb-true p o h)))
-shown_linked catalogue stored (Object o) (Instance p j) h e =
-    subst (λ n. IsAmong (Instance p j) (linked catalogue stored (Object n))) (eqb-true p o h)
-    (inr (among-flat (instance_paths catalogue stored p) j (Instance p j) (instances_of stored p)
-    (has_listed stored p j (and_parts (is_some (object_of catalogue p)) (has_instance stored (place_of p j)) e).1)
+shown_linked : (catalog : List ObjectDef) (stored : Stored) (path q : Path) → lies_at path q ≡ true
+    → exists catalog stored q ≡ true → IsAmong q (linked catalog stored path)
+shown_linked catalog stored (Object o) (Object p) h e = inl (ap Object (sym (eqb-true p o h)))
+shown_linked catalog stored (Object o) (Instance p j) h e =
+    subst (λ n. IsAmong (Instance p j) (linked catalog stored (Object n))) (eqb-true p o h)
+    (inr (among-flat (instance_paths catalog stored p) j (Instance p j) (instances_of stored p)
+    (has_listed stored p j (and_parts (is_some (object_of catalog p)) (has_instance stored (place_of p j)) e).1)
     (inl refl)))
-shown_linked catalogue stored (Object o) (Resource p j r) h e =
-    subst (λ n. IsAmong (Resource p j r) (linked catalogue stored (Object n))) (eqb-true p o h)
-    (inr (among-flat (instance_paths catalogue stored p) j (Resource p j r) (instances_of stored p)
-    (has_listed stored p j (resource_exists stored (resource_place p j r) (definition_of catalogue p r)
+shown_linked catalog stored (Object o) (Resource p j r) h e =
+    subst (λ n. IsAmong (Resource p j r) (linked catalog stored (Object n))) (eqb-true p o h)
+    (inr (among-flat (instance_paths catalog stored p) j (Resource p j r) (instances_of stored p)
+    (has_listed stored p j (resource_exists stored (resource_place p j r) (definition_of catalog p r)
     (has_instance stored (place_of p j)) e).0)
-    (inr (resource_listed catalogue stored p j r e))))
-shown_linked catalogue stored (Object o) (Part p j r n) h e = cc
-shown_linked catalogue stored (Instance o i) (Object p) h e = cc
-shown_linked catalogue stored (Instance o i) (Instance p j) h e =
+    (inr (resource_listed catalog stored p j r e))))
+shown_linked catalog stored (Object o) (Part p j r n) h e = cc
+shown_linked catalog stored (Instance o i) (Object p) h e = cc
+shown_linked catalog stored (Instance o i) (Instance p j) h e =
     let k = and_parts (p == o) (j == i) h in inl (λ t. Instance (sym (eqb-true p o k.0) t) (sym (eqb-true j i k.1) t))
-shown_linked catalogue stored (Instance o i) (Resource p j r) h e =
+shown_linked catalog stored (Instance o i) (Resource p j r) h e =
     let k = and_parts (p == o) (j == i) h in
-    subst (λ n. IsAmong (Resource p j r) (linked catalogue stored (Instance n i))) (eqb-true p o k.0)
-    (subst (λ n. IsAmong (Resource p j r) (linked catalogue stored (Instance p n))) (eqb-true j i k.1)
-    (inr (resource_listed catalogue stored p j r e)))
-shown_linked catalogue stored (Instance o i) (Part p j r n) h e = cc
-shown_linked catalogue stored (Resource o i r) (Object p) h e = cc
-shown_linked catalogue stored (Resource o i r) (Instance p j) h e = cc
-shown_linked catalogue stored (Resource o i r) (Resource p j s) h e =
+    subst (λ n. IsAmong (Resource p j r) (linked catalog stored (Instance n i))) (eqb-true p o k.0)
+    (subst (λ n. IsAmong (Resource p j r) (linked catalog stored (Instance p n))) (eqb-true j i k.1)
+    (inr (resource_listed catalog stored p j r e)))
+shown_linked catalog stored (Instance o i) (Part p j r n) h e = cc
+shown_linked catalog stored (Resource o i r) (Object p) h e = cc
+shown_linked catalog stored (Resource o i r) (Instance p j) h e = cc
+shown_linked catalog stored (Resource o i r) (Resource p j s) h e =
     let k = and_parts (p == o) (j == i && s == r) h in
     let l = and_parts (j == i) (s == r) k.1 in
     inl (λ t. Resource (sym (eqb-true p o k.0) t) (sym (eqb-true j i l.0) t) (sym (eqb-true s r l.1) t))
-shown_linked catalogue stored (Resource o i r) (Part p j s n) h e = cc
-shown_linked catalogue stored (Part o i r n) (Object p) h e = cc
-shown_linked catalogue stored (Part o i r n) (Instance p j) h e = cc
-shown_linked catalogue stored (Part o i r n) (Resource p j s) h e = cc
-shown_linked catalogue stored (Part o i r n) (Part p j s m) h e = cc
+shown_linked catalog stored (Resource o i r) (Part p j s n) h e = cc
+shown_linked catalog stored (Part o i r n) (Object p) h e = cc
+shown_linked catalog stored (Part o i r n) (Instance p j) h e = cc
+shown_linked catalog stored (Part o i r n) (Resource p j s) h e = cc
+shown_linked catalog stored (Part o i r n) (Part p j s m) h e = cc
 
 pub links_exist : LinksWhatExists
-links_exist catalogue stored path q e k =
-    (linked_shown catalogue stored path q e k, λ s. shown_linked catalogue stored path q s.0 s.1)
+links_exist catalog stored path q e k =
+    (linked_shown catalog stored path q e k, λ s. shown_linked catalog stored path q s.0 s.1)

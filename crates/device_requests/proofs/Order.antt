@@ -160,12 +160,12 @@ ordered false false false false false false format code lines h =
 order : (client : Client) (server : ℕ) (m : Message) (path : Path) (operation : Operation) → Asks m path operation
     → let purpose = purpose_of m operation in
     IsOrdered (object_in path == 0) (lacks_target client path purpose) (lacks_right client server path purpose)
-    (lacks_operation client.catalogue path purpose) (lacks_format client.catalogue path purpose)
+    (lacks_operation client.catalog path purpose) (lacks_format client.catalog path purpose)
     (is_invalid client server path purpose) (format_refusal purpose) (outcome_of client server m).answer.code
 order client server m path operation asks =
     let purpose = purpose_of m operation in
     ordered (object_in path == 0) (lacks_target client path purpose) (lacks_right client server path purpose)
-    (lacks_operation client.catalogue path purpose) (lacks_format client.catalogue path purpose)
+    (lacks_operation client.catalog path purpose) (lacks_format client.catalog path purpose)
     (is_invalid client server path purpose) (format_refusal purpose) (outcome_of client server m).answer.code
     ((is_out_of_turn client path purpose, MethodNotAllowed)
     ∷ (is_too_much client server path purpose, InternalServerError) ∷ (true, done_code purpose) ∷ [])
@@ -208,7 +208,7 @@ each_told p (line ∷ lines) code e h =
     ] e.0 h
 
 format_reason : (client : Client) (server : ℕ) (path : Path) (purpose : Purpose)
-    → lacks_format client.catalogue path purpose ≡ true
+    → lacks_format client.catalog path purpose ≡ true
     → has_reason client server path purpose (format_refusal purpose) ≡ true
 format_reason client server path (to_read accept) h = h
 format_reason client server path purpose h = h
@@ -232,13 +232,13 @@ reasons client server m path operation asks =
         (
           or_right (object_in path == 0) (lacks_right client server path purpose),
           (
-            or_left (lacks_operation client.catalogue path purpose) (is_out_of_turn client path purpose),
+            or_left (lacks_operation client.catalog path purpose) (is_out_of_turn client path purpose),
             (
               format_reason client server path purpose,
               (
                 (λ h. h),
                 (
-                  or_right (lacks_operation client.catalogue path purpose) (is_out_of_turn client path purpose),
+                  or_right (lacks_operation client.catalog path purpose) (is_out_of_turn client path purpose),
                   (
                     (λ h. h),
                     ((λ h. done_reason client server path purpose), tt),

@@ -4,7 +4,7 @@ use Rattle.std.proofs.Common.{None, Some, cond, refl, sym, ap, ◌∙◌, if◌t
 use Rattle.std.specs.Option.{is_some, unwrap_or}
 use Rattle.std.proofs.lemmas.Bool.{and_parts, not-false}
 use Rattle.std.proofs.Math.Bool.{and-false}
-use Rattle.object_defs.specs.Catalogue.{object_of, definition_of}
+use Rattle.object_defs.specs.Catalog.{object_of, definition_of}
 use Rattle.object_defs.specs.Lines.{first_line}
 use Rattle.object_defs.specs.Path.{part_of}
 use Rattle.object_defs.specs.declared.definition.ObjectDef.{ObjectDef}
@@ -22,27 +22,27 @@ use Rattle.device_requests.specs.Targets.{exists, place_of, resource_place, is_m
 use Rattle.device_requests.specs.Client.{Client}
 use Rattle.device_requests.specs.Inside.{has_place}
 
-exists_has : (catalogue : List ObjectDef) (stored : Stored) (path : Path) → exists catalogue stored path ≡ true
+exists_has : (catalog : List ObjectDef) (stored : Stored) (path : Path) → exists catalog stored path ≡ true
     → has_place stored path ≡ true
-exists_has catalogue stored (Object o) h = refl
-exists_has catalogue stored (Instance o i) h =
-    (and_parts (is_some (object_of catalogue o)) (has_instance stored (place_of o i)) h).1
-exists_has catalogue stored (Resource o i r) h =
+exists_has catalog stored (Object o) h = refl
+exists_has catalog stored (Instance o i) h =
+    (and_parts (is_some (object_of catalog o)) (has_instance stored (place_of o i)) h).1
+exists_has catalog stored (Resource o i r) h =
     (and_parts (has_instance stored (place_of o i))
-    (exists_as stored (resource_place o i r) (definition_of catalogue o r)) h).0
-exists_has catalogue stored (Part o i r n) h =
+    (exists_as stored (resource_place o i r) (definition_of catalog o r)) h).0
+exists_has catalog stored (Part o i r n) h =
     (and_parts (has_instance stored (place_of o i))
-    (is_multiple (definition_of catalogue o r) && is_some (value_at stored (part_of (resource_place o i r) n))) h).0
+    (is_multiple (definition_of catalog o r) && is_some (value_at stored (part_of (resource_place o i r) n))) h).0
 
-pub target_has : (catalogue : List ObjectDef) (stored : Stored) (path : Path) → is_target catalogue stored path ≡ true
+pub target_has : (catalog : List ObjectDef) (stored : Stored) (path : Path) → is_target catalog stored path ≡ true
     → has_place stored path ≡ true
-target_has catalogue stored (Object o) h = absurd cc
-target_has catalogue stored (Instance o i) h =
-    (and_parts (is_some (object_of catalogue o)) (has_instance stored (place_of o i)) h).1
-target_has catalogue stored (Resource o i r) h =
-    (and_parts (is_some (definition_of catalogue o r)) (has_instance stored (place_of o i)) h).1
-target_has catalogue stored (Part o i r n) h =
-    (and_parts (is_multiple (definition_of catalogue o r)) (has_instance stored (place_of o i)) h).1
+target_has catalog stored (Object o) h = absurd cc
+target_has catalog stored (Instance o i) h =
+    (and_parts (is_some (object_of catalog o)) (has_instance stored (place_of o i)) h).1
+target_has catalog stored (Resource o i r) h =
+    (and_parts (is_some (definition_of catalog o r)) (has_instance stored (place_of o i)) h).1
+target_has catalog stored (Part o i r n) h =
+    (and_parts (is_multiple (definition_of catalog o r)) (has_instance stored (place_of o i)) h).1
 
 -- no rule holds
 abbrev NoneHolds : List (Bool × Code) → Type 0
@@ -61,13 +61,13 @@ none_holds (rule ∷ rules) h =
 pub execute_has : (client : Client) (server : ℕ) (path : Path) (number : Option ℕ) (payload : List ℕ)
     → refusal_of client server path (to_execute number payload) ≡ None → has_place client.store path ≡ true
 execute_has client server path number payload h =
-    exists_has client.catalogue client.store path (not-false (exists client.catalogue client.store path)
+    exists_has client.catalog client.store path (not-false (exists client.catalog client.store path)
     (none_holds (refusals_of client server path (to_execute number payload)) h).1.0)
 
 pub delete_has : (client : Client) (server : ℕ) (path : Path) → refusal_of client server path to_delete ≡ None
     → has_place client.store path ≡ true
 delete_has client server path h =
-    exists_has client.catalogue client.store path (not-false (exists client.catalogue client.store path)
+    exists_has client.catalog client.store path (not-false (exists client.catalog client.store path)
     (none_holds (refusals_of client server path to_delete) h).1.0)
 
 -- the first part of a resource that was cleared

@@ -13,7 +13,7 @@ use Rattle.device_firmware.specs.declared.event.FirmwareEvent.{FirmwareEvent}
 use Rattle.lwm2m_values.specs.Reading.{value_of_text, value_of_bytes, nodes_of_bytes}
 use Rattle.lwm2m_values.specs.Tree.{Tree, Trees, instance, multi, part, single, none, more}
 use Rattle.lwm2m_values.specs.declared.value.Value.{Value}
-use Rattle.object_defs.specs.Catalogue.{definition_of}
+use Rattle.object_defs.specs.Catalog.{definition_of}
 use Rattle.object_defs.specs.Operations.{can_read}
 use Rattle.object_defs.specs.Path.{path_cmp, single_of}
 use Rattle.object_defs.specs.declared.path.FullPath.{FullPath}
@@ -144,14 +144,14 @@ shown false false false false (Some format) wanted payload h j m k l =
 record Holds (client : Client) (o i r : ℕ) (d : ResourceDef) (value : Value) : Type 0 where
   object : (o == 0) ≡ false
   place : has_instance client.store (place_of o i) ≡ true
-  defined : definition_of client.catalogue o r ≡ Some d
+  defined : definition_of client.catalog o r ≡ Some d
   alone : d.multiple ≡ false
   readable : can_read d.ops ≡ true
   value_is : value_at client.store (single_of (resource_place o i r)) ≡ Some value
 
 format_same : (client : Client) (o i r : ℕ) (d : ResourceDef) (number : Option ℕ)
-    → definition_of client.catalogue o r ≡ Some d → d.multiple ≡ false
-    → format_at client.catalogue (Resource o i r) number ≡ format_for (one d.kind) number
+    → definition_of client.catalog o r ≡ Some d → d.multiple ≡ false
+    → format_at client.catalog (Resource o i r) number ≡ format_for (one d.kind) number
 format_same client o i r d number h k =
     ap (λ e. format_for (extent_as e) number) h ∙ ap (λ b. format_for (if b then many else one d.kind) number) k
 
@@ -184,40 +184,40 @@ read_shown : (client : Client) (server o i r : ℕ) (d : ResourceDef) (value : V
     ≡ content_within wanted (value_payload wanted (single r) value)
 read_shown client server o i r d value accept wanted h m k =
     let p = resource_place o i r in
-    let format : format_at client.catalogue (Resource o i r) accept ≡ Some wanted =
+    let format : format_at client.catalog (Resource o i r) accept ≡ Some wanted =
     format_same client o i r d accept h.defined h.alone ∙ k in
-    let some_if_denied : not (has_resource client.store p (definition_of client.catalogue o r)) ≡ false =
+    let some_if_denied : not (has_resource client.store p (definition_of client.catalog o r)) ≡ false =
     rw h.defined (resource_there client.store p d value h.place h.alone h.value_is) in
-    let readable : not (is_readable (definition_of client.catalogue o r)) ≡ false = rw (h.defined, h.readable) refl in
+    let readable : not (is_readable (definition_of client.catalog o r)) ≡ false = rw (h.defined, h.readable) refl in
     let payload : read_payload client server (Resource o i r) accept ≡ value_payload wanted (single r) value =
     ap (λ (f : Option Format). unwrap_or (option_map (payload_in client server (Resource o i r)) f) []) format
     ∙ payload_shown client server o i r d value wanted h in
     let allowed : not (may_read client server (Resource o i r)) ≡ false = ap not m in
-    shown (o == 0) _ _ _ (format_at client.catalogue (Resource o i r) accept) wanted
+    shown (o == 0) _ _ _ (format_at client.catalog (Resource o i r) accept) wanted
     (read_payload client server (Resource o i r) accept) h.object some_if_denied allowed readable format
     ∙ ap (content_within wanted) payload
 
 -- what a Write that is answered by Changed leaves
 behind : (client : Client) (o i r : ℕ) (d : ResourceDef) (number : Option ℕ) (payload : List ℕ) (stored : Stored)
-    → definition_of client.catalogue o r ≡ Some d → d.multiple ≡ false → can_read d.ops ≡ true → (o == 0) ≡ false
-    → not (is_target client.catalogue client.store (Resource o i r)) ≡ false
-    → not (is_some (format_at client.catalogue (Resource o i r) number)) ≡ false
+    → definition_of client.catalog o r ≡ Some d → d.multiple ≡ false → can_read d.ops ≡ true → (o == 0) ≡ false
+    → not (is_target client.catalog client.store (Resource o i r)) ≡ false
+    → not (is_some (format_at client.catalog (Resource o i r) number)) ≡ false
     → not (is_some (new_values client (Resource o i r) number payload)) ≡ false
-    → stored ≡ written Replace client.catalogue client.store (Resource o i r)
+    → stored ≡ written Replace client.catalog client.store (Resource o i r)
     (new_values client (Resource o i r) number payload)
     → IsReadBack client o i r d number payload stored
 behind client o i r d number payload stored defined alone readable object target served good is =
     let path = Resource o i r in
     let p = resource_place o i r in
-    let format = some_if_denied (format_at client.catalogue path number) served in
+    let format = some_if_denied (format_at client.catalog path number) served in
     let values = some_if_denied (new_values client path number payload) good in
     let given : option_map One (resource_given d format.0 payload) ≡ Some values.0 =
-    sym (ap (λ f. option_and_then (values_given client.catalogue path payload) f) format.1
+    sym (ap (λ f. option_and_then (values_given client.catalog path payload) f) format.1
     ∙ ap (λ e. option_map One (given_to_resource e format.0 payload)) defined) ∙ values.1 in
     let g = of_one (resource_given d format.0 payload) values.0 given in
     let v = gives_one d format.0 payload g.0 alone g.1 in
     let stored_is : stored ≡ with_value client.store (single_of p) v.0 =
-    is ∙ ap (written Replace client.catalogue client.store path) (values.1 ∙ ap Some (g.2 ∙ ap One v.1))
+    is ∙ ap (written Replace client.catalog client.store path) (values.1 ∙ ap Some (g.2 ∙ ap One v.1))
     ∙ ap (λ e. resource_written Replace e client.store p (Single v.0)) defined
     ∙ ap (λ b. if b then with_value client.store (single_of p) v.0 else client.store) readable in
     record {
@@ -248,13 +248,13 @@ turned client server o i r number payload event =
     let values = new_values client path number payload in
     write_unless (first_line (
     (o == 0, Unauthorized)
-    ∷ (not (is_target client.catalogue client.store path), NotFound)
+    ∷ (not (is_target client.catalog client.store path), NotFound)
     ∷ (not (rights_on client server path).write, Unauthorized)
-    ∷ (not (can_be_written client.catalogue path), MethodNotAllowed)
-    ∷ (not (is_some (format_at client.catalogue path number)), UnsupportedContentFormat)
+    ∷ (not (can_be_written client.catalog path), MethodNotAllowed)
+    ∷ (not (is_some (format_at client.catalog path number)), UnsupportedContentFormat)
     ∷ (not (is_some values), BadRequest)
     ∷ (is_refused_now client.store event, MethodNotAllowed)
-    ∷ (unless_taken event (exceeds Replace client.catalogue client.store path values), InternalServerError)
+    ∷ (unless_taken event (exceeds Replace client.catalog client.store path values), InternalServerError)
     ∷ [])) client (left Replace client path values event)
 
 pub read_back : WrittenIsRead
@@ -265,7 +265,7 @@ read_back client server o i r d number payload defined alone readable other h =
     → IsReadBack client o i r d number payload (turned client server o i r number payload e).client.store)
     (sym (no_event o i r values (ne_eqb o 5 other)))
     (λ done.
-    let p = passes (o == 0) _ _ _ (not (is_some (format_at client.catalogue path number))) (not (is_some values))
-    (exceeds Replace client.catalogue client.store path values)
-    client (written Replace client.catalogue client.store path values) done in
+    let p = passes (o == 0) _ _ _ (not (is_some (format_at client.catalog path number))) (not (is_some values))
+    (exceeds Replace client.catalog client.store path values)
+    client (written Replace client.catalog client.store path values) done in
     behind client o i r d number payload _ defined alone readable p.object p.target p.served p.good p.store) h

@@ -86,7 +86,7 @@ refused_at : (client : Client) (server : ℕ) (m : Message) (path : Path) (opera
     → Keeps client (outcome_at client server m (request_with m path operation))
 refused_at client server m path Read h =
     refused_read (refusal_of client server path (to_read (accept_of m.options))) client
-    (format_at client.catalogue path (accept_of m.options)) (read_payload client server path (accept_of m.options)) h
+    (format_at client.catalog path (accept_of m.options)) (read_payload client server path (accept_of m.options)) h
 refused_at client server m path Discover h =
     refused_discover (refusal_of client server path to_discover) client (discover_payload client server path) h
 refused_at client server m path WriteAttributes h =

@@ -12,7 +12,7 @@ use Rattle.object_defs.specs.declared.definition.ObjectDef.{ObjectDef}
 -- time, in seconds: 0 where its notifications are Non-confirmable
 pub record Client : Type 0 where
   pub accounts : List ℕ
-  pub catalogue : List ObjectDef
+  pub catalog : List ObjectDef
   pub store : Stored
   pub attributes : Numbers
   pub notify : ℕ
@@ -22,25 +22,11 @@ attributes_code = map.code key_code coded_ℤ
 
 -- the same with this store
 abbrev pub with_stored : Client → Stored → Client
-with_stored client stored =
-    record {
-      accounts = client.accounts;
-      catalogue = client.catalogue;
-      store = stored;
-      attributes = client.attributes;
-      notify = client.notify;
-    }
+with_stored client stored = record client { store = stored }
 
 -- the same with these attributes
 abbrev pub with_attributes : Client → Numbers → Client
-with_attributes client attributes =
-    record {
-      accounts = client.accounts;
-      catalogue = client.catalogue;
-      store = client.store;
-      attributes = attributes;
-      notify = client.notify;
-    }
+with_attributes client attributes = record client { attributes = attributes }
 
 -- whether a server has an account
 abbrev pub has_account : Client → ℕ → Bool

@@ -23,12 +23,12 @@ numbered stored o (Some c) = option_map (λ n. record { number = n; given = c.as
 
 -- what a payload makes of an object, where it is good and a number is free
 abbrev pub newborn : Client → ℕ → List ℕ → Option Newborn
-newborn client o payload = numbered client.store o (creation_given (defined client.catalogue o) payload)
+newborn client o payload = numbered client.store o (creation_given (defined client.catalog o) payload)
 
 abbrev pub lacks_room : Client → ℕ → Option Newborn → Bool
 lacks_room client o None = false
 lacks_room client o (Some b) =
-    has_no_room client.store (length client.accounts) (defined client.catalogue o) (place_of o b.number) b.given
+    has_no_room client.store (length client.accounts) (defined client.catalog o) (place_of o b.number) b.given
 
 -- a refusal changes nothing; else there is the new instance, which the server owns
 abbrev pub create_unless : Option Code → Client → ℕ → ℕ → Option Newborn → Outcome
@@ -38,6 +38,6 @@ create_unless None client server o (Some b) =
     record {
       answer = created (place_of o b.number);
       client = with_stored client
-          (with_created client.store (length client.accounts) server (defined client.catalogue o)
+          (with_created client.store (length client.accounts) server (defined client.catalog o)
           (place_of o b.number) b.given);
     }

@@ -9,7 +9,7 @@ use Rattle.notifier.specs.declared.attribute.Name.{Name}
 use Rattle.notifier.specs.declared.attribute.Name.TheVariants.{Pmin, Pmax, Gt, Lt, St}
 use Rattle.notifier.specs.declared.attribute.Name.TheVariants as name
 use Rattle.notifier.specs.Attributes.{Numbers, assigned, effective}
-use Rattle.object_defs.specs.Catalogue.{definition_of}
+use Rattle.object_defs.specs.Catalog.{definition_of}
 use Rattle.object_defs.specs.declared.definition.ObjectDef.{ObjectDef}
 use Rattle.object_defs.specs.declared.definition.ResourceDef.{ResourceDef}
 use Rattle.object_defs.specs.declared.path.Path.{Path}
@@ -21,34 +21,34 @@ use Rattle.object_defs.specs.Path.{path_text}
 
 -- those of these resources of an instance that exist
 abbrev pub existing : List ObjectDef → Stored → ℕ → ℕ → List ResourceDef → List Path
-existing catalogue stored o i definitions = filter (exists catalogue stored) (map (λ d. Resource o i d.id) definitions)
+existing catalog stored o i definitions = filter (exists catalog stored) (map (λ d. Resource o i d.id) definitions)
 
--- the resources of an instance that exist, in the catalogue's order
+-- the resources of an instance that exist, in the catalog's order
 abbrev pub resources_below : List ObjectDef → Stored → ℕ → ℕ → List Path
-resources_below catalogue stored o i = existing catalogue stored o i (defined catalogue o)
+resources_below catalog stored o i = existing catalog stored o i (defined catalog o)
 
 -- an instance, followed by its resources
 abbrev pub instance_paths : List ObjectDef → Stored → ℕ → ℕ → List Path
-instance_paths catalogue stored o i = Instance o i ∷ resources_below catalogue stored o i
+instance_paths catalog stored o i = Instance o i ∷ resources_below catalog stored o i
 
 -- what lies below a path, by number; parts have no links
 abbrev pub paths_below : List ObjectDef → Stored → Path → List Path
-paths_below catalogue stored (Object o) = flat_map (instance_paths catalogue stored o) (instances_of stored o)
-paths_below catalogue stored (Instance o i) = resources_below catalogue stored o i
-paths_below catalogue stored (Resource o i r) = []
-paths_below catalogue stored (Part o i r n) = []
+paths_below catalog stored (Object o) = flat_map (instance_paths catalog stored o) (instances_of stored o)
+paths_below catalog stored (Instance o i) = resources_below catalog stored o i
+paths_below catalog stored (Resource o i r) = []
+paths_below catalog stored (Part o i r n) = []
 
 -- the paths that a Discover shows
 abbrev pub linked : List ObjectDef → Stored → Path → List Path
-linked catalogue stored path = path ∷ paths_below catalogue stored path
+linked catalog stored path = path ∷ paths_below catalog stored path
 
 -- how many parts a multiple resource holds
 abbrev pub dimension : List ObjectDef → Stored → Path → ℕ
-dimension catalogue stored (Object o) = 0
-dimension catalogue stored (Instance o i) = 0
-dimension catalogue stored (Resource o i r) =
-    if is_multiple (definition_of catalogue o r) then length (parts_of stored (resource_place o i r)) else 0
-dimension catalogue stored (Part o i r n) = 0
+dimension catalog stored (Object o) = 0
+dimension catalog stored (Instance o i) = 0
+dimension catalog stored (Resource o i r) =
+    if is_multiple (definition_of catalog o r) then length (parts_of stored (resource_place o i r)) else 0
+dimension catalog stored (Part o i r n) = 0
 
 abbrev pub dimension_text : ℕ → List ℕ
 dimension_text n = if n == 0 then [] else codes ";dim=" ++ decimal n
@@ -119,7 +119,7 @@ attributes_text m server inherits path =
 -- what stands after a link's target: `;dim=N` for a multiple resource that is held, and the server's attributes
 abbrev pub behind : Client → ℕ → Bool → Path → List ℕ
 behind client server inherits path =
-    dimension_text (dimension client.catalogue client.store path)
+    dimension_text (dimension client.catalog client.store path)
     ++ attributes_text client.attributes server inherits path
 
 -- a link: its target in angle brackets, and what stands after it
@@ -136,4 +136,4 @@ links_text client server (p ∷ ps) = link client server (inherits_at p) p ++ mo
 
 -- the links of a path and of what lies below it
 abbrev pub discover_payload : Client → ℕ → Path → List ℕ
-discover_payload client server path = links_text client server (linked client.catalogue client.store path)
+discover_payload client server path = links_text client server (linked client.catalog client.store path)

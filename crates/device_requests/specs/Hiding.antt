@@ -25,8 +25,8 @@ pub record IsAlike (client : Client) (stored : Stored) (server o : ℕ) : Type 0
   pub rights : (i : ℕ)
       → reads stored (length client.accounts) server o i ≡ reads client.store (length client.accounts) server o i
   pub values : (i : ℕ) → reads client.store (length client.accounts) server o i ≡ true
-      → shown_in stored (defined client.catalogue o) (Instance o i)
-      ≡ shown_in client.store (defined client.catalogue o) (Instance o i)
+      → shown_in stored (defined client.catalog o) (Instance o i)
+      ≡ shown_in client.store (defined client.catalog o) (Instance o i)
 
 -- a Read of the object has the same answer then, whatever the other instances hold
 abbrev pub UnreadableIsHidden : Type 0

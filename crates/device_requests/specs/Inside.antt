@@ -47,7 +47,7 @@ value_rules client mode path values =
     (not (is_some values), BadRequest)
     ∷ (is_refused_now client.store (event_of path values), MethodNotAllowed)
     ∷ (
-      unless_taken (event_of path values) (exceeds (mode_at mode path) client.catalogue client.store path values),
+      unless_taken (event_of path values) (exceeds (mode_at mode path) client.catalog client.store path values),
       InternalServerError,
     )
     ∷ []

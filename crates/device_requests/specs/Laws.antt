@@ -4,7 +4,7 @@ use Rattle.std.specs.Prelude.{◌*◌, ◌&&◌, ◌⊎◌, ◌↔◌, if◌then
 use Rattle.coap_codec.specs.Message.{Message}
 use Rattle.lwm2m_values.specs.Tree.{single}
 use Rattle.lwm2m_values.specs.declared.value.Value.{Value}
-use Rattle.object_defs.specs.Catalogue.{definition_of}
+use Rattle.object_defs.specs.Catalog.{definition_of}
 use Rattle.object_defs.specs.Operations.{can_read}
 use Rattle.object_defs.specs.declared.definition.ResourceDef.{ResourceDef}
 use Rattle.object_defs.specs.declared.path.Path.{Path}
@@ -54,10 +54,10 @@ request_lines client server m =
 abbrev pub is_refusal : Code → Bool
 is_refusal code = nat_le (4 * 32) (code_byte code)
 
--- accounts and catalogue are as they were
+-- accounts and catalog are as they were
 pub record KeepsFrame (old new : Client) : Type 0 where
   pub accounts : new.accounts ≡ old.accounts
-  pub catalogue : new.catalogue ≡ old.catalogue
+  pub catalog : new.catalog ≡ old.catalog
 
 -- no request changes them
 abbrev pub RequestsKeepFrame : Type 0
@@ -117,7 +117,7 @@ pub record IsReadBack (client : Client) (o i r : ℕ) (d : ResourceDef) (number 
 abbrev pub WrittenIsRead : Type 0
 WrittenIsRead =
     (client : Client) (server o i r : ℕ) (d : ResourceDef) (number : Option ℕ) (payload : List ℕ)
-    → definition_of client.catalogue o r ≡ Some d → d.multiple ≡ false → can_read d.ops ≡ true → o ≢ 5
+    → definition_of client.catalog o r ≡ Some d → d.multiple ≡ false → can_read d.ops ≡ true → o ≢ 5
     → (write_outcome client server Replace (Resource o i r) number payload).answer.code ≡ Changed
     → IsReadBack client o i r d number payload
     (write_outcome client server Replace (Resource o i r) number payload).client.store
@@ -146,6 +146,6 @@ is_part (Part _ _ _ _) = true
 -- the links of a path that exists are those of the paths at and below it that exist, parts left out
 abbrev pub LinksWhatExists : Type 0
 LinksWhatExists =
-    (catalogue : List ObjectDef) (stored : Stored) (path q : Path) → exists catalogue stored path ≡ true
+    (catalog : List ObjectDef) (stored : Stored) (path q : Path) → exists catalog stored path ≡ true
     → is_part path ≡ false
-    → IsAmong q (linked catalogue stored path) ↔ ((lies_at path q ≡ true) × (exists catalogue stored q ≡ true))
+    → IsAmong q (linked catalog stored path) ↔ ((lies_at path q ≡ true) × (exists catalog stored q ≡ true))

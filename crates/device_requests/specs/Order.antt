@@ -88,7 +88,7 @@ RightsPrecedeOperations =
 abbrev pub OperationsPrecedeFormats : Type 0
 OperationsPrecedeFormats =
     (client : Client) (server : ℕ) (m : Message) (path : Path) (operation : Operation) → Asks m path operation
-    → lacks_operation client.catalogue path (purpose_of m operation) ≡ true
+    → lacks_operation client.catalog path (purpose_of m operation) ≡ true
     → IsAmong (outcome_of client server m).answer.code (Unauthorized ∷ NotFound ∷ MethodNotAllowed ∷ [])
 
 -- a format that is not served: 4.06 of a Read, else 4.15, whatever the payload is, where none of the rules above
@@ -96,7 +96,7 @@ OperationsPrecedeFormats =
 abbrev pub FormatsPrecedePayloads : Type 0
 FormatsPrecedePayloads =
     (client : Client) (server : ℕ) (m : Message) (path : Path) (operation : Operation) → Asks m path operation
-    → lacks_format client.catalogue path (purpose_of m operation) ≡ true
+    → lacks_format client.catalog path (purpose_of m operation) ≡ true
     → IsAmong (outcome_of client server m).answer.code
     (Unauthorized ∷ NotFound ∷ MethodNotAllowed ∷ format_refusal (purpose_of m operation) ∷ [])
 
@@ -105,7 +105,7 @@ FormatsPrecedePayloads =
 abbrev pub PayloadsPrecedeStates : Type 0
 PayloadsPrecedeStates =
     (client : Client) (server : ℕ) (m : Message) (path : Path) (operation : Operation) → Asks m path operation
-    → lacks_operation client.catalogue path (purpose_of m operation) ≡ false
+    → lacks_operation client.catalog path (purpose_of m operation) ≡ false
     → is_invalid client server path (purpose_of m operation) ≡ true
     → IsAmong (outcome_of client server m).answer.code
     (Unauthorized ∷ NotFound ∷ format_refusal (purpose_of m operation) ∷ BadRequest ∷ [])
@@ -116,9 +116,9 @@ has_reason client server path purpose Unauthorized =
     object_in path == security_object || lacks_right client server path purpose
 has_reason client server path purpose NotFound = lacks_target client path purpose
 has_reason client server path purpose MethodNotAllowed =
-    lacks_operation client.catalogue path purpose || is_out_of_turn client path purpose
-has_reason client server path purpose NotAcceptable = lacks_format client.catalogue path purpose
-has_reason client server path purpose UnsupportedContentFormat = lacks_format client.catalogue path purpose
+    lacks_operation client.catalog path purpose || is_out_of_turn client path purpose
+has_reason client server path purpose NotAcceptable = lacks_format client.catalog path purpose
+has_reason client server path purpose UnsupportedContentFormat = lacks_format client.catalog path purpose
 has_reason client server path purpose BadRequest = is_invalid client server path purpose
 has_reason client server path purpose InternalServerError = is_too_much client server path purpose
 has_reason client server path purpose BadOption = false

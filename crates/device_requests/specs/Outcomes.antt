@@ -22,7 +22,7 @@ use Rattle.device_requests.specs.WriteAttributes.{annotate_unless, attributes_gi
 abbrev pub read_answer : Client → ℕ → Path → Option ℕ → Answer
 read_answer client server path accept =
     refused_or (refusal_of client server path (to_read accept))
-    (content_in (format_at client.catalogue path accept) (read_payload client server path accept))
+    (content_in (format_at client.catalog path accept) (read_payload client server path accept))
 
 -- the answer to a Discover
 abbrev pub discover_answer : Client → ℕ → Path → Answer

@@ -4,7 +4,7 @@ use Rattle.std.specs.Option.{unwrap_or}
 use Rattle.lwm2m_values.specs.Tlv.{shortest_tlv}
 use Rattle.lwm2m_values.specs.Tree.{Tree, part, single}
 use Rattle.lwm2m_values.specs.declared.value.Value.{Value}
-use Rattle.object_defs.specs.Catalogue.{definition_of}
+use Rattle.object_defs.specs.Catalog.{definition_of}
 use Rattle.object_defs.specs.Path.{single_of, part_of}
 use Rattle.object_defs.specs.declared.definition.ObjectDef.{ObjectDef}
 use Rattle.object_defs.specs.declared.path.Path.{Path}
@@ -22,16 +22,16 @@ use Rattle.device_requests.specs.Targets.{defined, definition_at, is_multiple, r
 
 -- the format of this number at the path, or the default one without a number, where it is served there
 abbrev pub format_at : List ObjectDef → Path → Option ℕ → Option Format
-format_at catalogue path number = format_for (extent_of path (definition_at catalogue path)) number
+format_at catalog path number = format_for (extent_of path (definition_at catalog path)) number
 
 -- what is held at or below the path and can be read, as TLV
 abbrev pub values_payload : Client → ℕ → Path → List ℕ
-values_payload client o path = shortest_tlv (nodes_of (shown_in client.store (defined client.catalogue o) path))
+values_payload client o path = shortest_tlv (nodes_of (shown_in client.store (defined client.catalog o) path))
 
 -- an Object Instance for each instance on which the server has R, also for one that shows nothing
 abbrev pub object_payload : Client → ℕ → ℕ → List ℕ
 object_payload client server o =
-    shortest_tlv (object_nodes client.store (defined client.catalogue o) o
+    shortest_tlv (object_nodes client.store (defined client.catalog o) o
     (shown_instances client.store (length client.accounts) server o))
 
 -- one value in a format, where it is there
@@ -44,7 +44,7 @@ abbrev pub payload_in : Client → ℕ → Path → Format → List ℕ
 payload_in client server (Object o) format = object_payload client server o
 payload_in client server (Instance o i) format = values_payload client o (Instance o i)
 payload_in client server (Resource o i r) format =
-    if is_multiple (definition_of client.catalogue o r) then values_payload client o (Resource o i r)
+    if is_multiple (definition_of client.catalog o r) then values_payload client o (Resource o i r)
     else one_payload format (single r) (value_at client.store (single_of (resource_place o i r)))
 payload_in client server (Part o i r n) format =
     one_payload format (part n) (value_at client.store (part_of (resource_place o i r) n))
@@ -52,7 +52,7 @@ payload_in client server (Part o i r n) format =
 -- what a server is shown in the format that Accept names, where that is served
 abbrev pub read_payload : Client → ℕ → Path → Option ℕ → List ℕ
 read_payload client server path accept =
-    unwrap_or (option_map (payload_in client server path) (format_at client.catalogue path accept)) []
+    unwrap_or (option_map (payload_in client server path) (format_at client.catalog path accept)) []
 
 -- a payload with its format
 abbrev pub content_in : Option Format → List ℕ → Answer

@@ -7,7 +7,7 @@ use Rattle.std.specs.Prelude.{Option, None, Some, is_some, if◌then◌else◌}
 use Rattle.access_control.specs.declared.letters.Rights.{Rights}
 use Rattle.object_defs.specs.Numbers.{security_object, server_object, access_control_object, device_object}
 use Rattle.object_defs.specs.Numbers.{firmware_update_object, update}
-use Rattle.object_defs.specs.Catalogue.{object_of, definition_of}
+use Rattle.object_defs.specs.Catalog.{object_of, definition_of}
 use Rattle.object_defs.specs.Lines.{first_line}
 use Rattle.object_defs.specs.Operations.{can_execute, can_write}
 use Rattle.object_defs.specs.Path.{object_in}
@@ -53,17 +53,17 @@ pub data Purpose : Type 0 where
 -- a Write may give a resource its first value: a resource is there where it is defined, and any part where its resource
 -- is multiple; the instance must exist
 abbrev pub is_target : List ObjectDef → Stored → Path → Bool
-is_target catalogue stored (Object o) = false
-is_target catalogue stored (Instance o i) = is_some (object_of catalogue o) && has_instance stored (place_of o i)
-is_target catalogue stored (Resource o i r) =
-    is_some (definition_of catalogue o r) && has_instance stored (place_of o i)
-is_target catalogue stored (Part o i r n) =
-    is_multiple (definition_of catalogue o r) && has_instance stored (place_of o i)
+is_target catalog stored (Object o) = false
+is_target catalog stored (Instance o i) = is_some (object_of catalog o) && has_instance stored (place_of o i)
+is_target catalog stored (Resource o i r) =
+    is_some (definition_of catalog o r) && has_instance stored (place_of o i)
+is_target catalog stored (Part o i r n) =
+    is_multiple (definition_of catalog o r) && has_instance stored (place_of o i)
 
 -- the target is not there
 abbrev pub lacks_target : Client → Path → Purpose → Bool
-lacks_target client path (to_write mode format payload) = not (is_target client.catalogue client.store path)
-lacks_target client path purpose = not (exists client.catalogue client.store path)
+lacks_target client path (to_write mode format payload) = not (is_target client.catalog client.store path)
+lacks_target client path purpose = not (exists client.catalog client.store path)
 
 -- ---- 8: the right
 
@@ -95,10 +95,10 @@ lacks_right client server path to_delete = not (rights_on client server path).de
 
 -- an object and an instance can be read, a resource and its parts where the resource has that operation
 abbrev pub can_be_read : List ObjectDef → Path → Bool
-can_be_read catalogue (Object _) = true
-can_be_read catalogue (Instance _ _) = true
-can_be_read catalogue (Resource o i r) = is_readable (definition_at catalogue (Resource o i r))
-can_be_read catalogue (Part o i r n) = is_readable (definition_at catalogue (Part o i r n))
+can_be_read catalog (Object _) = true
+can_be_read catalog (Instance _ _) = true
+can_be_read catalog (Resource o i r) = is_readable (definition_at catalog (Resource o i r))
+can_be_read catalog (Part o i r n) = is_readable (definition_at catalog (Part o i r n))
 
 abbrev pub is_writable : Option ResourceDef → Bool
 is_writable None = false
@@ -106,10 +106,10 @@ is_writable (Some d) = can_write d.ops
 
 -- an instance can be written but one of Firmware Update, a resource and its parts where the resource has that operation
 abbrev pub can_be_written : List ObjectDef → Path → Bool
-can_be_written catalogue (Object o) = false
-can_be_written catalogue (Instance o i) = not (o == firmware_update_object)
-can_be_written catalogue (Resource o i r) = is_writable (definition_of catalogue o r)
-can_be_written catalogue (Part o i r n) = is_writable (definition_of catalogue o r)
+can_be_written catalog (Object o) = false
+can_be_written catalog (Instance o i) = not (o == firmware_update_object)
+can_be_written catalog (Resource o i r) = is_writable (definition_of catalog o r)
+can_be_written catalog (Part o i r n) = is_writable (definition_of catalog o r)
 
 abbrev pub is_executable : Option ResourceDef → Bool
 is_executable None = false
@@ -123,13 +123,13 @@ is_fixed object =
 
 -- the resource, or the object, does not have the operation, whoever asks; all have Discover and Write-Attributes
 abbrev pub lacks_operation : List ObjectDef → Path → Purpose → Bool
-lacks_operation catalogue path (to_read accept) = not (can_be_read catalogue path)
-lacks_operation catalogue path to_discover = false
-lacks_operation catalogue path (to_write mode format payload) = not (can_be_written catalogue path)
-lacks_operation catalogue path (to_write_attributes queries) = false
-lacks_operation catalogue path (to_create format payload) = is_fixed (object_in path)
-lacks_operation catalogue path (to_execute format payload) = not (is_executable (definition_at catalogue path))
-lacks_operation catalogue path to_delete = is_fixed (object_in path)
+lacks_operation catalog path (to_read accept) = not (can_be_read catalog path)
+lacks_operation catalog path to_discover = false
+lacks_operation catalog path (to_write mode format payload) = not (can_be_written catalog path)
+lacks_operation catalog path (to_write_attributes queries) = false
+lacks_operation catalog path (to_create format payload) = is_fixed (object_in path)
+lacks_operation catalog path (to_execute format payload) = not (is_executable (definition_at catalog path))
+lacks_operation catalog path to_delete = is_fixed (object_in path)
 
 -- ---- 10: the format
 
@@ -145,11 +145,11 @@ is_plain (Some number) = number == format_number PlainText
 
 -- the format that Accept names, or Content-Format, is not served there
 abbrev pub lacks_format : List ObjectDef → Path → Purpose → Bool
-lacks_format catalogue path (to_read accept) = not (is_some (format_at catalogue path accept))
-lacks_format catalogue path (to_write mode format payload) = not (is_some (format_at catalogue path format))
-lacks_format catalogue path (to_create format payload) = not (is_tlv format)
-lacks_format catalogue path (to_execute format payload) = not (is_plain format)
-lacks_format catalogue path purpose = false
+lacks_format catalog path (to_read accept) = not (is_some (format_at catalog path accept))
+lacks_format catalog path (to_write mode format payload) = not (is_some (format_at catalog path format))
+lacks_format catalog path (to_create format payload) = not (is_tlv format)
+lacks_format catalog path (to_execute format payload) = not (is_plain format)
+lacks_format catalog path purpose = false
 
 -- Accept names what is read, Content-Format what is given
 abbrev pub format_refusal : Purpose → Code
@@ -202,7 +202,7 @@ is_too_much client server path (to_read accept) = is_oversized (read_payload cli
 is_too_much client server path to_discover = is_oversized (discover_payload client server path)
 is_too_much client server path (to_write mode format payload) =
     unless_taken (event_of path (new_values client path format payload))
-    (exceeds (mode_at mode path) client.catalogue client.store path (new_values client path format payload))
+    (exceeds (mode_at mode path) client.catalog client.store path (new_values client path format payload))
 is_too_much client server path (to_create format payload) =
     lacks_room client (object_in path) (newborn client (object_in path) payload)
 is_too_much client server path purpose = false
@@ -215,8 +215,8 @@ refusals_of client server path purpose =
     (object_in path == security_object, Unauthorized)
     ∷ (lacks_target client path purpose, NotFound)
     ∷ (lacks_right client server path purpose, Unauthorized)
-    ∷ (lacks_operation client.catalogue path purpose, MethodNotAllowed)
-    ∷ (lacks_format client.catalogue path purpose, format_refusal purpose)
+    ∷ (lacks_operation client.catalog path purpose, MethodNotAllowed)
+    ∷ (lacks_format client.catalog path purpose, format_refusal purpose)
     ∷ (is_invalid client server path purpose, BadRequest)
     ∷ (is_out_of_turn client path purpose, MethodNotAllowed)
     ∷ (is_too_much client server path purpose, InternalServerError)

@@ -1,6 +1,6 @@
--- The targets of operations: how the catalogue defines a path, and which paths exist.
+-- The targets of operations: how the catalog defines a path, and which paths exist.
 use Rattle.std.specs.Prelude.{ℕ, ◌==◌, Bool, false, ◌&&◌, List, [], Option, None, Some, is_some}
-use Rattle.object_defs.specs.Catalogue.{object_of, definition_of}
+use Rattle.object_defs.specs.Catalog.{object_of, definition_of}
 use Rattle.object_defs.specs.Operations.{can_read}
 use Rattle.object_defs.specs.Path.{part_of}
 use Rattle.object_defs.specs.declared.definition.ObjectDef.{ObjectDef}
@@ -18,14 +18,14 @@ resources_as (Some o) = o.resources
 
 -- the definitions of an object's resources; none where the object is not known
 abbrev pub defined : List ObjectDef → ℕ → List ResourceDef
-defined catalogue object = resources_as (object_of catalogue object)
+defined catalog object = resources_as (object_of catalog object)
 
 -- the definition of the resource that a path names
 abbrev pub definition_at : List ObjectDef → Path → Option ResourceDef
-definition_at catalogue (Object _) = None
-definition_at catalogue (Instance _ _) = None
-definition_at catalogue (Resource o i r) = definition_of catalogue o r
-definition_at catalogue (Part o i r n) = definition_of catalogue o r
+definition_at catalog (Object _) = None
+definition_at catalog (Instance _ _) = None
+definition_at catalog (Resource o i r) = definition_of catalog o r
+definition_at catalog (Part o i r n) = definition_of catalog o r
 
 abbrev pub place_of : ℕ → ℕ → InstancePath
 place_of o i = record { object = o; instance = i }
@@ -41,15 +41,15 @@ abbrev pub is_readable : Option ResourceDef → Bool
 is_readable None = false
 is_readable (Some d) = can_read d.ops
 
--- an object exists where the catalogue has it, an instance where the store has it too, a resource by its definition,
+-- an object exists where the catalog has it, an instance where the store has it too, a resource by its definition,
 -- a part where its resource is multiple and holds it
 abbrev pub exists : List ObjectDef → Stored → Path → Bool
-exists catalogue stored (Object o) = is_some (object_of catalogue o)
-exists catalogue stored (Instance o i) = is_some (object_of catalogue o) && has_instance stored (place_of o i)
-exists catalogue stored (Resource o i r) = has_resource stored (resource_place o i r) (definition_of catalogue o r)
-exists catalogue stored (Part o i r n) =
+exists catalog stored (Object o) = is_some (object_of catalog o)
+exists catalog stored (Instance o i) = is_some (object_of catalog o) && has_instance stored (place_of o i)
+exists catalog stored (Resource o i r) = has_resource stored (resource_place o i r) (definition_of catalog o r)
+exists catalog stored (Part o i r n) =
     has_instance stored (place_of o i)
-    && (is_multiple (definition_of catalogue o r) && is_some (value_at stored (part_of (resource_place o i r) n)))
+    && (is_multiple (definition_of catalog o r) && is_some (value_at stored (part_of (resource_place o i r) n)))
 
 -- a resource of an object
 abbrev pub is_resource : ℕ → ℕ → Path → Bool

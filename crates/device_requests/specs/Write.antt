@@ -2,7 +2,7 @@
 use Rattle.std.specs.Prelude.{ℕ, Bool, false, ◌&&◌, List, Option, None, Some, option_map}
 use Rattle.std.specs.Prelude.{option_and_then, if◌then◌else◌}
 use Rattle.object_defs.specs.Numbers.{firmware_update_object, update_package, package_uri}
-use Rattle.object_defs.specs.Catalogue.{definition_of}
+use Rattle.object_defs.specs.Catalog.{definition_of}
 use Rattle.object_defs.specs.declared.definition.ObjectDef.{ObjectDef}
 use Rattle.object_defs.specs.declared.definition.ResourceDef.{ResourceDef}
 use Rattle.object_defs.specs.declared.path.Path.{Path}
@@ -39,17 +39,17 @@ given_to_part (Some d) n format payload = part_given d n format payload
 
 -- what a payload of this format gives at the path, where it is good
 abbrev pub values_given : List ObjectDef → Path → List ℕ → Format → Option NewValues
-values_given catalogue (Object o) payload format = None
-values_given catalogue (Instance o i) payload format =
-    option_map Several (instance_given (defined catalogue o) i payload)
-values_given catalogue (Resource o i r) payload format =
-    option_map One (given_to_resource (definition_of catalogue o r) format payload)
-values_given catalogue (Part o i r n) payload format =
-    option_map One (given_to_part (definition_of catalogue o r) n format payload)
+values_given catalog (Object o) payload format = None
+values_given catalog (Instance o i) payload format =
+    option_map Several (instance_given (defined catalog o) i payload)
+values_given catalog (Resource o i r) payload format =
+    option_map One (given_to_resource (definition_of catalog o r) format payload)
+values_given catalog (Part o i r n) payload format =
+    option_map One (given_to_part (definition_of catalog o r) n format payload)
 
 abbrev pub new_values : Client → Path → Option ℕ → List ℕ → Option NewValues
 new_values client path number payload =
-    option_and_then (values_given client.catalogue path payload) (format_at client.catalogue path number)
+    option_and_then (values_given client.catalog path payload) (format_at client.catalog path number)
 
 -- a Write to a part leaves the other parts, a Write to a resource none of them
 abbrev pub mode_at : Mode → Path → Mode
@@ -63,17 +63,17 @@ abbrev pub resource_exceeds : Mode → Option ResourceDef → Stored → Resourc
 resource_exceeds mode definition stored p given = is_kept_as definition && is_too_many mode stored p given
 
 abbrev pub values_exceed : Mode → List ObjectDef → Stored → Path → NewValues → Bool
-values_exceed mode catalogue stored (Instance o i) (Several given) =
-    has_too_many mode (defined catalogue o) stored (place_of o i) given
-values_exceed mode catalogue stored (Resource o i r) (One given) =
-    resource_exceeds mode (definition_of catalogue o r) stored (resource_place o i r) given
-values_exceed mode catalogue stored (Part o i r n) (One given) =
-    resource_exceeds mode (definition_of catalogue o r) stored (resource_place o i r) given
-values_exceed mode catalogue stored path values = false
+values_exceed mode catalog stored (Instance o i) (Several given) =
+    has_too_many mode (defined catalog o) stored (place_of o i) given
+values_exceed mode catalog stored (Resource o i r) (One given) =
+    resource_exceeds mode (definition_of catalog o r) stored (resource_place o i r) given
+values_exceed mode catalog stored (Part o i r n) (One given) =
+    resource_exceeds mode (definition_of catalog o r) stored (resource_place o i r) given
+values_exceed mode catalog stored path values = false
 
 abbrev pub exceeds : Mode → List ObjectDef → Stored → Path → Option NewValues → Bool
-exceeds mode catalogue stored path None = false
-exceeds mode catalogue stored path (Some values) = values_exceed mode catalogue stored path values
+exceeds mode catalog stored path None = false
+exceeds mode catalog stored path (Some values) = values_exceed mode catalog stored path values
 
 -- a write-only value is not kept
 abbrev pub resource_written : Mode → Option ResourceDef → Stored → ResourcePath → Given → Stored
@@ -81,18 +81,18 @@ resource_written mode definition stored p given =
     if is_kept_as definition then with_given mode stored p given else stored
 
 abbrev pub values_written : Mode → List ObjectDef → Stored → Path → NewValues → Stored
-values_written mode catalogue stored (Instance o i) (Several given) =
-    instance_written mode (defined catalogue o) stored (place_of o i) given
-values_written mode catalogue stored (Resource o i r) (One given) =
-    resource_written mode (definition_of catalogue o r) stored (resource_place o i r) given
-values_written mode catalogue stored (Part o i r n) (One given) =
-    resource_written mode (definition_of catalogue o r) stored (resource_place o i r) given
-values_written mode catalogue stored path values = stored
+values_written mode catalog stored (Instance o i) (Several given) =
+    instance_written mode (defined catalog o) stored (place_of o i) given
+values_written mode catalog stored (Resource o i r) (One given) =
+    resource_written mode (definition_of catalog o r) stored (resource_place o i r) given
+values_written mode catalog stored (Part o i r n) (One given) =
+    resource_written mode (definition_of catalog o r) stored (resource_place o i r) given
+values_written mode catalog stored path values = stored
 
 -- the store after a Write that is not refused
 abbrev pub written : Mode → List ObjectDef → Stored → Path → Option NewValues → Stored
-written mode catalogue stored path None = stored
-written mode catalogue stored path (Some values) = values_written mode catalogue stored path values
+written mode catalog stored path None = stored
+written mode catalog stored path (Some values) = values_written mode catalog stored path values
 
 -- what a Package is to the firmware, and what a Package URI is
 abbrev pub package_in : NewValues → Option FirmwareEvent
@@ -120,4 +120,4 @@ write_unless None client stored = record { answer = bare Changed; client = with_
 -- URI
 abbrev pub left : Mode → Client → Path → Option NewValues → Option FirmwareEvent → Stored
 left mode client path values (Some event) = unwrap_or (firmware_after client.store event) client.store
-left mode client path values None = written mode client.catalogue client.store path values
+left mode client path values None = written mode client.catalog client.store path values

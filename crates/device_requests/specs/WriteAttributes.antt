@@ -9,7 +9,7 @@ use Rattle.notifier.specs.declared.attribute.Level.TheVariants as level
 use Rattle.notifier.specs.declared.fault.QueryFault.{QueryFault}
 use Rattle.notifier.specs.Attributes.{Numbers, is_consistent, written}
 use Rattle.notifier.specs.Query.{changes_of}
-use Rattle.object_defs.specs.Catalogue.{definition_of}
+use Rattle.object_defs.specs.Catalog.{definition_of}
 use Rattle.object_defs.specs.declared.definition.ObjectDef.{ObjectDef}
 use Rattle.object_defs.specs.declared.definition.ResourceDef.{ResourceDef}
 use Rattle.object_defs.specs.declared.path.Path.{Path}
@@ -35,10 +35,10 @@ is_numeric (Some d) = not d.multiple && is_numeric_kind d.kind
 
 -- what a path is to attributes
 abbrev pub level_at : List ObjectDef → Path → Level
-level_at catalogue (Object o) = level.Object
-level_at catalogue (Instance o i) = level.Instance
-level_at catalogue (Resource o i r) = if is_numeric (definition_of catalogue o r) then level.Number else level.Resource
-level_at catalogue (Part o i r n) = level.Resource
+level_at catalog (Object o) = level.Object
+level_at catalog (Instance o i) = level.Instance
+level_at catalog (Resource o i r) = if is_numeric (definition_of catalog o r) then level.Number else level.Resource
+level_at catalog (Part o i r n) = level.Resource
 
 -- the changes, where the queries spell some
 abbrev pub spelled : Result (List Change) QueryFault → Option (List Change)
@@ -46,17 +46,17 @@ spelled (Ok changes) = Some changes
 spelled (Err fault) = None
 
 abbrev pub changes_given : List ObjectDef → Path → List (List ℕ) → Option (List Change)
-changes_given catalogue path queries = spelled (changes_of [] (level_at catalogue path) queries)
+changes_given catalog path queries = spelled (changes_of [] (level_at catalog path) queries)
 
 -- the attributes with changes of a server on a path, where its numbers there agree then
-abbrev pub agreed : Numbers → ℕ → Path → List Change → Option Numbers
-agreed m server path changes =
+abbrev pub new_numbers : Numbers → ℕ → Path → List Change → Option Numbers
+new_numbers m server path changes =
     if is_consistent (written m server path changes) server path then Some (written m server path changes) else None
 
 -- the attributes with the changes that queries spell, where they may stand so
 abbrev pub attributes_given : Client → ℕ → Path → List (List ℕ) → Option Numbers
 attributes_given client server path queries =
-    option_and_then (agreed client.attributes server path) (changes_given client.catalogue path queries)
+    option_and_then (new_numbers client.attributes server path) (changes_given client.catalog path queries)
 
 -- a refusal changes nothing; else the attributes are these
 abbrev pub annotate_unless : Option Code → Client → Option Numbers → Outcome

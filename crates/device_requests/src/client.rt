@@ -42,7 +42,7 @@ impl Model for Client {
 
     ghost view = { λ c. record {
       accounts = c.accounts.items;
-      catalogue = c.catalog;
+      catalog = c.catalog;
       store = c.store;
       attributes = c.attributes;
       notify = c.notify;
@@ -62,7 +62,7 @@ impl Client {
     ) -> Client
         ensures { result ≡ record {
           accounts = accounts.items;
-          catalogue = catalog;
+          catalog = catalog;
           store = store;
           attributes = map.empty;
           notify = notify;
@@ -94,7 +94,7 @@ impl Client {
 
     /// The definitions of the objects.
     pub fn catalog(&self) -> &Catalog
-        ensures { result.now ≡ self.now.catalogue }
+        ensures { result.now ≡ self.now.catalog }
     {
         &self.catalog
     }
@@ -142,7 +142,7 @@ impl Client {
         ensures full { IsErrOf result StoreFault.Full
             ↔ (IsTrue (has_instance self.old.store (instance_at path)) × IsTrue (is_one_too_many self.old.store path)) }
         ensures never_exists { result ≢ Err StoreFault.Exists }
-        ensures grows { IsErrOf result StoreFault.Memory → value_at self.old.store path ≡ None }
+        ensures may_lack_memory { IsErrOf result StoreFault.Memory → value_at self.old.store path ≡ None }
         ensures err { OnErr result (self.new ≡ self.old) }
     {
         device_template::put(&mut self.store, path, value)
@@ -158,7 +158,7 @@ impl Client {
 
         // It takes memory only if there is one, and State and Update Result are not both held.
         ensures taken { OnErr result (is_some (firmware_after self.old.store (Ended code)) ≡ true) }
-        ensures memory { OnErr result (is_ready self.old.store (Ended code) ≡ false) }
+        ensures may_lack_memory { OnErr result (is_ready self.old.store (Ended code) ≡ false) }
         ensures unchanged { OnErr result (self.new ≡ self.old) }
     {
         take(self.alloc, &mut self.store, FirmwareEvent::Ended(code))

@@ -57,7 +57,7 @@ impl Client {
             ≡ false }
         ensures made { OnOk result (self.new ≡ with_stored self.old
             (with_created self.old.store (length self.old.accounts) server
-            (defined self.old.catalogue place.object) (place_of place.object place.instance) given)) }
+            (defined self.old.catalog place.object) (place_of place.object place.instance) given)) }
         ensures unchanged { OnErr result (self.new ≡ self.old) }
     {
         let accounts = self.accounts.len();
@@ -124,7 +124,7 @@ impl Client {
             (λ a. Leaves a self.new (create_outcome self.old server path number payload.now)) }
 
         // Only what the payload gives takes memory.
-        ensures grows { OnErr result
+        ensures may_lack_memory { OnErr result
             (takes_memory (create_outcome self.old server path number payload.now).answer.code ≡ true) }
         ensures allowed { OnErr result
             ((create_outcome self.old server path number payload.now).answer.code ≢ Code.MethodNotAllowed) }

@@ -101,7 +101,7 @@ impl Client {
         ensures outcome { IfOk result (λ a. Leaves a self.new (delete_outcome self.old server path)) }
 
         // No refusal takes memory.
-        ensures grows { OnErr result (refusal_of self.old server path to_delete ≡ None) }
+        ensures may_lack_memory { OnErr result (refusal_of self.old server path to_delete ≡ None) }
         ensures takes { OnErr result (is_fixed (object_in path) ≡ false) }
         ensures unchanged { OnErr result (self.new ≡ self.old) }
     {

@@ -252,7 +252,7 @@ fn put_existing(
     path: Path,
 ) -> Result<(), AllocError>
     ensures { OnOk result (text.new.items ≡ text.old.items
-        ++ more_links client.now server (filter (exists client.now.catalogue client.now.store) (path ∷ []))) }
+        ++ more_links client.now server (filter (exists client.now.catalog client.now.store) (path ∷ []))) }
 {
     if exists(client.catalog(), client.store(), path) {
         return put_next(alloc, text, client, server, path);
@@ -271,7 +271,7 @@ fn put_resources(
 ) -> Result<(), AllocError>
     ensures { OnOk result (text.new.items ≡ text.old.items
         ++ more_links client.now server
-        (existing client.now.catalogue client.now.store place.object place.instance resources.now)) }
+        (existing client.now.catalog client.now.store place.object place.instance resources.now)) }
 {
     for definition in resources {
         let path = Path::Resource(place.object, place.instance, definition.id);
@@ -290,7 +290,7 @@ fn put_instance(
 ) -> Result<(), AllocError>
     ensures { OnOk result (text.new.items ≡ text.old.items
         ++ more_links client.now server
-        (instance_paths client.now.catalogue client.now.store place.object place.instance)) }
+        (instance_paths client.now.catalog client.now.store place.object place.instance)) }
 {
     let path = Path::Instance(place.object, place.instance);
     put_next(alloc, text, client, server, path)?;
@@ -309,7 +309,7 @@ fn put_instances(
 ) -> Result<(), AllocError>
     ensures { OnOk result (text.new.items ≡ text.old.items
         ++ more_links client.now server
-        (flat_map (instance_paths client.now.catalogue client.now.store object) instances.now)) }
+        (flat_map (instance_paths client.now.catalog client.now.store object) instances.now)) }
 {
     for instance in instances {
         let instance = *instance;
@@ -333,7 +333,7 @@ fn put_below(
     path: Path,
 ) -> Result<(), AllocError>
     ensures { OnOk result (text.new.items ≡ text.old.items
-        ++ more_links client.now server (paths_below client.now.catalogue client.now.store path)) }
+        ++ more_links client.now server (paths_below client.now.catalog client.now.store path)) }
 {
     match path {
         Path::Object(object) => {
@@ -361,7 +361,7 @@ fn inherits_at(path: Path) -> bool
 
 /// The links of a path and of what lies below it, joined by commas, for a server.
 fn links(alloc: Global, client: &Client, server: u16, path: Path) -> Result<Bytes, AllocError>
-    ensures { IfOk result (λ b. b ≡ links_text client.now server (linked client.now.catalogue client.now.store path)) }
+    ensures { IfOk result (λ b. b ≡ links_text client.now server (linked client.now.catalog client.now.store path)) }
 {
     let mut text = Vec::new(alloc);
     put_link(alloc, &mut text, client, server, inherits_at(path), path)?;
@@ -373,7 +373,7 @@ impl Client {
     /// The answer to a Discover.
     pub(crate) fn discover(&self, server: u16, path: Path) -> Result<Answer, AllocError>
         ensures answer { IfOk result (λ a. a ≡ discover_answer self.now server path) }
-        ensures grows { OnErr result (takes_memory (discover_answer self.now server path).code ≡ true) }
+        ensures may_lack_memory { OnErr result (takes_memory (discover_answer self.now server path).code ≡ true) }
     {
         if path.object() == SECURITY {
             return Ok(Answer::bare(self.alloc, Code::Unauthorized));

@@ -121,7 +121,7 @@ fn reset_errors(store: &mut Store, path: Path) -> Result<(), AllocError>
 fn execute_at(alloc: Global, store: &mut Store, path: Path) -> Result<(), AllocError>
     requires { has_place store.old path ≡ true }
     ensures done { OnOk result (store.new ≡ executed store.old path) }
-    ensures grows { OnErr result ((is_resource firmware_update_object update path
+    ensures may_lack_memory { OnErr result ((is_resource firmware_update_object update path
         || is_resource device_object reset_error_code path) ≡ true) }
 {
     if is_resource(FIRMWARE_UPDATE, UPDATE, path) {
@@ -193,10 +193,10 @@ impl Client {
 
         // Only Update and Reset Error Code take memory, and only if nothing refuses them. After an error the error
         // codes may have been removed.
-        ensures grows { OnErr result ((is_resource firmware_update_object update path
+        ensures may_lack_memory { OnErr result ((is_resource firmware_update_object update path
             || is_resource device_object reset_error_code path) ≡ true) }
         ensures unrefused { OnErr result (refusal_of self.old server path (to_execute number payload.now) ≡ None) }
-        ensures executable { OnErr result (is_executable (definition_at self.old.catalogue path) ≡ true) }
+        ensures executable { OnErr result (is_executable (definition_at self.old.catalog path) ≡ true) }
         ensures left { OnErr result (self.new ≡ with_stored self.old self.new.store) }
     {
         match self.execute_refusal(server, path, number, payload) {

@@ -26,7 +26,7 @@ pub fn first_line_answers()
 
 /// A refusal changes nothing (`nothing`), its answer has neither option nor payload (`alone`), and the device does not
 /// act; a request whose answer is not 2.01, 2.02 or 2.04 changes nothing either (`said`); and no request changes the
-/// accounts or the catalogue (`frame`).
+/// accounts or the catalog (`frame`).
 pub fn refusals_change_nothing()
     ensures nothing { RefusalKeeps }
     ensures said { ChangesAreSaid }

@@ -69,7 +69,7 @@ impl Client {
         definition: Option<ResourceDef>,
         format: Format,
     ) -> Result<Option<Bytes>, AllocError>
-        requires { definition ≡ definition_at self.now.catalogue
+        requires { definition ≡ definition_at self.now.catalog
             (Path.Resource place.object place.instance place.resource) }
         ensures { IfOk result (λ b. b ≡ within_limit
             (payload_in self.now server (Path.Resource place.object place.instance place.resource) format)) }
@@ -92,7 +92,7 @@ impl Client {
         definition: Option<ResourceDef>,
         format: Format,
     ) -> Result<Option<Bytes>, AllocError>
-        requires { definition ≡ definition_at self.now.catalogue path }
+        requires { definition ≡ definition_at self.now.catalog path }
         ensures { IfOk result (λ b. b ≡ within_limit (payload_in self.now server path format)) }
     {
         match path {
@@ -118,9 +118,9 @@ impl Client {
         ensures answer { IfOk result (λ a. a ≡ read_answer self.now server path accept) }
 
         // Only a payload takes memory.
-        ensures grows { OnErr result (takes_memory (read_answer self.now server path accept).code ≡ true) }
+        ensures may_lack_memory { OnErr result (takes_memory (read_answer self.now server path accept).code ≡ true) }
         ensures allowed { OnErr result ((read_answer self.now server path accept).code ≢ Code.MethodNotAllowed) }
-        ensures readable { OnErr result (can_be_read self.now.catalogue path ≡ true) }
+        ensures readable { OnErr result (can_be_read self.now.catalog path ≡ true) }
     {
         if path.object() == SECURITY {
             return Ok(Answer::bare(self.alloc, Code::Unauthorized));

@@ -85,10 +85,10 @@ impl Client {
         request: Request,
     ) -> Result<Answer, AllocError>
         ensures outcome { IfOk result (λ a. Leaves a self.new (outcome_at self.old server message.now request)) }
-        ensures grows { OnErr result
+        ensures may_lack_memory { OnErr result
             (takes_memory (outcome_at self.old server message.now request).answer.code ≡ true) }
         ensures has { OnErr result
-            (lacks_operation self.old.catalogue request.path (purpose_of message.now request.operation) ≡ false) }
+            (lacks_operation self.old.catalog request.path (purpose_of message.now request.operation) ≡ false) }
         ensures left { OnErr result (self.new ≡ with_stored self.old self.new.store) }
     {
         let path = request.path;
@@ -129,8 +129,9 @@ impl Client {
         // takes memory.
         ensures request { OnErr result (IsOk (request_of message.now)) }
         ensures has { OnErr result (IfOk (request_of message.now) (λ r.
-            lacks_operation self.old.catalogue r.path (purpose_of message.now r.operation) ≡ false)) }
-        ensures grows { OnErr result (takes_memory (outcome_of self.old server message.now).answer.code ≡ true) }
+            lacks_operation self.old.catalog r.path (purpose_of message.now r.operation) ≡ false)) }
+        ensures may_lack_memory { OnErr result (takes_memory (outcome_of self.old server message.now).answer.code
+            ≡ true) }
         ensures left { OnErr result (self.new ≡ with_stored self.old self.new.store) }
     {
         match Request::read(message) {

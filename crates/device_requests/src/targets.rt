@@ -1,4 +1,4 @@
-//! The targets of operations: how the catalogue defines a path, and which paths exist.
+//! The targets of operations: how the catalog defines a path, and which paths exist.
 
 ghost use Rattle.std.specs.Prelude.{◌≡◌};
 ghost use Rattle.device_requests.specs.Refusals.{is_fixed};
@@ -78,7 +78,7 @@ pub(crate) fn is_readable(definition: Option<ResourceDef>) -> bool
     }
 }
 
-/// Whether a path exists: an object in the catalogue, an instance in the store, a resource by its
+/// Whether a path exists: an object in the catalog, an instance in the store, a resource by its
 /// definition, a part where its resource is multiple and holds it.
 pub(crate) fn exists(catalog: &Catalog, store: &Store, path: Path) -> bool
     ensures { result ≡ exists catalog.now store.now path }

@@ -106,7 +106,7 @@ fn package_in(values: &NewValues) -> Option<FirmwareEvent>
 /// What writing this as the Package URI is to the firmware.
 fn uri_in(values: &NewValues) -> Result<Option<FirmwareEvent>, AllocError>
     ensures event { IfOk result (λ e. e ≡ uri_in values.now) }
-    ensures grows { OnErr result (is_some (uri_in values.now) ≡ true) }
+    ensures may_lack_memory { OnErr result (is_some (uri_in values.now) ≡ true) }
 {
     match values {
         NewValues::One(given) => match given {
@@ -126,7 +126,7 @@ fn uri_in(values: &NewValues) -> Result<Option<FirmwareEvent>, AllocError>
 /// What writing this is to the firmware.
 fn event_of(path: Path, values: &NewValues) -> Result<Option<FirmwareEvent>, AllocError>
     ensures event { IfOk result (λ e. e ≡ event_of path (Some values.now)) }
-    ensures grows { OnErr result (is_some (event_of path (Some values.now)) ≡ true) }
+    ensures may_lack_memory { OnErr result (is_some (event_of path (Some values.now)) ≡ true) }
 {
     if is_resource(FIRMWARE_UPDATE, PACKAGE, path) {
         return Ok(package_in(values));
@@ -339,8 +339,8 @@ impl Client {
         requires { has_place self.old.store path ≡ true }
         ensures outcome { IfOk result (λ a. Leaves a self.new
             (write_unless (first_line
-            ((values_exceed mode self.old.catalogue self.old.store path values, Code.InternalServerError) ∷ []))
-            self.old (values_written mode self.old.catalogue self.old.store path values))) }
+            ((values_exceed mode self.old.catalog self.old.store path values, Code.InternalServerError) ∷ []))
+            self.old (values_written mode self.old.catalog self.old.store path values))) }
         ensures left { OnErr result (self.new ≡ with_stored self.old self.new.store) }
     {
         if exceeds(mode, &self.catalog, &self.store, path, &values)? {
@@ -359,7 +359,7 @@ impl Client {
 
         // Only if its State allows it, and what changes is not all held.
         ensures taken { OnErr result (is_some (firmware_after self.old.store event) ≡ true) }
-        ensures memory { OnErr result (is_ready self.old.store event ≡ false) }
+        ensures may_lack_memory { OnErr result (is_ready self.old.store event ≡ false) }
         ensures unchanged { OnErr result (self.new ≡ self.old) }
     {
         if take(self.alloc, &mut self.store, event)? {
@@ -377,7 +377,7 @@ impl Client {
         payload: &[u8],
     ) -> Result<Answer, AllocError>
         requires { has_place self.old.store path ≡ true }
-        ensures outcome { IfOk result (λ a. let values = values_given self.old.catalogue path payload.now format in
+        ensures outcome { IfOk result (λ a. let values = values_given self.old.catalog path payload.now format in
             Leaves a self.new (give (value_rules self.old mode path values) self.old mode path values)) }
         ensures left { OnErr result (self.new ≡ with_stored self.old self.new.store) }
     {
@@ -402,9 +402,9 @@ impl Client {
         requires { has_place self.old.store path ≡ true }
         ensures outcome { IfOk result (λ a. let values = new_values self.old path number payload.now in
             Leaves a self.new (give
-            ((not (is_some (format_at self.old.catalogue path number)), Code.UnsupportedContentFormat)
+            ((not (is_some (format_at self.old.catalog path number)), Code.UnsupportedContentFormat)
             ∷ value_rules self.old mode path values) self.old mode path values)) }
-        ensures grows { OnErr result (is_some (format_at self.old.catalogue path number) ≡ true) }
+        ensures may_lack_memory { OnErr result (is_some (format_at self.old.catalog path number) ≡ true) }
         ensures left { OnErr result (self.new ≡ with_stored self.old self.new.store) }
     {
         let Some(format) = format_for(path, definition_at(&self.catalog, path), number) else {
@@ -427,9 +427,9 @@ impl Client {
             (λ a. Leaves a self.new (write_outcome self.old server mode path number payload.now)) }
 
         // Only what the payload gives takes memory. After an error some of it may be set.
-        ensures grows { OnErr result
+        ensures may_lack_memory { OnErr result
             (takes_memory (write_outcome self.old server mode path number payload.now).answer.code ≡ true) }
-        ensures allowed { OnErr result (can_be_written self.old.catalogue path ≡ true) }
+        ensures allowed { OnErr result (can_be_written self.old.catalog path ≡ true) }
         ensures left { OnErr result (self.new ≡ with_stored self.old self.new.store) }
     {
         if path.object() == SECURITY {

@@ -8,7 +8,7 @@ ghost use Rattle.device_requests.specs.Answer.{Leaves, takes_memory};
 ghost use Rattle.device_requests.specs.Options.{queries_of};
 ghost use Rattle.device_requests.specs.Outcomes.{attributes_outcome};
 ghost use Rattle.device_requests.specs.Refusals.{annotates, annotates_at};
-ghost use Rattle.device_requests.specs.WriteAttributes.{agreed, annotate_unless};
+ghost use Rattle.device_requests.specs.WriteAttributes.{new_numbers, annotate_unless};
 ghost use Rattle.device_requests.specs.WriteAttributes.{changes_given, is_numeric, is_numeric_kind, level_at, spelled};
 
 use crate::answer::{Answer, Code};
@@ -91,7 +91,7 @@ fn with_option(changes: Changes, level: Level, option: &Opt) -> Result<Option<Ch
 
     // Only a query that spells a change takes memory.
     ensures query { OnErr result (option.now.number ≡ 15) }
-    ensures grows { OnErr result (IsOk (reading_of changes level option.now.value)) }
+    ensures may_lack_memory { OnErr result (IsOk (reading_of changes level option.now.value)) }
 {
     let mut changes = changes;
     if option.number != URI_QUERY {
@@ -110,7 +110,7 @@ fn changes_at(alloc: Global, level: Level, options: &[Opt]) -> Result<Option<Cha
     ensures read { IfOk result (λ c. c ≡ spelled (changes_of [] level (queries_of options.now))) }
 
     // Neither no query nor a first one with a fault takes memory.
-    ensures grows { OnErr result (BeginsWithChange level (queries_of options.now)) }
+    ensures may_lack_memory { OnErr result (BeginsWithChange level (queries_of options.now)) }
 {
     let mut changes = Changes::new(alloc);
     for option in options {
@@ -131,7 +131,7 @@ fn changes_given(
     options: &[Opt],
 ) -> Result<Option<Changes>, AllocError>
     ensures read { IfOk result (λ c. c ≡ changes_given catalog.now path (queries_of options.now)) }
-    ensures grows { OnErr result (BeginsWithChange (level_at catalog.now path) (queries_of options.now)) }
+    ensures may_lack_memory { OnErr result (BeginsWithChange (level_at catalog.now path) (queries_of options.now)) }
 {
     changes_at(alloc, level_at(catalog, path), options)
 }
@@ -144,13 +144,14 @@ impl Client {
         path: Path,
         changes: &[Change],
     ) -> Result<Answer, AllocError>
-        ensures outcome { IfOk result (λ a. let given = agreed self.old.attributes server path changes.now in
+        ensures outcome { IfOk result (λ a. let given = new_numbers self.old.attributes server path changes.now in
             Leaves a self.new
             (annotate_unless (first_line ((not (is_some given), Code.BadRequest) ∷ [])) self.old given)) }
 
         // Only changes after which the numbers agree take memory.
-        ensures grows { OnErr result (is_some (agreed self.old.attributes server path changes.now) ≡ true) }
-        ensures some { OnErr result (changes.now ≢ []) }
+        ensures may_lack_memory { OnErr result (is_some (new_numbers self.old.attributes server path changes.now)
+            ≡ true) }
+        ensures only_with_changes { OnErr result (changes.now ≢ []) }
         ensures unchanged { OnErr result (self.new ≡ self.old) }
     {
         match self.attributes.write(server, path, changes) {
@@ -171,10 +172,10 @@ impl Client {
             (attributes_outcome self.old server path (queries_of options.now))) }
 
         // Only what the queries set takes memory.
-        ensures grows { OnErr result (takes_memory
+        ensures may_lack_memory { OnErr result (takes_memory
             (attributes_outcome self.old server path (queries_of options.now)).answer.code ≡ true) }
         ensures begins { OnErr result
-            (BeginsWithChange (level_at self.old.catalogue path) (queries_of options.now)) }
+            (BeginsWithChange (level_at self.old.catalog path) (queries_of options.now)) }
         ensures unchanged { OnErr result (self.new ≡ self.old) }
     {
         if path.object() == SECURITY {

@@ -18,8 +18,8 @@ use Rattle.device_template.specs.Built.{IsBuilt, IsShort}
 use Rattle.device_template.specs.Built.IsBuilt.{nothing, account, object, resource, instance, value, notify}
 
 abbrev pub made : List ℕ → List ObjectDef → Stored → ℕ → Template
-made accounts catalogue store seconds =
-    record { accounts = accounts; catalogue = catalogue; store = store; notify = seconds }
+made accounts catalog store seconds =
+    record { accounts = accounts; catalog = catalog; store = store; notify = seconds }
 
 pub by_nothing : (a : List ℕ) (c : List ObjectDef) (s : Stored) → a ≡ [] → c ≡ base → s ≡ empty → IsBuilt (made a c s 0)
 by_nothing a c s ea ec es =

@@ -7,7 +7,7 @@ use Rattle.object_defs.specs.declared.definition.ResourceDef.{ResourceDef}
 use Rattle.object_defs.specs.declared.path.FullPath.{FullPath}
 use Rattle.object_defs.specs.declared.path.InstancePath.{InstancePath}
 use Rattle.instance_store.specs.Stored.{with_instance, with_value}
-use Rattle.device_template.specs.Template.{Template, empty_class, with_account, with_catalogue, with_notify, with_store}
+use Rattle.device_template.specs.Template.{Template, empty_class, with_account, with_catalog, with_notify, with_store}
 use Rattle.device_template.specs.Template.{account_fault, object_fault, definition_fault, instance_fault}
 use Rattle.device_template.specs.Template.{notify_fault, value_fault_at}
 
@@ -22,10 +22,10 @@ pub data IsBuilt : Template → Type 0 where
   account : {class : Template} (server : ℕ) → IsBuilt class → account_fault class server ≡ None
       → IsBuilt (with_account class server)
   object : {class : Template} (id : ℕ) → IsBuilt class → object_fault class id ≡ None
-      → IsBuilt (with_catalogue class (with_object class.catalogue id))
+      → IsBuilt (with_catalog class (with_object class.catalog id))
   resource : {class : Template} (object : ℕ) (definition : ResourceDef) → definition.id < 65536 → IsBuilt class
       → definition_fault class object definition ≡ None
-      → IsBuilt (with_catalogue class (with_resource class.catalogue object definition))
+      → IsBuilt (with_catalog class (with_resource class.catalog object definition))
   instance : {class : Template} (place : InstancePath) → place.object < 65536 → IsBuilt class
       → instance_fault class place ≡ None
       → IsBuilt (with_store class (with_instance class.store place))

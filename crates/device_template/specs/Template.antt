@@ -7,13 +7,13 @@ use Rattle.lwm2m_values.specs.declared.value.Value.TheVariants.{Text, Whole, Fla
 use Rattle.lwm2m_values.specs.declared.kind.ValueKind.{ValueKind}
 use Rattle.lwm2m_values.specs.declared.kind.ValueKind.TheVariants as kind
 use Rattle.object_defs.specs.Base.{base}
-use Rattle.object_defs.specs.Catalogue.{object_of, definition_of}
+use Rattle.object_defs.specs.Catalog.{object_of, definition_of}
 use Rattle.object_defs.specs.Numbers.{security_object, device_object, firmware_update_object}
 use Rattle.object_defs.specs.Numbers.{package_uri, update_state, update_result}
 use Rattle.object_defs.specs.Vendor.{inserted, resource_fault, vendor_fault}
 use Rattle.object_defs.specs.declared.definition.ResourceDef.{ResourceDef}
 use Rattle.object_defs.specs.declared.fault.CatalogFault.{CatalogFault}
-use Rattle.object_defs.specs.declared.fault.CatalogFault.TheVariants as catalog
+use Rattle.object_defs.specs.declared.fault.CatalogFault.TheVariants as catalog_faults
 use Rattle.object_defs.specs.declared.definition.ObjectDef.{ObjectDef}
 use Rattle.object_defs.specs.declared.path.FullPath.{FullPath}
 use Rattle.object_defs.specs.declared.path.InstancePath.{InstancePath}
@@ -26,7 +26,7 @@ use Rattle.device_template.specs.Values.{fits, has_place, has_all_parts}
 -- what a template holds
 pub record Template : Type 0 where
   pub accounts : List ℕ
-  pub catalogue : List ObjectDef
+  pub catalog : List ObjectDef
   pub store : Stored
   -- how long a device waits for the Ack of a Confirmable notification before it sends it again for the first time, in
   -- seconds; 0 where its notifications are Non-confirmable
@@ -34,29 +34,20 @@ pub record Template : Type 0 where
 
 -- no account, no instance and no value; the base objects; Non-confirmable notifications
 abbrev pub empty_class : Template
-empty_class = record { accounts = []; catalogue = base; store = empty; notify = 0 }
+empty_class = record { accounts = []; catalog = base; store = empty; notify = 0 }
 
 -- with one account more, in ascending order
 abbrev pub with_account : Template → ℕ → Template
-with_account class server =
-    record {
-      accounts = inserted (λ a. a) server class.accounts;
-      catalogue = class.catalogue;
-      store = class.store;
-      notify = class.notify;
-    }
+with_account class server = record class { accounts = inserted (λ a. a) server class.accounts }
 
-abbrev pub with_catalogue : Template → List ObjectDef → Template
-with_catalogue class catalogue =
-    record { accounts = class.accounts; catalogue = catalogue; store = class.store; notify = class.notify }
+abbrev pub with_catalog : Template → List ObjectDef → Template
+with_catalog class catalog = record class { catalog = catalog }
 
 abbrev pub with_store : Template → Stored → Template
-with_store class stored =
-    record { accounts = class.accounts; catalogue = class.catalogue; store = stored; notify = class.notify }
+with_store class stored = record class { store = stored }
 
 abbrev pub with_notify : Template → ℕ → Template
-with_notify class seconds =
-    record { accounts = class.accounts; catalogue = class.catalogue; store = class.store; notify = seconds }
+with_notify class seconds = record class { notify = seconds }
 
 -- Non-confirmable, or Confirmable with a first timeout of 2 or 3 seconds: an ACK_TIMEOUT of 2 seconds times an
 -- ACK_RANDOM_FACTOR of 1 or 1.5 (RFC 7252 section 4.8)
@@ -80,20 +71,20 @@ account_fault class server =
     ∷ []
     )
 
--- what the catalogue refuses, as the class refuses it
+-- what the catalog refuses, as the class refuses it
 abbrev pub fault_of : CatalogFault → TemplateFault
-fault_of catalog.IdRange = Range
-fault_of catalog.Duplicate = Duplicate
-fault_of catalog.TooMany = Full
-fault_of catalog.Memory = Memory
+fault_of catalog_faults.IdRange = Range
+fault_of catalog_faults.Duplicate = Duplicate
+fault_of catalog_faults.TooMany = Full
+fault_of catalog_faults.Memory = Memory
 
--- the class's own objects are a catalogue's vendor objects, of which there may be 11
+-- the class's own objects are a catalog's vendor objects, of which there may be 11
 abbrev pub object_fault : Template → ℕ → Option TemplateFault
-object_fault class id = option_map fault_of (vendor_fault class.catalogue id)
+object_fault class id = option_map fault_of (vendor_fault class.catalog id)
 
 -- a resource is one of an object of the class's own
 abbrev pub definition_fault : Template → ℕ → ResourceDef → Option TemplateFault
-definition_fault class object definition = option_map fault_of (resource_fault class.catalogue object definition)
+definition_fault class object definition = option_map fault_of (resource_fault class.catalog object definition)
 
 -- instances have the numbers 0 to 65534; Device and Firmware Update have instance 0 alone, Security has none
 abbrev pub may_stand : InstancePath → Bool
@@ -106,7 +97,7 @@ abbrev pub instance_fault : Template → InstancePath → Option TemplateFault
 instance_fault class place =
     first_line (
     (not (may_stand place), Range)
-    ∷ (not (is_some (object_of class.catalogue place.object)), Missing)
+    ∷ (not (is_some (object_of class.catalog place.object)), Missing)
     ∷ (has_instance class.store place, Duplicate)
     ∷ (nat_le 64 (length (instances_of class.store place.object)), Full)
     ∷ []
@@ -116,8 +107,8 @@ instance_fault class place =
 abbrev pub value_fault_at : Template → FullPath → Value → Option TemplateFault
 value_fault_at class p value =
     first_line (
-    (not (fits class.catalogue p value), Range)
-    ∷ (not (has_place class.catalogue class.store p), Missing)
+    (not (fits class.catalog p value), Range)
+    ∷ (not (has_place class.catalog class.store p), Missing)
     ∷ (is_some (value_at class.store p), Duplicate)
     ∷ (nat_le 65535 (value_count class.store), Full)
     ∷ (has_all_parts class.store p, Full)
@@ -140,7 +131,7 @@ kind_taken_by class p (Some d) = if is_some (value_fault_at class p (plain d.kin
 
 -- the kind of the values that may be added at a path, where any may
 abbrev pub kind_taken : Template → FullPath → Option ValueKind
-kind_taken class p = kind_taken_by class p (definition_of class.catalogue p.object p.resource)
+kind_taken class p = kind_taken_by class p (definition_of class.catalog p.object p.resource)
 
 -- a value has a path of three or four numbers
 abbrev pub value_fault : Template → Option FullPath → Value → Option TemplateFault

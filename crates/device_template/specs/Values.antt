@@ -6,7 +6,7 @@ use Rattle.lwm2m_values.specs.declared.kind.ValueKind.TheVariants as kind
 use Rattle.lwm2m_values.specs.declared.value.Value.{Value}
 use Rattle.lwm2m_values.specs.declared.value.Value.TheVariants.{Text, Whole, Flag, Opaque, Moment, Link}
 use Rattle.lwm2m_values.specs.Value.{has_good_length}
-use Rattle.object_defs.specs.Catalogue.{object_of, resource_in}
+use Rattle.object_defs.specs.Catalog.{object_of, resource_in}
 use Rattle.object_defs.specs.Numbers.{firmware_update_object, package_uri, update_state, update_result}
 use Rattle.object_defs.specs.Operations.{can_read}
 use Rattle.object_defs.specs.declared.definition.ObjectDef.{ObjectDef}
@@ -45,7 +45,7 @@ fits_object p value (Some o) = fits_resource p value (resource_in o.resources p.
 
 -- a value within its limits, which the definition at its path takes
 abbrev pub fits : List ObjectDef → FullPath → Value → Bool
-fits catalogue p value = has_good_length value && fits_object p value (object_of catalogue p.object)
+fits catalog p value = has_good_length value && fits_object p value (object_of catalog p.object)
 
 abbrev pub instance_at : FullPath → InstancePath
 instance_at p = record { object = p.object; instance = p.instance }
@@ -55,7 +55,7 @@ resource_at p = record { object = p.object; instance = p.instance; resource = p.
 
 -- the object and the instance are there
 abbrev pub has_place : List ObjectDef → Stored → FullPath → Bool
-has_place catalogue stored p = is_some (object_of catalogue p.object) && has_instance stored (instance_at p)
+has_place catalog stored p = is_some (object_of catalog p.object) && has_instance stored (instance_at p)
 
 -- the resource has the 32 parts that it may have
 abbrev pub has_all_parts : Stored → FullPath → Bool
@@ -72,6 +72,6 @@ with_value_at stored (Some p) value = with_value stored p value
 
 -- a new value does not fit: not at its path, in no instance that is there, or as a 33rd part
 abbrev pub misses : List ObjectDef → Stored → Option FullPath → Value → Bool
-misses catalogue stored None value = true
-misses catalogue stored (Some p) value =
-    not (fits catalogue p value) || (not (has_place catalogue stored p) || is_one_too_many stored p)
+misses catalog stored None value = true
+misses catalog stored (Some p) value =
+    not (fits catalog p value) || (not (has_place catalog stored p) || is_one_too_many stored p)

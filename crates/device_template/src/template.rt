@@ -5,7 +5,7 @@ ghost use Rattle.object_defs.specs.Path.{full_path};
 ghost use Rattle.device_template.specs.Template.{account_fault, definition_fault, empty_class, instance_fault};
 ghost use Rattle.device_template.specs.Template.{is_notify, kind_taken, may_stand, notify_fault, object_fault};
 ghost use Rattle.device_template.specs.Template.{value_fault, value_fault_at};
-ghost use Rattle.device_template.specs.Template.{with_account, with_catalogue, with_idle_firmware, with_notify};
+ghost use Rattle.device_template.specs.Template.{with_account, with_catalog, with_idle_firmware, with_notify};
 ghost use Rattle.device_template.specs.Template.{with_store};
 ghost use Rattle.device_template.specs.Built.{IsBuilt, IsShort};
 ghost use Rattle.lwm2m_values.specs.Value.{IsGood};
@@ -55,11 +55,11 @@ impl Model for Template {
 
     ghost coded = { Prim.hlevel (codes, stored_code) };
 
-    ghost view = { λ t. record { accounts = t.accounts; catalogue = t.catalog; store = t.store; notify = t.notify } };
+    ghost view = { λ t. record { accounts = t.accounts; catalog = t.catalog; store = t.store; notify = t.notify } };
 
     ghost invariant = { λ t. IsBuilt (record {
       accounts = t.accounts;
-      catalogue = t.catalog;
+      catalog = t.catalog;
       store = t.store;
       notify = t.notify;
     }) };
@@ -166,7 +166,7 @@ impl Template {
     ///
     /// `Range` (a number outside 10241 to 32768), then `Duplicate`, then `Full` (11 such objects).
     pub fn add_object(&mut self, id: u16) -> Result<(), TemplateFault>
-        ensures added { OnOk result (self.new ≡ with_catalogue self.old (with_object self.old.catalogue id)) }
+        ensures added { OnOk result (self.new ≡ with_catalog self.old (with_object self.old.catalog id)) }
         ensures refused { IfErr result (λ f. f ≢ TemplateFault.Memory → object_fault self.old id ≡ Some f) }
         ensures refuses { (f : TemplateFault) → object_fault self.old id ≡ Some f → result ≡ Err f }
         ensures unchanged { OnErr result (self.new ≡ self.old) }
@@ -184,8 +184,8 @@ impl Template {
         object: u16,
         definition: ResourceDef,
     ) -> Result<(), TemplateFault>
-        ensures added { OnOk result (self.new ≡ with_catalogue self.old
-            (with_resource self.old.catalogue object definition)) }
+        ensures added { OnOk result (self.new ≡ with_catalog self.old
+            (with_resource self.old.catalog object definition)) }
         ensures refused { IfErr result (λ f. f ≢ TemplateFault.Memory
             → definition_fault self.old object definition ≡ Some f) }
         ensures refuses { (f : TemplateFault) → definition_fault self.old object definition ≡ Some f → result ≡ Err f }
@@ -335,7 +335,7 @@ impl Template {
 
     /// The objects that the class knows.
     pub fn catalog(&self) -> &Catalog
-        ensures { result.now ≡ self.now.catalogue }
+        ensures { result.now ≡ self.now.catalog }
     {
         &self.catalog
     }

@@ -125,7 +125,7 @@ pub fn put(store: &mut Store, path: FullPath, value: Value) -> Result<(), StoreF
     ensures full { IsErrOf result StoreFault.Full
         ↔ (IsTrue (has_instance store.old (instance_at path)) × IsTrue (is_one_too_many store.old path)) }
     ensures never_exists { result ≢ Err StoreFault.Exists }
-    ensures grows { IsErrOf result StoreFault.Memory → value_at store.old path ≡ None }
+    ensures may_lack_memory { IsErrOf result StoreFault.Memory → value_at store.old path ≡ None }
     ensures err { OnErr result (store.new ≡ store.old) }
 {
     match path.part {

@@ -64,7 +64,7 @@ recv_clock f server bytes =
 
 pub put_clock : (f : Machine) (path : Path) (value : Value) → (flat_after f (Put path value)).kept.clock ≡ f.kept.clock
 put_clock f path value =
-    either_keeps f (misses f.kept.client.catalogue f.kept.client.store (full_path path) value) _ _ refl refl
+    either_keeps f (misses f.kept.client.catalog f.kept.client.store (full_path path) value) _ _ refl refl
 
 firmware_keeps : (f : Machine) (stored : Option Stored) → (on_firmware f stored).flat.kept.clock ≡ f.kept.clock
 firmware_keeps f None = refl

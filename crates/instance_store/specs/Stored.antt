@@ -88,16 +88,15 @@ resources_of stored place = dedup ◌==◌ (map (λ e. e.0.resource) (values_in 
 
 -- with this value at a full path
 abbrev pub with_value : Stored → FullPath → Value → Stored
-with_value stored place value = record { values = map.insert stored.values place value; instances = stored.instances }
+with_value stored place value = record stored { values = map.insert stored.values place value }
 
 -- without the values at or below a path
 abbrev pub without_values : Stored → Path → Stored
-without_values stored place =
-    record { values = map.retain_keys stored.values (λ q. not (lies_in place q)); instances = stored.instances }
+without_values stored place = record stored { values = map.retain_keys stored.values (λ q. not (lies_in place q)) }
 
 -- with this instance
 abbrev pub with_instance : Stored → InstancePath → Stored
-with_instance stored place = record { values = stored.values; instances = map.insert stored.instances place tt }
+with_instance stored place = record stored { instances = map.insert stored.instances place tt }
 
 -- without this instance and without the values below it
 abbrev pub without_instance : Stored → InstancePath → Stored

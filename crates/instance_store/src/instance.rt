@@ -112,7 +112,7 @@ impl Instance {
     ) -> Result<bool, AllocError>
         ensures ok { OnOk result (self.new ≡ fin_map.insert self.old (at_part resource part) value) }
         ensures added { IfOk result (λ added. added ≡ not (fin_map.contains_key self.old (at_part resource part))) }
-        ensures grows { IsErr result → fin_map.get self.old (at_part resource part) ≡ None }
+        ensures may_lack_memory { IsErr result → fin_map.get self.old (at_part resource part) ≡ None }
         ensures err { OnErr result (self.new ≡ self.old) }
     {
         match self.resources.get_mut(resource) {

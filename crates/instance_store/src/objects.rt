@@ -34,7 +34,7 @@ pub(crate) fn put_value(
     requires { IsTrue (has_instance (stored_from objects.old) (place path.object path.instance)) }
     ensures ok { OnOk result (stored_from objects.new ≡ with_value (stored_from objects.old) path value) }
     ensures added { IfOk result (λ added. added ≡ not (is_some (value_at (stored_from objects.old) path))) }
-    ensures grows { IsErr result → value_at (stored_from objects.old) path ≡ None }
+    ensures may_lack_memory { IsErr result → value_at (stored_from objects.old) path ≡ None }
     ensures err { OnErr result (stored_from objects.new ≡ stored_from objects.old) }
 {
     match objects.get_mut(path.object) {

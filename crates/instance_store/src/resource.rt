@@ -109,7 +109,7 @@ impl Resource {
     pub(crate) fn put(&mut self, part: Option<u16>, value: Value) -> Result<bool, AllocError>
         ensures ok { OnOk result (self.new ≡ fin_map.insert self.old part value) }
         ensures added { IfOk result (λ added. added ≡ not (fin_map.contains_key self.old part)) }
-        ensures grows { IsErr result → fin_map.get self.old part ≡ None }
+        ensures may_lack_memory { IsErr result → fin_map.get self.old part ≡ None }
         ensures err { OnErr result (self.new ≡ self.old) }
     {
         match part {

@@ -140,7 +140,7 @@ impl Store {
         ensures absent { IsErrOf result StoreFault.Absent ↔ IsFalse (has_instance self.old (instance_of path)) }
         ensures never_exists { result ≢ Err StoreFault.Exists }
         ensures never_full { result ≢ Err StoreFault.Full }
-        ensures grows { IsErrOf result StoreFault.Memory → value_at self.old (single_of path) ≡ None }
+        ensures may_lack_memory { IsErrOf result StoreFault.Memory → value_at self.old (single_of path) ≡ None }
         ensures unchanged { OnErr result (self.new ≡ self.old) }
     {
         if !self.has_instance(place_of(path)) {
@@ -154,7 +154,7 @@ impl Store {
     fn set(&mut self, path: FullPath, value: Value) -> Result<(), AllocError>
         requires { IsTrue (has_instance self.old (instance_below path)) }
         ensures ok { OnOk result (self.new ≡ with_value self.old path value) }
-        ensures grows { IsErr result → value_at self.old path ≡ None }
+        ensures may_lack_memory { IsErr result → value_at self.old path ≡ None }
         ensures err { OnErr result (self.new ≡ self.old) }
     {
         match self.count.checked_add(1) {
@@ -199,7 +199,7 @@ impl Store {
         ensures full { IsErrOf result StoreFault.Full
             ↔ (IsTrue (has_instance self.old (instance_of path)) × IsTrue (is_full self.old path part)) }
         ensures never_exists { result ≢ Err StoreFault.Exists }
-        ensures grows { IsErrOf result StoreFault.Memory → value_at self.old (part_of path part) ≡ None }
+        ensures may_lack_memory { IsErrOf result StoreFault.Memory → value_at self.old (part_of path part) ≡ None }
         ensures unchanged { OnErr result (self.new ≡ self.old) }
     {
         if !self.has_instance(place_of(path)) {

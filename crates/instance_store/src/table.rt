@@ -107,7 +107,7 @@ impl<T: Drop> Table<T> {
     pub(crate) fn insert(&mut self, number: u16, item: T) -> Result<bool, AllocError>
         ensures ok { OnOk result (self.new ≡ map.insert self.old number item) }
         ensures added { IfOk result (λ added. added ≡ not (map.contains_key self.old number)) }
-        ensures grows { IsErr result → map.get self.old number ≡ None }
+        ensures may_lack_memory { IsErr result → map.get self.old number ≡ None }
         ensures err { OnErr result (self.new ≡ self.old) }
     {
         match self.numbers.binary_search(&number) {

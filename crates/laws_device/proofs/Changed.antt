@@ -192,12 +192,12 @@ elsewhere s p q v other =
     ] refl
 
 sets : (f : Machine) (path : Path) (value : Value) (place : Option FullPath) → full_path path ≡ place
-    → misses f.kept.client.catalogue f.kept.client.store place value ≡ false → SetsOne f path value
+    → misses f.kept.client.catalog f.kept.client.store place value ≡ false → SetsOne f path value
 sets f path value None e h = cc
 sets f path value (Some p) e h =
     let s = f.kept.client.store in
-    let fits : misses f.kept.client.catalogue s (full_path path) value ≡ false =
-    ap (λ (o : Option FullPath). misses f.kept.client.catalogue s o value) e ∙ h in
+    let fits : misses f.kept.client.catalog s (full_path path) value ≡ false =
+    ap (λ (o : Option FullPath). misses f.kept.client.catalog s o value) e ∙ h in
     let now : (flat_after f (Put path value)).kept.client.store ≡ with_value s p value =
     ap (λ (b : Bool). (put_when f (full_path path) value b).flat.kept.client.store) fits
     ∙ ap (λ (o : Option FullPath). (put_when f o value false).flat.kept.client.store) e in

@@ -161,7 +161,7 @@ stays_with_nons f (Recv server bytes) h =
     subst (λ (r : Reaction). HasNons r.flat) (sym (reacts f server bytes))
     (stays_on f server (arrival_of f server bytes) h)
 stays_with_nons f (Put path value) h =
-    whichever (misses f.kept.client.catalogue f.kept.client.store (full_path path) value)
+    whichever (misses f.kept.client.catalog f.kept.client.store (full_path path) value)
     (record { outputs = Act Missed ∷ []; flat = f })
     (record {
       outputs = [];

@@ -360,7 +360,7 @@ put_numbers before f path value h =
       recorded = f.recorded;
     } in
     either (Numbers (Put path value) before f)
-    (misses f.kept.client.catalogue f.kept.client.store (full_path path) value)
+    (misses f.kept.client.catalog f.kept.client.store (full_path path) value)
     (record { outputs = Act Missed ∷ []; flat = f }) (record { outputs = []; flat = g })
     (missed (Put path value) before f h)
     (nothing (Put path value) before f g (record { observations = h.observations; replies = h.replies }) refl)

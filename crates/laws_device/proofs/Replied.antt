@@ -243,7 +243,7 @@ event_fits f (Recv server bytes) h a =
     whichever (has_account f.kept.client server) (on_datagram f server bytes (reading_of bytes)) (silence f)
     (λ account. datagram_fits f server bytes (reading_of bytes) a.0 h a.1 account refl) (silent f h)
 event_fits f (Put path value) h a =
-    whichever (misses f.kept.client.catalogue f.kept.client.store (full_path path) value)
+    whichever (misses f.kept.client.catalog f.kept.client.store (full_path path) value)
     (record { outputs = Act Missed ∷ []; flat = f })
     (record {
       outputs = [];

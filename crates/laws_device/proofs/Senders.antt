@@ -13,7 +13,7 @@ use Rattle.object_defs.specs.Path.{full_path}
 use Rattle.object_defs.specs.declared.path.FullPath.{FullPath}
 use Rattle.object_defs.specs.declared.path.Path.{Path}
 use Rattle.instance_store.specs.Stored.{Stored}
-use Rattle.device_firmware.proofs.Behind.{same_instances, taken}
+use Rattle.device_firmware.proofs.AfterEvent.{same_instances, taken}
 use Rattle.device_firmware.specs.Firmware.{firmware_after, uri_of}
 use Rattle.device_firmware.specs.declared.event.FirmwareEvent.TheVariants.{Ended}
 use Rattle.device_requests.specs.Client.{has_account, with_stored}
@@ -114,13 +114,13 @@ instances_stay stored None value = refl
 instances_stay stored (Some place) value = refl
 
 pub put_missed : (f : Machine) (path : Path) (value : Value)
-    → misses f.kept.client.catalogue f.kept.client.store (full_path path) value ≡ true → IsMissed f (Put path value)
+    → misses f.kept.client.catalog f.kept.client.store (full_path path) value ≡ true → IsMissed f (Put path value)
 put_missed f path value e =
     let reaction = put_when f (full_path path) value in
     record { acted = ap (λ b. (reaction b).outputs) e; unchanged = ap (λ b. (reaction b).flat) e }
 
 pub put_stores : (f : Machine) (path : Path) (value : Value)
-    → misses f.kept.client.catalogue f.kept.client.store (full_path path) value ≡ false
+    → misses f.kept.client.catalog f.kept.client.store (full_path path) value ≡ false
     → OnlyStores f (Put path value)
 put_stores f path value e =
     let reaction = put_when f (full_path path) value in
@@ -129,7 +129,7 @@ put_stores f path value e =
       instances = ap (λ b. (reaction b).flat.kept.client.store.instances) e
           ∙ instances_stay f.kept.client.store (full_path path) value;
       accounts = ap (λ b. (reaction b).flat.kept.client.accounts) e;
-      catalogue = ap (λ b. (reaction b).flat.kept.client.catalogue) e;
+      catalog = ap (λ b. (reaction b).flat.kept.client.catalog) e;
       attributes = ap (λ b. (reaction b).flat.kept.client.attributes) e;
       notify = ap (λ b. (reaction b).flat.kept.client.notify) e;
       observations = ap (λ b. (reaction b).flat.kept.observations) e;
@@ -139,14 +139,14 @@ put_stores f path value e =
     }
 
 put_by : (f : Machine) (path : Path) (value : Value) (missed : Bool)
-    → misses f.kept.client.catalogue f.kept.client.store (full_path path) value ≡ missed
+    → misses f.kept.client.catalog f.kept.client.store (full_path path) value ≡ missed
     → OnlyStores f (Put path value) ⊎ IsMissed f (Put path value)
 put_by f path value true e = inr (put_missed f path value e)
 put_by f path value false e = inl (put_stores f path value e)
 
 pub puts : PutsSendNothing
 puts f path value =
-    put_by f path value (misses f.kept.client.catalogue f.kept.client.store (full_path path) value) refl
+    put_by f path value (misses f.kept.client.catalog f.kept.client.store (full_path path) value) refl
 
 firmware_stays : (stored after : Stored) (code : ℕ) → firmware_after stored (Ended code) ≡ Some after
     → after.instances ≡ stored.instances
@@ -167,7 +167,7 @@ end_stores f code stored e =
       instances = ap (λ o. (on_firmware f o).flat.kept.client.store.instances) e
           ∙ firmware_stays f.kept.client.store stored code e;
       accounts = ap (λ o. (on_firmware f o).flat.kept.client.accounts) e;
-      catalogue = ap (λ o. (on_firmware f o).flat.kept.client.catalogue) e;
+      catalog = ap (λ o. (on_firmware f o).flat.kept.client.catalog) e;
       attributes = ap (λ o. (on_firmware f o).flat.kept.client.attributes) e;
       notify = ap (λ o. (on_firmware f o).flat.kept.client.notify) e;
       observations = ap (λ o. (on_firmware f o).flat.kept.observations) e;

@@ -63,13 +63,13 @@ pub record SetsOne (f : Machine) (path : Path) (value : Value) : Type 0 where
 abbrev pub PutsSetOne : Type 0
 PutsSetOne =
     (f : Machine) (path : Path) (value : Value)
-    → misses f.kept.client.catalogue f.kept.client.store (full_path path) value ≡ false → SetsOne f path value
+    → misses f.kept.client.catalog f.kept.client.store (full_path path) value ≡ false → SetsOne f path value
 
 -- any other changes nothing
 abbrev pub PutsMiss : Type 0
 PutsMiss =
     (f : Machine) (path : Path) (value : Value)
-    → misses f.kept.client.catalogue f.kept.client.store (full_path path) value ≡ true → IsMissed f (Put path value)
+    → misses f.kept.client.catalog f.kept.client.store (full_path path) value ≡ true → IsMissed f (Put path value)
 
 -- ---- the firmware
 

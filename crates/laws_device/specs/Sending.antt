@@ -33,7 +33,7 @@ pub record OnlyStores (f : Machine) (event : Event) : Type 0 where
   pub sent : outputs_of f event ≡ []
   pub instances : (flat_after f event).kept.client.store.instances ≡ f.kept.client.store.instances
   pub accounts : (flat_after f event).kept.client.accounts ≡ f.kept.client.accounts
-  pub catalogue : (flat_after f event).kept.client.catalogue ≡ f.kept.client.catalogue
+  pub catalog : (flat_after f event).kept.client.catalog ≡ f.kept.client.catalog
   pub attributes : (flat_after f event).kept.client.attributes ≡ f.kept.client.attributes
   pub notify : (flat_after f event).kept.client.notify ≡ f.kept.client.notify
   pub observations : (flat_after f event).kept.observations ≡ f.kept.observations

@@ -23,7 +23,7 @@ use Rattle.notifier.proofs.Keys.{key_exact, key_total}
 use Rattle.device_requests.specs.Client.{Client}
 use Rattle.device_requests.specs.Delete.{deleted, taken_away, without_controls}
 use Rattle.device_requests.specs.Request.{outcome_of}
-use Rattle.device_requests.specs.WriteAttributes.{agreed, level_at, spelled}
+use Rattle.device_requests.specs.WriteAttributes.{new_numbers, level_at, spelled}
 use Rattle.laws_discover.specs.Reached.{NumbersAgree}
 use Rattle.laws_discover.proofs.Becoming.{Becomes, becomes}
 use Rattle.laws_discover.proofs.Becoming.Becomes.{goes, is_set, stays}
@@ -162,7 +162,7 @@ written_agree m server path cs h own = λ s p.
         as_before m (written m server path cs) s p (λ n. others_kept m server path cs (key_of s p n) (apart n)) (h s p)
 
 given_agree : (m : Numbers) (server : ℕ) (path : Path) (r : Result (List Change) QueryFault) (new : Numbers)
-    → AllAgree m → option_and_then (agreed m server path) (spelled r) ≡ Some new → AllAgree new
+    → AllAgree m → option_and_then (new_numbers m server path) (spelled r) ≡ Some new → AllAgree new
 given_agree m server path (Err fault) new h e = cc
 given_agree m server path (Ok cs) new h e = by (is_consistent (written m server path cs) server path) refl e
   where
@@ -225,7 +225,7 @@ became_agreeing : (client : Client) (server : ℕ) (m : Numbers) → AllAgree cl
     → AllAgree m
 became_agreeing client server m h stays = h
 became_agreeing client server m h (is_set path queries new e) =
-    given_agree client.attributes server path (changes_of [] (level_at client.catalogue path) queries) new h e
+    given_agree client.attributes server path (changes_of [] (level_at client.catalog path) queries) new h e
 became_agreeing client server m h (goes path) =
     controls_agree (without_under client.attributes path) (taken_away client.store (deleted client.store path))
     (without_agree client.attributes path h)

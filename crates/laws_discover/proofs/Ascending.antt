@@ -16,7 +16,7 @@ use Rattle.object_defs.specs.declared.definition.ObjectDef.{ObjectDef}
 use Rattle.object_defs.specs.declared.definition.ResourceDef.{ResourceDef}
 use Rattle.object_defs.specs.declared.path.Path.{Path}
 use Rattle.object_defs.specs.declared.path.Path.TheVariants.{Object, Instance, Resource, Part}
-use Rattle.object_defs.specs.Catalogue.{object_of}
+use Rattle.object_defs.specs.Catalog.{object_of}
 use Rattle.object_defs.specs.Order.{IsInOrder}
 use Rattle.instance_store.specs.Stored.{Stored, instances_of}
 use Rattle.instance_store.proofs.InstanceLaws.{keys_of-under, sorted-under, under}
@@ -69,8 +69,8 @@ unfolding IsStrictlySortedBy
 by_sorted [] h = tt
 by_sorted (n ∷ ns) h = (all_weaker (λ m. nat_cmp n m ≡ Less) (λ m. n < m) (less_than n) ns h.0, by_sorted ns h.1)
 
-defined_has : (P : List ResourceDef → Type 0) → P [] → (o : ℕ) (catalogue : List ObjectDef)
-    → AllByRecursion (λ d. P d.resources) catalogue → P (defined catalogue o)
+defined_has : (P : List ResourceDef → Type 0) → P [] → (o : ℕ) (catalog : List ObjectDef)
+    → AllByRecursion (λ d. P d.resources) catalog → P (defined catalog o)
 defined_has P none o [] h = none
 defined_has P none o (d ∷ ds) h =
     elim (d.id == o) as (λ b. P (resources_as (cond b (Some d) (object_of ds o)))) [
@@ -81,47 +81,47 @@ defined_has P none o (d ∷ ds) h =
 Rising : List ResourceDef → Type 0
 Rising resources = IsStrictlyIncreasing (map (λ r. r.id) resources)
 
-resources_rise : (catalogue : List ObjectDef) (o : ℕ) → IsInOrder catalogue
-    → Ordered (λ c d. c.id < d.id) (defined catalogue o)
+resources_rise : (catalog : List ObjectDef) (o : ℕ) → IsInOrder catalog
+    → Ordered (λ c d. c.id < d.id) (defined catalog o)
 unfolding Rising
-resources_rise catalogue o h =
-    let rises : Rising (defined catalogue o) =
-    defined_has Rising (λ k short. absurd (omega arith)) o catalogue
-    (recursion_from_All (λ d. Rising d.resources) catalogue h.resources) in
-    ordered_unmapped (λ m n. m < n) (λ r. r.id) (defined catalogue o)
-    (by_sorted (map (λ r. r.id) (defined catalogue o)) (sorted_from_strictly_increasing _ rises))
+resources_rise catalog o h =
+    let rises : Rising (defined catalog o) =
+    defined_has Rising (λ k short. absurd (omega arith)) o catalog
+    (recursion_from_All (λ d. Rising d.resources) catalog h.resources) in
+    ordered_unmapped (λ m n. m < n) (λ r. r.id) (defined catalog o)
+    (by_sorted (map (λ r. r.id) (defined catalog o)) (sorted_from_strictly_increasing _ rises))
 
 -- the links ascend
 
 LiesIn : ℕ → ℕ → Path → Type 0
 LiesIn o i p = (rest : List ℕ) × (path_numbers p ≡ o ∷ i ∷ rest)
 
-below_rise : (catalogue : List ObjectDef) (stored : Stored) (o i : ℕ) → IsInOrder catalogue
-    → Ordered ComesBefore (resources_below catalogue stored o i)
-below_rise catalogue stored o i h =
-    ordered_filtered ComesBefore (exists catalogue stored) _
-    (ordered_mapped ComesBefore (λ d. Resource o i d.id) (defined catalogue o)
+below_rise : (catalog : List ObjectDef) (stored : Stored) (o i : ℕ) → IsInOrder catalog
+    → Ordered ComesBefore (resources_below catalog stored o i)
+below_rise catalog stored o i h =
+    ordered_filtered ComesBefore (exists catalog stored) _
+    (ordered_mapped ComesBefore (λ d. Resource o i d.id) (defined catalog o)
     (ordered_weaker (λ c d. c.id < d.id) (λ c d. ComesBefore (Resource o i c.id) (Resource o i d.id))
-    (λ c d l. inr (refl, inr (refl, inl l))) (defined catalogue o) (resources_rise catalogue o h)))
+    (λ c d l. inr (refl, inr (refl, inl l))) (defined catalog o) (resources_rise catalog o h)))
 
-below_are : (P : Path → Type 0) (catalogue : List ObjectDef) (stored : Stored) (o i : ℕ)
-    → ((r : ℕ) → P (Resource o i r)) → AllByRecursion P (resources_below catalogue stored o i)
-below_are P catalogue stored o i each =
-    all_filtered P (exists catalogue stored) _
-    (all_mapped P (λ d. Resource o i d.id) (defined catalogue o) (all_each _ (λ d. each d.id) (defined catalogue o)))
+below_are : (P : Path → Type 0) (catalog : List ObjectDef) (stored : Stored) (o i : ℕ)
+    → ((r : ℕ) → P (Resource o i r)) → AllByRecursion P (resources_below catalog stored o i)
+below_are P catalog stored o i each =
+    all_filtered P (exists catalog stored) _
+    (all_mapped P (λ d. Resource o i d.id) (defined catalog o) (all_each _ (λ d. each d.id) (defined catalog o)))
 
-instance_rises : (catalogue : List ObjectDef) (stored : Stored) (o i : ℕ) → IsInOrder catalogue
-    → Ordered ComesBefore (instance_paths catalogue stored o i)
-instance_rises catalogue stored o i h = (
-  below_are (ComesBefore (Instance o i)) catalogue stored o i (λ r. inr (refl, inr (refl, tt))),
-  below_rise catalogue stored o i h,
+instance_rises : (catalog : List ObjectDef) (stored : Stored) (o i : ℕ) → IsInOrder catalog
+    → Ordered ComesBefore (instance_paths catalog stored o i)
+instance_rises catalog stored o i h = (
+  below_are (ComesBefore (Instance o i)) catalog stored o i (λ r. inr (refl, inr (refl, tt))),
+  below_rise catalog stored o i h,
 )
 
-instance_lies : (catalogue : List ObjectDef) (stored : Stored) (o i : ℕ)
-    → AllByRecursion (LiesIn o i) (instance_paths catalogue stored o i)
+instance_lies : (catalog : List ObjectDef) (stored : Stored) (o i : ℕ)
+    → AllByRecursion (LiesIn o i) (instance_paths catalog stored o i)
 unfolding LiesIn
-instance_lies catalogue stored o i =
-    (([], refl), below_are (LiesIn o i) catalogue stored o i (λ r. (r ∷ [], refl)))
+instance_lies catalog stored o i =
+    (([], refl), below_are (LiesIn o i) catalog stored o i (λ r. (r ∷ [], refl)))
 
 in_order : (o i j : ℕ) (p q : Path) → i < j → LiesIn o i p → LiesIn o j q → ComesBefore p q
 unfolding LiesIn
@@ -133,23 +133,23 @@ under_object : (o i : ℕ) (p : Path) → LiesIn o i p → ComesBefore (Object o
 unfolding LiesIn
 under_object o i p h = subst (AreBefore (o ∷ [])) (sym h.1) (inr (refl, tt))
 
-links_rise : (catalogue : List ObjectDef) (stored : Stored) (path : Path) → IsInOrder catalogue
-    → Ordered ComesBefore (linked catalogue stored path)
-links_rise catalogue stored (Object o) h = (
-  all_flat (ComesBefore (Object o)) (instance_paths catalogue stored o) (instances_of stored o)
+links_rise : (catalog : List ObjectDef) (stored : Stored) (path : Path) → IsInOrder catalog
+    → Ordered ComesBefore (linked catalog stored path)
+links_rise catalog stored (Object o) h = (
+  all_flat (ComesBefore (Object o)) (instance_paths catalog stored o) (instances_of stored o)
       (λ i. all_weaker (LiesIn o i) (ComesBefore (Object o)) (under_object o i)
-      (instance_paths catalogue stored o i) (instance_lies catalogue stored o i)),
-  ordered_flat (λ m n. m < n) ComesBefore (LiesIn o) (instance_paths catalogue stored o)
-      (λ i. instance_rises catalogue stored o i h) (instance_lies catalogue stored o) (in_order o)
+      (instance_paths catalog stored o i) (instance_lies catalog stored o i)),
+  ordered_flat (λ m n. m < n) ComesBefore (LiesIn o) (instance_paths catalog stored o)
+      (λ i. instance_rises catalog stored o i h) (instance_lies catalog stored o) (in_order o)
       (instances_of stored o) (instances_rise stored o),
 )
-links_rise catalogue stored (Instance o i) h = instance_rises catalogue stored o i h
-links_rise catalogue stored (Resource o i r) h = (tt, tt)
-links_rise catalogue stored (Part o i r n) h = (tt, tt)
+links_rise catalog stored (Instance o i) h = instance_rises catalog stored o i h
+links_rise catalog stored (Resource o i r) h = (tt, tt)
+links_rise catalog stored (Part o i r n) h = (tt, tt)
 
 pub links_ascend : LinksAscend
-links_ascend catalogue stored path h =
-    pairs ComesBefore (linked catalogue stored path) (links_rise catalogue stored path h)
+links_ascend catalog stored path h =
+    pairs ComesBefore (linked catalog stored path) (links_rise catalog stored path h)
 
 not_before_itself : (ns : List ℕ) → AreBefore ns ns → ⊥
 not_before_itself [] h = h
@@ -160,4 +160,4 @@ differs : (p q : Path) → ComesBefore p q → p ≢ q
 differs p q h e = not_before_itself (path_numbers q) (subst (λ r. ComesBefore r q) e h)
 
 pub links_differ : LinksDiffer
-links_differ catalogue stored path h = λ i j d l short. differs _ _ (links_ascend catalogue stored path h i j d l short)
+links_differ catalog stored path h = λ i j d l short. differs _ _ (links_ascend catalog stored path h i j d l short)

@@ -9,7 +9,7 @@ use Rattle.object_defs.specs.declared.definition.ResourceDef.{ResourceDef}
 use Rattle.object_defs.specs.declared.path.Path.{Path}
 use Rattle.object_defs.specs.declared.path.Path.TheVariants.{Instance, Object, Part, Resource}
 use Rattle.object_defs.specs.declared.path.ResourcePath.{ResourcePath}
-use Rattle.object_defs.specs.Catalogue.{definition_of, object_of}
+use Rattle.object_defs.specs.Catalog.{definition_of, object_of}
 use Rattle.object_defs.specs.Decimal.{decimal_number}
 use Rattle.object_defs.proofs.Digits.{decimal_number-law}
 use Rattle.instance_store.specs.Existence.{exists_as}
@@ -82,13 +82,13 @@ no_part (Resource p j s) o i r n lies = cc lies
 no_part (Part p j s m) o i r n lies = cc lies
 
 path_fits : (client : Client) → IsWithinTypes client → (path : Path) → IsPath path → (q : Path)
-    → lies_at path q ≡ true → exists client.catalogue client.store q ≡ true → IsPath q
+    → lies_at path q ≡ true → exists client.catalog client.store q ≡ true → IsPath q
 path_fits client within path is (Object o) lies there = object_fits path o is lies
 path_fits client within path is (Instance o i) lies there =
     within.instances (place_of o i)
-    (both (is_some (object_of client.catalogue o)) (has_instance client.store (place_of o i)) there).1
+    (both (is_some (object_of client.catalog o)) (has_instance client.store (place_of o i)) there).1
 path_fits client within path is (Resource o i r) lies there =
-    let definition = definition_of client.catalogue o r in
+    let definition = definition_of client.catalog o r in
     let parts =
     both (has_instance client.store (place_of o i)) (exists_as client.store (resource_place o i r) definition) there in
     let numbers = within.instances (place_of o i) parts.0 in
@@ -97,16 +97,16 @@ path_fits client within path is (Resource o i r) lies there =
 path_fits client within path is (Part o i r n) lies there = absurd (no_part path o i r n lies)
 
 pub paths_fit : LinksWhatExists → (client : Client) → IsWithinTypes client → (path : Path) → IsPath path
-    → exists client.catalogue client.store path ≡ true
-    → AllByRecursion IsPath (linked client.catalogue client.store path)
+    → exists client.catalog client.store path ≡ true
+    → AllByRecursion IsPath (linked client.catalog client.store path)
 paths_fit law client within (Part o i r n) is there = (is, tt)
 paths_fit law client within (Object o) is there =
-    among_all IsPath (linked client.catalogue client.store (Object o)) (λ q h.
-    let k = (law client.catalogue client.store (Object o) q there refl).0 h in
+    among_all IsPath (linked client.catalog client.store (Object o)) (λ q h.
+    let k = (law client.catalog client.store (Object o) q there refl).0 h in
     path_fits client within (Object o) is q k.0 k.1)
 paths_fit law client within (Instance o i) is there =
-    among_all IsPath (linked client.catalogue client.store (Instance o i)) (λ q h.
-    let k = (law client.catalogue client.store (Instance o i) q there refl).0 h in
+    among_all IsPath (linked client.catalog client.store (Instance o i)) (λ q h.
+    let k = (law client.catalog client.store (Instance o i) q there refl).0 h in
     path_fits client within (Instance o i) is q k.0 k.1)
 paths_fit law client within (Resource o i r) is there = (is, tt)
 
@@ -115,15 +115,15 @@ counted true n h = h
 counted false n h = omega arith
 
 count_fits : (client : Client) → IsWithinTypes client → (path : Path)
-    → dimension client.catalogue client.store path < 2 ^ 64
+    → dimension client.catalog client.store path < 2 ^ 64
 count_fits client within (Object o) = omega arith
 count_fits client within (Instance o i) = omega arith
 count_fits client within (Resource o i r) =
-    counted (is_multiple (definition_of client.catalogue o r)) (length (parts_of client.store (resource_place o i r)))
+    counted (is_multiple (definition_of client.catalog o r)) (length (parts_of client.store (resource_place o i r)))
     (within.parts (resource_place o i r))
 count_fits client within (Part o i r n) = omega arith
 
 pub counts_fit : (client : Client) → IsWithinTypes client → (ps : List Path)
-    → AllByRecursion (λ p. dimension client.catalogue client.store p < 2 ^ 64) ps
+    → AllByRecursion (λ p. dimension client.catalog client.store p < 2 ^ 64) ps
 counts_fit client within [] = tt
 counts_fit client within (p ∷ ps) = (count_fits client within p, counts_fit client within ps)

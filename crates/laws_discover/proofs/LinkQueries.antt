@@ -57,7 +57,7 @@ names_differ = (
 
 pub parameters_are_queries : ParametersAreQueries
 parameters_are_queries client server inherits path h =
-    let level = level_at client.catalogue path in
+    let level = level_at client.catalog path in
     (changes_are_said level (map query_of (attribute_parameters client server inherits path))
     (settings_shown client server inherits path)).1
     (all_said [] level (shown_number client.attributes server inherits path) (shown_valid client h server inherits path)

@@ -128,13 +128,13 @@ shown_said client h server inherits path n =
     (λ z e. (shown_valid client h server inherits path n z e).0)
 
 behind_said : (client : Client) → HasValidAttributes client → (server : ℕ) (inherits : Bool) (path : Path)
-    → dimension client.catalogue client.store path < 2 ^ 64
+    → dimension client.catalog client.store path < 2 ^ 64
     → AreParameters (behind client server inherits path) (link_to client server inherits path).parameters
 behind_said client h server inherits path small =
     let shown = shown_attribute client.attributes server inherits path in
     let parameter = λ (n : Name). attribute_parameter n (shown_number client.attributes server inherits path n) in
     let said = shown_said client h server inherits path in
-    let count = dimension client.catalogue client.store path in
+    let count = dimension client.catalog client.store path in
     let last = subst (AreParameters (shown St)) (sym (append-nil (parameter St))) (said St) in
     let from_lt = parameters_joined (shown Lt) (shown St) (parameter Lt) (parameter St ++ []) (said Lt) last in
     let from_gt = parameters_joined (shown Gt) (shown Lt ++ shown St) (parameter Gt)
@@ -149,13 +149,13 @@ behind_said client h server inherits path small =
     (dimension_said count small) from_pmin
 
 link_said : (client : Client) → HasValidAttributes client → (server : ℕ) (inherits : Bool) (path : Path)
-    → IsPath path → dimension client.catalogue client.store path < 2 ^ 64
+    → IsPath path → dimension client.catalog client.store path < 2 ^ 64
     → IsLink (link client server inherits path) (link_to client server inherits path)
 link_said client h server inherits path is small =
     (behind client server inherits path, refl, is, behind_said client h server inherits path small)
 
 more_said : (client : Client) → HasValidAttributes client → (server : ℕ) (ps : List Path)
-    → AllByRecursion IsPath ps → AllByRecursion (λ p. dimension client.catalogue client.store p < 2 ^ 64) ps
+    → AllByRecursion IsPath ps → AllByRecursion (λ p. dimension client.catalog client.store p < 2 ^ 64) ps
     → AreMoreLinks (more_links client server ps) (map (link_to client server false) ps)
 more_said client h server [] are small = refl
 more_said client h server (p ∷ ps) are small = (
@@ -167,7 +167,7 @@ more_said client h server (p ∷ ps) are small = (
 )
 
 links_said : (client : Client) → HasValidAttributes client → (server : ℕ) (ps : List Path)
-    → AllByRecursion IsPath ps → AllByRecursion (λ p. dimension client.catalogue client.store p < 2 ^ 64) ps
+    → AllByRecursion IsPath ps → AllByRecursion (λ p. dimension client.catalog client.store p < 2 ^ 64) ps
     → AreLinks (links_text client server ps) (links_to client server ps)
 links_said client h server [] are small = refl
 links_said client h server (p ∷ ps) are small = (
@@ -183,7 +183,7 @@ links_said client h server (p ∷ ps) are small = (
 payload_is : (client : Client) (server : ℕ) (path : Path) → (discover_answer client server path).code ≡ Content
     → (discover_answer client server path).payload ≡ discover_payload client server path
 payload_is client server path h =
-    by (object_in path == security_object) (not (exists client.catalogue client.store path))
+    by (object_in path == security_object) (not (exists client.catalog client.store path))
     (nat_lt 1024 (length (discover_payload client server path))) h
   where
     by : (a b c : Bool)
@@ -197,9 +197,9 @@ payload_is client server path h =
     by false false false e = refl
 
 content_exists : (client : Client) (server : ℕ) (path : Path) → (discover_answer client server path).code ≡ Content
-    → exists client.catalogue client.store path ≡ true
+    → exists client.catalog client.store path ≡ true
 content_exists client server path h =
-    by (object_in path == security_object) (exists client.catalogue client.store path)
+    by (object_in path == security_object) (exists client.catalog client.store path)
     (nat_lt 1024 (length (discover_payload client server path))) h
   where
     by : (a b c : Bool)
@@ -213,13 +213,13 @@ content_exists client server path h =
 payload_said : LinksWhatExists → (client : Client) (server : ℕ) (path : Path) → IsWithinTypes client → IsPath path
     → (discover_answer client server path).code ≡ Content
     → AreLinks (discover_answer client server path).payload
-    (links_to client server (linked client.catalogue client.store path))
+    (links_to client server (linked client.catalog client.store path))
 payload_said law client server path within is h =
-    subst (λ t. AreLinks t (links_to client server (linked client.catalogue client.store path)))
+    subst (λ t. AreLinks t (links_to client server (linked client.catalog client.store path)))
     (sym (payload_is client server path h))
-    (links_said client within.attributes server (linked client.catalogue client.store path)
+    (links_said client within.attributes server (linked client.catalog client.store path)
     (paths_fit law client within path is (content_exists client server path h))
-    (counts_fit client within (linked client.catalogue client.store path)))
+    (counts_fit client within (linked client.catalog client.store path)))
 
 -- the answer to a request
 
@@ -233,18 +233,18 @@ comes_to client server m path asks =
 answer_said : LinksWhatExists → (client : Client) (server : ℕ) (m : Message) (path : Path) → IsWithinTypes client
     → Asks m path Discover → (outcome_of client server m).answer.code ≡ Content
     → AreLinks (outcome_of client server m).answer.payload
-    (links_to client server (linked client.catalogue client.store path))
+    (links_to client server (linked client.catalog client.store path))
 answer_said law client server m path within asks h =
     let same = comes_to client server m path asks in
     subst (λ (o : Outcome). AreLinks o.answer.payload
-    (links_to client server (linked client.catalogue client.store path))) (sym same)
+    (links_to client server (linked client.catalog client.store path))) (sym same)
     (payload_said law client server path within (path_of_fits (segments_of m.options) path asks.goes_to)
     (subst (λ (o : Outcome). o.answer.code ≡ Content) same h))
 
 pub discovers_are_read : LinksWhatExists → DiscoversAreRead
 discovers_are_read law client server m path within asks h ls =
     let text = (outcome_of client server m).answer.payload in
-    let links = links_to client server (linked client.catalogue client.store path) in
+    let links = links_to client server (linked client.catalog client.store path) in
     let here = answer_said law client server m path within asks h in (
       (λ said. one_reading text ls links said here),
       (λ same. subst (AreLinks text) (sym same) here),
@@ -262,4 +262,4 @@ paths_of client server (p ∷ ps) = ap (λ qs. p ∷ qs) (paths_mapped client se
 pub paths_are_read : LinksWhatExists → PathsAreRead
 paths_are_read law client server m path within asks h ls said =
     ap (map (λ (l : PathLink). l.path)) ((discovers_are_read law client server m path within asks h ls).0 said)
-    ∙ paths_of client server (linked client.catalogue client.store path)
+    ∙ paths_of client server (linked client.catalog client.store path)

@@ -9,7 +9,7 @@ use Rattle.std.specs.Option.{is_some, option_or}
 use Rattle.std.specs.Set.{is_member}
 use Rattle.std.proofs.lemmas.Bool.Decides.{nat_tests}
 use Rattle.std.proofs.lemmas.Map.Made.{length-le_from_is_member}
-use Rattle.object_defs.specs.Catalogue.{definition_of}
+use Rattle.object_defs.specs.Catalog.{definition_of}
 use Rattle.object_defs.specs.Path.{part_of}
 use Rattle.object_defs.specs.declared.definition.ResourceDef.{ResourceDef}
 use Rattle.object_defs.specs.declared.path.Path.{Path}
@@ -149,7 +149,7 @@ several None h = cc
 several (Some d) h = (d, refl, h)
 
 dimension_shown : (client : Client) (server : ℕ) (path : Path) (x : Parameter)
-    → IsAmong x (dimension_parameter (dimension client.catalogue client.store path))
+    → IsAmong x (dimension_parameter (dimension client.catalog client.store path))
     → IsShownOn client server path x
 dimension_shown client server (Object o) x h = absurd h
 dimension_shown client server (Instance o i) x h = absurd h
@@ -157,11 +157,11 @@ dimension_shown client server (Part o i r n) x h = absurd h
 dimension_shown client server (Resource o i r) x h =
     let p = resource_place o i r in
     let ns = parts_of client.store p in
-    elim (is_multiple (definition_of client.catalogue o r)) as
-    (λ b. is_multiple (definition_of client.catalogue o r) ≡ b
+    elim (is_multiple (definition_of client.catalog o r)) as
+    (λ b. is_multiple (definition_of client.catalog o r) ≡ b
     → IsAmong x (dimension_parameter (if b then length ns else 0)) → IsShownOn client server (Resource o i r) x) [
       | true ↦ λ is k.
-          let d = several (definition_of client.catalogue o r) is in
+          let d = several (definition_of client.catalog o r) is in
           let e = dimension_is (length ns) x k in
           subst (IsShownOn client server (Resource o i r)) e.1
           (its_dimension o i r d.0 ns d.1 d.2 (holds_numbers client.store p) (empty_is_zero ns e.0))
@@ -190,12 +190,12 @@ parameters client server inherits path = (link_to client server inherits path).p
 
 among_parameters : (client : Client) (server : ℕ) (inherits : Bool) (path : Path) (x : Parameter)
     → IsAmong x (parameters client server inherits path)
-    → IsAmong x (dimension_parameter (dimension client.catalogue client.store path))
+    → IsAmong x (dimension_parameter (dimension client.catalog client.store path))
     ⊎ ((n : Name) × (z : ℤ) × (shown_number client.attributes server inherits path n ≡ Some z)
     × ((name_text n, number_text n z) ≡ x))
 among_parameters client server inherits path x h =
     let f = λ (n : Name). attribute_parameter n (shown_number client.attributes server inherits path n) in
-    elim (among_either x (dimension_parameter (dimension client.catalogue client.store path))
+    elim (among_either x (dimension_parameter (dimension client.catalog client.store path))
     (attribute_parameters client server inherits path) h) [
       | inl k ↦ inl k
       | inr k ↦
@@ -210,21 +210,21 @@ attribute_there : (client : Client) (server : ℕ) (inherits : Bool) (path : Pat
 attribute_there client server inherits path n z h =
     let f = λ (m : Name). attribute_parameter m (shown_number client.attributes server inherits path m) in
     let x = set_to n z in
-    among_right x (dimension_parameter (dimension client.catalogue client.store path))
+    among_right x (dimension_parameter (dimension client.catalog client.store path))
     (attribute_parameters client server inherits path)
     (among_names f x n (is_attribute n (shown_number client.attributes server inherits path n) z h))
 
 dimension_there : (client : Client) (server : ℕ) (inherits : Bool) (o i r : ℕ) (d : ResourceDef) (ns : List ℕ)
-    → definition_of client.catalogue o r ≡ Some d → d.multiple ≡ true
+    → definition_of client.catalog o r ≡ Some d → d.multiple ≡ true
     → HoldsNumbers client.store (resource_place o i r) ns → ns ≢ []
     → IsAmong (dim (length ns)) (parameters client server inherits (Resource o i r))
 dimension_there client server inherits o i r d ns defined_as many holds some =
     let p = resource_place o i r in
-    let is : dimension client.catalogue client.store (Resource o i r) ≡ length ns =
+    let is : dimension client.catalog client.store (Resource o i r) ≡ length ns =
     ap (λ (b : Bool). if b then length (parts_of client.store p) else 0) (ap is_multiple defined_as ∙ many)
     ∙ sym (as_long client.store p ns holds) in
     among_left (dim (length ns))
-    (dimension_parameter (dimension client.catalogue client.store (Resource o i r)))
+    (dimension_parameter (dimension client.catalog client.store (Resource o i r)))
     (attribute_parameters client server inherits (Resource o i r))
     (subst (λ (n : ℕ). IsAmong (dim (length ns)) (dimension_parameter n)) (sym is)
     (is_dimension (length ns) (some_is_more ns some)))
@@ -362,6 +362,6 @@ some_dimension n rest ys h =
 pub parameters_in_order : ParametersInOrder
 parameters_in_order client server inherits path =
     let number = λ (n : Name). shown_number client.attributes server inherits path n in
-    some_dimension (dimension client.catalogue client.store path) (attribute_parameters client server inherits path) _
+    some_dimension (dimension client.catalog client.store path) (attribute_parameters client server inherits path) _
     (some_attribute Pmin (number Pmin) _ _ (some_attribute Pmax (number Pmax) _ _ (some_attribute Gt (number Gt) _ _
     (some_attribute Lt (number Lt) _ _ (some_attribute St (number St) [] [] end)))))

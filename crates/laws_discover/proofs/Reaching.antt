@@ -41,7 +41,7 @@ asked : (client : Client) (server : ℕ) (m : Message) → IsFit client → IsFi
 asked client server m h =
     record { valid = kept_valid client server m h.valid; agree = requests_agree client server m h.agree }
 
--- where values alone differ, attributes and catalogue are the same
+-- where values alone differ, attributes and catalog are the same
 stored_fit : (client : Client) (stored : Stored) → IsFit client → IsFit (with_stored client stored)
 stored_fit client stored h = record { valid = h.valid; agree = h.agree }
 
@@ -90,7 +90,7 @@ put_fit : (f : Machine) (place : Option FullPath) (value : Value) → IsFit f.ke
     → LeavesFit (on_put f place value)
 put_fit f place value h =
     let stored = with_value_at f.kept.client.store place value in
-    either LeavesFit (misses f.kept.client.catalogue f.kept.client.store place value)
+    either LeavesFit (misses f.kept.client.catalog f.kept.client.store place value)
     (record { outputs = Act Missed ∷ []; flat = f })
     (record {
       outputs = [];

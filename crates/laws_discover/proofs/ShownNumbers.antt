@@ -14,7 +14,7 @@ use Rattle.device_requests.specs.WriteAttributes.{level_at}
 use Rattle.laws_discover.specs.Printed.{HasValidAttributes, IsAttributeNumber}
 
 abbrev Valid : Client → Path → Name → ℤ → Type 0
-Valid client path n z = IsAttributeNumber n z × (stands_at n (level_at client.catalogue path) ≡ true)
+Valid client path n z = IsAttributeNumber n z × (stands_at n (level_at client.catalog path) ≡ true)
 
 assigned_valid : (client : Client) → HasValidAttributes client → (server : ℕ) (path : Path) (n : Name) (z : ℤ)
     → assigned client.attributes server path n ≡ Some z → Valid client path n z
@@ -36,7 +36,7 @@ first_in_range client h server (p ∷ ps) n z e =
     by (Some y) is later e = (assigned_valid client h server p n z (is ∙ e)).0
 
 period_valid : (client : Client) → HasValidAttributes client → (server : ℕ) (b : Bool) (path : Path) (n : Name) (z : ℤ)
-    → stands_at n (level_at client.catalogue path) ≡ true
+    → stands_at n (level_at client.catalog path) ≡ true
     → (if b then effective client.attributes server path n else assigned client.attributes server path n) ≡ Some z
     → Valid client path n z
 period_valid client h server true path n z stands e = (first_in_range client h server (levels_of path) n z e, stands)

@@ -40,7 +40,7 @@ use Rattle.device_requests.specs.Options.{path_of as path_in, queries_of, segmen
 use Rattle.device_requests.specs.Refusals.{refusal_of, to_create, to_delete, to_execute, to_write, to_write_attributes}
 use Rattle.device_requests.specs.Request.{outcome_at, outcome_for, request_by, request_on, request_with}
 use Rattle.device_requests.specs.Write.{event_of, left, mode_at, new_values, write_unless}
-use Rattle.device_requests.specs.WriteAttributes.{agreed, annotate_unless, attributes_given, level_at}
+use Rattle.device_requests.specs.WriteAttributes.{new_numbers, annotate_unless, attributes_given, level_at}
 use Rattle.device_requests.specs.WriteAttributes.{spelled}
 use Rattle.laws_reading.specs.Queries.{AreSaid, SaysTarget}
 use Rattle.laws_reading.proofs.Saying.{changes_are_said}
@@ -71,88 +71,88 @@ changes_valid before level (q ∷ qs) (c ∷ cs) h = (
 -- attributes with changes
 
 IsValidAt : List ObjectDef → AttributeKey → ℤ → Type 0
-IsValidAt catalogue k z = IsAttributeNumber k.name z × (stands_at k.name (level_at catalogue (path_of k)) ≡ true)
+IsValidAt catalog k z = IsAttributeNumber k.name z × (stands_at k.name (level_at catalog (path_of k)) ≡ true)
 
 AreValid : List ObjectDef → Numbers → Type 0
-AreValid catalogue m = (k : AttributeKey) (z : ℤ) → map.get m k ≡ Some z → IsValidAt catalogue k z
+AreValid catalog m = (k : AttributeKey) (z : ℤ) → map.get m k ≡ Some z → IsValidAt catalog k z
 
-with_valid : (catalogue : List ObjectDef) (m : Numbers) (j : AttributeKey) (o : Option ℤ) → AreValid catalogue m
-    → ((z : ℤ) → o ≡ Some z → IsValidAt catalogue j z) → AreValid catalogue (with_number m j o)
+with_valid : (catalog : List ObjectDef) (m : Numbers) (j : AttributeKey) (o : Option ℤ) → AreValid catalog m
+    → ((z : ℤ) → o ≡ Some z → IsValidAt catalog j z) → AreValid catalog (with_number m j o)
 unfolding AreValid
-with_valid catalogue m j None h new = λ k z e.
+with_valid catalog m j None h new = λ k z e.
     by k z (eq_by_cmp key_cmp k j) (sym (map.get-remove key_total m j k) ∙ e)
   where
-    by : (k : AttributeKey) (z : ℤ) (b : Bool) → cond b None (map.get m k) ≡ Some z → IsValidAt catalogue k z
+    by : (k : AttributeKey) (z : ℤ) (b : Bool) → cond b None (map.get m k) ≡ Some z → IsValidAt catalog k z
     by k z true e = cc e
     by k z false e = h k z e
-with_valid catalogue m j (Some y) h new = λ k z e.
+with_valid catalog m j (Some y) h new = λ k z e.
     by k z (eq_by_cmp key_cmp k j) refl (sym (map.get-insert key_total m j y k) ∙ e)
   where
     by : (k : AttributeKey) (z : ℤ) (b : Bool) → eq_by_cmp key_cmp k j ≡ b
-        → cond b (Some y) (map.get m k) ≡ Some z → IsValidAt catalogue k z
+        → cond b (Some y) (map.get m k) ≡ Some z → IsValidAt catalog k z
     by k z true is e =
         let key : k ≡ j = key_exact k j ((Equal-is _).0 is) in
-        subst (λ (i : AttributeKey). IsValidAt catalogue i z) (sym key) (new z e)
+        subst (λ (i : AttributeKey). IsValidAt catalog i z) (sym key) (new z e)
     by k z false is e = h k z e
 
-key_valid : (catalogue : List ObjectDef) (server : ℕ) (path : Path) (n : Name) (z : ℤ) → IsAttributeNumber n z
-    → stands_at n (level_at catalogue path) ≡ true → IsValidAt catalogue (key_of server path n) z
+key_valid : (catalog : List ObjectDef) (server : ℕ) (path : Path) (n : Name) (z : ℤ) → IsAttributeNumber n z
+    → stands_at n (level_at catalog path) ≡ true → IsValidAt catalog (key_of server path n) z
 unfolding IsValidAt
-key_valid catalogue server (Object o) n z h stands = (h, stands)
-key_valid catalogue server (Instance o i) n z h stands = (h, stands)
-key_valid catalogue server (Resource o i r) n z h stands = (h, stands)
-key_valid catalogue server (Part o i r p) n z h stands = (h, stands)
+key_valid catalog server (Object o) n z h stands = (h, stands)
+key_valid catalog server (Instance o i) n z h stands = (h, stands)
+key_valid catalog server (Resource o i r) n z h stands = (h, stands)
+key_valid catalog server (Part o i r p) n z h stands = (h, stands)
 
-written_valid : (catalogue : List ObjectDef) (m : Numbers) (server : ℕ) (path : Path) (cs : List Change)
-    → AreValid catalogue m → AllByRecursion (SetsValid (level_at catalogue path)) cs
-    → AreValid catalogue (written m server path cs)
+written_valid : (catalog : List ObjectDef) (m : Numbers) (server : ℕ) (path : Path) (cs : List Change)
+    → AreValid catalog m → AllByRecursion (SetsValid (level_at catalog path)) cs
+    → AreValid catalog (written m server path cs)
 unfolding SetsValid
-written_valid catalogue m server path [] h all = h
-written_valid catalogue m server path (c ∷ cs) h all =
-    written_valid catalogue (with_number m (key_of server path c.name) c.number) server path cs
-    (with_valid catalogue m (key_of server path c.name) c.number h
-    (λ z e. let v = all.0 z e in key_valid catalogue server path c.name z v.0 v.1)) all.1
+written_valid catalog m server path [] h all = h
+written_valid catalog m server path (c ∷ cs) h all =
+    written_valid catalog (with_number m (key_of server path c.name) c.number) server path cs
+    (with_valid catalog m (key_of server path c.name) c.number h
+    (λ z e. let v = all.0 z e in key_valid catalog server path c.name z v.0 v.1)) all.1
 
 -- where attributes are given, they are valid
 GivesValid : List ObjectDef → Option Numbers → Type 0
-GivesValid catalogue o = (m : Numbers) → o ≡ Some m → AreValid catalogue m
+GivesValid catalog o = (m : Numbers) → o ≡ Some m → AreValid catalog m
 
-given_valid : (catalogue : List ObjectDef) (m : Numbers) (server : ℕ) (path : Path) (qs : List (List ℕ))
-    (r : Result (List Change) QueryFault) → changes_of [] (level_at catalogue path) qs ≡ r → AreValid catalogue m
-    → GivesValid catalogue (option_and_then (agreed m server path) (spelled r))
+given_valid : (catalog : List ObjectDef) (m : Numbers) (server : ℕ) (path : Path) (qs : List (List ℕ))
+    (r : Result (List Change) QueryFault) → changes_of [] (level_at catalog path) qs ≡ r → AreValid catalog m
+    → GivesValid catalog (option_and_then (new_numbers m server path) (spelled r))
 unfolding GivesValid
-given_valid catalogue m server path qs (Err f) is h = λ w e. cc e
-given_valid catalogue m server path qs (Ok cs) is h = λ w e.
+given_valid catalog m server path qs (Err f) is h = λ w e. cc e
+given_valid catalog m server path qs (Ok cs) is h = λ w e.
     by w (is_consistent (written m server path cs) server path) e
   where
     by : (w : Numbers) (b : Bool) → (if b then Some (written m server path cs) else None) ≡ Some w
-        → AreValid catalogue w
+        → AreValid catalog w
     by w true e =
         let same : written m server path cs ≡ w = cc e in
-        let level = level_at catalogue path in
-        subst (AreValid catalogue) same (written_valid catalogue m server path cs h
+        let level = level_at catalog path in
+        subst (AreValid catalog) same (written_valid catalog m server path cs h
         (changes_valid [] level qs cs ((changes_are_said level qs cs).0 is)))
     by w false e = cc e
 
 -- attributes without those that go
 
-without_valid : (catalogue : List ObjectDef) (m : Numbers) (path : Path) → AreValid catalogue m
-    → AreValid catalogue (without_under m path)
+without_valid : (catalog : List ObjectDef) (m : Numbers) (path : Path) → AreValid catalog m
+    → AreValid catalog (without_under m path)
 unfolding AreValid
-without_valid catalogue m path h = λ k z e.
+without_valid catalog m path h = λ k z e.
     by k z (not (lies_under path k)) (sym (map.get-retain_keys m (λ i. not (lies_under path i)) k
     (λ x same. ap (λ i. not (lies_under path i)) (sym (key_exact k x same)))) ∙ e)
   where
-    by : (k : AttributeKey) (z : ℤ) (b : Bool) → cond b (map.get m k) None ≡ Some z → IsValidAt catalogue k z
+    by : (k : AttributeKey) (z : ℤ) (b : Bool) → cond b (map.get m k) None ≡ Some z → IsValidAt catalog k z
     by k z true e = h k z e
     by k z false e = cc e
 
-controls_valid : (catalogue : List ObjectDef) (m : Numbers) (js : List ℕ) → AreValid catalogue m
-    → AreValid catalogue (without_controls m js)
-controls_valid catalogue m [] h = h
-controls_valid catalogue m (j ∷ js) h =
-    controls_valid catalogue (without_under m (Instance access_control_object j)) js
-    (without_valid catalogue m (Instance access_control_object j) h)
+controls_valid : (catalog : List ObjectDef) (m : Numbers) (js : List ℕ) → AreValid catalog m
+    → AreValid catalog (without_controls m js)
+controls_valid catalog m [] h = h
+controls_valid catalog m (j ∷ js) h =
+    controls_valid catalog (without_under m (Instance access_control_object j)) js
+    (without_valid catalog m (Instance access_control_object j) h)
 
 -- by the operation
 
@@ -176,12 +176,12 @@ took : (code : Option Code) (client : Client) (path : Path) → HasValidAttribut
     → HasValidAttributes (delete_unless code client path).client
 unfolding AreValid IsValidAt
 took None client path h =
-    controls_valid client.catalogue (without_under client.attributes path)
-    (taken_away client.store (deleted client.store path)) (without_valid client.catalogue client.attributes path h)
+    controls_valid client.catalog (without_under client.attributes path)
+    (taken_away client.store (deleted client.store path)) (without_valid client.catalog client.attributes path h)
 took (Some code) client path h = h
 
 annotated : (code : Option Code) (client : Client) (given : Option Numbers) → HasValidAttributes client
-    → GivesValid client.catalogue given → HasValidAttributes (annotate_unless code client given).client
+    → GivesValid client.catalog given → HasValidAttributes (annotate_unless code client given).client
 unfolding AreValid GivesValid IsValidAt
 annotated None client None h gives = h
 annotated None client (Some m) h gives = gives m refl
@@ -196,7 +196,7 @@ kept_at client server m path Discover h = h
 kept_at client server m path WriteAttributes h =
     let given = attributes_given client server path (queries_of m.options) in
     annotated (refusal_of client server path (to_write_attributes (queries_of m.options))) client given h
-    (given_valid client.catalogue client.attributes server path (queries_of m.options) _ refl h)
+    (given_valid client.catalog client.attributes server path (queries_of m.options) _ refl h)
 kept_at client server m path WriteReplace h =
     let values = new_values client path (content_format_of m.options) m.payload in
     wrote (refusal_of client server path (to_write Replace (content_format_of m.options) m.payload)) client

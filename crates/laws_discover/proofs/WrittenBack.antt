@@ -18,7 +18,7 @@ use Rattle.notifier.proofs.Keys.{key_exact, key_total}
 use Rattle.device_requests.specs.declared.answer.Code.{Code}
 use Rattle.device_requests.specs.Client.{Client}
 use Rattle.device_requests.specs.Refusals.{refusal_of, to_write_attributes}
-use Rattle.device_requests.specs.WriteAttributes.{agreed, annotate_unless, attributes_given, level_at}
+use Rattle.device_requests.specs.WriteAttributes.{new_numbers, annotate_unless, attributes_given, level_at}
 use Rattle.device_requests.specs.WriteAttributes.{spelled}
 use Rattle.laws_discover.specs.Links.{attribute_names, attribute_parameters, query_of, settings, settings_shown}
 use Rattle.laws_discover.specs.Links.{WrittenBackIsTheSame}
@@ -50,7 +50,7 @@ written_again m server path numbers same (n ∷ ns) =
 
 given_again : (m : Numbers) (server : ℕ) (path : Path) (cs : List Change) (r : Result (List Change) QueryFault)
     → r ≡ Ok cs → written m server path cs ≡ m → (w : Numbers)
-    → option_and_then (agreed m server path) (spelled r) ≡ Some w → w ≡ m
+    → option_and_then (new_numbers m server path) (spelled r) ≡ Some w → w ≡ m
 given_again m server path cs (Err f) is same w e = cc is
 given_again m server path cs (Ok ds) is same w e =
     by (is_consistent (written m server path ds) server path) e
@@ -68,7 +68,7 @@ left_alone (Some code) client given same = refl
 left_alone None client None same = refl
 left_alone None client (Some w) same = λ i. record {
   accounts = client.accounts;
-  catalogue = client.catalogue;
+  catalog = client.catalog;
   store = client.store;
   attributes = same w refl i;
   notify = client.notify;
@@ -80,6 +80,6 @@ written_back client server path h =
     let given = attributes_given client server path qs in
     left_alone (refusal_of client server path (to_write_attributes qs)) client given
     (given_again client.attributes server path (settings_shown client server false path)
-    (changes_of [] (level_at client.catalogue path) qs) (parameters_are_queries client server false path h)
+    (changes_of [] (level_at client.catalog path) qs) (parameters_are_queries client server false path h)
     (written_again client.attributes server path (assigned client.attributes server path) (λ n z e. e)
     attribute_names))

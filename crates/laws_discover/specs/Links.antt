@@ -9,7 +9,7 @@ use Rattle.object_defs.specs.declared.definition.ResourceDef.{ResourceDef}
 use Rattle.object_defs.specs.declared.path.InstancePath.{InstancePath}
 use Rattle.object_defs.specs.declared.path.Path.{Path}
 use Rattle.object_defs.specs.declared.path.ResourcePath.{ResourcePath}
-use Rattle.object_defs.specs.Catalogue.{definition_of}
+use Rattle.object_defs.specs.Catalog.{definition_of}
 use Rattle.object_defs.specs.Path.{path_text}
 use Rattle.instance_store.specs.Stored.{has_instance, parts_of}
 use Rattle.notifier.specs.declared.attribute.Change.{Change}
@@ -100,7 +100,7 @@ link_to client server inherits path =
     record {
       path = path;
       parameters =
-          dimension_parameter (dimension client.catalogue client.store path)
+          dimension_parameter (dimension client.catalog client.store path)
           ++ attribute_parameters client server inherits path;
     }
 
@@ -113,7 +113,7 @@ links_to client server (p ∷ ps) = link_to client server (inherits_at p) p ∷ 
 -- in 64 bits; and attributes are valid, as they are from the start whatever is requested (`attributes_stay_valid`)
 pub record IsWithinTypes (client : Client) : Type 0 where
   pub instances : (p : InstancePath) → has_instance client.store p ≡ true → (p.object < 65536) × (p.instance < 65536)
-  pub resources : (o r : ℕ) (d : ResourceDef) → definition_of client.catalogue o r ≡ Some d → r < 65536
+  pub resources : (o r : ℕ) (d : ResourceDef) → definition_of client.catalog o r ≡ Some d → r < 65536
   pub parts : (r : ResourcePath) → length (parts_of client.store r) < 2 ^ 64
   pub attributes : HasValidAttributes client
 
@@ -124,7 +124,7 @@ DiscoversAreRead =
     → (outcome_of client server m).answer.code ≡ Content
     → (ls : List PathLink)
     → AreLinks (outcome_of client server m).answer.payload ls
-    ↔ (ls ≡ links_to client server (linked client.catalogue client.store path))
+    ↔ (ls ≡ links_to client server (linked client.catalog client.store path))
 
 -- so the paths that are read from it are those that the Discover shows
 abbrev pub PathsAreRead : Type 0
@@ -132,7 +132,7 @@ PathsAreRead =
     (client : Client) (server : ℕ) (m : Message) (path : Path) → IsWithinTypes client → Asks m path Discover
     → (outcome_of client server m).answer.code ≡ Content
     → (ls : List PathLink) → AreLinks (outcome_of client server m).answer.payload ls
-    → map (λ l. l.path) ls ≡ linked client.catalogue client.store path
+    → map (λ l. l.path) ls ≡ linked client.catalog client.store path
 
 -- a parameter as a query: its name and its value with a `=` between them
 abbrev pub query_of : List ℕ × List ℕ → List ℕ
@@ -151,7 +151,7 @@ settings_shown client server inherits path =
 abbrev pub ParametersAreQueries : Type 0
 ParametersAreQueries =
     (client : Client) (server : ℕ) (inherits : Bool) (path : Path) → HasValidAttributes client
-    → changes_of [] (level_at client.catalogue path)
+    → changes_of [] (level_at client.catalog path)
     (map query_of (attribute_parameters client server inherits path))
     ≡ Ok (settings_shown client server inherits path)
 

@@ -26,14 +26,14 @@ AreBefore (m ∷ ms) (n ∷ ns) = (m < n) ⊎ ((m ≡ n) × AreBefore ms ns)
 abbrev pub ComesBefore : Path → Path → Type 0
 ComesBefore p q = AreBefore (path_numbers p) (path_numbers q)
 
--- of a catalogue that is in order, as every one is, each path that a Discover shows comes before all later ones
+-- of a catalog that is in order, as every one is, each path that a Discover shows comes before all later ones
 abbrev pub LinksAscend : Type 0
 LinksAscend =
-    (catalogue : List ObjectDef) (stored : Stored) (path : Path) → IsInOrder catalogue
-    → AllPairs ComesBefore (linked catalogue stored path)
+    (catalog : List ObjectDef) (stored : Stored) (path : Path) → IsInOrder catalog
+    → AllPairs ComesBefore (linked catalog stored path)
 
 -- so none is shown twice
 abbrev pub LinksDiffer : Type 0
 LinksDiffer =
-    (catalogue : List ObjectDef) (stored : Stored) (path : Path) → IsInOrder catalogue
-    → AllPairs (λ p q. p ≢ q) (linked catalogue stored path)
+    (catalog : List ObjectDef) (stored : Stored) (path : Path) → IsInOrder catalog
+    → AllPairs (λ p q. p ≢ q) (linked catalog stored path)

@@ -5,7 +5,7 @@ use Rattle.std.specs.Prelude.{Some, codes}
 use Rattle.std.specs.Fmt.{decimal}
 use Rattle.std.specs.List.{IsDistinct}
 use Rattle.lwm2m_values.specs.declared.value.Value.{Value}
-use Rattle.object_defs.specs.Catalogue.{definition_of}
+use Rattle.object_defs.specs.Catalog.{definition_of}
 use Rattle.object_defs.specs.Path.{part_of}
 use Rattle.object_defs.specs.declared.definition.ResourceDef.{ResourceDef}
 use Rattle.object_defs.specs.declared.path.Path.{Path}
@@ -33,7 +33,7 @@ pub record HoldsNumbers (stored : Stored) (p : ResourcePath) (ns : List ℕ) : T
 -- what the link of a path shows to a server: how many parts a multiple resource holds, if it holds one, and each
 -- attribute that this server set at the path itself
 pub data IsShownOn (client : Client) (server : ℕ) : Path → Parameter → Type 0 where
-  its_dimension : (o i r : ℕ) (d : ResourceDef) (ns : List ℕ) → definition_of client.catalogue o r ≡ Some d
+  its_dimension : (o i r : ℕ) (d : ResourceDef) (ns : List ℕ) → definition_of client.catalog o r ≡ Some d
       → d.multiple ≡ true → HoldsNumbers client.store (resource_place o i r) ns → ns ≢ []
       → IsShownOn client server (Resource o i r) (codes "dim", decimal (length ns))
   its_attribute : (path : Path) (n : Name) (z : ℤ) → assigned client.attributes server path n ≡ Some z

@@ -55,7 +55,7 @@ PrintedSaysAgain =
 abbrev pub HasValidAttributes : Client → Type 0
 HasValidAttributes client =
     (k : AttributeKey) (z : ℤ) → map.get client.attributes k ≡ Some z
-    → IsAttributeNumber k.name z × (stands_at k.name (level_at client.catalogue (path_of k)) ≡ true)
+    → IsAttributeNumber k.name z × (stands_at k.name (level_at client.catalog (path_of k)) ≡ true)
 
 -- it is so where none is set, as at the start
 abbrev pub NoneIsValid : Type 0

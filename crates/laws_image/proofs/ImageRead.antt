@@ -61,7 +61,7 @@ of_maps held there =
     record {
       classes = record {
         accounts = 1 ∷ [];
-        catalogue = base;
+        catalog = base;
         store = record { values = held; instances = there };
         notify = 0;
       } ∷ [];

@@ -20,7 +20,7 @@ abbrev pub class : Template
 class =
     record {
       accounts = 1 ∷ [];
-      catalogue = base;
+      catalog = base;
       store = with_value (with_instance empty (record { object = 3; instance = 0 }))
           (record { object = 3; instance = 0; resource = 9; part = None }) (Whole (pos 100));
       notify = 0;

@@ -21,7 +21,7 @@ use Rattle.device_requests.specs.declared.answer.Code.{Code}
 use Rattle.device_requests.specs.Laws.{is_refusal}
 use Rattle.device_requests.specs.Outcomes.{attributes_outcome}
 use Rattle.device_requests.specs.Refusals.{refusals_of, to_write_attributes}
-use Rattle.device_requests.specs.WriteAttributes.{agreed, annotate_unless, attributes_given}
+use Rattle.device_requests.specs.WriteAttributes.{new_numbers, annotate_unless, attributes_given}
 use Rattle.device_requests.specs.WriteAttributes.{level_at, spelled}
 use Rattle.laws_requests.specs.Annotations.{AttributesAreSet, changed_by}
 use Rattle.laws_requests.proofs.Asking.{fails, passes}
@@ -86,8 +86,8 @@ agreed_by true w h = refl
 agreed_by false w h = cc
 
 spelled_by : (m : Numbers) (s : ℕ) (p : Path) (r : Result (List Change) QueryFault)
-    → not (is_some (option_and_then (agreed m s p) (spelled r))) ≡ false
-    → (cs : List Change) × (r ≡ Ok cs) × (option_and_then (agreed m s p) (spelled r) ≡ Some (written m s p cs))
+    → not (is_some (option_and_then (new_numbers m s p) (spelled r))) ≡ false
+    → (cs : List Change) × (r ≡ Ok cs) × (option_and_then (new_numbers m s p) (spelled r) ≡ Some (written m s p cs))
 spelled_by m s p (Err e) h = cc
 spelled_by m s p (Ok cs) h = (cs, refl, agreed_by (is_consistent (written m s p cs) s p) (written m s p cs) h)
 
@@ -99,7 +99,7 @@ attributes_set client server path queries h =
     (λ (code : Option Code). annotate_unless code client given)
     (λ c. refl) (ap is_refusal h) in
     let all = fails rules none in
-    let cs = spelled_by client.attributes server path (changes_of [] (level_at client.catalogue path) queries)
+    let cs = spelled_by client.attributes server path (changes_of [] (level_at client.catalog path) queries)
     all.1.1.1.1.1.0 in
     let is : (attributes_outcome client server path queries).client.attributes
     ≡ written client.attributes server path cs.0 =

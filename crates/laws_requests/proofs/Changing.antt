@@ -7,13 +7,13 @@ use Rattle.object_defs.specs.Path.{object_in}
 use Rattle.object_defs.specs.declared.path.Path.{Path}
 use Rattle.object_defs.specs.declared.path.Path.TheVariants.{Object, Instance, Resource, Part}
 use Rattle.object_defs.specs.declared.path.ResourcePath.{ResourcePath}
-use Rattle.object_defs.specs.Catalogue.{definition_of}
+use Rattle.object_defs.specs.Catalog.{definition_of}
 use Rattle.instance_store.specs.Stored.{Stored}
 use Rattle.notifier.specs.Attributes.{Numbers}
 use Rattle.device_firmware.specs.Firmware.{firmware_after, uri_of}
 use Rattle.device_firmware.specs.declared.event.FirmwareEvent.{FirmwareEvent}
 use Rattle.device_firmware.specs.declared.event.FirmwareEvent.TheVariants as event
-use Rattle.device_firmware.proofs.Behind.{same_instances, taken}
+use Rattle.device_firmware.proofs.AfterEvent.{same_instances, taken}
 use Rattle.lwm2m_payloads.specs.Changes.{is_kept_as, with_given}
 use Rattle.lwm2m_payloads.specs.Given.{instance_given}
 use Rattle.lwm2m_payloads.specs.declared.format.Format.{Format}
@@ -59,43 +59,43 @@ kept_instances false mode s p given = refl
 -- what a Write leaves where nothing goes to the firmware
 abbrev writes : Client → Mode → Path → List ℕ → Option Format → Stored
 writes client mode path payload format =
-    written mode client.catalogue client.store path
-    (option_and_then (values_given client.catalogue path payload) format)
+    written mode client.catalog client.store path
+    (option_and_then (values_given client.catalog path payload) format)
 
 instance_instances : (client : Client) (mode : Mode) (o i : ℕ) (payload : List ℕ) (f : Format)
-    (given : Option (List Assignment)) → instance_given (defined client.catalogue o) i payload ≡ given
+    (given : Option (List Assignment)) → instance_given (defined client.catalog o) i payload ≡ given
     → (writes client mode (Instance o i) payload (Some f)).instances ≡ client.store.instances
 instance_instances client mode o i payload f None h = rw h refl
 instance_instances client mode o i payload f (Some given) h =
-    rw h (written_instances mode (defined client.catalogue o) client.store (place_of o i) given)
+    rw h (written_instances mode (defined client.catalog o) client.store (place_of o i) given)
 
 resource_instances : (client : Client) (mode : Mode) (o i r : ℕ) (payload : List ℕ) (f : Format)
-    (given : Option Given) → given_to_resource (definition_of client.catalogue o r) f payload ≡ given
+    (given : Option Given) → given_to_resource (definition_of client.catalog o r) f payload ≡ given
     → (writes client mode (Resource o i r) payload (Some f)).instances ≡ client.store.instances
 resource_instances client mode o i r payload f None h = rw h refl
 resource_instances client mode o i r payload f (Some given) h =
     rw h
-    (kept_instances (is_kept_as (definition_of client.catalogue o r)) mode client.store (resource_place o i r) given)
+    (kept_instances (is_kept_as (definition_of client.catalog o r)) mode client.store (resource_place o i r) given)
 
 part_instances : (client : Client) (mode : Mode) (o i r n : ℕ) (payload : List ℕ) (f : Format)
-    (given : Option Given) → given_to_part (definition_of client.catalogue o r) n f payload ≡ given
+    (given : Option Given) → given_to_part (definition_of client.catalog o r) n f payload ≡ given
     → (writes client mode (Part o i r n) payload (Some f)).instances ≡ client.store.instances
 part_instances client mode o i r n payload f None h = rw h refl
 part_instances client mode o i r n payload f (Some given) h =
     rw h
-    (kept_instances (is_kept_as (definition_of client.catalogue o r)) mode client.store (resource_place o i r) given)
+    (kept_instances (is_kept_as (definition_of client.catalog o r)) mode client.store (resource_place o i r) given)
 
 written_keep : (client : Client) (mode : Mode) (path : Path) (payload : List ℕ) (format : Option Format)
     → (writes client mode path payload format).instances ≡ client.store.instances
 written_keep client mode path payload None = refl
 written_keep client mode (Object o) payload (Some f) = refl
 written_keep client mode (Instance o i) payload (Some f) =
-    instance_instances client mode o i payload f (instance_given (defined client.catalogue o) i payload) refl
+    instance_instances client mode o i payload f (instance_given (defined client.catalog o) i payload) refl
 written_keep client mode (Resource o i r) payload (Some f) =
     resource_instances client mode o i r payload f
-    (given_to_resource (definition_of client.catalogue o r) f payload) refl
+    (given_to_resource (definition_of client.catalog o r) f payload) refl
 written_keep client mode (Part o i r n) payload (Some f) =
-    part_instances client mode o i r n payload f (given_to_part (definition_of client.catalogue o r) n f payload) refl
+    part_instances client mode o i r n payload f (given_to_part (definition_of client.catalog o r) n f payload) refl
 
 left_instances : (mode : Mode) (client : Client) (path : Path) (number : Option ℕ) (payload : List ℕ)
     (e : Option FirmwareEvent)
@@ -103,7 +103,7 @@ left_instances : (mode : Mode) (client : Client) (path : Path) (number : Option 
 left_instances mode client path number payload (Some e) =
     firm_instances client.store e (firmware_after client.store e) refl
 left_instances mode client path number payload None =
-    written_keep client mode path payload (format_at client.catalogue path number)
+    written_keep client mode path payload (format_at client.catalog path number)
 
 no_error_instances : (s : Stored) (path : Path) → (with_no_error s path).instances ≡ s.instances
 no_error_instances s (Object o) = refl

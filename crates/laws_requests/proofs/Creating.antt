@@ -167,7 +167,7 @@ born_once s o (Some x) b once h = given_once (number_for s o x.number) x.assigne
 made : (client : Client) (server o : ℕ) (payload : List ℕ) (b : Newborn) → newborn client o payload ≡ Some b
     → is_fixed o ≡ false → IsCreated client server o payload (create_unless None client server o (Some b))
 made client server o payload b gives free =
-    let resources = defined client.catalogue o in
+    let resources = defined client.catalog o in
     let n = length client.accounts in
     let place = place_of o b.number in
     let other : place.object ≢ 2 = λ e. false≢true (sym free ∙ ap is_fixed e) in

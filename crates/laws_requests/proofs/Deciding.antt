@@ -121,13 +121,13 @@ order : OneTable → (client : Client) (server : ℕ) (m : Message) (path : Path
     → Asks m path operation
     → let purpose = purpose_of m operation in
     IsDecided (object_in path == 0) (lacks_target client path purpose) (lacks_right client server path purpose)
-    (lacks_operation client.catalogue path purpose) (lacks_format client.catalogue path purpose)
+    (lacks_operation client.catalog path purpose) (lacks_format client.catalog path purpose)
     (is_invalid client server path purpose) (is_out_of_turn client path purpose)
     (is_too_much client server path purpose) (done_code purpose) (outcome_of client server m).answer.code
 order one_table client server m path operation asks =
     let purpose = purpose_of m operation in
     decided (object_in path == 0) (lacks_target client path purpose) (lacks_right client server path purpose)
-    (lacks_operation client.catalogue path purpose) (lacks_format client.catalogue path purpose)
+    (lacks_operation client.catalog path purpose) (lacks_format client.catalog path purpose)
     (is_invalid client server path purpose) (is_out_of_turn client path purpose)
     (is_too_much client server path purpose) (format_refusal purpose) (done_code purpose)
     (outcome_of client server m).answer.code (format_refuses purpose) (done_succeeds purpose)
@@ -137,7 +137,7 @@ order one_table client server m path operation asks =
 abbrev IsClear : Client → ℕ → Path → Purpose → Type 0
 IsClear client server path purpose =
     AreClear (object_in path == 0) (lacks_target client path purpose) (lacks_right client server path purpose)
-    (lacks_operation client.catalogue path purpose) (lacks_format client.catalogue path purpose)
+    (lacks_operation client.catalog path purpose) (lacks_format client.catalog path purpose)
     (is_invalid client server path purpose) (is_out_of_turn client path purpose)
 
 clear_good : (client : Client) (server : ℕ) (path : Path) (purpose : Purpose) → IsClear client server path purpose

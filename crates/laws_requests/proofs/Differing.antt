@@ -11,7 +11,7 @@ use Rattle.std.specs.Ordering.{eq_by_cmp}
 use Rattle.std.proofs.Math.Dec.{T}
 use Rattle.std.proofs.lemmas.Bool.Decides.{nat_tests}
 use Rattle.lwm2m_values.specs.declared.value.Value.{Value}
-use Rattle.object_defs.specs.Catalogue.{definition_of, object_of}
+use Rattle.object_defs.specs.Catalog.{definition_of, object_of}
 use Rattle.object_defs.specs.Operations.{can_read}
 use Rattle.object_defs.specs.Path.{part_of, path_cmp, single_of}
 use Rattle.object_defs.specs.declared.definition.ObjectDef.{ObjectDef}
@@ -137,27 +137,27 @@ same_as : (s t : Stored) (p : ResourcePath) (d : Option ResourceDef) → HaveSam
 same_as s t p None h = refl
 same_as s t p (Some d) h = ap (λ (b : Bool). not (can_read d.ops) || b) (same_held s t p d.multiple h)
 
-pub same_exists : (catalogue : List ObjectDef) (s t : Stored) → s.instances ≡ t.instances → HaveSamePlaces s t
-    → (path : Path) → exists catalogue s path ≡ exists catalogue t path
-same_exists catalogue s t i h (Object o) = refl
-same_exists catalogue s t i h (Instance o n) =
-    ap (λ (b : Bool). is_some (object_of catalogue o) && b) (same_instance s t (place_of o n) i)
-same_exists catalogue s t i h (Resource o n r) =
+pub same_exists : (catalog : List ObjectDef) (s t : Stored) → s.instances ≡ t.instances → HaveSamePlaces s t
+    → (path : Path) → exists catalog s path ≡ exists catalog t path
+same_exists catalog s t i h (Object o) = refl
+same_exists catalog s t i h (Instance o n) =
+    ap (λ (b : Bool). is_some (object_of catalog o) && b) (same_instance s t (place_of o n) i)
+same_exists catalog s t i h (Resource o n r) =
     let p = resource_place o n r in
-    λ j. same_instance s t (place_of o n) i j && same_as s t p (definition_of catalogue o r) h j
-same_exists catalogue s t i h (Part o n r m) =
+    λ j. same_instance s t (place_of o n) i j && same_as s t p (definition_of catalog o r) h j
+same_exists catalog s t i h (Part o n r m) =
     λ j. same_instance s t (place_of o n) i j
-    && (is_multiple (definition_of catalogue o r) && h (part_of (resource_place o n r) m) j)
+    && (is_multiple (definition_of catalog o r) && h (part_of (resource_place o n r) m) j)
 
-pub same_target : (catalogue : List ObjectDef) (s t : Stored) → s.instances ≡ t.instances → (path : Path)
-    → is_target catalogue s path ≡ is_target catalogue t path
-same_target catalogue s t i (Object o) = refl
-same_target catalogue s t i (Instance o n) =
-    ap (λ (b : Bool). is_some (object_of catalogue o) && b) (same_instance s t (place_of o n) i)
-same_target catalogue s t i (Resource o n r) =
-    ap (λ (b : Bool). is_some (definition_of catalogue o r) && b) (same_instance s t (place_of o n) i)
-same_target catalogue s t i (Part o n r m) =
-    ap (λ (b : Bool). is_multiple (definition_of catalogue o r) && b) (same_instance s t (place_of o n) i)
+pub same_target : (catalog : List ObjectDef) (s t : Stored) → s.instances ≡ t.instances → (path : Path)
+    → is_target catalog s path ≡ is_target catalog t path
+same_target catalog s t i (Object o) = refl
+same_target catalog s t i (Instance o n) =
+    ap (λ (b : Bool). is_some (object_of catalog o) && b) (same_instance s t (place_of o n) i)
+same_target catalog s t i (Resource o n r) =
+    ap (λ (b : Bool). is_some (definition_of catalog o r) && b) (same_instance s t (place_of o n) i)
+same_target catalog s t i (Part o n r m) =
+    ap (λ (b : Bool). is_multiple (definition_of catalog o r) && b) (same_instance s t (place_of o n) i)
 
 -- ---- rights
 

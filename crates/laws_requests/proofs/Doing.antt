@@ -5,7 +5,7 @@ use Rattle.std.specs.Bool.{if◌then◌else◌}
 use Rattle.std.specs.Option.{is_some, option_and_then, unwrap_or}
 use Rattle.std.proofs.lemmas.Bool.{eqb-true}
 use Rattle.coap_codec.specs.Message.{Message}
-use Rattle.object_defs.specs.Catalogue.{definition_of}
+use Rattle.object_defs.specs.Catalog.{definition_of}
 use Rattle.object_defs.specs.Operations.{can_read}
 use Rattle.object_defs.specs.Path.{object_in}
 use Rattle.object_defs.specs.declared.definition.ResourceDef.{ResourceDef}
@@ -65,21 +65,21 @@ use Rattle.laws_requests.proofs.Writing.{unrefused}
 -- ---- a Write of a resource that the firmware does not take
 
 is_written : (client : Client) (mode : Mode) (o i r : ℕ) (payload : List ℕ) (f : Format) (d : ResourceDef)
-    (given : Given) → given_to_resource (definition_of client.catalogue o r) f payload ≡ Some given
-    → definition_of client.catalogue o r ≡ Some d
-    → written mode client.catalogue client.store (Resource o i r)
-    (values_given client.catalogue (Resource o i r) payload f)
+    (given : Given) → given_to_resource (definition_of client.catalog o r) f payload ≡ Some given
+    → definition_of client.catalog o r ≡ Some d
+    → written mode client.catalog client.store (Resource o i r)
+    (values_given client.catalog (Resource o i r) payload f)
     ≡ (if can_read d.ops then with_given mode client.store (resource_place o i r) given else client.store)
 is_written client mode o i r payload f d given h k = rw (h, k) refl
 
 untaken : (client : Client) (mode : Mode) (o i r : ℕ) (payload : List ℕ) (f : Format) (d : ResourceDef)
-    (given : Given) → given_to_resource (definition_of client.catalogue o r) f payload ≡ Some given
-    → definition_of client.catalogue o r ≡ Some d
-    → event_of (Resource o i r) (values_given client.catalogue (Resource o i r) payload f) ≡ None
+    (given : Given) → given_to_resource (definition_of client.catalog o r) f payload ≡ Some given
+    → definition_of client.catalog o r ≡ Some d
+    → event_of (Resource o i r) (values_given client.catalog (Resource o i r) payload f) ≡ None
     → leaves client mode (Resource o i r) payload (Some f)
     ≡ (if can_read d.ops then with_given mode client.store (resource_place o i r) given else client.store)
 untaken client mode o i r payload f d given h k e =
-    ap (left mode client (Resource o i r) (values_given client.catalogue (Resource o i r) payload f)) e
+    ap (left mode client (Resource o i r) (values_given client.catalog (Resource o i r) payload f)) e
     ∙ is_written client mode o i r payload f d given h k
 
 resource_stored : (client : Client) (server : ℕ) (mode : Mode) (o i r : ℕ) (number : Option ℕ) (payload : List ℕ)
@@ -92,12 +92,12 @@ resource_stored client server mode o i r number payload none h =
     let p = resource_place o i r in
     let c = comes client server mode path number payload h in
     let g = resource_good client o i r payload c.format
-    (given_to_resource (definition_of client.catalogue o r) c.format payload) refl c.good in
+    (given_to_resource (definition_of client.catalog o r) c.format payload) refl c.good in
     let given = g.0 in
-    let d = is_defined (definition_of client.catalogue o r) c.format payload given g.1 in
+    let d = is_defined (definition_of client.catalog o r) c.format payload given g.1 in
     let once = resource_once d.0 c.format payload given d.2 in
-    let event : event_of path (values_given client.catalogue path payload c.format) ≡ None =
-    sym (ap (λ (f : Option Format). event_of path (option_and_then (values_given client.catalogue path payload) f))
+    let event : event_of path (values_given client.catalog path payload c.format) ≡ None =
+    sym (ap (λ (f : Option Format). event_of path (option_and_then (values_given client.catalog path payload) f))
     c.served) ∙ none in
     let is = c.is ∙ untaken client mode o i r payload c.format d.0 given g.1 d.1 event in
     let after = λ (q : FullPath). if can_read d.0.ops then value_with mode given q.part (value_at client.store q)

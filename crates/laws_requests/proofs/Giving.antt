@@ -12,7 +12,7 @@ use Rattle.lwm2m_values.specs.declared.value.Value.{Value}
 use Rattle.lwm2m_values.proofs.BytesReading.{value_of_bytes_exact}
 use Rattle.lwm2m_values.proofs.TextReading.{value_of_text_exact}
 use Rattle.lwm2m_values.proofs.TlvReading.{nodes_of_bytes_exact}
-use Rattle.object_defs.specs.Catalogue.{resource_in}
+use Rattle.object_defs.specs.Catalog.{resource_in}
 use Rattle.object_defs.specs.Operations.{can_write}
 use Rattle.object_defs.specs.declared.definition.Ops.{Ops}
 use Rattle.object_defs.specs.declared.definition.Ops.TheVariants.{R, W, RW, E}

@@ -20,7 +20,7 @@ use Rattle.lwm2m_values.specs.Tlv.{shortest_tlv}
 use Rattle.lwm2m_values.specs.Tree.{Trees, multi, part, none, more}
 use Rattle.lwm2m_values.specs.Value.{bytes_of}
 use Rattle.lwm2m_values.specs.declared.value.Value.{Value}
-use Rattle.object_defs.specs.Catalogue.{definition_of, object_of, resource_in}
+use Rattle.object_defs.specs.Catalog.{definition_of, object_of, resource_in}
 use Rattle.object_defs.specs.Lines.{first_line}
 use Rattle.object_defs.specs.Operations.{can_read}
 use Rattle.object_defs.specs.Path.{part_of, path_cmp}
@@ -347,9 +347,9 @@ definition_in : (object : Option ObjectDef) (r : ℕ) → option_and_then (λ o.
 definition_in None r = refl
 definition_in (Some object) r = refl
 
-pub is_defined_in : (client : Client) (o r : ℕ) → definition_of client.catalogue o r
-    ≡ resource_in (defined client.catalogue o) r
-is_defined_in client o r = definition_in (object_of client.catalogue o) r
+pub is_defined_in : (client : Client) (o r : ℕ) → definition_of client.catalog o r
+    ≡ resource_in (defined client.catalog o) r
+is_defined_in client o r = definition_in (object_of client.catalog o) r
 
 shown_as : (d : ResourceDef) (k : Option ℕ) → d.multiple ≡ true → can_read d.ops ≡ true
     → is_shown_as k (Some d) ≡ is_some k
@@ -357,11 +357,11 @@ shown_as d k several readable =
     ap (λ (b : Bool). b && (if d.multiple then is_some k else not (is_some k))) readable
     ∙ ap (λ (b : Bool). if b then is_some k else not (is_some k)) several
 
-parts_shown : (client : Client) (o i r : ℕ) (d : ResourceDef) → definition_of client.catalogue o r ≡ Some d
-    → d.multiple ≡ true → can_read d.ops ≡ true → ShowsParts (defined client.catalogue o) (resource_place o i r)
+parts_shown : (client : Client) (o i r : ℕ) (d : ResourceDef) → definition_of client.catalog o r ≡ Some d
+    → d.multiple ≡ true → can_read d.ops ≡ true → ShowsParts (defined client.catalog o) (resource_place o i r)
 parts_shown client o i r d defined_as several readable q lies =
     let t = all_three (q.object == o) (q.instance == i) (q.resource == r) lies in
-    ap (λ (s : ℕ). is_shown_as q.part (resource_in (defined client.catalogue o) s)) (same_number q.resource r t.2)
+    ap (λ (s : ℕ). is_shown_as q.part (resource_in (defined client.catalog o) s)) (same_number q.resource r t.2)
     ∙ ap (is_shown_as q.part) (sym (is_defined_in client o r) ∙ defined_as)
     ∙ shown_as d q.part several readable
 
@@ -371,8 +371,8 @@ is_eleven (Some n) h = ap (λ (b : Bool). if b then Some Tlv else (if n == 0 the
     else None))) h
 
 format_is : (client : Client) (o i r : ℕ) (d : ResourceDef) (accept : Option ℕ)
-    → definition_of client.catalogue o r ≡ Some d → d.multiple ≡ true → is_tlv accept ≡ true
-    → format_at client.catalogue (Resource o i r) accept ≡ Some Tlv
+    → definition_of client.catalog o r ≡ Some d → d.multiple ≡ true → is_tlv accept ≡ true
+    → format_at client.catalog (Resource o i r) accept ≡ Some Tlv
 format_is client o i r d accept defined_as several h =
     ap (λ (e : Option ResourceDef). format_for (extent_as e) accept) defined_as
     ∙ ap (λ (b : Bool). format_for (if b then many else one d.kind) accept) several
@@ -381,13 +381,13 @@ format_is client o i r d accept defined_as several h =
 -- what a Read needs of a multiple resource
 record IsReadable (client : Client) (o i r : ℕ) (d : ResourceDef) : Type 0 where
   object : (o == 0) ≡ false
-  defined_as : definition_of client.catalogue o r ≡ Some d
+  defined_as : definition_of client.catalog o r ≡ Some d
   several : d.multiple ≡ true
   readable : can_read d.ops ≡ true
   place : has_instance client.store (place_of o i) ≡ true
 
 exists_by : (client : Client) (o i r : ℕ) (d : ResourceDef) → IsReadable client o i r d
-    → exists client.catalogue client.store (Resource o i r)
+    → exists client.catalog client.store (Resource o i r)
     ≡ nat_lt 0 (length (parts_in client.store (resource_place o i r)))
 exists_by client o i r d h =
     let p = resource_place o i r in
@@ -404,7 +404,7 @@ payload_is : (client : Client) (server o i r : ℕ) (d : ResourceDef) (accept : 
 payload_is client server o i r d accept h k =
     let path = Resource o i r in
     let p = resource_place o i r in
-    let resources = defined client.catalogue o in
+    let resources = defined client.catalog o in
     let payload : payload_in client server path Tlv ≡ shortest_tlv (nodes_of (shown_in client.store resources path)) =
     rw (h.defined_as, h.several) refl in
     ap (λ (f : Option Format). unwrap_or (option_map (payload_in client server path) f) [])
@@ -428,21 +428,21 @@ answered : (client : Client) (server o i r : ℕ) (d : ResourceDef) (accept : Op
     → read_answer client server (Resource o i r) accept ≡ answer_of_parts r parts
 answered client server o i r d accept h may k [] is =
     let path = Resource o i r in
-    absent (o == 0) (exists client.catalogue client.store path)
+    absent (o == 0) (exists client.catalog client.store path)
     ((not (may_read client server path), Unauthorized)
-    ∷ (not (is_readable (definition_of client.catalogue o r)), MethodNotAllowed)
-    ∷ (not (is_some (format_at client.catalogue path accept)), NotAcceptable)
+    ∷ (not (is_readable (definition_of client.catalog o r)), MethodNotAllowed)
+    ∷ (not (is_some (format_at client.catalog path accept)), NotAcceptable)
     ∷ (is_oversized (read_payload client server path accept), InternalServerError) ∷ [])
-    (content_in (format_at client.catalogue path accept) (read_payload client server path accept)) h.object
+    (content_in (format_at client.catalog path accept) (read_payload client server path accept)) h.object
     (exists_by client o i r d h ∙ ap (λ (parts : PartList). nat_lt 0 (length parts)) is)
 answered client server o i r d accept h may k (e ∷ parts) is =
     let path = Resource o i r in
-    let there : not (exists client.catalogue client.store path) ≡ false =
+    let there : not (exists client.catalog client.store path) ≡ false =
     ap not (exists_by client o i r d h ∙ ap (λ (ps : PartList). nat_lt 0 (length ps)) is ∙ some_part e parts) in
-    let readable : not (is_readable (definition_of client.catalogue o r)) ≡ false =
+    let readable : not (is_readable (definition_of client.catalog o r)) ≡ false =
     ap (λ (x : Option ResourceDef). not (is_readable x)) h.defined_as ∙ ap not h.readable in
-    shown (o == 0) (not (exists client.catalogue client.store path)) (not (may_read client server path))
-    (not (is_readable (definition_of client.catalogue o r))) (format_at client.catalogue path accept) Tlv
+    shown (o == 0) (not (exists client.catalog client.store path)) (not (may_read client server path))
+    (not (is_readable (definition_of client.catalog o r))) (format_at client.catalog path accept) Tlv
     (read_payload client server path accept) h.object there (ap not may) readable
     (format_is client o i r d accept h.defined_as h.several k)
     ∙ ap (content_within Tlv) (payload_is client server o i r d accept h k

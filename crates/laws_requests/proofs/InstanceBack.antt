@@ -6,7 +6,7 @@ use Rattle.std.specs.List.{list_any}
 use Rattle.std.specs.Option.{option_or}
 use Rattle.std.proofs.lemmas.Bool.Decides.{nat_tests}
 use Rattle.lwm2m_values.specs.declared.value.Value.{Value}
-use Rattle.object_defs.specs.Catalogue.{definition_of, resource_in}
+use Rattle.object_defs.specs.Catalog.{definition_of, resource_in}
 use Rattle.object_defs.specs.Operations.{can_write}
 use Rattle.object_defs.specs.Path.{part_of, single_of}
 use Rattle.object_defs.specs.declared.definition.ResourceDef.{ResourceDef}
@@ -203,19 +203,19 @@ same_test : (d : Option ResourceDef) → is_kept_as d ≡ is_readable d
 same_test None = refl
 same_test (Some d) = refl
 
-is_kept_here : (client : Client) (o r : ℕ) (b : Bool) → is_readable (definition_of client.catalogue o r) ≡ b
-    → is_kept_as (resource_in (defined client.catalogue o) r) ≡ b
+is_kept_here : (client : Client) (o r : ℕ) (b : Bool) → is_readable (definition_of client.catalog o r) ≡ b
+    → is_kept_as (resource_in (defined client.catalog o) r) ≡ b
 is_kept_here client o r b h =
-    same_test (resource_in (defined client.catalogue o) r) ∙ sym (ap is_readable (is_defined_in client o r)) ∙ h
+    same_test (resource_in (defined client.catalog o) r) ∙ sym (ap is_readable (is_defined_in client o r)) ∙ h
 
 -- after a Write of an instance that names a resource
 behind_named : (client : Client) (mode : Mode) (o : ℕ) (given : List Assignment) (q : FullPath) (g : Given) (b : Bool)
     (before : Option Value) → EachOnce given → IsGivenTo given q.resource g
-    → is_readable (definition_of client.catalogue o q.resource) ≡ b
-    → value_behind mode (defined client.catalogue o) given q before
+    → is_readable (definition_of client.catalog o q.resource) ≡ b
+    → value_behind mode (defined client.catalog o) given q before
     ≡ (if b then value_with mode g q.part before else before)
 behind_named client mode o given q g b before once is readable =
-    let resources = defined client.catalogue o in
+    let resources = defined client.catalog o in
     let was = unnamed mode resources given q.resource before in
     ap (λ (a : Option Assignment). value_by mode resources a q.part was) (is_found given q.resource g once is)
     ∙ ap (λ (k : Bool). if k then value_with mode g q.part was else was) (is_kept_here client o q.resource b readable)
@@ -224,10 +224,10 @@ behind_named client mode o given q g b before once is readable =
 
 behind_unnamed : (client : Client) (mode : Mode) (o : ℕ) (given : List Assignment) (q : FullPath)
     (before : Option Value) → ¬ (IsNamedIn given q.resource)
-    → value_behind mode (defined client.catalogue o) given q before
-    ≡ unnamed mode (defined client.catalogue o) given q.resource before
+    → value_behind mode (defined client.catalog o) given q before
+    ≡ unnamed mode (defined client.catalog o) given q.resource before
 behind_unnamed client mode o given q before never =
-    let resources = defined client.catalogue o in
+    let resources = defined client.catalog o in
     ap (λ (a : Option Assignment). value_by mode resources a q.part
     (unnamed mode resources given q.resource before))
     (none_found given q.resource (none_named given q.resource never))
@@ -252,7 +252,7 @@ lies_part o i r n = grind (arith, nat_tests)
 
 pub instances_hold : InstancesHoldGiven
 instances_hold client server mode o i number payload h =
-    let resources = defined client.catalogue o in
+    let resources = defined client.catalog o in
     let w = instances_written client server mode o i number payload h in
     let given = w.given in
     let once = instance_once resources i payload given w.gives in

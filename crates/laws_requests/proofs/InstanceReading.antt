@@ -7,7 +7,7 @@ use Rattle.std.specs.Option.{is_some, option_map, unwrap_or}
 use Rattle.std.proofs.lemmas.Bool.{ne_eqb}
 use Rattle.lwm2m_values.specs.Tree.{single}
 use Rattle.lwm2m_values.specs.declared.value.Value.{Value}
-use Rattle.object_defs.specs.Catalogue.{definition_of, object_of}
+use Rattle.object_defs.specs.Catalog.{definition_of, object_of}
 use Rattle.object_defs.specs.Operations.{can_read}
 use Rattle.object_defs.specs.Path.{part_of, single_of}
 use Rattle.object_defs.specs.declared.definition.ResourceDef.{ResourceDef}
@@ -45,20 +45,20 @@ use Rattle.laws_requests.proofs.Writing.{is_stored, unrefused}
 record HoldsValue (client : Client) (o i r : ℕ) (d : ResourceDef) (v : Value) : Type 0 where
   object : (o == 0) ≡ false
   place : has_instance client.store (place_of o i) ≡ true
-  defined_as : definition_of client.catalogue o r ≡ Some d
+  defined_as : definition_of client.catalog o r ≡ Some d
   alone : d.multiple ≡ false
   readable : can_read d.ops ≡ true
   value_is : value_at client.store (single_of (resource_place o i r)) ≡ Some v
 
 format_is : (client : Client) (o i r : ℕ) (d : ResourceDef) (accept : Option ℕ)
-    → definition_of client.catalogue o r ≡ Some d → d.multiple ≡ false
-    → format_at client.catalogue (Resource o i r) accept ≡ format_for (one d.kind) accept
+    → definition_of client.catalog o r ≡ Some d → d.multiple ≡ false
+    → format_at client.catalog (Resource o i r) accept ≡ format_for (one d.kind) accept
 format_is client o i r d accept defined_as alone =
     ap (λ (e : Option ResourceDef). format_for (extent_as e) accept) defined_as
     ∙ ap (λ (b : Bool). format_for (if b then many else one d.kind) accept) alone
 
 value_there : (client : Client) (o i r : ℕ) (d : ResourceDef) (v : Value) → HoldsValue client o i r d v
-    → exists client.catalogue client.store (Resource o i r) ≡ true
+    → exists client.catalog client.store (Resource o i r) ≡ true
 value_there client o i r d v h =
     let held : has_resource client.store (resource_place o i r) (Some d) ≡ true =
     rw (h.place, h.readable, h.alone, h.value_is) refl in
@@ -80,10 +80,10 @@ value_read client server o i r d v accept wanted h may k =
     let payload : read_payload client server path accept ≡ value_payload wanted (single r) v =
     ap (λ (f : Option Format). unwrap_or (option_map (payload_in client server path) f) []) format
     ∙ value_shown client server o i r d v wanted h in
-    let readable : not (is_readable (definition_of client.catalogue o r)) ≡ false =
+    let readable : not (is_readable (definition_of client.catalog o r)) ≡ false =
     ap (λ (x : Option ResourceDef). not (is_readable x)) h.defined_as ∙ ap not h.readable in
-    shown (o == 0) (not (exists client.catalogue client.store path)) (not (may_read client server path))
-    (not (is_readable (definition_of client.catalogue o r))) (format_at client.catalogue path accept) wanted
+    shown (o == 0) (not (exists client.catalog client.store path)) (not (may_read client server path))
+    (not (is_readable (definition_of client.catalog o r))) (format_at client.catalog path accept) wanted
     (read_payload client server path accept) h.object (ap not (value_there client o i r d v h)) (ap not may) readable
     format
     ∙ ap (content_within wanted) payload
@@ -148,8 +148,8 @@ read_back client mode o i payload stored other place h =
           let p = resource_place o i r in
           let back = multiple_read (with_stored client stored) o i r d other defined_as several readable place in
           let once : PartsOnce parts = is_once h.given r (Parts parts)
-          (instance_once (defined client.catalogue o) i payload h.given h.gives) is in
-          let can : is_readable (definition_of client.catalogue o r) ≡ true = ap is_readable defined_as ∙ readable in
+          (instance_once (defined client.catalog o) i payload h.given h.gives) is in
+          let can : is_readable (definition_of client.catalog o r) ≡ true = ap is_readable defined_as ∙ readable in
           let changed : (n : ℕ)
           → IsChanged mode parts n (value_at client.store (part_of p n)) (value_at stored (part_of p n)) =
           λ n. record {
@@ -183,7 +183,7 @@ instances_read client server mode o i number payload h =
     let all = fails (refusals_of client server path (to_write mode number payload)) no_line in
     let place : has_instance new.store (place_of o i) ≡ true =
     ap (λ m. finite.contains_key m (place_of o i)) (wrote client server mode path number payload).instances
-    ∙ target_there (is_some (object_of client.catalogue o)) (has_instance client.store (place_of o i)) all.1.0 in
+    ∙ target_there (is_some (object_of client.catalog o)) (has_instance client.store (place_of o i)) all.1.0 in
     subst (IsInstanceReadBack client mode o i payload) (sym (is_stored client server mode path number payload h))
     (read_back client mode o i payload new.store (is_nonzero o all.0) place
     (instances_hold client server mode o i number payload h))

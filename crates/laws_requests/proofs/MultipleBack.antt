@@ -8,7 +8,7 @@ use Rattle.std.proofs.lemmas.Bool.Decides.{nat_tests}
 use Rattle.lwm2m_values.specs.Reading.{nodes_of_bytes, value_of_bytes}
 use Rattle.lwm2m_values.specs.Tree.{Tree, Trees, instance, multi, part, single, none, more}
 use Rattle.lwm2m_values.specs.declared.value.Value.{Value}
-use Rattle.object_defs.specs.Catalogue.{definition_of}
+use Rattle.object_defs.specs.Catalog.{definition_of}
 use Rattle.object_defs.specs.Operations.{can_read}
 use Rattle.object_defs.specs.Path.{part_of}
 use Rattle.object_defs.specs.declared.definition.ResourceDef.{ResourceDef}
@@ -98,8 +98,8 @@ only_tlv (Some n) f h =
     ] h
 
 is_only_tlv : (client : Client) (o i r : ℕ) (d : ResourceDef) (number : Option ℕ) (f : Format)
-    → definition_of client.catalogue o r ≡ Some d → d.multiple ≡ true
-    → format_at client.catalogue (Resource o i r) number ≡ Some f → f ≡ Tlv
+    → definition_of client.catalog o r ≡ Some d → d.multiple ≡ true
+    → format_at client.catalog (Resource o i r) number ≡ Some f → f ≡ Tlv
 is_only_tlv client o i r d number f defined_as several h =
     only_tlv number f (sym (ap (λ (e : Option ResourceDef). format_for (extent_as e) number) defined_as
     ∙ ap (λ (b : Bool). format_for (if b then many else one d.kind) number) several) ∙ h)
@@ -109,8 +109,8 @@ is_only_tlv client o i r d number f defined_as several h =
 -- the firmware takes single values alone
 parts_leave : (client : Client) (mode : Mode) (o i r : ℕ) (payload : List ℕ) (f : Format) (d : ResourceDef)
     (parts : PartList)
-    → given_to_resource (definition_of client.catalogue o r) f payload ≡ Some (Parts parts)
-    → definition_of client.catalogue o r ≡ Some d → can_read d.ops ≡ true
+    → given_to_resource (definition_of client.catalog o r) f payload ≡ Some (Parts parts)
+    → definition_of client.catalog o r ≡ Some d → can_read d.ops ≡ true
     → leaves client mode (Resource o i r) payload (Some f)
     ≡ with_given mode client.store (resource_place o i r) (Parts parts)
 parts_leave client mode o i r payload f d parts given defined_as readable =
@@ -165,22 +165,22 @@ multiple_back client server o i r d number payload defined_as several readable h
     let c = comes client server Replace path number payload h in
     let tlv = is_only_tlv client o i r d number c.format defined_as several c.served in
     let g = resource_good client o i r payload c.format
-    (given_to_resource (definition_of client.catalogue o r) c.format payload) refl c.good in
+    (given_to_resource (definition_of client.catalog o r) c.format payload) refl c.good in
     let gives : resource_given d Tlv payload ≡ Some g.0 =
     subst (λ (f : Format). resource_given d f payload ≡ Some g.0) tlv
-    (is_given (definition_of client.catalogue o r) c.format payload d g.0 defined_as g.1) in
+    (is_given (definition_of client.catalog o r) c.format payload d g.0 defined_as g.1) in
     let parts = nodes_give_parts d (nodes_of_bytes payload) g.0 several gives in
     let are = ap (λ (x : Given). Some x) parts.1 in
     let once : PartsOnce parts.0 = subst GivenOnce parts.1 (resource_once d Tlv payload g.0 gives) in
     let stored = with_given Replace client.store p (Parts parts.0) in
     let new : (write_outcome client server Replace path number payload).client ≡ with_stored client stored =
     ap (λ (code : Option Code). (write_unless code client
-    (leaves client Replace path payload (format_at client.catalogue path number))).client) no_line
+    (leaves client Replace path payload (format_at client.catalog path number))).client) no_line
     ∙ ap (λ (s : Stored). with_stored client s) (ap (leaves client Replace path payload) c.served
     ∙ parts_leave client Replace o i r payload c.format d parts.0 (g.1 ∙ are) defined_as readable) in
     let place : has_instance stored (place_of o i) ≡ true =
     ap (λ m. finite.contains_key m (place_of o i)) (given_instances Replace (Parts parts.0) client.store p)
-    ∙ target_there (is_some (definition_of client.catalogue o r)) (has_instance client.store (place_of o i)) all.1.0 in
+    ∙ target_there (is_some (definition_of client.catalog o r)) (has_instance client.store (place_of o i)) all.1.0 in
     let back = multiple_read (with_stored client stored) o i r d (is_nonzero o all.0) defined_as several readable place
     in
     let held = replaced client.store p parts.0 once in

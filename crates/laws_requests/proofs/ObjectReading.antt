@@ -16,7 +16,7 @@ use Rattle.std.proofs.lemmas.Bool.Decides.{nat_tests}
 use Rattle.lwm2m_values.specs.Tree.{Tree, Trees, instance, listed}
 use Rattle.lwm2m_values.specs.Value.{bytes_of}
 use Rattle.lwm2m_values.specs.declared.value.Value.{Value}
-use Rattle.object_defs.specs.Catalogue.{object_of, resource_in}
+use Rattle.object_defs.specs.Catalog.{object_of, resource_in}
 use Rattle.object_defs.specs.Lines.{first_line}
 use Rattle.object_defs.specs.Operations.{can_read}
 use Rattle.object_defs.specs.Path.{path_cmp}
@@ -204,11 +204,11 @@ lies_here o i r n = and_true (o == o) (i == i) (number_same o) (number_same i)
 
 -- the values that a Read of the instance lists
 abbrev listed_in : Client → ℕ → ℕ → Pairs
-listed_in client o i = shown_in client.store (defined client.catalogue o) (Instance o i)
+listed_in client o i = shown_in client.store (defined client.catalog o) (Instance o i)
 
 -- what is listed is held, in the instance, and can be read
 record IsListed (client : Client) (o i : ℕ) (e : FullPath × Value) : Type 0 where
-  is_shown_there : is_shown (defined client.catalogue o) e.0 ≡ true
+  is_shown_there : is_shown (defined client.catalog o) e.0 ≡ true
   object : e.0.object ≡ o
   place : e.0.instance ≡ i
   held : value_at client.store e.0 ≡ Some e.1
@@ -217,7 +217,7 @@ is_listed : (client : Client) (o i : ℕ) (e : FullPath × Value) → IsAmong e 
     → IsListed client o i e
 is_listed client o i e among =
     let all = finite.entries client.store.values in
-    let f = filtered (λ d. is_shown (defined client.catalogue o) d.0) e
+    let f = filtered (λ d. is_shown (defined client.catalog o) d.0) e
     (filter (λ d. lies_in (Instance o i) d.0) all) among in
     let g = filtered (λ d. lies_in (Instance o i) d.0) e all f.0 in
     let at = both (e.0.object == o) (e.0.instance == i) g.1 in
@@ -234,10 +234,10 @@ read_is_held client o i r n bytes h =
     let d = says_one (listed_in client o i) r n bytes h in
     let e = d.0 in
     let l = is_listed client o i e d.1 in
-    let m = shown_means e.0.part (resource_in (defined client.catalogue o) e.0.resource) l.is_shown_there in
+    let m = shown_means e.0.part (resource_in (defined client.catalog o) e.0.resource) l.is_shown_there in
     record {
       definition = m.0;
-      is_defined = is_defined_in client o r ∙ ap (resource_in (defined client.catalogue o)) (sym d.2.0) ∙ m.1;
+      is_defined = is_defined_in client o r ∙ ap (resource_in (defined client.catalog o)) (sym d.2.0) ∙ m.1;
       readable = m.2;
       fits = m.3 ∙ ap is_some d.2.1;
       value = e.1;
@@ -256,12 +256,12 @@ held_is_read client o i r n bytes h =
     let q : FullPath = record { object = o; instance = i; resource = r; part = n } in
     let all = finite.entries client.store.values in
     let there = (entry_held client.store q h.value).1 h.held in
-    let is_shown_there : is_shown (defined client.catalogue o) q ≡ true =
+    let is_shown_there : is_shown (defined client.catalog o) q ≡ true =
     ap (is_shown_as n) (sym (is_defined_in client o r) ∙ h.is_defined)
     ∙ fits_shown (can_read h.definition.ops) h.definition.multiple (is_some n) h.readable h.fits in
     one_says (listed_in client o i) r n bytes (
       (q, h.value),
-      among_filter (λ d. is_shown (defined client.catalogue o) d.0) (q, h.value)
+      among_filter (λ d. is_shown (defined client.catalog o) d.0) (q, h.value)
           (filter (λ d. lies_in (Instance o i) d.0) all) is_shown_there
           (among_filter (λ d. lies_in (Instance o i) d.0) (q, h.value) all (lies_here o i r n) there),
       (refl, refl, h.written),
@@ -269,7 +269,7 @@ held_is_read client o i r n bytes h =
 
 instance_shown : (client : Client) (o i : ℕ) → ShowsInstance client o i (nodes_of (listed_in client o i))
 instance_shown client o i =
-    let resources = defined client.catalogue o in
+    let resources = defined client.catalog o in
     let all = finite.entries client.store.values in
     let sorted = sorted_filtered (λ d. is_shown resources d.0) (filter (λ d. lies_in (Instance o i) d.0) all)
     (sorted_filtered (λ d. lies_in (Instance o i) d.0) all (finite.entries_sorted client.store.values)) in
@@ -350,10 +350,10 @@ same_instance : (n i : ℕ) (a b : Trees) → instance n a ≡ instance i b → 
 same_instance n i a b e = cc
 
 object_shown : (client : Client) (server o : ℕ)
-    → ShowsObject client server o (object_nodes client.store (defined client.catalogue o) o
+    → ShowsObject client server o (object_nodes client.store (defined client.catalog o) o
     (shown_instances client.store (length client.accounts) server o))
 object_shown client server o =
-    let resources = defined client.catalogue o in
+    let resources = defined client.catalog o in
     let may = reads client.store (length client.accounts) server o in
     let all = instances_of client.store o in
     let ns = shown_instances client.store (length client.accounts) server o in
@@ -380,20 +380,20 @@ object_shown client server o =
 
 -- ---- the answers
 
-exists_by : (client : Client) (o i : ℕ) (d : ObjectDef) → object_of client.catalogue o ≡ Some d
+exists_by : (client : Client) (o i : ℕ) (d : ObjectDef) → object_of client.catalog o ≡ Some d
     → has_instance client.store (place_of o i) ≡ true
-    → not (exists client.catalogue client.store (Instance o i)) ≡ false
+    → not (exists client.catalog client.store (Instance o i)) ≡ false
 exists_by client o i d is there =
     ap (λ (x : Option ObjectDef). not (is_some x && has_instance client.store (place_of o i))) is ∙ ap not there
 
 pub instance_read : InstanceIsShown
 instance_read client server o i d accept other is may k =
     let path = Instance o i in
-    let format : format_at client.catalogue path accept ≡ Some Tlv = is_eleven accept k in (
+    let format : format_at client.catalog path accept ≡ Some Tlv = is_eleven accept k in (
       nodes_of (listed_in client o i),
       instance_shown client o i,
-      shown (o == 0) (not (exists client.catalogue client.store path)) (not (may_read client server path)) false
-          (format_at client.catalogue path accept) Tlv (read_payload client server path accept) (ne_eqb o 0 other)
+      shown (o == 0) (not (exists client.catalog client.store path)) (not (may_read client server path)) false
+          (format_at client.catalog path accept) Tlv (read_payload client server path accept) (ne_eqb o 0 other)
           (exists_by client o i d is may.there) (ap not may.right) refl format
           ∙ ap (content_within Tlv)
           (ap (λ (f : Option Format). unwrap_or (option_map (payload_in client server path) f) []) format),
@@ -432,12 +432,12 @@ may_be_read client server o (inr m) =
 pub object_read : ObjectIsShown
 object_read client server o d accept other is may k =
     let path = Object o in
-    let format : format_at client.catalogue path accept ≡ Some Tlv = is_eleven accept k in (
-      object_nodes client.store (defined client.catalogue o) o
+    let format : format_at client.catalog path accept ≡ Some Tlv = is_eleven accept k in (
+      object_nodes client.store (defined client.catalog o) o
           (shown_instances client.store (length client.accounts) server o),
       object_shown client server o,
-      shown (o == 0) (not (exists client.catalogue client.store path)) (not (may_read client server path)) false
-          (format_at client.catalogue path accept) Tlv (read_payload client server path accept) (ne_eqb o 0 other)
+      shown (o == 0) (not (exists client.catalog client.store path)) (not (may_read client server path)) false
+          (format_at client.catalog path accept) Tlv (read_payload client server path accept) (ne_eqb o 0 other)
           (ap (λ (x : Option ObjectDef). not (is_some x)) is) (ap not (may_be_read client server o may)) refl format
           ∙ ap (content_within Tlv)
           (ap (λ (f : Option Format). unwrap_or (option_map (payload_in client server path) f) []) format),
@@ -467,10 +467,10 @@ pub object_hidden : ObjectIsHidden
 object_hidden client server o i d accept is there never =
     let path = Object o in
     let all = instances_of client.store o in
-    no_right (o == 0) (exists client.catalogue client.store path) (may_read client server path)
-    ((false, MethodNotAllowed) ∷ (not (is_some (format_at client.catalogue path accept)), NotAcceptable)
+    no_right (o == 0) (exists client.catalog client.store path) (may_read client server path)
+    ((false, MethodNotAllowed) ∷ (not (is_some (format_at client.catalog path accept)), NotAcceptable)
     ∷ (is_oversized (read_payload client server path accept), InternalServerError) ∷ [])
-    (content_in (format_at client.catalogue path accept) (read_payload client server path accept))
+    (content_in (format_at client.catalog path accept) (read_payload client server path accept))
     (ap (λ (x : Option ObjectDef). is_some x) is)
     (ap (λ (b : Bool). b || list_any (reads client.store (length client.accounts) server o) all)
     (some_there all i ((instance_listed client.store o i).1 there)) ∙ none_may client server o never)

@@ -8,7 +8,7 @@ use Rattle.lwm2m_values.specs.Reading.{nodes_of_bytes, value_of_bytes, value_of_
 use Rattle.lwm2m_values.specs.Tree.{Trees, multi, part, none, more}
 use Rattle.lwm2m_values.specs.declared.kind.ValueKind.{ValueKind}
 use Rattle.lwm2m_values.specs.declared.value.Value.{Value}
-use Rattle.object_defs.specs.Catalogue.{definition_of}
+use Rattle.object_defs.specs.Catalog.{definition_of}
 use Rattle.object_defs.specs.Lines.{first_line}
 use Rattle.object_defs.specs.Operations.{can_read}
 use Rattle.object_defs.specs.Path.{part_of}
@@ -104,7 +104,7 @@ shown false false false false (Some format) wanted payload h j m k l =
 record HoldsPart (client : Client) (o i r n : ℕ) (d : ResourceDef) (value : Value) : Type 0 where
   object : (o == 0) ≡ false
   place : has_instance client.store (place_of o i) ≡ true
-  defined : definition_of client.catalogue o r ≡ Some d
+  defined : definition_of client.catalog o r ≡ Some d
   several : d.multiple ≡ true
   readable : can_read d.ops ≡ true
   value_is : value_at client.store (part_of (resource_place o i r) n) ≡ Some value
@@ -118,21 +118,21 @@ exists_by false b v value h k l = cc
 
 part_shown : (client : Client) (server o i r n : ℕ) (d : ResourceDef) (value : Value) (accept : Option ℕ)
     (wanted : Format) → HoldsPart client o i r n d value
-    → may_read client server (Part o i r n) ≡ true → format_at client.catalogue (Part o i r n) accept ≡ Some wanted
+    → may_read client server (Part o i r n) ≡ true → format_at client.catalog (Part o i r n) accept ≡ Some wanted
     → read_answer client server (Part o i r n) accept
     ≡ content_within wanted (value_payload wanted (part n) value)
 part_shown client server o i r n d value accept wanted h m format =
     let path = Part o i r n in
-    let multiple : is_multiple (definition_of client.catalogue o r) ≡ true = ap is_multiple h.defined ∙ h.several in
-    let readable : not (is_readable (definition_of client.catalogue o r)) ≡ false =
+    let multiple : is_multiple (definition_of client.catalog o r) ≡ true = ap is_multiple h.defined ∙ h.several in
+    let readable : not (is_readable (definition_of client.catalog o r)) ≡ false =
     ap (λ (x : Option ResourceDef). not (is_readable x)) h.defined ∙ ap not h.readable in
     let payload : read_payload client server path accept ≡ value_payload wanted (part n) value =
     ap (λ (f : Option Format). unwrap_or (option_map (payload_in client server path) f) []) format
     ∙ ap (one_payload wanted (part n)) h.value_is in
-    shown (o == 0) (not (exists client.catalogue client.store path)) (not (may_read client server path))
-    (not (is_readable (definition_of client.catalogue o r))) (format_at client.catalogue path accept) wanted
+    shown (o == 0) (not (exists client.catalog client.store path)) (not (may_read client server path))
+    (not (is_readable (definition_of client.catalog o r))) (format_at client.catalog path accept) wanted
     (read_payload client server path accept) h.object
-    (exists_by (has_instance client.store (place_of o i)) (is_multiple (definition_of client.catalogue o r))
+    (exists_by (has_instance client.store (place_of o i)) (is_multiple (definition_of client.catalog o r))
     (value_at client.store (part_of (resource_place o i r) n)) value h.place multiple h.value_is)
     (ap not m) readable format
     ∙ ap (content_within wanted) payload
@@ -144,16 +144,16 @@ value_there s o i r n v =
     behind s p p v ∙ ap (λ (b : Bool). cond b (Some v) (value_at s p)) ((eq_by_cmp_equiv path_total).refl p)
 
 pub part_good : (client : Client) (o i r n : ℕ) (payload : List ℕ) (f : Format) (given : Option Given)
-    → given_to_part (definition_of client.catalogue o r) n f payload ≡ given
-    → not (is_some (values_given client.catalogue (Part o i r n) payload f)) ≡ false
+    → given_to_part (definition_of client.catalog o r) n f payload ≡ given
+    → not (is_some (values_given client.catalog (Part o i r n) payload f)) ≡ false
     → (g : Given) × (given ≡ Some g)
 part_good client o i r n payload f None h good = let l : true ≡ false = rw h at good in cc
 part_good client o i r n payload f (Some g) h good = (g, refl)
 
 part_leaves : (client : Client) (mode : Mode) (o i r n : ℕ) (payload : List ℕ) (f : Format) (d : ResourceDef)
     (value : Value)
-    → given_to_part (definition_of client.catalogue o r) n f payload ≡ Some (Parts ((n, value) ∷ []))
-    → definition_of client.catalogue o r ≡ Some d → can_read d.ops ≡ true
+    → given_to_part (definition_of client.catalog o r) n f payload ≡ Some (Parts ((n, value) ∷ []))
+    → definition_of client.catalog o r ≡ Some d → can_read d.ops ≡ true
     → leaves client mode (Part o i r n) payload (Some f)
     ≡ with_value client.store (part_of (resource_place o i r) n) value
 part_leaves client mode o i r n payload f d value h k l = rw (h, k, l) refl
@@ -166,17 +166,17 @@ part_read client server mode o i r n d number payload defined readable h =
     let all = fails (refusals_of client server path (to_write mode number payload)) no_line in
     let c = comes client server mode path number payload h in
     let g = part_good client o i r n payload c.format
-    (given_to_part (definition_of client.catalogue o r) n c.format payload) refl c.good in
+    (given_to_part (definition_of client.catalog o r) n c.format payload) refl c.good in
     let gives : part_given d n c.format payload ≡ Some g.0 =
     sym (ap (λ (e : Option ResourceDef). given_to_part e n c.format payload) defined) ∙ g.1 in
     let v = gives_part d n c.format payload g.0 gives in
     let one = ap (λ (x : Given). Some x) v.1 in
-    let target = both_are (is_multiple (definition_of client.catalogue o r)) (has_instance client.store (place_of o i))
+    let target = both_are (is_multiple (definition_of client.catalog o r)) (has_instance client.store (place_of o i))
     all.1.0 in
     let new : (write_outcome client server mode path number payload).client
     ≡ with_stored client (with_value client.store (part_of p n) v.0) =
     ap (λ (code : Option Code). (write_unless code client
-    (leaves client mode path payload (format_at client.catalogue path number))).client) no_line
+    (leaves client mode path payload (format_at client.catalog path number))).client) no_line
     ∙ ap (λ (s : Stored). with_stored client s) (ap (leaves client mode path payload) c.served
     ∙ part_leaves client mode o i r n payload c.format d v.0 (g.1 ∙ one) defined readable) in
     subst (λ (x : Client). IsPartReadBack client o i r n d number payload x) (sym new)

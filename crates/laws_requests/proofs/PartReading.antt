@@ -3,7 +3,7 @@ use Rattle.std.proofs.Common.{◌≡◌, ◌≢◌, ℕ, Bool, true, [], ◌∷�
 use Rattle.std.specs.Bool.{if◌then◌else◌}
 use Rattle.std.specs.FinMap as finite
 use Rattle.lwm2m_values.specs.declared.value.Value.{Value}
-use Rattle.object_defs.specs.Catalogue.{definition_of}
+use Rattle.object_defs.specs.Catalog.{definition_of}
 use Rattle.object_defs.specs.Operations.{can_read}
 use Rattle.object_defs.specs.Path.{part_of}
 use Rattle.object_defs.specs.declared.definition.ResourceDef.{ResourceDef}
@@ -62,7 +62,7 @@ part_read_among client server mode o i r n d number payload defined_as readable 
     (unrefused client server mode path number payload h) in
     let w = parts_written client server mode o i r n number payload h in
     let same = same_definition w.definition d (sym w.is_defined ∙ defined_as) in
-    let target = both_are (is_multiple (definition_of client.catalogue o r)) (has_instance client.store (place_of o i))
+    let target = both_are (is_multiple (definition_of client.catalog o r)) (has_instance client.store (place_of o i))
     all.1.0 in
     let place : has_instance new.store (place_of o i) ≡ true =
     ap (λ m. finite.contains_key m (place_of o i)) (wrote client server mode path number payload).instances

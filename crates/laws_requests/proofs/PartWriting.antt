@@ -3,7 +3,7 @@ use Rattle.std.proofs.Common.{◌≡◌, ◌≢◌, ℕ, Bool, true, false, cond
 use Rattle.std.specs.Bool.{if◌then◌else◌}
 use Rattle.std.specs.Cmp.{eq_by_cmp_equiv}
 use Rattle.lwm2m_values.specs.declared.value.Value.{Value}
-use Rattle.object_defs.specs.Catalogue.{definition_of}
+use Rattle.object_defs.specs.Catalog.{definition_of}
 use Rattle.object_defs.specs.Operations.{can_read}
 use Rattle.object_defs.specs.Path.{part_of}
 use Rattle.object_defs.specs.declared.definition.ResourceDef.{ResourceDef}
@@ -32,8 +32,8 @@ is_defined (Some d) n f payload g h = (d, refl, h)
 
 part_leaves : (client : Client) (mode : Mode) (o i r n : ℕ) (payload : List ℕ) (f : Format) (d : ResourceDef)
     (value : Value)
-    → given_to_part (definition_of client.catalogue o r) n f payload ≡ Some (Parts ((n, value) ∷ []))
-    → definition_of client.catalogue o r ≡ Some d
+    → given_to_part (definition_of client.catalog o r) n f payload ≡ Some (Parts ((n, value) ∷ []))
+    → definition_of client.catalog o r ≡ Some d
     → leaves client mode (Part o i r n) payload (Some f)
     ≡ (if can_read d.ops then with_value client.store (part_of (resource_place o i r) n) value else client.store)
 part_leaves client mode o i r n payload f d value h k = rw (h, k) refl
@@ -54,8 +54,8 @@ parts_written client server mode o i r n number payload h =
     let p = part_of (resource_place o i r) n in
     let c = comes client server mode (Part o i r n) number payload h in
     let g = part_good client o i r n payload c.format
-    (given_to_part (definition_of client.catalogue o r) n c.format payload) refl c.good in
-    let d = is_defined (definition_of client.catalogue o r) n c.format payload g.0 g.1 in
+    (given_to_part (definition_of client.catalog o r) n c.format payload) refl c.good in
+    let d = is_defined (definition_of client.catalog o r) n c.format payload g.0 g.1 in
     let v = gives_part d.0 n c.format payload g.0 d.2 in
     let one = ap (λ (x : Given). Some x) v.1 in
     let is = c.is ∙ part_leaves client mode o i r n payload c.format d.0 v.0 (g.1 ∙ one) d.1 in

@@ -8,7 +8,8 @@ use Rattle.instance_store.specs.Stored.{Stored, with_value}
 use Rattle.device_firmware.specs.Firmware.{firmware_after, firmware_resource, outcome_in, state_number, uri_of}
 use Rattle.device_firmware.specs.Firmware.{with_outcome, with_uri}
 use Rattle.device_firmware.specs.declared.event.FirmwareEvent.{FirmwareEvent}
-use Rattle.device_firmware.proofs.Behind.{code-outcome, other-outcome, other-uri, same_instances, uri-outcome, uri-uri}
+use Rattle.device_firmware.proofs.AfterEvent.{code-outcome, other-outcome, other-uri, same_instances, uri-outcome}
+use Rattle.device_firmware.proofs.AfterEvent.{uri-uri}
 use Rattle.laws_requests.specs.Taken.{IsTaken}
 use Rattle.laws_requests.proofs.Executing.{behind}
 

@@ -6,7 +6,7 @@ use Rattle.std.specs.Option.{is_some, option_and_then}
 use Rattle.std.specs.Set.{is_member}
 use Rattle.std.proofs.lemmas.Bool.Decides.{nat_tests}
 use Rattle.lwm2m_values.specs.declared.value.Value.{Value}
-use Rattle.object_defs.specs.Catalogue.{definition_of, object_of, resource_in}
+use Rattle.object_defs.specs.Catalog.{definition_of, object_of, resource_in}
 use Rattle.object_defs.specs.Operations.{can_read}
 use Rattle.object_defs.specs.Path.{part_of, single_of}
 use Rattle.object_defs.specs.declared.definition.ObjectDef.{ObjectDef}
@@ -40,20 +40,20 @@ finds p x (z ∷ xs) (inr h) k =
 
 -- ---- objects
 
-known : (catalogue : List ObjectDef) (o : ℕ) → is_some (object_of catalogue o) ≡ true → IsKnown catalogue o
-known catalogue o h =
-    let d = there (object_of catalogue o) h in
-    let f = found (λ (c : ObjectDef). c.id == o) d.0 catalogue d.1 in
+known : (catalog : List ObjectDef) (o : ℕ) → is_some (object_of catalog o) ≡ true → IsKnown catalog o
+known catalog o h =
+    let d = there (object_of catalog o) h in
+    let f = found (λ (c : ObjectDef). c.id == o) d.0 catalog d.1 in
     (d.0, f.0, same_number d.0.id o f.1)
 
-has_object : (catalogue : List ObjectDef) (o : ℕ) → IsKnown catalogue o → is_some (object_of catalogue o) ≡ true
-has_object catalogue o k =
-    finds (λ (c : ObjectDef). c.id == o) k.0 catalogue k.1 (ap (λ (n : ℕ). n == o) k.2 ∙ number_same o)
+has_object : (catalog : List ObjectDef) (o : ℕ) → IsKnown catalog o → is_some (object_of catalog o) ≡ true
+has_object catalog o k =
+    finds (λ (c : ObjectDef). c.id == o) k.0 catalog k.1 (ap (λ (n : ℕ). n == o) k.2 ∙ number_same o)
 
-defined_object : (catalogue : List ObjectDef) (o r : ℕ) (d : ResourceDef) → definition_of catalogue o r ≡ Some d
-    → is_some (object_of catalogue o) ≡ true
-defined_object catalogue o r d h =
-    elim (object_of catalogue o) as (λ x. option_and_then (λ (c : ObjectDef). resource_in c.resources r) x ≡ Some d
+defined_object : (catalog : List ObjectDef) (o r : ℕ) (d : ResourceDef) → definition_of catalog o r ≡ Some d
+    → is_some (object_of catalog o) ≡ true
+defined_object catalog o r d h =
+    elim (object_of catalog o) as (λ x. option_and_then (λ (c : ObjectDef). resource_in c.resources r) x ≡ Some d
     → is_some x ≡ true) [ None ↦ λ k. cc | Some c ↦ λ k. refl ] h
 
 -- ---- what is held
@@ -131,70 +131,70 @@ multiple_there : (definition : Option ResourceDef) → is_multiple definition �
 multiple_there None h = cc
 multiple_there (Some d) h = (d, refl, h)
 
-exists_so : (catalogue : List ObjectDef) (stored : Stored) (path : Path) → exists catalogue stored path ≡ true
-    → Exists catalogue stored path
-exists_so catalogue stored (Object o) h = an_object o (known catalogue o h)
-exists_so catalogue stored (Instance o i) h =
-    let k = both (is_some (object_of catalogue o)) (has_instance stored (place_of o i)) h in
-    an_instance o i (known catalogue o k.0) k.1
-exists_so catalogue stored (Resource o i r) h =
+exists_so : (catalog : List ObjectDef) (stored : Stored) (path : Path) → exists catalog stored path ≡ true
+    → Exists catalog stored path
+exists_so catalog stored (Object o) h = an_object o (known catalog o h)
+exists_so catalog stored (Instance o i) h =
+    let k = both (is_some (object_of catalog o)) (has_instance stored (place_of o i)) h in
+    an_instance o i (known catalog o k.0) k.1
+exists_so catalog stored (Resource o i r) h =
     let p = resource_place o i r in
-    let k = both (has_instance stored (place_of o i)) (exists_as stored p (definition_of catalogue o r)) h in
-    let d = resource_there stored p (definition_of catalogue o r) k.1 in
+    let k = both (has_instance stored (place_of o i)) (exists_as stored p (definition_of catalog o r)) h in
+    let d = resource_there stored p (definition_of catalog o r) k.1 in
     a_resource o i r d.0 k.0 d.1 d.2
-exists_so catalogue stored (Part o i r n) h =
+exists_so catalog stored (Part o i r n) h =
     let q = part_of (resource_place o i r) n in
     let k = both (has_instance stored (place_of o i))
-    (is_multiple (definition_of catalogue o r) && is_some (value_at stored q)) h in
-    let m = both (is_multiple (definition_of catalogue o r)) (is_some (value_at stored q)) k.1 in
-    let d = multiple_there (definition_of catalogue o r) m.0 in
+    (is_multiple (definition_of catalog o r) && is_some (value_at stored q)) h in
+    let m = both (is_multiple (definition_of catalog o r)) (is_some (value_at stored q)) k.1 in
+    let d = multiple_there (definition_of catalog o r) m.0 in
     let v = there (value_at stored q) m.1 in
     a_part o i r n d.0 v.0 k.0 d.1 d.2 v.1
 
-so_exists : (catalogue : List ObjectDef) (stored : Stored) (path : Path) → Exists catalogue stored path
-    → exists catalogue stored path ≡ true
-so_exists catalogue stored path (an_object o k) = has_object catalogue o k
-so_exists catalogue stored path (an_instance o i k h) =
-    and_true (is_some (object_of catalogue o)) (has_instance stored (place_of o i)) (has_object catalogue o k) h
-so_exists catalogue stored path (a_resource o i r d h is counts) =
+so_exists : (catalog : List ObjectDef) (stored : Stored) (path : Path) → Exists catalog stored path
+    → exists catalog stored path ≡ true
+so_exists catalog stored path (an_object o k) = has_object catalog o k
+so_exists catalog stored path (an_instance o i k h) =
+    and_true (is_some (object_of catalog o)) (has_instance stored (place_of o i)) (has_object catalog o k) h
+so_exists catalog stored path (a_resource o i r d h is counts) =
     let p = resource_place o i r in
-    and_true (has_instance stored (place_of o i)) (exists_as stored p (definition_of catalogue o r)) h
+    and_true (has_instance stored (place_of o i)) (exists_as stored p (definition_of catalog o r)) h
     (ap (exists_as stored p) is ∙ by_count stored p d counts)
-so_exists catalogue stored path (a_part o i r n d v h is many held) =
+so_exists catalog stored path (a_part o i r n d v h is many held) =
     let q = part_of (resource_place o i r) n in
     and_true (has_instance stored (place_of o i))
-    (is_multiple (definition_of catalogue o r) && is_some (value_at stored q)) h
-    (and_true (is_multiple (definition_of catalogue o r)) (is_some (value_at stored q)) (ap is_multiple is ∙ many)
+    (is_multiple (definition_of catalog o r) && is_some (value_at stored q)) h
+    (and_true (is_multiple (definition_of catalog o r)) (is_some (value_at stored q)) (ap is_multiple is ∙ many)
     (ap is_some held))
 
 pub what_exists : WhatExists
-what_exists catalogue stored path = (exists_so catalogue stored path, so_exists catalogue stored path)
+what_exists catalog stored path = (exists_so catalog stored path, so_exists catalog stored path)
 
 -- ---- what a Write may go to
 
-write_so : (catalogue : List ObjectDef) (stored : Stored) (path : Path) → is_target catalogue stored path ≡ true
-    → IsToWrite catalogue stored path
-write_so catalogue stored (Object o) h = cc
-write_so catalogue stored (Instance o i) h =
-    let k = both (is_some (object_of catalogue o)) (has_instance stored (place_of o i)) h in
-    write_instance o i (known catalogue o k.0) k.1
-write_so catalogue stored (Resource o i r) h =
-    let k = both (is_some (definition_of catalogue o r)) (has_instance stored (place_of o i)) h in
-    let d = there (definition_of catalogue o r) k.0 in
+write_so : (catalog : List ObjectDef) (stored : Stored) (path : Path) → is_target catalog stored path ≡ true
+    → IsToWrite catalog stored path
+write_so catalog stored (Object o) h = cc
+write_so catalog stored (Instance o i) h =
+    let k = both (is_some (object_of catalog o)) (has_instance stored (place_of o i)) h in
+    write_instance o i (known catalog o k.0) k.1
+write_so catalog stored (Resource o i r) h =
+    let k = both (is_some (definition_of catalog o r)) (has_instance stored (place_of o i)) h in
+    let d = there (definition_of catalog o r) k.0 in
     write_resource o i r d.0 k.1 d.1
-write_so catalogue stored (Part o i r n) h =
-    let k = both (is_multiple (definition_of catalogue o r)) (has_instance stored (place_of o i)) h in
-    let d = multiple_there (definition_of catalogue o r) k.0 in
+write_so catalog stored (Part o i r n) h =
+    let k = both (is_multiple (definition_of catalog o r)) (has_instance stored (place_of o i)) h in
+    let d = multiple_there (definition_of catalog o r) k.0 in
     write_part o i r n d.0 k.1 d.1 d.2
 
-so_write : (catalogue : List ObjectDef) (stored : Stored) (path : Path) → IsToWrite catalogue stored path
-    → is_target catalogue stored path ≡ true
-so_write catalogue stored path (write_instance o i k h) =
-    and_true (is_some (object_of catalogue o)) (has_instance stored (place_of o i)) (has_object catalogue o k) h
-so_write catalogue stored path (write_resource o i r d h is) =
-    and_true (is_some (definition_of catalogue o r)) (has_instance stored (place_of o i)) (ap is_some is) h
-so_write catalogue stored path (write_part o i r n d h is many) =
-    and_true (is_multiple (definition_of catalogue o r)) (has_instance stored (place_of o i))
+so_write : (catalog : List ObjectDef) (stored : Stored) (path : Path) → IsToWrite catalog stored path
+    → is_target catalog stored path ≡ true
+so_write catalog stored path (write_instance o i k h) =
+    and_true (is_some (object_of catalog o)) (has_instance stored (place_of o i)) (has_object catalog o k) h
+so_write catalog stored path (write_resource o i r d h is) =
+    and_true (is_some (definition_of catalog o r)) (has_instance stored (place_of o i)) (ap is_some is) h
+so_write catalog stored path (write_part o i r n d h is many) =
+    and_true (is_multiple (definition_of catalog o r)) (has_instance stored (place_of o i))
     (ap is_multiple is ∙ many) h
 
 not_false : (b : Bool) → not b ≡ false → b ≡ true
@@ -203,25 +203,25 @@ not_false false h = cc
 
 pub what_is_to_write : WhatIsToWrite
 what_is_to_write client path mode format payload = (
-  λ h. write_so client.catalogue client.store path (not_false (is_target client.catalogue client.store path) h),
-  λ h. ap not (so_write client.catalogue client.store path h),
+  λ h. write_so client.catalog client.store path (not_false (is_target client.catalog client.store path) h),
+  λ h. ap not (so_write client.catalog client.store path h),
 )
 
 -- ---- what exists lies in what exists
 
-outer_there : (catalogue : List ObjectDef) (stored : Stored) (path outer : Path) → Exists catalogue stored path
-    → around path ≡ Some outer → Exists catalogue stored outer
-outer_there catalogue stored path outer (an_object o k) is = cc
-outer_there catalogue stored path outer (an_instance o i k h) is =
-    let same : Object o ≡ outer = cc in subst (Exists catalogue stored) same (an_object o k)
-outer_there catalogue stored path outer (a_resource o i r d h defined_as counts) is =
+outer_there : (catalog : List ObjectDef) (stored : Stored) (path outer : Path) → Exists catalog stored path
+    → around path ≡ Some outer → Exists catalog stored outer
+outer_there catalog stored path outer (an_object o k) is = cc
+outer_there catalog stored path outer (an_instance o i k h) is =
+    let same : Object o ≡ outer = cc in subst (Exists catalog stored) same (an_object o k)
+outer_there catalog stored path outer (a_resource o i r d h defined_as counts) is =
     let same : Instance o i ≡ outer = cc in
-    subst (Exists catalogue stored) same
-    (an_instance o i (known catalogue o (defined_object catalogue o r d defined_as)) h)
-outer_there catalogue stored path outer (a_part o i r n d v h defined_as many held) is =
+    subst (Exists catalog stored) same
+    (an_instance o i (known catalog o (defined_object catalog o r d defined_as)) h)
+outer_there catalog stored path outer (a_part o i r n d v h defined_as many held) is =
     let same : Resource o i r ≡ outer = cc in
-    subst (Exists catalogue stored) same (a_resource o i r d h defined_as (inr (inr (by_part n v many held))))
+    subst (Exists catalog stored) same (a_resource o i r d h defined_as (inr (inr (by_part n v many held))))
 
 pub exists_within : ExistsWithin
-exists_within catalogue stored path outer h is =
-    so_exists catalogue stored outer (outer_there catalogue stored path outer (exists_so catalogue stored path h) is)
+exists_within catalog stored path outer h is =
+    so_exists catalog stored outer (outer_there catalog stored path outer (exists_so catalog stored path h) is)

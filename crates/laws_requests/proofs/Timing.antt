@@ -71,7 +71,7 @@ pub states_precede : OneTable → StatesPrecedeLimits
 states_precede table client server m path operation asks untimely =
     let purpose = purpose_of m operation in
     turned (object_in path == 0) (lacks_target client path purpose) (lacks_right client server path purpose)
-    (lacks_operation client.catalogue path purpose) (lacks_format client.catalogue path purpose)
+    (lacks_operation client.catalog path purpose) (lacks_format client.catalog path purpose)
     (is_invalid client server path purpose) (is_out_of_turn client path purpose)
     (is_too_much client server path purpose) (format_refusal purpose) (done_code purpose)
     (outcome_of client server m).answer.code (out_of_turn client m path operation untimely)
@@ -81,7 +81,7 @@ pub states_decide : OneTable → StatesDecide
 states_decide table client server m path operation asks untimely reaches =
     let purpose = purpose_of m operation in
     decided (object_in path == 0) (lacks_target client path purpose) (lacks_right client server path purpose)
-    (lacks_operation client.catalogue path purpose) (lacks_format client.catalogue path purpose)
+    (lacks_operation client.catalog path purpose) (lacks_format client.catalog path purpose)
     (is_invalid client server path purpose) (is_out_of_turn client path purpose)
     (is_too_much client server path purpose) (format_refusal purpose) (done_code purpose)
     (outcome_of client server m).answer.code (ne_eqb (object_in path) 0 reaches.object) reaches.target reaches.right

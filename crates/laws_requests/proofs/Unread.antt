@@ -7,7 +7,7 @@ use Rattle.std.specs.Option.{is_some, option_and_then, option_map, unwrap_or}
 use Rattle.coap_codec.specs.Message.{Message}
 use Rattle.lwm2m_values.specs.Tlv.{shortest_tlv}
 use Rattle.lwm2m_values.specs.Tree.{Tree, instance, listed, part, single}
-use Rattle.object_defs.specs.Catalogue.{definition_of}
+use Rattle.object_defs.specs.Catalog.{definition_of}
 use Rattle.object_defs.specs.Lines.{first_line}
 use Rattle.object_defs.specs.Path.{object_in, part_of, path_text, single_of}
 use Rattle.object_defs.specs.declared.definition.ResourceDef.{ResourceDef}
@@ -75,9 +75,9 @@ use Rattle.laws_requests.proofs.Differing.{instance_below, resource_below, same_
 use Rattle.laws_requests.proofs.Differing.{same_exists, same_parts, same_reads, same_rights, same_target}
 
 there : (client : Client) (stored : Stored) (server : ℕ) → DiffersUnread client stored server
-    → (path : Path) → exists client.catalogue stored path ≡ exists client.catalogue client.store path
+    → (path : Path) → exists client.catalog stored path ≡ exists client.catalog client.store path
 there client stored server h path =
-    same_exists client.catalogue stored client.store h.instances h.places path
+    same_exists client.catalog stored client.store h.instances h.places path
 
 -- ---- Read
 
@@ -91,15 +91,15 @@ unread false false lines others answer other = refl
 -- what refuses a Read that its server may make
 abbrev lines_behind : Client → Path → Option ℕ → List ℕ → List (Bool × Code)
 lines_behind client path accept payload =
-    (not (can_be_read client.catalogue path), MethodNotAllowed)
-    ∷ (not (is_some (format_at client.catalogue path accept)), NotAcceptable)
+    (not (can_be_read client.catalog path), MethodNotAllowed)
+    ∷ (not (is_some (format_at client.catalog path accept)), NotAcceptable)
     ∷ (is_oversized payload, InternalServerError) ∷ []
 
 hidden_by : (client : Client) (path : Path) (accept : Option ℕ) (e may : Bool) (new old : List ℕ)
     → (may ≡ true → new ≡ old) → read_by client path accept e may new ≡ read_by client path accept e may old
 hidden_by client path accept e true new old h = ap (read_by client path accept e true) (h refl)
 hidden_by client path accept e false new old h =
-    let format = format_at client.catalogue path accept in
+    let format = format_at client.catalog path accept in
     unread (object_in path == 0) (not e) (lines_behind client path accept new) (lines_behind client path accept old)
     (content_in format new) (content_in format old)
 
@@ -120,7 +120,7 @@ shown_by resources es = shortest_tlv (nodes_of (filter (λ e. is_shown resources
 same_object : (client : Client) (stored : Stored) (server o : ℕ) (format : Format) → DiffersUnread client stored server
     → payload_in (with_stored client stored) server (Object o) format ≡ payload_in client server (Object o) format
 same_object client stored server o format h =
-    let resources = defined client.catalogue o in
+    let resources = defined client.catalog o in
     let p = reads client.store (length client.accounts) server o in
     let new = instance_node stored resources o in
     let old = instance_node client.store resources o in
@@ -137,11 +137,11 @@ same_resource : (client : Client) (stored : Stored) (server o i r : ℕ) (format
     → payload_in (with_stored client stored) server (Resource o i r) format
     ≡ payload_in client server (Resource o i r) format
 same_resource client stored server o i r format h may =
-    let resources = defined client.catalogue o in
+    let resources = defined client.catalog o in
     let path = Resource o i r in
     let all = same_below client stored server path o i h (resource_below o i r) may in
     let one = h.values (single_of (resource_place o i r)) may in
-    λ j. if is_multiple (definition_of client.catalogue o r)
+    λ j. if is_multiple (definition_of client.catalog o r)
     then shown_by resources (all j) else one_payload format (single r) (one j)
 
 same_payload : (client : Client) (stored : Stored) (server : ℕ) (path : Path) (format : Format)
@@ -149,7 +149,7 @@ same_payload : (client : Client) (stored : Stored) (server : ℕ) (path : Path) 
     → payload_in (with_stored client stored) server path format ≡ payload_in client server path format
 same_payload client stored server (Object o) format h may = same_object client stored server o format h
 same_payload client stored server (Instance o i) format h may =
-    ap (λ (es : Pairs). shown_by (defined client.catalogue o) es)
+    ap (λ (es : Pairs). shown_by (defined client.catalog o) es)
     (same_below client stored server (Instance o i) o i h (instance_below o i) may)
 same_payload client stored server (Resource o i r) format h may =
     same_resource client stored server o i r format h may
@@ -171,32 +171,32 @@ pub same_read : (client : Client) (stored : Stored) (server : ℕ) (path : Path)
 same_read client stored server path accept h =
     let new = read_payload (with_stored client stored) server path accept in
     let old = read_payload client server path accept in
-    let e = exists client.catalogue client.store path in
+    let e = exists client.catalog client.store path in
     ap (λ (t : Bool × Bool). read_by client path accept t.0 t.1 new)
     (λ j. (there client stored server h path j, same_may client stored server path h j))
     ∙ hidden_by client path accept e (may_read client server path) new old (λ may.
-    ap (λ (f : Format → List ℕ). unwrap_or (option_map f (format_at client.catalogue path accept)) [])
+    ap (λ (f : Format → List ℕ). unwrap_or (option_map f (format_at client.catalog path accept)) [])
     (λ j format. same_payload client stored server path format h may j))
 
 -- ---- Discover
 
 same_below_path : (client : Client) (stored : Stored) (server : ℕ) (path : Path) → DiffersUnread client stored server
-    → paths_below client.catalogue stored path ≡ paths_below client.catalogue client.store path
+    → paths_below client.catalog stored path ≡ paths_below client.catalog client.store path
 same_below_path client stored server (Object o) h =
     λ j. flat_map (λ i. Instance o i
-    ∷ filter (λ p. there client stored server h p j) (map (λ d. Resource o i d.id) (defined client.catalogue o)))
+    ∷ filter (λ p. there client stored server h p j) (map (λ d. Resource o i d.id) (defined client.catalog o)))
     (same_list stored client.store o h.instances j)
 same_below_path client stored server (Instance o i) h =
-    λ j. filter (λ p. there client stored server h p j) (map (λ d. Resource o i d.id) (defined client.catalogue o))
+    λ j. filter (λ p. there client stored server h p j) (map (λ d. Resource o i d.id) (defined client.catalog o))
 same_below_path client stored server (Resource o i r) h = refl
 same_below_path client stored server (Part o i r n) h = refl
 
 same_dimension : (client : Client) (stored : Stored) (server : ℕ) (path : Path) → DiffersUnread client stored server
-    → dimension client.catalogue stored path ≡ dimension client.catalogue client.store path
+    → dimension client.catalog stored path ≡ dimension client.catalog client.store path
 same_dimension client stored server (Object o) h = refl
 same_dimension client stored server (Instance o i) h = refl
 same_dimension client stored server (Resource o i r) h =
-    ap (λ (f : ResourcePath → List ℕ). if is_multiple (definition_of client.catalogue o r)
+    ap (λ (f : ResourcePath → List ℕ). if is_multiple (definition_of client.catalog o r)
     then length (f (resource_place o i r)) else 0) (same_parts stored client.store h.places)
 same_dimension client stored server (Part o i r n) h = refl
 
@@ -241,9 +241,9 @@ neither true b x y h = cc
 
 -- what a Write gives at a resource, to the firmware
 event_at_resource : (client : Client) (o i r : ℕ) (payload : List ℕ) (f : Format) (given : Option Given)
-    → given_to_resource (definition_of client.catalogue o r) f payload ≡ given
+    → given_to_resource (definition_of client.catalog o r) f payload ≡ given
     → is_package (Resource o i r) ≡ false
-    → event_of (Resource o i r) (values_given client.catalogue (Resource o i r) payload f) ≡ None
+    → event_of (Resource o i r) (values_given client.catalog (Resource o i r) payload f) ≡ None
 event_at_resource client o i r payload f None is h = rw is refl
 event_at_resource client o i r payload f (Some given) is h =
     rw is (neither (o == 5 && r == 0) (o == 5 && r == 1) _ _ h)
@@ -251,10 +251,10 @@ event_at_resource client o i r payload f (Some given) is h =
 event_by : (client : Client) (o i r : ℕ) (payload : List ℕ) (format : Option Format)
     → is_package (Resource o i r) ≡ false
     → event_of (Resource o i r)
-    (option_and_then (values_given client.catalogue (Resource o i r) payload) format) ≡ None
+    (option_and_then (values_given client.catalog (Resource o i r) payload) format) ≡ None
 event_by client o i r payload None h = refl
 event_by client o i r payload (Some f) h =
-    event_at_resource client o i r payload f (given_to_resource (definition_of client.catalogue o r) f payload) refl h
+    event_at_resource client o i r payload f (given_to_resource (definition_of client.catalog o r) f payload) refl h
 
 no_event : (client : Client) (path : Path) (number : Option ℕ) (payload : List ℕ) → is_package path ≡ false
     → event_of path (new_values client path number payload) ≡ None
@@ -269,7 +269,7 @@ no_event client (Instance o i) number payload h =
       | Some v ↦ refl
     ]
 no_event client (Resource o i r) number payload h =
-    event_by client o i r payload (format_at client.catalogue (Resource o i r) number) h
+    event_by client o i r payload (format_at client.catalog (Resource o i r) number) h
 no_event client (Part o i r n) number payload h =
     elim (new_values client (Part o i r n) number payload) as (λ v. event_of (Part o i r n) v ≡ None) [
       | None ↦ refl
@@ -294,28 +294,28 @@ same_turn client stored server e h may =
 -- whether what a Write gives is too much, by the format
 abbrev exceeds_by : Client → Stored → Mode → Path → List ℕ → Option Format → Bool
 exceeds_by client stored mode path payload format =
-    exceeds mode client.catalogue stored path (option_and_then (values_given client.catalogue path payload) format)
+    exceeds mode client.catalog stored path (option_and_then (values_given client.catalog path payload) format)
 
 exceeds_instance : (client : Client) (stored : Stored) (server : ℕ) (mode : Mode) (o i : ℕ) (payload : List ℕ)
     (f : Format) (given : Option (List Assignment)) → DiffersUnread client stored server
-    → instance_given (defined client.catalogue o) i payload ≡ given
+    → instance_given (defined client.catalog o) i payload ≡ given
     → exceeds_by client stored mode (Instance o i) payload (Some f)
     ≡ exceeds_by client client.store mode (Instance o i) payload (Some f)
 exceeds_instance client stored server mode o i payload f None h is = rw is refl
 exceeds_instance client stored server mode o i payload f (Some given) h is =
-    rw is (same_excesses mode (defined client.catalogue o) stored client.store (place_of o i) given h.places)
+    rw is (same_excesses mode (defined client.catalog o) stored client.store (place_of o i) given h.places)
 
 same_exceeding_at : (client : Client) (stored : Stored) (server : ℕ) (mode : Mode) (o i r : ℕ) (given : Given)
     → DiffersUnread client stored server
-    → resource_exceeds mode (definition_of client.catalogue o r) stored (resource_place o i r) given
-    ≡ resource_exceeds mode (definition_of client.catalogue o r) client.store (resource_place o i r) given
+    → resource_exceeds mode (definition_of client.catalog o r) stored (resource_place o i r) given
+    ≡ resource_exceeds mode (definition_of client.catalog o r) client.store (resource_place o i r) given
 same_exceeding_at client stored server mode o i r given h =
-    ap (λ (b : Bool). is_kept_as (definition_of client.catalogue o r) && b)
+    ap (λ (b : Bool). is_kept_as (definition_of client.catalog o r) && b)
     (same_excess mode stored client.store (resource_place o i r) given h.places)
 
 exceeds_resource : (client : Client) (stored : Stored) (server : ℕ) (mode : Mode) (o i r : ℕ) (payload : List ℕ)
     (f : Format) (given : Option Given) → DiffersUnread client stored server
-    → given_to_resource (definition_of client.catalogue o r) f payload ≡ given
+    → given_to_resource (definition_of client.catalog o r) f payload ≡ given
     → exceeds_by client stored mode (Resource o i r) payload (Some f)
     ≡ exceeds_by client client.store mode (Resource o i r) payload (Some f)
 exceeds_resource client stored server mode o i r payload f None h is = rw is refl
@@ -324,7 +324,7 @@ exceeds_resource client stored server mode o i r payload f (Some given) h is =
 
 exceeds_part : (client : Client) (stored : Stored) (server : ℕ) (mode : Mode) (o i r n : ℕ) (payload : List ℕ)
     (f : Format) (given : Option Given) → DiffersUnread client stored server
-    → given_to_part (definition_of client.catalogue o r) n f payload ≡ given
+    → given_to_part (definition_of client.catalog o r) n f payload ≡ given
     → exceeds_by client stored mode (Part o i r n) payload (Some f)
     ≡ exceeds_by client client.store mode (Part o i r n) payload (Some f)
 exceeds_part client stored server mode o i r n payload f None h is = rw is refl
@@ -337,14 +337,14 @@ same_exceeding : (client : Client) (stored : Stored) (server : ℕ) (mode : Mode
 same_exceeding client stored server mode path payload None h = refl
 same_exceeding client stored server mode (Object o) payload (Some f) h = refl
 same_exceeding client stored server mode (Instance o i) payload (Some f) h =
-    exceeds_instance client stored server mode o i payload f (instance_given (defined client.catalogue o) i payload) h
+    exceeds_instance client stored server mode o i payload f (instance_given (defined client.catalog o) i payload) h
     refl
 same_exceeding client stored server mode (Resource o i r) payload (Some f) h =
     exceeds_resource client stored server mode o i r payload f
-    (given_to_resource (definition_of client.catalogue o r) f payload) h refl
+    (given_to_resource (definition_of client.catalog o r) f payload) h refl
 same_exceeding client stored server mode (Part o i r n) payload (Some f) h =
     exceeds_part client stored server mode o i r n payload f
-    (given_to_part (definition_of client.catalogue o r) n f payload) h refl
+    (given_to_part (definition_of client.catalog o r) n f payload) h refl
 
 -- the firmware decides nothing, or what it decides by can be read
 abbrev IsSeen : Client → ℕ → Bool → Type 0
@@ -381,16 +381,16 @@ same_write client stored server mode path number payload h seen =
     let event = event_of path values in
     let refused = same_refused client stored server event h (event_seen client server path number payload seen) in
     let much = same_exceeding client stored server (mode_at mode path) path payload
-    (format_at client.catalogue path number) h in
-    let target = same_target client.catalogue stored client.store h.instances path in
+    (format_at client.catalog path number) h in
+    let target = same_target client.catalog stored client.store h.instances path in
     let rights = same_rights client stored server path h in
     write_answers (with_stored client stored) server mode path number payload
     ∙ (λ j. says Changed (first_line (
     (object_in path == 0, Unauthorized)
     ∷ (not (target j), NotFound)
     ∷ (not (rights j).write, Unauthorized)
-    ∷ (not (can_be_written client.catalogue path), MethodNotAllowed)
-    ∷ (not (is_some (format_at client.catalogue path number)), UnsupportedContentFormat)
+    ∷ (not (can_be_written client.catalog path), MethodNotAllowed)
+    ∷ (not (is_some (format_at client.catalog path number)), UnsupportedContentFormat)
     ∷ (not (is_some values), BadRequest)
     ∷ (refused j, MethodNotAllowed)
     ∷ (unless_taken event (much j), InternalServerError) ∷ [])))
@@ -418,7 +418,7 @@ same_room : (client : Client) (stored : Stored) (server o : ℕ) (new : Option N
     → lacks_room (with_stored client stored) o new ≡ lacks_room client o new
 same_room client stored server o None h = refl
 same_room client stored server o (Some b) h =
-    let excess = same_excesses Replace (defined client.catalogue o) stored client.store (place_of o b.number) b.given
+    let excess = same_excesses Replace (defined client.catalog o) stored client.store (place_of o b.number) b.given
     h.places in
     λ j. nat_le 64 (length (same_list stored client.store o h.instances j))
     || ((nat_le 2 (length client.accounts)
@@ -461,11 +461,11 @@ same_create : (client : Client) (stored : Stored) (server : ℕ) (path : Path) (
 same_create client stored server path number payload h =
     let o = object_in path in
     let rights = same_rights client stored server path h in
-    let new = same_numbered stored client.store o (creation_given (defined client.catalogue o) payload) h.instances in
+    let new = same_numbered stored client.store o (creation_given (defined client.catalog o) payload) h.instances in
     create_answers (with_stored client stored) server path number payload
     ∙ (λ j. create_by client path number (there client stored server h path j) (rights j).create (new j)
     (lacks_room (with_stored client stored) o (new j)))
-    ∙ ap (create_by client path number (exists client.catalogue client.store path)
+    ∙ ap (create_by client path number (exists client.catalog client.store path)
     (rights_at client.store (length client.accounts) server path).create (newborn client o payload))
     (same_room client stored server o (newborn client o payload) h)
     ∙ sym (create_answers client server path number payload)
@@ -519,7 +519,7 @@ same_execute client stored server path number payload h seen =
     (object_in path == 0, Unauthorized)
     ∷ (not (there client stored server h path j), NotFound)
     ∷ (not (rights j).execute, Unauthorized)
-    ∷ (not (is_executable (definition_at client.catalogue path)), MethodNotAllowed)
+    ∷ (not (is_executable (definition_at client.catalog path)), MethodNotAllowed)
     ∷ (not (is_plain number), UnsupportedContentFormat)
     ∷ (not (are_arguments payload), BadRequest)
     ∷ (time j, MethodNotAllowed) ∷ [])))

@@ -4,7 +4,7 @@ use Rattle.std.proofs.Common.{refl, sym, ap, ◌∙◌}
 use Rattle.std.specs.Bool.{if◌then◌else◌}
 use Rattle.std.specs.Option.{is_some, option_and_then}
 use Rattle.std.proofs.lemmas.Bool.{ne_eqb}
-use Rattle.object_defs.specs.Catalogue.{definition_of}
+use Rattle.object_defs.specs.Catalog.{definition_of}
 use Rattle.object_defs.specs.Operations.{can_read}
 use Rattle.object_defs.specs.declared.definition.ResourceDef.{ResourceDef}
 use Rattle.object_defs.specs.declared.path.FullPath.{FullPath}
@@ -50,15 +50,15 @@ unrefused client server mode path number payload h =
 -- the store that a Write leaves, by the format
 abbrev pub leaves : Client → Mode → Path → List ℕ → Option Format → Stored
 leaves client mode path payload format =
-    let values = option_and_then (values_given client.catalogue path payload) format in
+    let values = option_and_then (values_given client.catalog path payload) format in
     left (mode_at mode path) client path values (event_of path values)
 
 -- the format of a Write, and the store after it
 pub record Comes (client : Client) (server : ℕ) (mode : Mode) (path : Path) (number : Option ℕ) (payload : List ℕ)
     : Type 0 where
   pub format : Format
-  pub served : format_at client.catalogue path number ≡ Some format
-  pub good : not (is_some (values_given client.catalogue path payload format)) ≡ false
+  pub served : format_at client.catalog path number ≡ Some format
+  pub good : not (is_some (values_given client.catalog path payload format)) ≡ false
   pub is : (write_outcome client server mode path number payload).client.store
       ≡ leaves client mode path payload (Some format)
 
@@ -68,14 +68,14 @@ pub comes : (client : Client) (server : ℕ) (mode : Mode) (path : Path) (number
 comes client server mode path number payload h =
     let no_line = unrefused client server mode path number payload h in
     let all = fails (refusals_of client server path (to_write mode number payload)) no_line in
-    let f = there (format_at client.catalogue path number) all.1.1.1.1.0 in
+    let f = there (format_at client.catalog path number) all.1.1.1.1.0 in
     record {
       format = f.0;
       served = f.1;
       good = sym (ap (λ (x : Option Format). not (is_some
-          (option_and_then (values_given client.catalogue path payload) x))) f.1) ∙ all.1.1.1.1.1.0;
+          (option_and_then (values_given client.catalog path payload) x))) f.1) ∙ all.1.1.1.1.1.0;
       is = ap (λ (code : Option Code). (write_unless code client
-          (leaves client mode path payload (format_at client.catalogue path number))).client.store) no_line
+          (leaves client mode path payload (format_at client.catalog path number))).client.store) no_line
           ∙ ap (leaves client mode path payload) f.1;
     }
 
@@ -85,7 +85,7 @@ pub is_stored : (client : Client) (server : ℕ) (mode : Mode) (path : Path) (nu
     → (write_outcome client server mode path number payload).client
     ≡ with_stored client (write_outcome client server mode path number payload).client.store
 is_stored client server mode path number payload h =
-    let left_store = leaves client mode path payload (format_at client.catalogue path number) in
+    let left_store = leaves client mode path payload (format_at client.catalog path number) in
     let becomes : (write_outcome client server mode path number payload).client ≡ with_stored client left_store =
     ap (λ (code : Option Code). (write_unless code client left_store).client)
     (unrefused client server mode path number payload h) in
@@ -94,21 +94,21 @@ is_stored client server mode path number payload h =
 -- ---- an instance
 
 instance_good : (client : Client) (o i : ℕ) (payload : List ℕ) (f : Format) (given : Option (List Assignment))
-    → instance_given (defined client.catalogue o) i payload ≡ given
-    → not (is_some (values_given client.catalogue (Instance o i) payload f)) ≡ false
+    → instance_given (defined client.catalog o) i payload ≡ given
+    → not (is_some (values_given client.catalog (Instance o i) payload f)) ≡ false
     → (list : List Assignment) × (given ≡ Some list)
 instance_good client o i payload f None h good = let l : true ≡ false = rw h at good in cc
 instance_good client o i payload f (Some given) h good = (given, refl)
 
 instance_leaves : (client : Client) (mode : Mode) (o i : ℕ) (payload : List ℕ) (f : Format) (given : List Assignment)
-    → instance_given (defined client.catalogue o) i payload ≡ Some given
+    → instance_given (defined client.catalog o) i payload ≡ Some given
     → leaves client mode (Instance o i) payload (Some f)
-    ≡ instance_written mode (defined client.catalogue o) client.store (place_of o i) given
+    ≡ instance_written mode (defined client.catalog o) client.store (place_of o i) given
 instance_leaves client mode o i payload f given h = rw h refl
 
 pub instances_written : InstancesAreWritten
 instances_written client server mode o i number payload h =
-    let resources = defined client.catalogue o in
+    let resources = defined client.catalog o in
     let c = comes client server mode (Instance o i) number payload h in
     let g = instance_good client o i payload c.format (instance_given resources i payload) refl c.good in
     let given = g.0 in
@@ -127,8 +127,8 @@ instances_written client server mode o i number payload h =
 -- ---- a resource
 
 pub resource_good : (client : Client) (o i r : ℕ) (payload : List ℕ) (f : Format) (given : Option Given)
-    → given_to_resource (definition_of client.catalogue o r) f payload ≡ given
-    → not (is_some (values_given client.catalogue (Resource o i r) payload f)) ≡ false
+    → given_to_resource (definition_of client.catalog o r) f payload ≡ given
+    → not (is_some (values_given client.catalog (Resource o i r) payload f)) ≡ false
     → (g : Given) × (given ≡ Some g)
 resource_good client o i r payload f None h good = let l : true ≡ false = rw h at good in cc
 resource_good client o i r payload f (Some g) h good = (g, refl)
@@ -140,8 +140,8 @@ is_defined None f payload g h = cc
 is_defined (Some d) f payload g h = (d, refl, h)
 
 resource_leaves : (client : Client) (mode : Mode) (o i r : ℕ) (payload : List ℕ) (f : Format) (d : ResourceDef)
-    (given : Given) → o ≢ 5 → given_to_resource (definition_of client.catalogue o r) f payload ≡ Some given
-    → definition_of client.catalogue o r ≡ Some d
+    (given : Given) → o ≢ 5 → given_to_resource (definition_of client.catalog o r) f payload ≡ Some given
+    → definition_of client.catalog o r ≡ Some d
     → leaves client mode (Resource o i r) payload (Some f)
     ≡ (if can_read d.ops then with_given mode client.store (resource_place o i r) given else client.store)
 resource_leaves client mode o i r payload f d given other h k =
@@ -164,9 +164,9 @@ resources_written client server mode o i r number payload other h =
     let p = resource_place o i r in
     let c = comes client server mode path number payload h in
     let g = resource_good client o i r payload c.format
-    (given_to_resource (definition_of client.catalogue o r) c.format payload) refl c.good in
+    (given_to_resource (definition_of client.catalog o r) c.format payload) refl c.good in
     let given = g.0 in
-    let d = is_defined (definition_of client.catalogue o r) c.format payload given g.1 in
+    let d = is_defined (definition_of client.catalog o r) c.format payload given g.1 in
     let once = resource_once d.0 c.format payload given d.2 in
     let is = c.is ∙ resource_leaves client mode o i r payload c.format d.0 given other g.1 d.1 in
     let after = λ (q : FullPath). if can_read d.0.ops then value_with mode given q.part (value_at client.store q)

@@ -20,7 +20,7 @@ changed_by (c ∷ changes) n before = changed_by changes n (if rank c.name == ra
 -- the queries spell changes; the attributes of the server at the path are changed by them, all others are as they were
 pub record AreAnnotated (old new : Client) (server : ℕ) (path : Path) (queries : List (List ℕ)) : Type 0 where
   pub changes : List Change
-  pub spells : changes_of [] (level_at old.catalogue path) queries ≡ Ok changes
+  pub spells : changes_of [] (level_at old.catalog path) queries ≡ Ok changes
   pub own : (n : Name)
       → assigned new.attributes server path n ≡ changed_by changes n (assigned old.attributes server path n)
   pub others : (k : AttributeKey) → ((n : Name) → k ≢ key_of server path n)

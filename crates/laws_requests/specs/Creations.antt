@@ -48,7 +48,7 @@ pub record IsCreated (client : Client) (server o : ℕ) (payload : List ℕ) (ou
   pub there : has_instance outcome.client.store (place_of o born.number) ≡ true
   pub inside : (q : FullPath) → lies_in (Instance o born.number) q ≡ true
       → value_at outcome.client.store q
-      ≡ value_behind Replace (defined client.catalogue o) born.given q (value_at client.store q)
+      ≡ value_behind Replace (defined client.catalog o) born.given q (value_at client.store q)
   pub control : (j : ℕ) → new_control client ≡ Some j
       → IsControlOf client.store outcome.client.store j (place_of o born.number) server
   pub others : (p : InstancePath) → p ≢ place_of o born.number

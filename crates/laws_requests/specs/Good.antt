@@ -16,8 +16,8 @@ pub record IsGood (client : Client) (server : ℕ) (path : Path) (purpose : Purp
   pub object : object_in path ≢ 0
   pub target : lacks_target client path purpose ≡ false
   pub right : lacks_right client server path purpose ≡ false
-  pub served : lacks_operation client.catalogue path purpose ≡ false
-  pub format : lacks_format client.catalogue path purpose ≡ false
+  pub served : lacks_operation client.catalog path purpose ≡ false
+  pub format : lacks_format client.catalog path purpose ≡ false
   pub payload : is_invalid client server path purpose ≡ false
   pub state : is_out_of_turn client path purpose ≡ false
 

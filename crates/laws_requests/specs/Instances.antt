@@ -2,7 +2,7 @@
 use Rattle.std.specs.Prelude.{◌≡◌, ◌⊎◌, ◌↔◌, ℕ, true, false, List, Option, None, Some}
 use Rattle.lwm2m_values.specs.Tree.{single}
 use Rattle.lwm2m_values.specs.declared.value.Value.{Value}
-use Rattle.object_defs.specs.Catalogue.{definition_of}
+use Rattle.object_defs.specs.Catalog.{definition_of}
 use Rattle.object_defs.specs.Operations.{can_read, can_write}
 use Rattle.object_defs.specs.Path.{part_of, single_of}
 use Rattle.object_defs.specs.declared.definition.ResourceDef.{ResourceDef}
@@ -50,31 +50,31 @@ left_by Update before = before
 -- as it was
 pub record HoldsGiven (client : Client) (mode : Mode) (o i : ℕ) (payload : List ℕ) (new : Stored) : Type 0 where
   pub given : List Assignment
-  pub gives : instance_given (defined client.catalogue o) i payload ≡ Some given
+  pub gives : instance_given (defined client.catalog o) i payload ≡ Some given
   pub value : (r : ℕ) (v : Value) → IsGivenTo given r (Single v)
-      → is_readable (definition_of client.catalogue o r) ≡ true
+      → is_readable (definition_of client.catalog o r) ≡ true
       → value_at new (single_of (resource_place o i r)) ≡ Some v
   pub beside : (r : ℕ) (v : Value) (n : ℕ) → IsGivenTo given r (Single v)
-      → is_readable (definition_of client.catalogue o r) ≡ true
+      → is_readable (definition_of client.catalog o r) ≡ true
       → value_at new (part_of (resource_place o i r) n) ≡ value_at client.store (part_of (resource_place o i r) n)
   pub part : (r : ℕ) (parts : PartList) (n : ℕ) (v : Value) → IsGivenTo given r (Parts parts)
-      → is_readable (definition_of client.catalogue o r) ≡ true → IsAmong (n, v) parts
+      → is_readable (definition_of client.catalog o r) ≡ true → IsAmong (n, v) parts
       → value_at new (part_of (resource_place o i r) n) ≡ Some v
   pub other_part : (r : ℕ) (parts : PartList) (n : ℕ) → IsGivenTo given r (Parts parts)
-      → is_readable (definition_of client.catalogue o r) ≡ true → ¬ (HasPart parts n)
+      → is_readable (definition_of client.catalog o r) ≡ true → ¬ (HasPart parts n)
       → value_at new (part_of (resource_place o i r) n)
       ≡ left_by mode (value_at client.store (part_of (resource_place o i r) n))
   pub no_part : (r : ℕ) (parts : PartList) → IsGivenTo given r (Parts parts)
-      → is_readable (definition_of client.catalogue o r) ≡ true
+      → is_readable (definition_of client.catalog o r) ≡ true
       → value_at new (single_of (resource_place o i r))
       ≡ left_by mode (value_at client.store (single_of (resource_place o i r)))
   pub write_only : (q : FullPath) → lies_in (Instance o i) q ≡ true → IsNamedIn given q.resource
-      → is_readable (definition_of client.catalogue o q.resource) ≡ false
+      → is_readable (definition_of client.catalog o q.resource) ≡ false
       → value_at new q ≡ value_at client.store q
   pub taken_away : (q : FullPath) → lies_in (Instance o i) q ≡ true → ¬ (IsNamedIn given q.resource)
-      → mode ≡ Replace → IsOptional (defined client.catalogue o) q.resource → value_at new q ≡ None
+      → mode ≡ Replace → IsOptional (defined client.catalog o) q.resource → value_at new q ≡ None
   pub left_alone : (q : FullPath) → lies_in (Instance o i) q ≡ true → ¬ (IsNamedIn given q.resource)
-      → (mode ≡ Update) ⊎ (¬ (IsOptional (defined client.catalogue o) q.resource))
+      → (mode ≡ Update) ⊎ (¬ (IsOptional (defined client.catalog o) q.resource))
       → value_at new q ≡ value_at client.store q
   pub elsewhere : (q : FullPath) → lies_in (Instance o i) q ≡ false → value_at new q ≡ value_at client.store q
 
@@ -89,14 +89,14 @@ InstancesHoldGiven =
 -- resource that is given parts answers these, and with Partial Update the others that it held, by ascending number
 pub record IsInstanceReadBack (client : Client) (mode : Mode) (o i : ℕ) (payload : List ℕ) (new : Client) : Type 0 where
   pub given : List Assignment
-  pub gives : instance_given (defined client.catalogue o) i payload ≡ Some given
-  pub value : (r : ℕ) (d : ResourceDef) (v : Value) → definition_of client.catalogue o r ≡ Some d
+  pub gives : instance_given (defined client.catalog o) i payload ≡ Some given
+  pub value : (r : ℕ) (d : ResourceDef) (v : Value) → definition_of client.catalog o r ≡ Some d
       → d.multiple ≡ false → can_read d.ops ≡ true → IsGivenTo given r (Single v)
       → (server : ℕ) (accept : Option ℕ) (wanted : Format) → may_read new server (Resource o i r) ≡ true
       → format_for (one d.kind) accept ≡ Some wanted
       → read_answer new server (Resource o i r) accept
       ≡ content_within wanted (value_payload wanted (single r) v)
-  pub parts : (r : ℕ) (d : ResourceDef) (parts : PartList) → definition_of client.catalogue o r ≡ Some d
+  pub parts : (r : ℕ) (d : ResourceDef) (parts : PartList) → definition_of client.catalog o r ≡ Some d
       → d.multiple ≡ true → can_read d.ops ≡ true → IsGivenTo given r (Parts parts)
       → (shown : PartList) × IsReadInParts new o i r shown
       × ((n : ℕ) (v : Value) → IsAmong (n, v) shown

@@ -7,7 +7,7 @@ use Rattle.lwm2m_values.specs.Tlv.{shortest_tlv}
 use Rattle.lwm2m_values.specs.Tree.{Trees, multi, part, none, more}
 use Rattle.lwm2m_values.specs.Value.{bytes_of}
 use Rattle.lwm2m_values.specs.declared.value.Value.{Value}
-use Rattle.object_defs.specs.Catalogue.{definition_of}
+use Rattle.object_defs.specs.Catalog.{definition_of}
 use Rattle.object_defs.specs.Numbers.{security_object}
 use Rattle.object_defs.specs.Operations.{can_read}
 use Rattle.object_defs.specs.Path.{part_of}
@@ -58,7 +58,7 @@ pub record IsReadInParts (client : Client) (o i r : ℕ) (parts : PartList) : Ty
 -- each multiple resource that can be read, of an instance that is there
 abbrev pub MultipleIsRead : Type 0
 MultipleIsRead =
-    (client : Client) (o i r : ℕ) (d : ResourceDef) → o ≢ security_object → definition_of client.catalogue o r ≡ Some d
+    (client : Client) (o i r : ℕ) (d : ResourceDef) → o ≢ security_object → definition_of client.catalog o r ≡ Some d
     → d.multiple ≡ true → can_read d.ops ≡ true → has_instance client.store (place_of o i) ≡ true
     → (parts : PartList) × IsReadInParts client o i r parts
 
@@ -75,7 +75,7 @@ pub record ArePartsReadBack (o i r : ℕ) (d : ResourceDef) (payload : List ℕ)
 abbrev pub MultipleIsReadBack : Type 0
 MultipleIsReadBack =
     (client : Client) (server o i r : ℕ) (d : ResourceDef) (number : Option ℕ) (payload : List ℕ)
-    → definition_of client.catalogue o r ≡ Some d → d.multiple ≡ true → can_read d.ops ≡ true
+    → definition_of client.catalog o r ≡ Some d → d.multiple ≡ true → can_read d.ops ≡ true
     → (write_outcome client server Replace (Resource o i r) number payload).answer.code ≡ Changed
     → ArePartsReadBack o i r d payload (write_outcome client server Replace (Resource o i r) number payload).client
 
@@ -92,7 +92,7 @@ IsPartThen mode parts n before v =
 pub record IsPartReadAmong (client : Client) (o i r n : ℕ) (d : ResourceDef) (number : Option ℕ) (payload : List ℕ)
     (new : Client) : Type 0 where
   pub format : Format
-  pub served : format_at client.catalogue (Part o i r n) number ≡ Some format
+  pub served : format_at client.catalog (Part o i r n) number ≡ Some format
   pub value : Value
   pub gives : part_given d n format payload ≡ Some (Parts ((n, value) ∷ []))
   pub shown : PartList
@@ -105,7 +105,7 @@ abbrev pub PartIsReadAmong : Type 0
 PartIsReadAmong =
     (client : Client) (server : ℕ) (mode : Mode) (o i r n : ℕ) (d : ResourceDef) (number : Option ℕ)
     (payload : List ℕ)
-    → definition_of client.catalogue o r ≡ Some d → can_read d.ops ≡ true
+    → definition_of client.catalog o r ≡ Some d → can_read d.ops ≡ true
     → (write_outcome client server mode (Part o i r n) number payload).answer.code ≡ Changed
     → IsPartReadAmong client o i r n d number payload
     (write_outcome client server mode (Part o i r n) number payload).client

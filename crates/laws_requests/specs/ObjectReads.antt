@@ -5,7 +5,7 @@ use Rattle.lwm2m_values.specs.Tlv.{shortest_tlv}
 use Rattle.lwm2m_values.specs.Tree.{Tree, Trees, instance, multi, part, single, none, more}
 use Rattle.lwm2m_values.specs.Value.{bytes_of}
 use Rattle.lwm2m_values.specs.declared.value.Value.{Value}
-use Rattle.object_defs.specs.Catalogue.{definition_of, object_of}
+use Rattle.object_defs.specs.Catalog.{definition_of, object_of}
 use Rattle.object_defs.specs.Numbers.{security_object}
 use Rattle.object_defs.specs.Operations.{can_read}
 use Rattle.object_defs.specs.declared.definition.ObjectDef.{ObjectDef}
@@ -48,7 +48,7 @@ RecordsSay nodes r (Some n) bytes = (parts : Trees) × IsRecordIn (multi r parts
 -- these are the bytes of a value that is held and can be read: of a single resource, or of a multiple one's part
 pub record HoldsReadable (client : Client) (o i r : ℕ) (n : Option ℕ) (bytes : List ℕ) : Type 0 where
   pub definition : ResourceDef
-  pub is_defined : definition_of client.catalogue o r ≡ Some definition
+  pub is_defined : definition_of client.catalog o r ≡ Some definition
   pub readable : can_read definition.ops ≡ true
   pub fits : definition.multiple ≡ is_some n
   pub value : Value
@@ -79,7 +79,7 @@ pub record ShowsObject (client : Client) (server o : ℕ) (nodes : Trees) : Type
 abbrev pub InstanceIsShown : Type 0
 InstanceIsShown =
     (client : Client) (server o i : ℕ) (d : ObjectDef) (accept : Option ℕ) → o ≢ security_object
-    → object_of client.catalogue o ≡ Some d → MayRead client server o i → is_tlv accept ≡ true
+    → object_of client.catalog o ≡ Some d → MayRead client server o i → is_tlv accept ≡ true
     → (nodes : Trees) × ShowsInstance client o i nodes
     × (read_answer client server (Instance o i) accept ≡ content_within Tlv (shortest_tlv nodes))
 
@@ -87,7 +87,7 @@ InstanceIsShown =
 abbrev pub ObjectIsShown : Type 0
 ObjectIsShown =
     (client : Client) (server o : ℕ) (d : ObjectDef) (accept : Option ℕ) → o ≢ security_object
-    → object_of client.catalogue o ≡ Some d
+    → object_of client.catalog o ≡ Some d
     → ((i : ℕ) → has_instance client.store (place_of o i) ≡ false) ⊎ ((i : ℕ) × MayRead client server o i)
     → is_tlv accept ≡ true
     → (nodes : Trees) × ShowsObject client server o nodes
@@ -96,6 +96,6 @@ ObjectIsShown =
 -- where the object has instances, and the server may read none of them, it is 4.01
 abbrev pub ObjectIsHidden : Type 0
 ObjectIsHidden =
-    (client : Client) (server o i : ℕ) (d : ObjectDef) (accept : Option ℕ) → object_of client.catalogue o ≡ Some d
+    (client : Client) (server o i : ℕ) (d : ObjectDef) (accept : Option ℕ) → object_of client.catalog o ≡ Some d
     → has_instance client.store (place_of o i) ≡ true → ((j : ℕ) → ¬ (MayRead client server o j))
     → read_answer client server (Object o) accept ≡ bare Unauthorized

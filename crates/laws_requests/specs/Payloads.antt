@@ -6,7 +6,7 @@ use Rattle.lwm2m_values.specs.Tree.{Tree, Trees, instance, multi, part, single, 
 use Rattle.lwm2m_values.specs.Value.{IsBytesOf, IsGood, IsText, kind_of}
 use Rattle.lwm2m_values.specs.declared.kind.ValueKind.{ValueKind}
 use Rattle.lwm2m_values.specs.declared.value.Value.{Value}
-use Rattle.object_defs.specs.Catalogue.{resource_in}
+use Rattle.object_defs.specs.Catalog.{resource_in}
 use Rattle.object_defs.specs.Operations.{can_read}
 use Rattle.object_defs.specs.declared.definition.Ops.{Ops}
 use Rattle.object_defs.specs.declared.definition.Ops.TheVariants.{W, RW, E}

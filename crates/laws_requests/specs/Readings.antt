@@ -2,7 +2,7 @@
 use Rattle.std.specs.Prelude.{◌≡◌, ℕ, true, List, [], ◌∷◌, Option, Some}
 use Rattle.lwm2m_values.specs.Tree.{part}
 use Rattle.lwm2m_values.specs.declared.value.Value.{Value}
-use Rattle.object_defs.specs.Catalogue.{definition_of}
+use Rattle.object_defs.specs.Catalog.{definition_of}
 use Rattle.object_defs.specs.Operations.{can_read}
 use Rattle.object_defs.specs.declared.definition.ResourceDef.{ResourceDef}
 use Rattle.object_defs.specs.declared.path.Path.TheVariants.{Part}
@@ -23,12 +23,12 @@ use Rattle.device_requests.specs.Read.{format_at}
 pub record IsPartReadBack (client : Client) (o i r n : ℕ) (d : ResourceDef) (number : Option ℕ) (payload : List ℕ)
     (new : Client) : Type 0 where
   pub format : Format
-  pub served : format_at client.catalogue (Part o i r n) number ≡ Some format
+  pub served : format_at client.catalog (Part o i r n) number ≡ Some format
   pub value : Value
   pub given : part_given d n format payload ≡ Some (Parts ((n, value) ∷ []))
   pub read : (server : ℕ) (accept : Option ℕ) (wanted : Format)
       → may_read new server (Part o i r n) ≡ true
-      → format_at new.catalogue (Part o i r n) accept ≡ Some wanted
+      → format_at new.catalog (Part o i r n) accept ≡ Some wanted
       → read_answer new server (Part o i r n) accept
       ≡ content_within wanted (value_payload wanted (part n) value)
 
@@ -37,7 +37,7 @@ abbrev pub PartIsRead : Type 0
 PartIsRead =
     (client : Client) (server : ℕ) (mode : Mode) (o i r n : ℕ) (d : ResourceDef) (number : Option ℕ)
     (payload : List ℕ)
-    → definition_of client.catalogue o r ≡ Some d → can_read d.ops ≡ true
+    → definition_of client.catalog o r ≡ Some d → can_read d.ops ≡ true
     → (write_outcome client server mode (Part o i r n) number payload).answer.code ≡ Changed
     → IsPartReadBack client o i r n d number payload
     (write_outcome client server mode (Part o i r n) number payload).client

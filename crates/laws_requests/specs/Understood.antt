@@ -92,15 +92,7 @@ ValuesInOrder =
 
 -- a message with other options
 abbrev pub with_options : Message → List Opt → Message
-with_options m options =
-    record {
-      kind = m.kind;
-      code = m.code;
-      mid = m.mid;
-      token = m.token;
-      options = options;
-      payload = m.payload;
-    }
+with_options m options = record m { options = options }
 
 -- an option that says nothing where the options are understood: Uri-Host and Uri-Port, and one with an even number that
 -- is not recognized

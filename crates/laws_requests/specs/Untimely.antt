@@ -34,8 +34,8 @@ pub record ReachesFirmware (client : Client) (server : ℕ) (path : Path) (purpo
   pub object : object_in path ≢ 0
   pub target : lacks_target client path purpose ≡ false
   pub right : lacks_right client server path purpose ≡ false
-  pub served : lacks_operation client.catalogue path purpose ≡ false
-  pub format : lacks_format client.catalogue path purpose ≡ false
+  pub served : lacks_operation client.catalog path purpose ≡ false
+  pub format : lacks_format client.catalog path purpose ≡ false
   pub payload : is_invalid client server path purpose ≡ false
 
 -- then it is 4.05, whatever would be stored

@@ -1,7 +1,7 @@
 -- What a Write changes (OMA LwM2M 1.1 Core, Write: Replace and Partial Update).
 use Rattle.std.specs.Prelude.{◌≡◌, ◌≢◌, ℕ, true, false, List, [], ◌∷◌, Option, Some, if◌then◌else◌}
 use Rattle.lwm2m_values.specs.declared.value.Value.{Value}
-use Rattle.object_defs.specs.Catalogue.{definition_of}
+use Rattle.object_defs.specs.Catalog.{definition_of}
 use Rattle.object_defs.specs.Operations.{can_read}
 use Rattle.object_defs.specs.Path.{part_of}
 use Rattle.object_defs.specs.declared.definition.ResourceDef.{ResourceDef}
@@ -25,9 +25,9 @@ use Rattle.device_requests.specs.Targets.{defined, resource_place}
 -- Replace takes it away, else what was there; all other values are as they were
 pub record IsInstanceWritten (client : Client) (mode : Mode) (o i : ℕ) (payload : List ℕ) (new : Stored) : Type 0 where
   pub given : List Assignment
-  pub gives : instance_given (defined client.catalogue o) i payload ≡ Some given
+  pub gives : instance_given (defined client.catalog o) i payload ≡ Some given
   pub inside : (q : FullPath) → lies_in (Instance o i) q ≡ true
-      → value_at new q ≡ value_behind mode (defined client.catalogue o) given q (value_at client.store q)
+      → value_at new q ≡ value_behind mode (defined client.catalog o) given q (value_at client.store q)
   pub outside : (q : FullPath) → lies_in (Instance o i) q ≡ false → value_at new q ≡ value_at client.store q
 
 -- a Write of an instance that is answered Changed
@@ -43,9 +43,9 @@ InstancesAreWritten =
 pub record IsResourceWritten (client : Client) (mode : Mode) (o i r : ℕ) (number : Option ℕ) (payload : List ℕ)
     (new : Stored) : Type 0 where
   pub definition : ResourceDef
-  pub is_defined : definition_of client.catalogue o r ≡ Some definition
+  pub is_defined : definition_of client.catalog o r ≡ Some definition
   pub format : Format
-  pub served : format_at client.catalogue (Resource o i r) number ≡ Some format
+  pub served : format_at client.catalog (Resource o i r) number ≡ Some format
   pub given : Given
   pub gives : resource_given definition format payload ≡ Some given
   pub inside : (q : FullPath) → lies_in (Resource o i r) q ≡ true
@@ -67,9 +67,9 @@ ResourcesAreWritten =
 pub record IsPartWritten (client : Client) (o i r n : ℕ) (number : Option ℕ) (payload : List ℕ) (new : Stored)
     : Type 0 where
   pub definition : ResourceDef
-  pub is_defined : definition_of client.catalogue o r ≡ Some definition
+  pub is_defined : definition_of client.catalog o r ≡ Some definition
   pub format : Format
-  pub served : format_at client.catalogue (Part o i r n) number ≡ Some format
+  pub served : format_at client.catalog (Part o i r n) number ≡ Some format
   pub value : Value
   pub gives : part_given definition n format payload ≡ Some (Parts ((n, value) ∷ []))
   pub part : value_at new (part_of (resource_place o i r) n)

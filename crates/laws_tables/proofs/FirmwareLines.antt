@@ -19,8 +19,9 @@ use Rattle.device_firmware.specs.Firmware.{downloading_ended, event_of_package, 
 use Rattle.device_firmware.specs.Firmware.{is_failure}
 use Rattle.device_firmware.specs.Firmware.{next_from, state_as, state_number, state_of, updating_ended, uri_of}
 use Rattle.device_firmware.specs.Firmware.{with_outcome, with_uri}
-use Rattle.device_firmware.specs.Laws.{uri_behind}
-use Rattle.device_firmware.proofs.Behind.{code-outcome, other-outcome, other-uri, same_instances, uri-outcome, uri-uri}
+use Rattle.device_firmware.specs.Laws.{uri_after}
+use Rattle.device_firmware.proofs.AfterEvent.{code-outcome, other-outcome, other-uri, same_instances, uri-outcome}
+use Rattle.device_firmware.proofs.AfterEvent.{uri-uri}
 use Rattle.laws_tables.specs.Firmware.{failed, firmware_path, Holds, IsAfter, IsInState, Line, line, lines}
 use Rattle.laws_tables.specs.Firmware.{WritesAreEvents}
 
@@ -37,7 +38,7 @@ state_behind s o =
     behind (with_value s (firmware_path 3) state) (firmware_path 5) (firmware_path 3) (value.Whole (pos o.code))
     ∙ behind s (firmware_path 3) (firmware_path 3) state
 
-uri_is : (old : Option Value) (uri : Option (List ℕ)) → uri_behind old uri
+uri_is : (old : Option Value) (uri : Option (List ℕ)) → uri_after old uri
     ≡ option_or (option_map value.Text uri) old
 uri_is old None = refl
 uri_is old (Some text) = refl

@@ -14,7 +14,7 @@ use Rattle.lwm2m_values.specs.declared.kind.ValueKind.{ValueKind}
 use Rattle.lwm2m_values.specs.declared.kind.ValueKind.TheVariants as kind
 use Rattle.lwm2m_values.specs.declared.value.Value.{Value}
 use Rattle.lwm2m_values.specs.declared.value.Value.TheVariants.{Text, Whole, Flag, Opaque, Moment, Link}
-use Rattle.object_defs.specs.Catalogue.{object_of, resource_in}
+use Rattle.object_defs.specs.Catalog.{object_of, resource_in}
 use Rattle.object_defs.specs.Lines.{first_line}
 use Rattle.object_defs.specs.Operations.{can_execute, can_read}
 use Rattle.object_defs.specs.Vendor.{is_sound, is_text, is_vendor, resource_fault_in, vendor_object}
@@ -22,7 +22,7 @@ use Rattle.object_defs.specs.declared.definition.ObjectDef.{ObjectDef}
 use Rattle.object_defs.specs.declared.definition.Ops.{Ops}
 use Rattle.object_defs.specs.declared.definition.Ops.TheVariants.{R, W, RW, E}
 use Rattle.object_defs.specs.declared.definition.ResourceDef.{ResourceDef}
-use Rattle.object_defs.specs.declared.fault.CatalogFault.TheVariants as catalog
+use Rattle.object_defs.specs.declared.fault.CatalogFault.TheVariants as catalog_faults
 use Rattle.object_defs.specs.declared.path.FullPath.{FullPath}
 use Rattle.object_defs.specs.declared.path.InstancePath.{InstancePath}
 use Rattle.instance_store.specs.Stored.{has_instance, instances_of, parts_of, value_at, value_count}
@@ -179,27 +179,30 @@ timeouts_refused seconds =
 
 -- ---- objects and resources
 
--- what the catalogue refuses, the class refuses
-of_catalogue : (a b c : Bool)
-    → option_map fault_of (first_line ((a, catalog.IdRange) ∷ (b, catalog.Duplicate) ∷ (c, catalog.TooMany) ∷ []))
+-- what the catalog refuses, the class refuses
+of_catalog : (a b c : Bool)
+    → option_map fault_of (first_line ((a, catalog_faults.IdRange) ∷ (b, catalog_faults.Duplicate) ∷ (
+      c,
+      catalog_faults.TooMany,
+    ) ∷ []))
     ≡ faults_of a false b c
-of_catalogue true b c = refl
-of_catalogue false true c = refl
-of_catalogue false false true = refl
-of_catalogue false false false = refl
+of_catalog true b c = refl
+of_catalog false true c = refl
+of_catalog false false true = refl
+of_catalog false false false = refl
 
 tells_vendors : (id : ℕ) → Tells (is_vendor id) (IsVendors id)
 tells_vendors id = tells_both (tells_le 10241 id) (tells_le id 32768)
 
 pub objects_refused : (class : Template) (id : ℕ)
-    → RefusedInOrder (IsVendors id) ⊤ (object_of class.catalogue id ≡ None) (length class.catalogue < 16)
+    → RefusedInOrder (IsVendors id) ⊤ (object_of class.catalog id ≡ None) (length class.catalog < 16)
     (object_fault class id)
 objects_refused class id =
-    subst (RefusedInOrder (IsVendors id) ⊤ (object_of class.catalogue id ≡ None) (length class.catalogue < 16))
-    (sym (of_catalogue (not (is_vendor id)) (is_some (object_of class.catalogue id))
-    (nat_le 16 (length class.catalogue))))
-    (in_order (unless (tells_vendors id)) never (where_some (object_of class.catalogue id))
-    (at_limit 16 (length class.catalogue)))
+    subst (RefusedInOrder (IsVendors id) ⊤ (object_of class.catalog id ≡ None) (length class.catalog < 16))
+    (sym (of_catalog (not (is_vendor id)) (is_some (object_of class.catalog id))
+    (nat_le 16 (length class.catalog))))
+    (in_order (unless (tells_vendors id)) never (where_some (object_of class.catalog id))
+    (at_limit 16 (length class.catalog)))
 
 tells_text : (k : ValueKind) → Tells (is_text k) (k ≡ kind.Text)
 tells_text kind.Text = record { said = λ e. refl; so = λ h. refl }
@@ -234,16 +237,16 @@ tells_sound d =
     tells_where (can_execute d.ops) (not d.multiple && is_text d.kind) (tells_execute d.ops)
     (tells_both (tells_single d.multiple) (tells_text d.kind))
 
--- the object of the class's own, where the catalogue finds it
+-- the object of the class's own, where the catalog finds it
 own_of : (class : Template) (id : ℕ) (o : ObjectDef) (b : Bool) → is_vendor id ≡ b
-    → (if b then object_of class.catalogue id else None) ≡ Some o → IsOwn class id o
+    → (if b then object_of class.catalog id else None) ≡ Some o → IsOwn class id o
 own_of class id o true e h = ((tells_vendors id).said e, h)
 own_of class id o false e h = cc
 
 found_own : (class : Template) (id : ℕ) (o : ObjectDef) → IsOwn class id o
-    → vendor_object class.catalogue id ≡ Some o
+    → vendor_object class.catalog id ≡ Some o
 found_own class id o own =
-    ap (λ b. if b then object_of class.catalogue id else None) ((tells_vendors id).so own.0) ∙ own.1
+    ap (λ b. if b then object_of class.catalog id else None) ((tells_vendors id).so own.0) ∙ own.1
 
 abbrev ResourceRefused : Template → ℕ → ResourceDef → Option TemplateFault → Type 0
 ResourceRefused class object d =
@@ -252,7 +255,7 @@ ResourceRefused class object d =
     ((o : ObjectDef) → IsOwn class object o → length o.resources < 64)
 
 of_object : (class : Template) (object : ℕ) (d : ResourceDef) (r : Option ObjectDef)
-    → vendor_object class.catalogue object ≡ r
+    → vendor_object class.catalog object ≡ r
     → ResourceRefused class object d (option_map fault_of (resource_fault_in d r))
 of_object class object d None e =
     record {
@@ -270,7 +273,7 @@ of_object class object d None e =
     nothing f = none_some f.0.0 (sym e ∙ found_own class object f.0.0 f.0.1)
 of_object class object d (Some o) e =
     subst (ResourceRefused class object d)
-    (sym (of_catalogue (not (is_sound d)) (is_some (resource_in o.resources d.id)) (nat_le 64 (length o.resources))))
+    (sym (of_catalog (not (is_sound d)) (is_some (resource_in o.resources d.id)) (nat_le 64 (length o.resources))))
     (in_order (as_said (unless (tells_sound d)) (λ s. ((o, own), s)) (λ p. p.1)) never
     (as_said (where_some (resource_in o.resources d.id))
     (λ h q is. ap (λ (x : ObjectDef). resource_in x.resources d.id) (same q is) ∙ h) (λ h. h o own))
@@ -288,7 +291,7 @@ of_object class object d (Some o) e =
 
 pub resources_refused : (class : Template) (object : ℕ) (d : ResourceDef)
     → ResourceRefused class object d (definition_fault class object d)
-resources_refused class object d = of_object class object d (vendor_object class.catalogue object) refl
+resources_refused class object d = of_object class object d (vendor_object class.catalog object) refl
 
 -- ---- instances
 
@@ -325,11 +328,11 @@ where_there : (b : Bool) → Refuses b (b ≡ false)
 where_there b = record { good = λ h. h; bad = λ h. true_from_ne_false b h }
 
 pub instances_refused : (class : Template) (place : InstancePath)
-    → RefusedInOrder (MayBe place) (IsSome (object_of class.catalogue place.object))
+    → RefusedInOrder (MayBe place) (IsSome (object_of class.catalog place.object))
     (has_instance class.store place ≡ false) (length (instances_of class.store place.object) < 64)
     (instance_fault class place)
 instances_refused class place =
-    in_order (unless (tells_may_be place)) (unless (tells_some (object_of class.catalogue place.object)))
+    in_order (unless (tells_may_be place)) (unless (tells_some (object_of class.catalog place.object)))
     (where_there (has_instance class.store place)) (at_limit 64 (length (instances_of class.store place.object)))
 
 -- ---- values
@@ -460,9 +463,9 @@ tells_object p value (Some o) =
     one x h = cc
 
 tells_fits : (class : Template) (p : FullPath) (value : Value)
-    → Tells (fits class.catalogue p value) (IsShortEnough value × SuitsPath class p value)
+    → Tells (fits class.catalog p value) (IsShortEnough value × SuitsPath class p value)
 tells_fits class p value =
-    tells_both (tells_short value) (tells_object p value (object_of class.catalogue p.object))
+    tells_both (tells_short value) (tells_object p value (object_of class.catalog p.object))
 
 -- two lines of one fault are one
 both_full : (a b c d e : Bool)
@@ -498,7 +501,7 @@ at_either_limit a b c P Q p q = record {
 
 pub values_refused : (class : Template) (p : FullPath) (value : Value)
     → RefusedInOrder (IsShortEnough value × SuitsPath class p value)
-    (IsSome (object_of class.catalogue p.object)
+    (IsSome (object_of class.catalog p.object)
     × (has_instance class.store (record { object = p.object; instance = p.instance }) ≡ true))
     (value_at class.store p ≡ None)
     ((value_count class.store < 65535)
@@ -509,12 +512,12 @@ values_refused class p value =
     let parts = parts_of class.store (record { object = p.object; instance = p.instance; resource = p.resource }) in
     let there = has_instance class.store (record { object = p.object; instance = p.instance }) in
     subst (RefusedInOrder (IsShortEnough value × SuitsPath class p value)
-    (IsSome (object_of class.catalogue p.object) × (there ≡ true)) (value_at class.store p ≡ None)
+    (IsSome (object_of class.catalog p.object) × (there ≡ true)) (value_at class.store p ≡ None)
     ((value_count class.store < 65535) × (IsSome p.part → length parts < 32)))
-    (sym (both_full (not (fits class.catalogue p value)) (not (has_place class.catalogue class.store p))
+    (sym (both_full (not (fits class.catalog p value)) (not (has_place class.catalog class.store p))
     (is_some (value_at class.store p)) (nat_le 65535 (value_count class.store)) (has_all_parts class.store p)))
     (in_order (unless (tells_fits class p value))
-    (unless (tells_both (tells_some (object_of class.catalogue p.object)) (itself there)))
+    (unless (tells_both (tells_some (object_of class.catalog p.object)) (itself there)))
     (where_some (value_at class.store p))
     (at_either_limit (nat_le 65535 (value_count class.store)) (is_some p.part) (nat_le 32 (length parts))
     (value_count class.store < 65535) (length parts < 32) (at_limit 65535 (value_count class.store))

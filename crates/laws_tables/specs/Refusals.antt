@@ -7,7 +7,7 @@ use Rattle.lwm2m_values.specs.Value.{kind_of}
 use Rattle.lwm2m_values.specs.declared.kind.ValueKind.TheVariants as kind
 use Rattle.lwm2m_values.specs.declared.value.Value.{Value}
 use Rattle.lwm2m_values.specs.declared.value.Value.TheVariants.{Text, Whole, Flag, Opaque, Moment, Link}
-use Rattle.object_defs.specs.Catalogue.{object_of, resource_in}
+use Rattle.object_defs.specs.Catalog.{object_of, resource_in}
 use Rattle.object_defs.specs.Path.{full_path}
 use Rattle.object_defs.specs.declared.definition.ObjectDef.{ObjectDef}
 use Rattle.object_defs.specs.declared.definition.Ops.TheVariants.{R, RW, E}
@@ -54,12 +54,12 @@ IsVendors id = (10241 ≤ id) × (id ≤ 32768)
 abbrev pub ObjectsAreRefused : Type 0
 ObjectsAreRefused =
     (class : Template) (id : ℕ)
-    → RefusedInOrder (IsVendors id) ⊤ (object_of class.catalogue id ≡ None) (length class.catalogue < 16)
+    → RefusedInOrder (IsVendors id) ⊤ (object_of class.catalog id ≡ None) (length class.catalog < 16)
     (object_fault class id)
 
 -- an object of the class's own
 abbrev pub IsOwn : Template → ℕ → ObjectDef → Type 0
-IsOwn class id o = IsVendors id × (object_of class.catalogue id ≡ Some o)
+IsOwn class id o = IsVendors id × (object_of class.catalog id ≡ Some o)
 
 -- an executable resource is single, and has the kind Text
 abbrev pub IsSound : ResourceDef → Type 0
@@ -86,7 +86,7 @@ pub record MayBe (place : InstancePath) : Type 0 where
 abbrev pub InstancesAreRefused : Type 0
 InstancesAreRefused =
     (class : Template) (place : InstancePath)
-    → RefusedInOrder (MayBe place) (IsSome (object_of class.catalogue place.object))
+    → RefusedInOrder (MayBe place) (IsSome (object_of class.catalog place.object))
     (has_instance class.store place ≡ false) (length (instances_of class.store place.object) < 64)
     (instance_fault class place)
 
@@ -119,14 +119,14 @@ SuitsObject o p value =
 
 -- of an object that is not there nothing is asked before that
 abbrev pub SuitsPath : Template → FullPath → Value → Type 0
-SuitsPath class p value = (o : ObjectDef) → object_of class.catalogue p.object ≡ Some o → SuitsObject o p value
+SuitsPath class p value = (o : ObjectDef) → object_of class.catalog p.object ≡ Some o → SuitsObject o p value
 
 -- a value stands in an instance that is there; a class has at most 65,535 values, a resource at most 32 parts
 abbrev pub ValuesAreRefused : Type 0
 ValuesAreRefused =
     (class : Template) (p : FullPath) (value : Value)
     → RefusedInOrder (IsShortEnough value × SuitsPath class p value)
-    (IsSome (object_of class.catalogue p.object)
+    (IsSome (object_of class.catalog p.object)
     × (has_instance class.store (record { object = p.object; instance = p.instance }) ≡ true))
     (value_at class.store p ≡ None)
     ((value_count class.store < 65535)

@@ -6,13 +6,13 @@ use Rattle.std.specs.List.{list_any, slice_get}
 use Rattle.std.specs.Option.{option_map_or}
 use Rattle.lwm2m_values.specs.Value.{has_good_length}
 use Rattle.lwm2m_values.specs.declared.value.Value.{Value}
-use Rattle.object_defs.specs.Catalogue.{object_of, resource_in}
+use Rattle.object_defs.specs.Catalog.{object_of, resource_in}
 use Rattle.object_defs.specs.Lines.{first_line}
 use Rattle.object_defs.specs.Path.{full_path}
 use Rattle.object_defs.specs.Vendor.{is_sound, is_vendor, resource_fault_in, vendor_object}
 use Rattle.object_defs.specs.declared.definition.ObjectDef.{ObjectDef}
 use Rattle.object_defs.specs.declared.definition.ResourceDef.{ResourceDef}
-use Rattle.object_defs.specs.declared.fault.CatalogFault.TheVariants as catalog
+use Rattle.object_defs.specs.declared.fault.CatalogFault.TheVariants as catalog_faults
 use Rattle.object_defs.specs.declared.path.FullPath.{FullPath}
 use Rattle.instance_store.specs.Stored.{has_instance, instances_of, value_at, value_count}
 use Rattle.device_template.specs.Template.{Template, fault_of, is_notify, may_stand, most_accounts, with_notify}
@@ -86,13 +86,13 @@ of_notify true q x = refl
 of_notify false true x = refl
 of_notify false false x = refl
 
-of_catalogue : {X : Type 0} (r q l : Bool) (x : X)
-    → cause_in (unless (option_map template_cause (option_map fault_of (first_line ((r, catalog.IdRange)
-    ∷ (q, catalog.Duplicate) ∷ (l, catalog.TooMany) ∷ [])))) x) ≡ four false r q l
-of_catalogue true q l x = refl
-of_catalogue false true l x = refl
-of_catalogue false false true x = refl
-of_catalogue false false false x = refl
+of_catalog : {X : Type 0} (r q l : Bool) (x : X)
+    → cause_in (unless (option_map template_cause (option_map fault_of (first_line ((r, catalog_faults.IdRange)
+    ∷ (q, catalog_faults.Duplicate) ∷ (l, catalog_faults.TooMany) ∷ [])))) x) ≡ four false r q l
+of_catalog true q l x = refl
+of_catalog false true l x = refl
+of_catalog false false true x = refl
+of_catalog false false false x = refl
 
 of_instance : {X : Type 0} (h r q l : Bool) (x : X)
     → cause_in (needs h (unless (option_map template_cause (first_line ((r, template.Range) ∷ (not h, template.Missing)
@@ -120,28 +120,28 @@ of_definition : {X : Type 0} (r : ResourceDef) (o : Option ObjectDef) (x : X)
     (option_map_or (λ o. nat_le 64 (length o.resources)) o false)
 of_definition r None x = refl
 of_definition r (Some o) x =
-    of_catalogue (not (is_sound r)) (is_some (resource_in o.resources r.id)) (nat_le 64 (length o.resources)) x
+    of_catalog (not (is_sound r)) (is_some (resource_in o.resources r.id)) (nat_le 64 (length o.resources)) x
 
 in_object_stated : (r : ResourceDef) (k : Option ℕ) (c : Template)
     → cause_in (in_object k (λ object. definition_added object r) c)
     ≡ four (not (is_some k))
-    (option_map_or (λ id. option_map_or (λ o. not (is_sound r)) (vendor_object c.catalogue id) true) k true)
-    (option_map_or (λ id. option_map_or (λ o. is_some (resource_in o.resources r.id)) (vendor_object c.catalogue id)
+    (option_map_or (λ id. option_map_or (λ o. not (is_sound r)) (vendor_object c.catalog id) true) k true)
+    (option_map_or (λ id. option_map_or (λ o. is_some (resource_in o.resources r.id)) (vendor_object c.catalog id)
     false) k false)
-    (option_map_or (λ id. option_map_or (λ o. nat_le 64 (length o.resources)) (vendor_object c.catalogue id) false) k
+    (option_map_or (λ id. option_map_or (λ o. nat_le 64 (length o.resources)) (vendor_object c.catalog id) false) k
     false)
 in_object_stated r None c = refl
-in_object_stated r (Some id) c = of_definition r (vendor_object c.catalogue id) _
+in_object_stated r (Some id) c = of_definition r (vendor_object c.catalog id) _
 
 of_value : {X : Type 0} (c : Template) (q : Option FullPath) (v : Value) (x : X)
     → cause_in (unless (value_cause c q v) x)
-    ≡ four false (option_map_or (λ p. not (fits_object p v (object_of c.catalogue p.object))) q true)
+    ≡ four false (option_map_or (λ p. not (fits_object p v (object_of c.catalog p.object))) q true)
     (option_map_or (λ p. is_some (value_at c.store p)) q false)
     (option_map_or (λ p. not (has_good_length v) || (nat_le 65535 (value_count c.store) || has_all_parts c.store p)) q
     false)
 of_value c None v x = refl
 of_value c (Some p) v x =
-    five (not (fits_object p v (object_of c.catalogue p.object))) (is_some (value_at c.store p))
+    five (not (fits_object p v (object_of c.catalog p.object))) (is_some (value_at c.store p))
     (not (has_good_length v)) (nat_le 65535 (value_count c.store)) (has_all_parts c.store p) x
 
 of_class_room : {X : Type 0} (l : Bool) (x : X)
@@ -249,18 +249,18 @@ cause_is (says.Account server) d =
 cause_is (says.Object id) d =
     needs_too d.begun _ _ _ _ _ (at_open d (object_added id) (reopened_with id d) (λ o. not (is_some o))
     (λ o. not (is_vendor id))
-    (λ o. option_map_or (λ c. is_some (object_of c.catalogue id)) o false)
-    (λ o. option_map_or (λ c. nat_le 16 (length c.catalogue)) o false) refl
-    (λ c. of_catalogue _ _ _ _) d.open_class)
+    (λ o. option_map_or (λ c. is_some (object_of c.catalog id)) o false)
+    (λ o. option_map_or (λ c. nat_le 16 (length c.catalog)) o false) refl
+    (λ c. of_catalog _ _ _ _) d.open_class)
 cause_is (says.Def r) d =
     needs_too d.begun _ _ _ _ _ (at_open d (in_object d.object (λ object. definition_added object r)) (reopened d)
     (λ o. not (is_some o) || not (is_some d.object))
     (λ o. option_map_or (λ c. option_map_or (λ id. option_map_or (λ p. not (is_sound r))
-    (vendor_object c.catalogue id) true) d.object true) o true)
+    (vendor_object c.catalog id) true) d.object true) o true)
     (λ o. option_map_or (λ c. option_map_or (λ id. option_map_or (λ p. is_some (resource_in p.resources r.id))
-    (vendor_object c.catalogue id) false) d.object false) o false)
+    (vendor_object c.catalog id) false) d.object false) o false)
     (λ o. option_map_or (λ c. option_map_or (λ id. option_map_or (λ p. nat_le 64 (length p.resources))
-    (vendor_object c.catalogue id) false) d.object false) o false) refl
+    (vendor_object c.catalog id) false) d.object false) o false) refl
     (λ c. in_object_stated r d.object c) d.open_class)
 cause_is (says.Instance place) d =
     needs_too d.begun _ _ _ _ _ (at_open d (instance_added place) (reopened d)
@@ -272,7 +272,7 @@ cause_is (says.Instance place) d =
 cause_is (says.Value path v) d =
     needs_too d.begun _ _ _ _ _ (at_open d (value_added path v) (reopened d)
     (λ o. option_map_or (λ c. not (is_stated c path)) o true)
-    (λ o. option_map_or (λ c. option_map_or (λ p. not (fits_object p v (object_of c.catalogue p.object)))
+    (λ o. option_map_or (λ c. option_map_or (λ p. not (fits_object p v (object_of c.catalog p.object)))
     (full_path path) true) o true)
     (λ o. option_map_or (λ c. option_map_or (λ p. is_some (value_at c.store p)) (full_path path) false) o false)
     (λ o. option_map_or (λ c. option_map_or (λ p. not (has_good_length v)

@@ -9,7 +9,7 @@ use Rattle.std.specs.Cmp.{IsTotalOrder}
 use Rattle.std.proofs.lemmas.Cmp.{eq_by_cmp_equiv}
 use Rattle.std.proofs.lemmas.Map.Views.{tells_apart}
 use Rattle.lwm2m_values.specs.declared.value.Value.{Value}
-use Rattle.object_defs.specs.Catalogue.{definition_of, object_of, resource_in}
+use Rattle.object_defs.specs.Catalog.{definition_of, object_of, resource_in}
 use Rattle.object_defs.specs.Path.{instance_cmp, path_cmp}
 use Rattle.object_defs.specs.Vendor.{inserted, resource_fault, vendor_fault, with_definition, with_object}
 use Rattle.object_defs.specs.Vendor.{with_resource}

@@ -6,7 +6,7 @@ use Rattle.std.specs.FinMap.{get-empty}
 use Rattle.std.specs.List.{list_any}
 use Rattle.lwm2m_values.specs.declared.value.Value.{Value}
 use Rattle.lwm2m_values.specs.Value.{has_good_length}
-use Rattle.object_defs.specs.Catalogue.{definition_of, object_of}
+use Rattle.object_defs.specs.Catalog.{definition_of, object_of}
 use Rattle.object_defs.specs.Lines.{first_line}
 use Rattle.object_defs.specs.Path.{full_path, instance_cmp, path_cmp}
 use Rattle.object_defs.specs.Vendor.{resource_fault, vendor_fault, with_object, with_resource}
@@ -16,7 +16,7 @@ use Rattle.object_defs.specs.declared.path.InstancePath.{InstancePath}
 use Rattle.object_defs.specs.declared.path.Path.{Path}
 use Rattle.object_defs.proofs.LookUps.{same_number}
 use Rattle.instance_store.specs.Stored.{has_instance, value_at, value_count, with_instance, with_value}
-use Rattle.device_template.specs.Template.{Template, empty_class, fault_of, is_notify, with_account, with_catalogue}
+use Rattle.device_template.specs.Template.{Template, empty_class, fault_of, is_notify, with_account, with_catalog}
 use Rattle.device_template.specs.Template.{with_notify, with_store}
 use Rattle.device_template.specs.Values.{has_all_parts, with_value_at}
 use Rattle.scenario_words.specs.declared.cause.Cause.TheVariants.{Duplicate, Limit, Range}
@@ -48,10 +48,10 @@ data IsChange : Statement → Option ℕ → Template → Template → Type 0 wh
   notify : (seconds : ℕ) (o : Option ℕ) (c : Template) → c.notify ≡ 0
       → IsChange (says.Notify seconds) o c (with_notify c seconds)
   account : (server : ℕ) (o : Option ℕ) (c : Template) → IsChange (says.Account server) o c (with_account c server)
-  object : (id : ℕ) (o : Option ℕ) (c : Template) → vendor_fault c.catalogue id ≡ None
-      → IsChange (says.Object id) o c (with_catalogue c (with_object c.catalogue id))
-  resource : (d : ResourceDef) (id : ℕ) (c : Template) → resource_fault c.catalogue id d ≡ None
-      → IsChange (says.Def d) (Some id) c (with_catalogue c (with_resource c.catalogue id d))
+  object : (id : ℕ) (o : Option ℕ) (c : Template) → vendor_fault c.catalog id ≡ None
+      → IsChange (says.Object id) o c (with_catalog c (with_object c.catalog id))
+  resource : (d : ResourceDef) (id : ℕ) (c : Template) → resource_fault c.catalog id d ≡ None
+      → IsChange (says.Def d) (Some id) c (with_catalog c (with_resource c.catalog id d))
   instance : (place : InstancePath) (o : Option ℕ) (c : Template)
       → IsChange (says.Instance place) o c (with_store c (with_instance c.store place))
   value : (path : Path) (p : FullPath) (v : Value) (o : Option ℕ) (c : Template) → full_path path ≡ Some p
@@ -226,7 +226,7 @@ account_step server _ _ _ _ (value path p v o c is free) =
     unmoved (other_kind (says.Value path v) (says.Account server) refl)
 
 abbrev HasObject : ℕ → Template → Type 0
-HasObject id c = is_some (object_of c.catalogue id) ≡ true
+HasObject id c = is_some (object_of c.catalog id) ≡ true
 
 object_step : (id : ℕ) (s : Statement) (o : Option ℕ) (c e : Template) → IsChange s o c e
     → Grows (HasObject id e) (HasObject id c) (s ≡ says.Object id)
@@ -234,14 +234,14 @@ object_step id _ _ _ _ (none s o c is) = unmoved (apart s (says.Object id) is re
 object_step id _ _ _ _ (notify n o c free) = unmoved (other_kind (says.Notify n) (says.Object id) refl)
 object_step id _ _ _ _ (account n o c) = unmoved (other_kind (says.Account n) (says.Object id) refl)
 object_step id _ _ _ _ (object n o c free) =
-    grows_so (λ h. ap (λ x. says.Object x) h) (λ h. object_same n id h) (object_grows c.catalogue n id free)
+    grows_so (λ h. ap (λ x. says.Object x) h) (λ h. object_same n id h) (object_grows c.catalog n id free)
 object_step id _ _ _ _ (resource d n c free) =
-    moved _ _ true (resource_keeps c.catalogue n d id) (other_kind (says.Def d) (says.Object id) refl)
+    moved _ _ true (resource_keeps c.catalog n d id) (other_kind (says.Def d) (says.Object id) refl)
 object_step id _ _ _ _ (instance place o c) = unmoved (other_kind (says.Instance place) (says.Object id) refl)
 object_step id _ _ _ _ (value path p v o c is free) = unmoved (other_kind (says.Value path v) (says.Object id) refl)
 
 abbrev HasDefinition : ℕ → ℕ → ResourceDef → Template → Type 0
-HasDefinition id r d c = definition_of c.catalogue id r ≡ Some d
+HasDefinition id r d c = definition_of c.catalog id r ≡ Some d
 
 abbrev StatesDefinition : ℕ → ℕ → ResourceDef → Option ℕ → Statement → Type 0
 StatesDefinition id r d o s = (o ≡ Some id) × (s ≡ says.Def d) × (d.id ≡ r)
@@ -252,11 +252,11 @@ definition_step id r d _ _ _ _ (none s o c is) = unmoved (λ k. apart s (says.De
 definition_step id r d _ _ _ _ (notify n o c free) = unmoved (λ k. other_kind (says.Notify n) (says.Def d) refl k.1)
 definition_step id r d _ _ _ _ (account n o c) = unmoved (λ k. other_kind (says.Account n) (says.Def d) refl k.1)
 definition_step id r d _ _ _ _ (object n o c free) =
-    moved _ _ (Some d) (object_keeps c.catalogue n id r free)
+    moved _ _ (Some d) (object_keeps c.catalog n id r free)
     (λ k. other_kind (says.Object n) (says.Def d) refl k.1)
 definition_step id r d _ _ _ _ (resource f n c free) =
     grows_so (λ h. (ap (λ x. Some x) h.0, ap (λ x. says.Def x) h.1, h.2))
-    (λ h. (some_same n id h.0, def_same f d h.1, h.2)) (definition_grows c.catalogue n f id r d free)
+    (λ h. (some_same n id h.0, def_same f d h.1, h.2)) (definition_grows c.catalog n f id r d free)
 definition_step id r d _ _ _ _ (instance place o c) =
     unmoved (λ k. other_kind (says.Instance place) (says.Def d) refl k.1)
 definition_step id r d _ _ _ _ (value path p v o c is free) =

@@ -5,7 +5,7 @@ use Rattle.std.specs.Prelude.{length, Option, Some, is_some, Ok, Err}
 use Rattle.std.specs.List.{list_any}
 use Rattle.std.specs.Option.{option_map_or}
 use Rattle.lwm2m_values.specs.Value.{has_good_length}
-use Rattle.object_defs.specs.Catalogue.{object_of, resource_in}
+use Rattle.object_defs.specs.Catalog.{object_of, resource_in}
 use Rattle.object_defs.specs.Lines.{first_line}
 use Rattle.object_defs.specs.Path.{full_path}
 use Rattle.object_defs.specs.Vendor.{is_sound, is_vendor, vendor_object}
@@ -40,7 +40,7 @@ in_open without d test = option_map_or test d.open_class without
 -- the object that was stated last in the open class, as the class has it
 abbrev pub in_stated : Bool → Draft → (ObjectDef → Bool) → Bool
 in_stated without d test =
-    in_open without d (λ c. option_map_or (λ id. option_map_or test (vendor_object c.catalogue id) without) d.object
+    in_open without d (λ c. option_map_or (λ id. option_map_or test (vendor_object c.catalog id) without) d.object
     without)
 
 -- ---- the four, after what was stated so far
@@ -68,7 +68,7 @@ is_unfit (says.Object id) d = not (is_vendor id)
 is_unfit (says.Def r) d = in_stated true d (λ o. not (is_sound r))
 is_unfit (says.Instance place) d = not (may_stand place)
 is_unfit (says.Value path v) d =
-    in_open true d (λ c. option_map_or (λ p. not (fits_object p v (object_of c.catalogue p.object))) (full_path path)
+    in_open true d (λ c. option_map_or (λ p. not (fits_object p v (object_of c.catalog p.object))) (full_path path)
     true)
 is_unfit (says.Request server m) d = not (fits_mnemonic m)
 is_unfit (says.Tick seconds) d = not (nat_le 1 seconds && nat_le seconds 86400)
@@ -82,7 +82,7 @@ abbrev pub is_repeated : Statement → Draft → Bool
 is_repeated says.Scenario d = d.begun
 is_repeated (says.Notify seconds) d = in_open false d (λ c. not (c.notify == 0))
 is_repeated (says.Account server) d = in_open false d (λ c. list_any (λ a. a == server) c.accounts)
-is_repeated (says.Object id) d = in_open false d (λ c. is_some (object_of c.catalogue id))
+is_repeated (says.Object id) d = in_open false d (λ c. is_some (object_of c.catalog id))
 is_repeated (says.Def r) d = in_stated false d (λ o. is_some (resource_in o.resources r.id))
 is_repeated (says.Instance place) d = in_open false d (λ c. has_instance c.store place)
 is_repeated (says.Value path v) d =
@@ -101,7 +101,7 @@ is_over_limit says.Scenario d = false
 is_over_limit says.Class d = nat_le 256 (length (closed d).classes)
 is_over_limit (says.Notify seconds) d = false
 is_over_limit (says.Account server) d = in_open false d (λ c. nat_le most_accounts (length c.accounts))
-is_over_limit (says.Object id) d = in_open false d (λ c. nat_le 16 (length c.catalogue))
+is_over_limit (says.Object id) d = in_open false d (λ c. nat_le 16 (length c.catalog))
 is_over_limit (says.Def r) d = in_stated false d (λ o. nat_le 64 (length o.resources))
 is_over_limit (says.Instance place) d = in_open false d (λ c. nat_le 64 (length (instances_of c.store place.object)))
 is_over_limit (says.Value path v) d =

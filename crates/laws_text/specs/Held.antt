@@ -3,7 +3,7 @@ use Rattle.std.specs.Prelude.{◌≡◌, ◌↔◌, ◌⊎◌, ℕ, ◌<◌, ◌
 use Rattle.std.specs.List.{list_any}
 use Rattle.lwm2m_values.specs.declared.value.Value.{Value}
 use Rattle.object_defs.specs.Base.{base}
-use Rattle.object_defs.specs.Catalogue.{definition_of, object_of}
+use Rattle.object_defs.specs.Catalog.{definition_of, object_of}
 use Rattle.object_defs.specs.Path.{full_path}
 use Rattle.object_defs.specs.declared.definition.ResourceDef.{ResourceDef}
 use Rattle.object_defs.specs.declared.path.FullPath.{FullPath}
@@ -36,10 +36,10 @@ pub record HoldsWhatIsStated (part : List Statement) (c : Template) : Type 0 whe
   pub accounts : (server : ℕ)
       → (list_any (λ a. a == server) c.accounts ≡ true) ↔ HasOne (λ object s. s ≡ says.Account server) part
   pub objects : (id : ℕ)
-      → (is_some (object_of c.catalogue id) ≡ true)
+      → (is_some (object_of c.catalog id) ≡ true)
       ↔ ((is_some (object_of base id) ≡ true) ⊎ HasOne (λ object s. s ≡ says.Object id) part)
   pub definitions : (id resource : ℕ) (d : ResourceDef)
-      → (definition_of c.catalogue id resource ≡ Some d)
+      → (definition_of c.catalog id resource ≡ Some d)
       ↔ ((definition_of base id resource ≡ Some d)
       ⊎ HasOne (λ object s. (object ≡ Some id) × (s ≡ says.Def d) × (d.id ≡ resource)) part)
   pub instances : (place : InstancePath)

@@ -9,7 +9,7 @@ use Rattle.lwm2m_values.specs.Tree.{Trees, instance, multi, part, single, none, 
 use Rattle.lwm2m_values.specs.Value.{IsGood, kind_of, bytes_of}
 use Rattle.lwm2m_values.proofs.BytesReading.{value_of_bytes_written}
 use Rattle.lwm2m_values.proofs.TlvReading.{nodes_of_bytes_written}
-use Rattle.object_defs.specs.Catalogue.{resource_in}
+use Rattle.object_defs.specs.Catalog.{resource_in}
 use Rattle.object_defs.specs.declared.definition.ResourceDef.{ResourceDef}
 use Rattle.object_defs.specs.declared.path.Path.{Path}
 use Rattle.instance_store.specs.Stored.{Stored}

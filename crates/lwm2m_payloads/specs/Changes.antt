@@ -2,7 +2,7 @@
 use Rattle.std.specs.Prelude.{◌≡◌, ℕ, ◌+◌, ◌==◌, nat_lt, Bool, false, not, ◌&&◌, List, [], ◌∷◌, length, Option, None}
 use Rattle.std.specs.Prelude.{Some, is_some, if◌then◌else◌}
 use Rattle.std.specs.List.{filter, list_any}
-use Rattle.object_defs.specs.Catalogue.{resource_in}
+use Rattle.object_defs.specs.Catalog.{resource_in}
 use Rattle.object_defs.specs.Operations.{can_read, can_write}
 use Rattle.object_defs.specs.Path.{single_of, part_of}
 use Rattle.object_defs.specs.declared.definition.ResourceDef.{ResourceDef}

@@ -6,7 +6,7 @@ use Rattle.lwm2m_values.specs.Value.{text_of, bytes_of}
 use Rattle.lwm2m_values.specs.Tlv.{shortest_tlv}
 use Rattle.lwm2m_values.specs.Tree.{Tree, Trees, instance, multi, part, single, none, more, listed}
 use Rattle.lwm2m_values.specs.declared.value.Value.{Value}
-use Rattle.object_defs.specs.Catalogue.{resource_in}
+use Rattle.object_defs.specs.Catalog.{resource_in}
 use Rattle.object_defs.specs.Operations.{can_read}
 use Rattle.object_defs.specs.declared.definition.ResourceDef.{ResourceDef}
 use Rattle.object_defs.specs.declared.path.FullPath.{FullPath}

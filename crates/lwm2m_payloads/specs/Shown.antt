@@ -6,7 +6,7 @@ use Rattle.lwm2m_values.specs.Reading.{value_of_bytes, nodes_of_bytes}
 use Rattle.lwm2m_values.specs.Tlv.{shortest_tlv}
 use Rattle.lwm2m_values.specs.Tree.{Trees, instance, multi, part, single, none, more}
 use Rattle.lwm2m_values.specs.Value.{IsGood, kind_of}
-use Rattle.object_defs.specs.Catalogue.{resource_in}
+use Rattle.object_defs.specs.Catalog.{resource_in}
 use Rattle.object_defs.specs.declared.definition.ResourceDef.{ResourceDef}
 use Rattle.object_defs.specs.declared.path.Path.{Path}
 use Rattle.instance_store.specs.Stored.{Stored}

@@ -16,7 +16,8 @@ fn put_parts(store: &mut Store, path: ResourcePath, parts: Parts) -> Result<(), 
     ensures absent { IsErrOf result StoreFault.Absent → IsFalse (has_instance store.old (instance_of path)) }
     ensures full { IsErrOf result StoreFault.Full → IsTrue (is_too_many Update store.old path (given.Parts parts)) }
     ensures never_exists { result ≢ Err StoreFault.Exists }
-    ensures grows { IsErrOf result StoreFault.Memory → IsTrue (gives_new Update store.old path (given.Parts parts)) }
+    ensures may_lack_memory { IsErrOf result StoreFault.Memory
+        → IsTrue (gives_new Update store.old path (given.Parts parts)) }
     ensures instances { store.new.instances ≡ store.old.instances }
     ensures elsewhere { SameOutside (resource_path path) store.new store.old }
 {
@@ -43,7 +44,7 @@ pub fn set_given(
     ensures absent { IsErrOf result StoreFault.Absent → IsFalse (has_instance store.old (instance_of path)) }
     ensures full { IsErrOf result StoreFault.Full → IsTrue (is_too_many mode store.old path given) }
     ensures never_exists { result ≢ Err StoreFault.Exists }
-    ensures grows { IsErrOf result StoreFault.Memory → IsTrue (gives_new mode store.old path given) }
+    ensures may_lack_memory { IsErrOf result StoreFault.Memory → IsTrue (gives_new mode store.old path given) }
     ensures instances { store.new.instances ≡ store.old.instances }
     ensures elsewhere { SameOutside (resource_path path) store.new store.old }
 {
@@ -73,7 +74,7 @@ fn set_assigned(
         → IsTrue (is_kept resources.now assignment
         && is_too_many mode store.old (resource_of place assignment.resource) assignment.given) }
     ensures never_exists { result ≢ Err StoreFault.Exists }
-    ensures grows { IsErrOf result StoreFault.Memory
+    ensures may_lack_memory { IsErrOf result StoreFault.Memory
         → IsTrue (is_kept resources.now assignment
         && gives_new mode store.old (resource_of place assignment.resource) assignment.given) }
     ensures instances { store.new.instances ≡ store.old.instances }
@@ -97,7 +98,8 @@ fn set_all(
     ensures absent { IsErrOf result StoreFault.Absent → IsFalse (has_instance store.old place) }
     ensures full { IsErrOf result StoreFault.Full → IsTrue (has_too_many mode resources.now store.old place given) }
     ensures never_exists { result ≢ Err StoreFault.Exists }
-    ensures grows { IsErrOf result StoreFault.Memory → IsTrue (has_new mode resources.now store.old place given) }
+    ensures may_lack_memory { IsErrOf result StoreFault.Memory
+        → IsTrue (has_new mode resources.now store.old place given) }
     ensures instances { store.new.instances ≡ store.old.instances }
     ensures elsewhere { SameOutside (instance_path place) store.new store.old }
 {
@@ -155,7 +157,8 @@ pub fn write_instance(
     ensures absent { IsErrOf result StoreFault.Absent → IsFalse (has_instance store.old place) }
     ensures full { IsErrOf result StoreFault.Full → IsTrue (has_too_many mode resources.now store.old place given) }
     ensures never_exists { result ≢ Err StoreFault.Exists }
-    ensures grows { IsErrOf result StoreFault.Memory → IsTrue (has_new mode resources.now store.old place given) }
+    ensures may_lack_memory { IsErrOf result StoreFault.Memory
+        → IsTrue (has_new mode resources.now store.old place given) }
     ensures instances { store.new.instances ≡ store.old.instances }
     ensures elsewhere { SameOutside (instance_path place) store.new store.old }
 {

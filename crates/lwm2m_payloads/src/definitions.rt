@@ -1,6 +1,6 @@
 ghost use Rattle.std.specs.Prelude.{◌≡◌};
 ghost use Rattle.std.specs.Option.{option_copied};
-ghost use Rattle.object_defs.specs.Catalogue.{resource_in};
+ghost use Rattle.object_defs.specs.Catalog.{resource_in};
 ghost use Rattle.lwm2m_payloads.specs.Changes.{is_kept_as, resource_of};
 
 use object_defs::{InstancePath, ResourceDef, ResourcePath};

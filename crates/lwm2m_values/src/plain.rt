@@ -24,7 +24,7 @@ use std::alloc::{AllocError, Global};
 pub(crate) fn string_of(alloc: Global, bytes: &[u8]) -> Result<Text, ValueFault>
     ensures found { IfOk result (λ t. (t ≡ bytes.now) × IsUtf8 bytes.now × (length bytes.now ≤ 255)) }
     ensures only { IsUtf8 bytes.now → length bytes.now ≤ 255 → IfErr result (λ f. f ≡ Memory) }
-    ensures memory { IfErr result (λ f. f ≡ Memory → IsUtf8 bytes.now × (length bytes.now ≤ 255)) }
+    ensures may_lack_memory { IfErr result (λ f. f ≡ Memory → IsUtf8 bytes.now × (length bytes.now ≤ 255)) }
 {
     if bytes.len() > 255 {
         return Err(ValueFault::BadValue);
@@ -72,7 +72,8 @@ fn good_of(alloc: Global, kind: ValueKind, text: &[u8]) -> Result<Value, ValueFa
     ensures refused { IfErr result (λ f.
         f ≢ Memory → (v : Value) → IsGood v → kind_of v ≡ kind → ¬ (IsText v text.now)) }
     ensures fixed { holds_bytes kind ≡ false → IfErr result (λ f. f ≡ BadValue) }
-    ensures memory { kind ≡ kinds.Text → IfErr result (λ f. f ≡ Memory → IsUtf8 text.now × (length text.now ≤ 255)) }
+    ensures may_lack_memory { kind ≡ kinds.Text
+        → IfErr result (λ f. f ≡ Memory → IsUtf8 text.now × (length text.now ≤ 255)) }
 {
     match kind {
         ValueKind::Text => Ok(Value::Text(string_of(alloc, text)?)),

@@ -92,7 +92,7 @@ pub fn value_of(alloc: Global, kind: ValueKind, bytes: &[u8]) -> Result<Value, V
 
 fn shortest_bytes(alloc: Global, value: &Value) -> Result<Bytes, AllocError>
     ensures shortest { IfOk result (λ b. b ≡ shortest_bytes_of value.now) }
-    ensures grows { OnErr result (holds_bytes (kind_of value.now) ≡ true) }
+    ensures may_lack_memory { OnErr result (holds_bytes (kind_of value.now) ≡ true) }
     ensures long { OnErr result (16 < length (shortest_bytes_of value.now)) }
 {
     match value {
@@ -114,7 +114,7 @@ fn shortest_bytes(alloc: Global, value: &Value) -> Result<Bytes, AllocError>
 pub fn bytes_of(alloc: Global, value: &Value) -> Result<Bytes, AllocError>
     ensures shortest { IfOk result (λ b. b ≡ shortest_bytes_of value.now) }
     ensures read_again { IsGood value.now → IfOk result (λ b. IsBytesOf value.now b) }
-    ensures grows { OnErr result (holds_bytes (kind_of value.now) ≡ true) }
+    ensures may_lack_memory { OnErr result (holds_bytes (kind_of value.now) ≡ true) }
     ensures long { OnErr result (16 < length (shortest_bytes_of value.now)) }
 {
     shortest_bytes(alloc, value)

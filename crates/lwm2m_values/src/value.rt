@@ -65,7 +65,7 @@ impl Value {
     /// A copy, which equals its source. It takes memory for a Text, and for an Opaque of more than 16 bytes.
     pub fn copy(&self) -> Result<Value, AllocError>
         ensures copy { IfOk result (λ v. v ≡ self.now) }
-        ensures grows { OnErr result (holds_bytes (kind_of self.now) ≡ true) }
+        ensures may_lack_memory { OnErr result (holds_bytes (kind_of self.now) ≡ true) }
         ensures short { (bytes : List ℕ) → self.now ≡ Value.Opaque bytes → length bytes ≤ 16 → IsOk result }
     {
         match self {

@@ -198,7 +198,7 @@ fn list_of(
     server: u16,
 ) -> Result<Vec<(Path, Name, i64)>, AllocError>
     ensures listed { IfOk result (λ v. v.items ≡ listed (map.from_entries numbers.now.entries) server) }
-    ensures grows { OnErr result (listed (map.from_entries {R = key_cmp} numbers.now.entries) server ≢ []) }
+    ensures may_lack_memory { OnErr result (listed (map.from_entries {R = key_cmp} numbers.now.entries) server ≢ []) }
 {
     let mut found = Vec::new(alloc);
     for (key, number) in numbers {
@@ -223,7 +223,7 @@ impl Attributes {
     /// A copy, which equals its source. Only an attribute takes memory.
     pub fn copy(&self) -> Result<Attributes, AllocError>
         ensures same { IfOk result (λ a. a ≡ self.now) }
-        ensures grows { OnErr result (self.now ≢ map.empty) }
+        ensures may_lack_memory { OnErr result (self.now ≢ map.empty) }
     {
         if self.numbers.is_empty() {
             return Ok(Attributes::new(self.alloc));
@@ -312,7 +312,7 @@ impl Attributes {
             ↔ IsFalse (is_consistent (written self.old server path changes.now) server path) }
 
         // Only a change takes memory.
-        ensures grows { IsErrOf result WriteFault.Memory → changes.now ≢ [] }
+        ensures may_lack_memory { IsErrOf result WriteFault.Memory → changes.now ≢ [] }
         ensures unchanged { OnErr result (self.new ≡ self.old) }
     {
         if !self.stays_consistent(server, path, changes) {
@@ -331,7 +331,7 @@ impl Attributes {
         ensures listed { IfOk result (λ v. v.items ≡ listed self.now server) }
 
         // Only attributes of the server take memory.
-        ensures grows { OnErr result (listed self.now server ≢ []) }
+        ensures may_lack_memory { OnErr result (listed self.now server ≢ []) }
     {
         list_of(self.alloc, &self.numbers, server)
     }

@@ -67,7 +67,7 @@ impl Observations {
     /// A copy, which equals its source. Only an observation takes memory.
     pub fn copy(&self) -> Result<Observations, AllocError>
         ensures same { IfOk result (λ o. o ≡ self.now) }
-        ensures grows { OnErr result (self.now.list ≢ []) }
+        ensures may_lack_memory { OnErr result (self.now.list ≢ []) }
     {
         if self.entries.is_empty() {
             return Ok(Observations::new(self.alloc));
@@ -118,7 +118,7 @@ impl Observations {
         // The name is new, and there are 32. Only a new name takes memory.
         ensures full { IsErrOf result ObserveFault.Full
             ↔ (IsFalse (has_name self.old.list server token) × (32 ≤ length self.old.list)) }
-        ensures grows { IsErrOf result ObserveFault.Memory → IsFalse (has_name self.old.list server token) }
+        ensures may_lack_memory { IsErrOf result ObserveFault.Memory → IsFalse (has_name self.old.list server token) }
         ensures unchanged { OnErr result (self.new ≡ self.old) }
     {
         let observation = Observation {

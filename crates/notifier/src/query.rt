@@ -152,7 +152,7 @@ impl Changes {
         ensures fault { IfErr result (λ e. e ≢ QueryFault.Memory → changes_of self.old level (query.now ∷ []) ≡ Err e) }
 
         // Only a query that spells a change takes memory.
-        ensures grows { IsErrOf result QueryFault.Memory → IsOk (reading_of self.old level query.now) }
+        ensures may_lack_memory { IsErrOf result QueryFault.Memory → IsOk (reading_of self.old level query.now) }
         ensures unchanged { OnErr result (self.new ≡ self.old) }
     {
         let change = reading_of(self.items.as_slice(), level, query)?;
@@ -173,7 +173,7 @@ pub fn parse_query(alloc: Global, queries: &[&[u8]], level: Level) -> Result<Cha
         → changes_of [] level (map (λ q. q.now) queries.now) ≡ Err e) }
 
     // Only changes take memory: neither no query nor a first one with a fault does.
-    ensures grows { IsErrOf result QueryFault.Memory → BeginsWithChange level (map (λ q. q.now) queries.now) }
+    ensures may_lack_memory { IsErrOf result QueryFault.Memory → BeginsWithChange level (map (λ q. q.now) queries.now) }
 {
     let mut changes = Changes::new(alloc);
     for query in queries {

@@ -1,4 +1,4 @@
--- What is found in a catalogue that has grown.
+-- What is found in a catalog that has grown.
 use Rattle.std.proofs.Common.{◌≡◌, ◌≢◌, ℕ, Bool, true, false, cond, eqb, ltb, List, [], ◌∷◌, Option, None, Some, refl}
 use Rattle.std.proofs.Common.{sym, ap, ◌∙◌, arith, eqb-true}
 use Rattle.std.specs.List.{find}
@@ -8,7 +8,7 @@ use Rattle.std.proofs.lemmas.Bool.Decides.{nat_tests}
 use Rattle.lemmas.proofs.Options.{none_from_test}
 use Rattle.object_defs.specs.declared.definition.ResourceDef.{ResourceDef}
 use Rattle.object_defs.specs.declared.definition.ObjectDef.{ObjectDef}
-use Rattle.object_defs.specs.Catalogue.{object_of, resource_in, definition_of}
+use Rattle.object_defs.specs.Catalog.{object_of, resource_in, definition_of}
 use Rattle.object_defs.specs.Lines.{first_line}
 use Rattle.object_defs.specs.Vendor.{inserted, is_vendor, vendor_fault, resource_fault, resource_fault_in}
 use Rattle.object_defs.specs.Vendor.{with_definition, with_object, with_resource, new_object}

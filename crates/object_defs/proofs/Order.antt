@@ -1,4 +1,4 @@
--- A catalogue stays in order as it grows.
+-- A catalog stays in order as it grows.
 use Rattle.std.proofs.Common.{◌≡◌, ℕ, zero, suc, ◌+◌, ◌<◌, Bool, true, false, cond, eqb, ltb, List, [], ◌∷◌, map}
 use Rattle.std.proofs.Common.{length, get_or, None, Some, refl, sym, ap, subst, ◌∙◌, arith}
 use Rattle.std.specs.List.{find, list_all}
@@ -11,7 +11,7 @@ use Rattle.lemmas.proofs.Numbers.{above_from_tests}
 use Rattle.object_defs.specs.declared.definition.ResourceDef.{ResourceDef}
 use Rattle.object_defs.specs.declared.definition.ObjectDef.{ObjectDef}
 use Rattle.object_defs.specs.Base.{base}
-use Rattle.object_defs.specs.Catalogue.{object_of, resource_in, definition_of}
+use Rattle.object_defs.specs.Catalog.{object_of, resource_in, definition_of}
 use Rattle.object_defs.specs.Order.{is_below, ascends, is_in_order, IsInOrder}
 use Rattle.object_defs.specs.Vendor.{inserted, vendor_fault, resource_fault, with_definition, with_object}
 use Rattle.object_defs.specs.Vendor.{with_resource, new_object}

@@ -1,5 +1,5 @@
 pub mod Base
-pub mod Catalogue
+pub mod Catalog
 pub mod Decimal
 pub mod Lines
 pub mod Numbers

@@ -1,4 +1,4 @@
--- The order of a catalogue: ascending numbers.
+-- The order of a catalog: ascending numbers.
 use Rattle.std.specs.Prelude.{ℕ, nat_lt, Bool, true, ◌&&◌, List, [], ◌∷◌, map, All}
 use Rattle.std.specs.List.{list_all}
 use Rattle.std.specs.List.Sorted.{IsStrictlyIncreasing}
@@ -16,10 +16,10 @@ ascends (n ∷ ns) = is_below n ns && ascends ns
 
 -- the objects stand by ascending number, and the resources of each
 abbrev pub is_in_order : List ObjectDef → Bool
-is_in_order catalogue =
-    ascends (map (λ o. o.id) catalogue) && list_all (λ o. ascends (map (λ r. r.id) o.resources)) catalogue
+is_in_order catalog =
+    ascends (map (λ o. o.id) catalog) && list_all (λ o. ascends (map (λ r. r.id) o.resources)) catalog
 
 -- the same in std's words
-pub record IsInOrder (catalogue : List ObjectDef) : Type 0 where
-  pub objects : IsStrictlyIncreasing (map (λ o. o.id) catalogue)
-  pub resources : All (λ o. IsStrictlyIncreasing (map (λ r. r.id) o.resources)) catalogue
+pub record IsInOrder (catalog : List ObjectDef) : Type 0 where
+  pub objects : IsStrictlyIncreasing (map (λ o. o.id) catalog)
+  pub resources : All (λ o. IsStrictlyIncreasing (map (λ r. r.id) o.resources)) catalog

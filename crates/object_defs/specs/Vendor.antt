@@ -1,4 +1,4 @@
--- Vendor objects: how a catalogue grows by them and by their resources, and what it refuses.
+-- Vendor objects: how a catalog grows by them and by their resources, and what it refuses.
 use Rattle.std.specs.Prelude.{ℕ, ◌==◌, nat_lt, nat_le, Bool, true, false, not, ◌&&◌, List, [], ◌∷◌, length, Option}
 use Rattle.std.specs.Prelude.{None, Some, is_some, if◌then◌else◌}
 use Rattle.lwm2m_values.specs.declared.kind.ValueKind.{ValueKind}
@@ -7,7 +7,7 @@ use Rattle.object_defs.specs.declared.definition.ResourceDef.{ResourceDef}
 use Rattle.object_defs.specs.declared.definition.ObjectDef.{ObjectDef}
 use Rattle.object_defs.specs.declared.fault.CatalogFault.{CatalogFault}
 use Rattle.object_defs.specs.declared.fault.CatalogFault.TheVariants.{IdRange, Duplicate, TooMany}
-use Rattle.object_defs.specs.Catalogue.{object_of, resource_in}
+use Rattle.object_defs.specs.Catalog.{object_of, resource_in}
 use Rattle.object_defs.specs.Lines.{first_line}
 use Rattle.object_defs.specs.Operations.{can_execute}
 
@@ -20,15 +20,15 @@ inserted number x (y ∷ ys) = if nat_lt (number x) (number y) then x ∷ y ∷ 
 abbrev pub new_object : ℕ → ObjectDef
 new_object id = record { id = id; resources = [] }
 
--- a catalogue with one more object
+-- a catalog with one more object
 abbrev pub with_object : List ObjectDef → ℕ → List ObjectDef
-with_object catalogue id = inserted (λ o. o.id) (new_object id) catalogue
+with_object catalog id = inserted (λ o. o.id) (new_object id) catalog
 
 -- an object with one more resource
 abbrev pub with_definition : ObjectDef → ResourceDef → ObjectDef
-with_definition o definition = record { id = o.id; resources = inserted (λ r. r.id) definition o.resources }
+with_definition o definition = record o { resources = inserted (λ r. r.id) definition o.resources }
 
--- a catalogue whose object of this number has one more resource
+-- a catalog whose object of this number has one more resource
 abbrev pub with_resource : List ObjectDef → ℕ → ResourceDef → List ObjectDef
 with_resource [] object definition = []
 with_resource (o ∷ os) object definition =
@@ -52,11 +52,11 @@ is_sound definition = if can_execute definition.ops then (not definition.multipl
 
 -- a vendor object has a number of its own, is not there yet, and is one of 16 objects at most
 abbrev pub vendor_fault : List ObjectDef → ℕ → Option CatalogFault
-vendor_fault catalogue id =
+vendor_fault catalog id =
     first_line (
     (not (is_vendor id), IdRange)
-    ∷ (is_some (object_of catalogue id), Duplicate)
-    ∷ (nat_le 16 (length catalogue), TooMany)
+    ∷ (is_some (object_of catalog id), Duplicate)
+    ∷ (nat_le 16 (length catalog), TooMany)
     ∷ []
     )
 
@@ -73,8 +73,8 @@ resource_fault_in definition (Some o) =
 
 -- the vendor object of this number
 abbrev pub vendor_object : List ObjectDef → ℕ → Option ObjectDef
-vendor_object catalogue id = if is_vendor id then object_of catalogue id else None
+vendor_object catalog id = if is_vendor id then object_of catalog id else None
 
 -- a resource is one of a vendor object that is there
 abbrev pub resource_fault : List ObjectDef → ℕ → ResourceDef → Option CatalogFault
-resource_fault catalogue object definition = resource_fault_in definition (vendor_object catalogue object)
+resource_fault catalog object definition = resource_fault_in definition (vendor_object catalog object)

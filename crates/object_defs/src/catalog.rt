@@ -2,7 +2,7 @@ ghost use Rattle.std.specs.Prelude.{◌≡◌, ◌≢◌, ◌==◌, ◌<◌, ℕ
 ghost use Rattle.std.specs.Prelude.{IfNone, IfSome, IfOk, IfErr, OnOk, OnErr};
 ghost use Rattle.std.specs.List.{position_or_len};
 ghost use Rattle.std.specs.Option.{option_copied};
-ghost use Rattle.object_defs.specs.Catalogue.{object_of, definition_of};
+ghost use Rattle.object_defs.specs.Catalog.{object_of, definition_of};
 ghost use Rattle.object_defs.specs.Base.{base};
 ghost use Rattle.object_defs.specs.Order.{IsInOrder};
 ghost use Rattle.object_defs.specs.Vendor.{is_vendor, new_object, with_object, with_resource, vendor_fault};
@@ -41,7 +41,7 @@ fn is_vendor(id: u16) -> bool
 }
 
 impl Catalog {
-    /// The catalogue of the objects that every device knows: 0 Security, 1 Server, 2 Access
+    /// The catalog of the objects that every device knows: 0 Security, 1 Server, 2 Access
     /// Control, 3 Device and 5 Firmware Update (OMA LwM2M 1.1 Core).
     pub fn base(alloc: Global) -> Result<Catalog, AllocError>
         ensures { IfOk result (λ c. c ≡ base) }

@@ -1,7 +1,7 @@
 ghost use Rattle.std.specs.Prelude.{◌≡◌, nat_lt, Some, position, [], OnOk, OnErr};
 ghost use Rattle.std.specs.List.{position_or_len};
 ghost use Rattle.std.specs.Option.{option_copied};
-ghost use Rattle.object_defs.specs.Catalogue.{resource_in};
+ghost use Rattle.object_defs.specs.Catalog.{resource_in};
 ghost use Rattle.object_defs.specs.Operations.{can_read, can_write, can_execute};
 ghost use Rattle.object_defs.specs.Vendor.{inserted, is_sound, new_object, resource_fault_in};
 

@@ -1,7 +1,7 @@
 use std::alloc::{AllocError, AllocFailed};
 use thiserror::Error;
 
-/// Why a catalogue refuses an object or a resource, in the order in which they are found. A refused call changes
+/// Why a catalog refuses an object or a resource, in the order in which they are found. A refused call changes
 /// nothing.
 #[derive(Clone, Copy, Debug, PartialEq, Eq, Error)]
 pub enum CatalogFault {
@@ -12,7 +12,7 @@ pub enum CatalogFault {
     /// It is there already.
     #[error("duplicate")]
     Duplicate,
-    /// The catalogue has 16 objects, or the object 64 resources.
+    /// The catalog has 16 objects, or the object 64 resources.
     #[error("too many")]
     TooMany,
     /// No memory was left.

@@ -8,7 +8,7 @@ use Rattle.std.specs.declared.cmp.Ordering.{Ordering}
 use Rattle.std.proofs.lemmas.Bool.{and_parts, leb-true}
 use Rattle.lwm2m_values.specs.Value.{IsGood}
 use Rattle.lwm2m_values.specs.declared.value.Value.{Value}
-use Rattle.object_defs.specs.Catalogue.{object_of}
+use Rattle.object_defs.specs.Catalog.{object_of}
 use Rattle.object_defs.specs.Lines.{first_line}
 use Rattle.object_defs.specs.Path.{path_cmp, instance_cmp}
 use Rattle.object_defs.specs.declared.path.FullPath.{FullPath}
@@ -32,7 +32,7 @@ IsPlace p = (p.object < 65536) × (p.instance ≤ 65534)
 -- a class whose accounts, objects, instances and values words can say
 pub record HasWords (c : Template) : Type 0 where
   pub accounts : AllByRecursion (IsWithin 1 65534) c.accounts
-  pub objects : HasOwn c.catalogue
+  pub objects : HasOwn c.catalog
   pub instances : AllByRecursion (λ (e : InstancePath × Unit {0}). IsPlace e.0 × Unit {0})
       (finite.entries c.store.instances)
   pub values : AllByRecursion (λ (e : FullPath × Value). IsShort e.0 × IsGood e.1) (finite.entries c.store.values)
@@ -49,7 +49,7 @@ account_lines c s =
 
 abbrev instance_lines : Template → InstancePath → List (Bool × TemplateFault)
 instance_lines c p =
-    (not (is_some (object_of c.catalogue p.object)), Missing)
+    (not (is_some (object_of c.catalog p.object)), Missing)
     ∷ (has_instance c.store p, Duplicate)
     ∷ (nat_le 64 (length (instances_of c.store p.object)), Full)
     ∷ []
@@ -95,7 +95,7 @@ has_words _ (object {class} id built free) =
     let before = has_words class built in
     record {
       accounts = before.accounts;
-      objects = object_more class.catalogue id (object_vendor class id free) before.objects;
+      objects = object_more class.catalog id (object_vendor class id free) before.objects;
       instances = before.instances;
       values = before.values;
     }
@@ -103,7 +103,7 @@ has_words _ (resource {class} id d small built free) =
     let before = has_words class built in
     record {
       accounts = before.accounts;
-      objects = resource_more class.catalogue id d (definition_vendor class id d free) small before.objects;
+      objects = resource_more class.catalog id d (definition_vendor class id d free) small before.objects;
       instances = before.instances;
       values = before.values;
     }

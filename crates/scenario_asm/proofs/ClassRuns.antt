@@ -16,7 +16,7 @@ use Rattle.lwm2m_values.specs.declared.value.Value.{Value}
 use Rattle.lwm2m_values.specs.declared.value.Value.TheVariants as held
 use Rattle.lwm2m_values.specs.Value.{kind_of}
 use Rattle.object_defs.specs.Base.{base}
-use Rattle.object_defs.specs.Catalogue.{definition_of, object_of}
+use Rattle.object_defs.specs.Catalog.{definition_of, object_of}
 use Rattle.object_defs.specs.Lines.{first_line}
 use Rattle.object_defs.specs.Path.{full_path, instance_cmp, path_cmp}
 use Rattle.object_defs.specs.Vendor.{is_vendor, new_object, with_object, with_resource}
@@ -31,7 +31,7 @@ use Rattle.std.specs.Int.{w8}
 use Rattle.scenario_layout.specs.Definition.{resource, resources}
 use Rattle.device_template.specs.Template.{Template, empty_class, instance_fault, kind_taken}
 use Rattle.device_template.specs.Template.{kind_taken_by, object_fault, plain, value_fault, value_fault_at, may_stand}
-use Rattle.device_template.specs.Template.{with_catalogue, with_notify, with_store}
+use Rattle.device_template.specs.Template.{with_catalog, with_notify, with_store}
 use Rattle.device_template.specs.Values.{fits_object, has_all_parts, has_place, with_value_at}
 use Rattle.lwm2m_values.specs.Value.{has_good_length}
 use Rattle.device_template.specs.Built.{IsBuilt}
@@ -74,7 +74,7 @@ four_lines false false c d h = absurd cc
 
 object_there : (k : Template) (p : InstancePath) → instance_fault k p ≡ None → has_object k p.object ≡ true
 object_there k p h =
-    four_lines (not (may_stand p)) (is_some (object_of k.catalogue p.object)) (has_instance k.store p)
+    four_lines (not (may_stand p)) (is_some (object_of k.catalog p.object)) (has_instance k.store p)
     (nat_le 64 (length (instances_of k.store p.object))) h
 
 instance_lead : (s : Scenario) (o : Option ℕ) (c : Template) (before : List InstancePath) (p : InstancePath)
@@ -179,7 +179,7 @@ by_definition k p (Some d) j h = by_fault k p d j (value_fault_at k p (plain d.k
 abbrev judged_so : Template → FullPath → Bool → Bool → Option TemplateFault
 judged_so k p w a =
     first_line ((not (w && a), template.Range) ∷ (
-      not (has_place k.catalogue k.store p),
+      not (has_place k.catalog k.store p),
       template.Missing,
     ) ∷ (is_some (value_at k.store p), template.Duplicate) ∷ (
       nat_le 65535 (value_count k.store),
@@ -189,12 +189,12 @@ judged_so k p w a =
 value_free : (k : Template) (p : FullPath) (v : Value) (j : ValueKind) → kind_taken k p ≡ Some j → kind_of v ≡ j
     → has_good_length v ≡ true → value_fault_at k p v ≡ None
 value_free k p v j taken is short =
-    let o = object_of k.catalogue p.object in
+    let o = object_of k.catalog p.object in
     ap (λ w. judged_so k p w (fits_object p v o)) short
     ∙ ap (judged_so k p true) (sym (same_fit p v o))
     ∙ ap (λ w. judged_so k p w (fits_object p (plain (kind_of v)) o)) (sym (plain_short (kind_of v)))
     ∙ ap (λ q. value_fault_at k p (plain q)) is
-    ∙ by_definition k p (definition_of k.catalogue p.object p.resource) j taken
+    ∙ by_definition k p (definition_of k.catalog p.object p.resource) j taken
 
 full_again : (o i r : ℕ) (part : Option ℕ)
     → full_path (path_with o i r part) ≡ Some (record { object = o; instance = i; resource = r; part = part })
@@ -216,8 +216,8 @@ value_taken : (s : Scenario) (o : Option ℕ) (k : Template) (p : FullPath) (v :
     → effect (says.Value (path_to p) v) (opened s k o) ≡ Ok (opened s (with_store k (with_value k.store p v)) o)
 value_taken s o k p v free short =
     let full : full_path (path_to p) ≡ Some p = full_again p.object p.instance p.resource p.part in
-    let placed = (five_lines (has_good_length v && fits_object p v (object_of k.catalogue p.object))
-    (has_place k.catalogue k.store p) (is_some (value_at k.store p)) (nat_le 65535 (value_count k.store))
+    let placed = (five_lines (has_good_length v && fits_object p v (object_of k.catalog p.object))
+    (has_place k.catalog k.store p) (is_some (value_at k.store p)) (nat_le 65535 (value_count k.store))
     (has_all_parts k.store p) free).1 in
     let stated : is_stated k (path_to p) ≡ true = stated_at k p.object p.instance p.resource p.part ∙ placed in
     let cause : value_cause k (full_path (path_to p)) v ≡ None =
@@ -290,24 +290,24 @@ is_below m n k h = omega (arith, h)
 definitions_lead : (s : Scenario) (c : Template) (front : List ObjectDef) (id : ℕ) (n : ℕ)
     (before ds : List ResourceDef) → is_vendor id ≡ true → list_all (λ o. nat_lt o.id id) front ≡ true
     → length before + n ≤ 64 → (each resource n before).Good ds
-    → Lead (opened s (with_catalogue c (front ++ defined id before ∷ [])) (Some id)) (map (λ d. says.Def d) ds)
-    (opened s (with_catalogue c (front ++ defined id (before ++ ds) ∷ [])) (Some id))
+    → Lead (opened s (with_catalog c (front ++ defined id before ∷ [])) (Some id)) (map (λ d. says.Def d) ds)
+    (opened s (with_catalog c (front ++ defined id (before ++ ds) ∷ [])) (Some id))
 unfolding each
 definitions_lead s c front id zero before ds vendor low few good =
-    subst (λ ys. Lead (opened s (with_catalogue c (front ++ defined id before ∷ [])) (Some id))
-    (map (λ d. says.Def d) ys) (opened s (with_catalogue c (front ++ defined id (before ++ ys) ∷ [])) (Some id)))
+    subst (λ ys. Lead (opened s (with_catalog c (front ++ defined id before ∷ [])) (Some id))
+    (map (λ d. says.Def d) ys) (opened s (with_catalog c (front ++ defined id (before ++ ys) ∷ [])) (Some id)))
     (sym good)
-    (ap (λ ys. opened s (with_catalogue c (front ++ defined id ys ∷ [])) (Some id)) (sym (append-nil before)))
+    (ap (λ ys. opened s (with_catalog c (front ++ defined id ys ∷ [])) (Some id)) (sym (append-nil before)))
 definitions_lead s c front id (suc n) before [] vendor low few good = absurd good
 definitions_lead s c front id (suc n) before (d ∷ ds) vendor low few good =
-    let k = with_catalogue c (front ++ defined id before ∷ []) in (
-      opened s (with_catalogue c (front ++ defined id (before ++ d ∷ []) ∷ [])) (Some id),
-      ap (λ f. unless (option_map template_cause f) (with_catalogue k (with_resource k.catalogue id d)) >>=
+    let k = with_catalog c (front ++ defined id before ∷ []) in (
+      opened s (with_catalog c (front ++ defined id (before ++ d ∷ []) ∷ [])) (Some id),
+      ap (λ f. unless (option_map template_cause f) (with_catalog k (with_resource k.catalog id d)) >>=
           (λ e. Ok (opened s e (Some id)))) (not_refused_at k id before d vendor (found_last front id before low) good.0
           (is_below (length before) n 64 few))
-          ∙ ap (λ t. Ok (opened s (with_catalogue c t) (Some id))) (one_definition front id before d low good.0),
-      subst (λ ys. Lead (opened s (with_catalogue c (front ++ defined id (before ++ d ∷ []) ∷ [])) (Some id))
-          (map (λ d. says.Def d) ds) (opened s (with_catalogue c (front ++ defined id ys ∷ [])) (Some id)))
+          ∙ ap (λ t. Ok (opened s (with_catalog c t) (Some id))) (one_definition front id before d low good.0),
+      subst (λ ys. Lead (opened s (with_catalog c (front ++ defined id (before ++ d ∷ []) ∷ [])) (Some id))
+          (map (λ d. says.Def d) ds) (opened s (with_catalog c (front ++ defined id ys ∷ [])) (Some id)))
           (append_assoc before (d ∷ []) ds)
           (definitions_lead s c front id n (before ++ d ∷ []) ds vendor low
           (subst (λ m. m + n ≤ 64) (sym (length_push before d)) (one_less (length before) n 64 few)) good.1),
@@ -326,13 +326,13 @@ object_lead s c before o num good =
     let both = both_true (list_all (λ q. nat_lt q.id o.id) (base ++ before))
     (is_taken (object_fault k o.id)) good.0.1 in
     let free : object_fault k o.id ≡ None = taken_is _ both.1 in (
-      opened s (with_catalogue c ((base ++ before) ++ defined o.id [] ∷ [])) (Some o.id),
-      ap (λ f. unless (option_map template_cause f) (with_catalogue k (with_object k.catalogue o.id)) >>=
+      opened s (with_catalog c ((base ++ before) ++ defined o.id [] ∷ [])) (Some o.id),
+      ap (λ f. unless (option_map template_cause f) (with_catalog k (with_object k.catalog o.id)) >>=
           (λ e. Ok (opened s e (Some o.id)))) free
-          ∙ ap (λ t. Ok (opened s (with_catalogue c t) (Some o.id)))
+          ∙ ap (λ t. Ok (opened s (with_catalog c t) (Some o.id)))
           (inserted_end (λ q. q.id) (new_object o.id) (base ++ before) both.0),
-      subst (λ t. Lead (opened s (with_catalogue c ((base ++ before) ++ defined o.id [] ∷ [])) (Some o.id))
-          (map (λ d. says.Def d) o.resources) (opened s (with_catalogue c t) (Some o.id)))
+      subst (λ t. Lead (opened s (with_catalog c ((base ++ before) ++ defined o.id [] ∷ [])) (Some o.id))
+          (map (λ d. says.Def d) o.resources) (opened s (with_catalog c t) (Some o.id)))
           (append_assoc base before (o ∷ []))
           (definitions_lead s c (base ++ before) o.id (length o.resources) [] o.resources
           (object_vendor k o.id free) both.0 (short_list (length o.resources) good.1.0.0.1) good.1.0.1),
@@ -359,12 +359,12 @@ objects_each s c (suc n) before (o ∷ xs) num good =
           (opened s (with_objects c ys) rest.0)) (append_assoc before (o ∷ []) xs) rest.1),
     )
 
-objects_lead : (s : Scenario) (c : Template) (xs : List ObjectDef) (num : Option ℕ) → c.catalogue ≡ base
+objects_lead : (s : Scenario) (c : Template) (xs : List ObjectDef) (num : Option ℕ) → c.catalog ≡ base
     → (objects c).Good xs → (m : Option ℕ)
     × Lead (opened s c num) (flat_map of_object xs) (opened s (with_objects c xs) m)
 unfolding objects
 objects_lead s c xs num none good =
-    let start : with_objects c [] ≡ c = ap (with_catalogue c) (append-nil base ∙ sym none) in
+    let start : with_objects c [] ≡ c = ap (with_catalog c) (append-nil base ∙ sym none) in
     let all = objects_each s c (length xs) [] xs num good.1 in (
       all.0,
       subst (λ (k : Template). Lead (opened s k num) (flat_map of_object xs) (opened s (with_objects c xs) all.0))

@@ -30,7 +30,7 @@ object_said : (o : ObjectDef) → IsOwn o → AllByRecursion IsSayable (of_objec
 object_said o h =
     (h.0, each_map (λ (d : ResourceDef). d.id < 65536) IsSayable (λ d. says.Def d) (λ d k. k) o.resources h.1)
 
-own_said : (c : Template) → HasOwn c.catalogue → AllByRecursion IsSayable (flat_map of_object (objects_in c))
+own_said : (c : Template) → HasOwn c.catalog → AllByRecursion IsSayable (flat_map of_object (objects_in c))
 own_said c has =
     subst (λ k. AllByRecursion IsSayable (flat_map of_object (drop (length base) k))) (sym has.are)
     (each_flat IsOwn IsSayable of_object object_said has.own has.each)

@@ -8,13 +8,13 @@ use Rattle.lwm2m_values.specs.declared.kind.ValueKind.TheVariants as kind
 use Rattle.lwm2m_values.specs.declared.value.Value.{Value}
 use Rattle.lwm2m_values.specs.declared.value.Value.TheVariants as held
 use Rattle.lwm2m_values.specs.Value.{kind_of}
-use Rattle.object_defs.specs.Catalogue.{object_of}
+use Rattle.object_defs.specs.Catalog.{object_of}
 use Rattle.object_defs.specs.Lines.{first_line}
 use Rattle.object_defs.specs.Path.{full_path}
 use Rattle.object_defs.specs.declared.definition.ObjectDef.{ObjectDef}
 use Rattle.object_defs.specs.declared.definition.ResourceDef.{ResourceDef}
 use Rattle.object_defs.specs.Operations.{can_read}
-use Rattle.object_defs.specs.Catalogue.{resource_in}
+use Rattle.object_defs.specs.Catalog.{resource_in}
 use Rattle.object_defs.specs.declared.path.FullPath.{FullPath}
 use Rattle.object_defs.specs.declared.path.Path.{Path}
 use Rattle.object_defs.specs.declared.path.Path.TheVariants.{Object, Instance, Resource, Part}
@@ -154,20 +154,20 @@ told_long false a b d s e g hw hb hs = absurd cc
 told_long true a false d s e g hw hb hs = absurd cc
 told_long true a true d true e g hw hb hs = absurd cc
 
-short_cause : (c : Template) (q : FullPath) (v : Value) → has_place c.catalogue c.store q ≡ true → (IsTooLong v → ⊥)
+short_cause : (c : Template) (q : FullPath) (v : Value) → has_place c.catalog c.store q ≡ true → (IsTooLong v → ⊥)
     → value_cause c (Some q) v ≡ option_map template_cause (value_fault_at c q v)
 short_cause c q v placed fits =
-    told_short (has_good_length v) (fits_object q v (object_of c.catalogue q.object)) (has_place c.catalogue c.store q)
+    told_short (has_good_length v) (fits_object q v (object_of c.catalog q.object)) (has_place c.catalog c.store q)
     (is_some (value_at c.store q)) (nat_le 65535 (value_count c.store)) (has_all_parts c.store q)
     (not_long v fits) placed
 
-long_cause : (c : Template) (q : FullPath) (v : Value) → has_place c.catalogue c.store q ≡ true → IsTooLong v
+long_cause : (c : Template) (q : FullPath) (v : Value) → has_place c.catalog c.store q ≡ true → IsTooLong v
     → value_cause c (Some q) v ≡ else_long (value_fault_at c q (plain (kind_of v)))
 long_cause c q v placed is_long =
     ap (λ a. told a (is_some (value_at c.store q)) (has_good_length v) (nat_le 65535 (value_count c.store))
-    (has_all_parts c.store q)) (sym (same_fit q v (object_of c.catalogue q.object)))
+    (has_all_parts c.store q)) (sym (same_fit q v (object_of c.catalog q.object)))
     ∙ told_long (has_good_length (plain (kind_of v)))
-    (fits_object q (plain (kind_of v)) (object_of c.catalogue q.object)) (has_place c.catalogue c.store q)
+    (fits_object q (plain (kind_of v)) (object_of c.catalog q.object)) (has_place c.catalog c.store q)
     (is_some (value_at c.store q)) (has_good_length v) (nat_le 65535 (value_count c.store))
     (has_all_parts c.store q)
     (plain_short (kind_of v)) placed (too_long v is_long)

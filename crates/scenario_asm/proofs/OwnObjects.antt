@@ -6,7 +6,7 @@ use Rattle.std.specs.List.{AllByRecursion}
 use Rattle.std.proofs.lemmas.Bool.{and_parts, leb-true}
 use Rattle.std.proofs.lemmas.Bool.Decides.{nat_tests}
 use Rattle.object_defs.specs.Base.{base}
-use Rattle.object_defs.specs.Catalogue.{object_of}
+use Rattle.object_defs.specs.Catalog.{object_of}
 use Rattle.object_defs.specs.Vendor.{inserted, is_vendor, new_object, resource_fault_in, with_definition, with_object}
 use Rattle.object_defs.specs.Vendor.{with_resource}
 use Rattle.object_defs.specs.declared.definition.ObjectDef.{ObjectDef}
@@ -20,9 +20,9 @@ abbrev pub IsOwn : ObjectDef → Type 0
 IsOwn o = IsWithin 10241 32768 o.id × AllByRecursion (λ d. d.id < 65536) o.resources
 
 -- the base objects, and after them such objects
-pub record HasOwn (catalogue : List ObjectDef) : Type 0 where
+pub record HasOwn (catalog : List ObjectDef) : Type 0 where
   pub own : List ObjectDef
-  pub are : catalogue ≡ base ++ own
+  pub are : catalog ≡ base ++ own
   pub each : AllByRecursion IsOwn own
 
 pub vendor_range : (n : ℕ) → is_vendor n ≡ true → IsWithin 10241 32768 n
@@ -93,4 +93,4 @@ vendor_of true d o h = refl
 vendor_of false d o h = absurd cc
 
 pub definition_vendor : (c : Template) (id : ℕ) (d : ResourceDef) → definition_fault c id d ≡ None → is_vendor id ≡ true
-definition_vendor c id d h = vendor_of (is_vendor id) d (object_of c.catalogue id) h
+definition_vendor c id d h = vendor_of (is_vendor id) d (object_of c.catalog id) h

@@ -3,7 +3,7 @@
 use Rattle.std.specs.Prelude.{ℕ, ◌==◌, nat_le, Bool, true, not, ◌&&◌, [], ◌∷◌, Option, None, Some, is_some}
 use Rattle.std.specs.Prelude.{option_map, Result}
 use Rattle.lwm2m_values.specs.declared.value.Value.{Value}
-use Rattle.object_defs.specs.Catalogue.{object_of}
+use Rattle.object_defs.specs.Catalog.{object_of}
 use Rattle.object_defs.specs.Lines.{first_line}
 use Rattle.object_defs.specs.Path.{full_path}
 use Rattle.object_defs.specs.Vendor.{with_object, with_resource}
@@ -14,7 +14,7 @@ use Rattle.object_defs.specs.declared.path.Path.{Path}
 use Rattle.object_defs.specs.declared.path.Path.TheVariants.{Object, Instance, Resource, Part}
 use Rattle.instance_store.specs.Stored.{has_instance, value_at, value_count, with_instance}
 use Rattle.device_template.specs.Template.{Template, account_fault, definition_fault, instance_fault, is_notify}
-use Rattle.device_template.specs.Template.{object_fault, with_account, with_catalogue, with_notify, with_store}
+use Rattle.device_template.specs.Template.{object_fault, with_account, with_catalog, with_notify, with_store}
 use Rattle.device_template.specs.Values.{fits_object, has_all_parts, with_value_at}
 use Rattle.lwm2m_values.specs.Value.{has_good_length}
 use Rattle.scenario_words.specs.declared.cause.Cause.{Cause}
@@ -32,16 +32,16 @@ notify_set seconds c =
 
 abbrev pub object_added : ℕ → Template → Result Template Cause
 object_added id c =
-    unless (option_map template_cause (object_fault c id)) (with_catalogue c (with_object c.catalogue id))
+    unless (option_map template_cause (object_fault c id)) (with_catalog c (with_object c.catalog id))
 
 abbrev pub definition_added : ℕ → ResourceDef → Template → Result Template Cause
 definition_added object d c =
     unless (option_map template_cause (definition_fault c object d))
-    (with_catalogue c (with_resource c.catalogue object d))
+    (with_catalog c (with_resource c.catalog object d))
 
 -- the object was stated, or is one of the base
 abbrev pub has_object : Template → ℕ → Bool
-has_object c object = is_some (object_of c.catalogue object)
+has_object c object = is_some (object_of c.catalog object)
 
 -- an instance needs its object
 abbrev pub instance_added : InstancePath → Template → Result Template Cause
@@ -65,7 +65,7 @@ abbrev pub value_cause : Template → Option FullPath → Value → Option Cause
 value_cause c None value = Some Range
 value_cause c (Some p) value =
     first_line (
-    (not (fits_object p value (object_of c.catalogue p.object)), Range)
+    (not (fits_object p value (object_of c.catalog p.object)), Range)
     ∷ (is_some (value_at c.store p), Duplicate)
     ∷ (not (has_good_length value), Limit)
     ∷ (nat_le 65535 (value_count c.store), Limit)

@@ -23,11 +23,11 @@ use Rattle.scenario_asm.specs.Draft.{Draft, closed}
 
 -- the draft, whose open class is this one
 abbrev pub reopened : Draft → Template → Draft
-reopened d c = record { begun = d.begun; scenario = d.scenario; open_class = Some c; object = d.object }
+reopened d c = record d { open_class = Some c }
 
 -- the same, where this object was stated last
 abbrev pub reopened_with : ℕ → Draft → Template → Draft
-reopened_with object d c = record { begun = d.begun; scenario = d.scenario; open_class = Some c; object = Some object }
+reopened_with object d c = record d { open_class = Some c; object = Some object }
 
 -- what is added to the open class, which has to be there
 abbrev pub in_class : Draft → (Template → Result Template Cause) → (Template → Draft) → Option Template
@@ -70,7 +70,7 @@ has_server d server = knows d.scenario server (last_class d.scenario)
 abbrev pub step_added : Step → Draft → Result Draft Cause
 step_added s d =
     unless (option_map scenario_cause (step_fault d.scenario s))
-    (record { begun = d.begun; scenario = with_step d.scenario s; open_class = d.open_class; object = d.object })
+    (record d { scenario = with_step d.scenario s })
 
 -- a step needs a device
 abbrev pub device_step : Step → Draft → Result Draft Cause
@@ -83,8 +83,7 @@ fitting m x = if fits_mnemonic m then x else Err Range
 -- what a statement adds; each but the first needs `scenario 1` before it
 abbrev pub effect : Statement → Draft → Result Draft Cause
 effect says.Scenario d =
-    if d.begun then Err Duplicate else Ok (record
-    { begun = true; scenario = d.scenario; open_class = d.open_class; object = d.object })
+    if d.begun then Err Duplicate else Ok (record d { begun = true })
 effect says.Class d = needs d.begun (class_begun d)
 effect (says.Notify seconds) d = needs d.begun (in_class d (notify_set seconds) (reopened d) d.open_class)
 effect (says.Account server) d = needs d.begun (in_class d (account_added server) (reopened d) d.open_class)

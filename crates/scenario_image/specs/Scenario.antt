@@ -109,7 +109,7 @@ pub record IsValid (s : Scenario) : Type 0 where
 -- ---- what is added, and what is refused
 
 abbrev pub with_class : Scenario → Template → Scenario
-with_class s class = record { classes = s.classes ++ class ∷ []; rows = s.rows }
+with_class s class = record s { classes = s.classes ++ class ∷ [] }
 
 -- a class is refused where there are 256
 abbrev pub class_fault : Scenario → Option ScenarioFault
@@ -117,7 +117,7 @@ class_fault s = if nat_le 256 (length s.classes) then Some Limit else None
 
 -- with one row more, which has no step yet
 abbrev pub with_row : Scenario → ℕ → Scenario
-with_row s class = record { classes = s.classes; rows = s.rows ++ record { class = class; steps = [] } ∷ [] }
+with_row s class = record s { rows = s.rows ++ record { class = class; steps = [] } ∷ [] }
 
 -- a row is refused where there is no such class, and where there are `most_rows`
 abbrev pub row_fault : Scenario → ℕ → Option ScenarioFault
@@ -133,7 +133,7 @@ last_row rows = slice_get rows (length rows - 1)
 
 -- with one step more at its end
 abbrev pub longer : Row → Step → Row
-longer row step = record { class = row.class; steps = row.steps ++ step ∷ [] }
+longer row step = record row { steps = row.steps ++ step ∷ [] }
 
 -- the rows, where the last one is this, with a step more at its end
 abbrev pub with_last : List Row → Option Row → Step → List Row
@@ -142,7 +142,7 @@ with_last rows (Some row) step = slice_set rows (length rows - 1) (longer row st
 
 -- a step is added to the last row
 abbrev pub with_step : Scenario → Step → Scenario
-with_step s step = record { classes = s.classes; rows = with_last s.rows (last_row s.rows) step }
+with_step s step = record s { rows = with_last s.rows (last_row s.rows) step }
 
 abbrev pub accounts_in : Option Template → List ℕ
 accounts_in None = []

@@ -13,17 +13,17 @@ use Rattle.byte_layout.specs.declared.fault.ReadError.TheVariants as errors
 use Rattle.byte_layout.proofs.Lists.{each_at}
 use Rattle.lwm2m_values.specs.declared.kind.ValueKind.{ValueKind}
 use Rattle.lwm2m_values.specs.declared.kind.ValueKind.TheVariants as kinds
-use Rattle.object_defs.specs.Catalogue.{object_of, resource_in}
+use Rattle.object_defs.specs.Catalog.{object_of, resource_in}
 use Rattle.object_defs.specs.Lines.{first_line}
 use Rattle.object_defs.specs.Vendor.{is_sound, is_vendor, new_object, resource_fault_in, with_definition, with_resource}
 use Rattle.object_defs.specs.declared.definition.Ops.{Ops}
 use Rattle.object_defs.specs.declared.definition.Ops.TheVariants.{R, W, RW, E}
 use Rattle.object_defs.specs.declared.definition.ObjectDef.{ObjectDef}
 use Rattle.object_defs.specs.declared.definition.ResourceDef.{ResourceDef}
-use Rattle.object_defs.specs.declared.fault.CatalogFault.TheVariants as catalog
+use Rattle.object_defs.specs.declared.fault.CatalogFault.TheVariants as catalog_faults
 use Rattle.object_defs.proofs.LookUps.{object_of-with_resource_same, same_number}
 use Rattle.scenario_layout.specs.Definition.{flags_of, flags_fit, kind_fits, resource, resources}
-use Rattle.device_template.specs.Template.{Template, definition_fault, fault_of, with_catalogue}
+use Rattle.device_template.specs.Template.{Template, definition_fault, fault_of, with_catalog}
 use Rattle.device_template.specs.declared.fault.TemplateFault.{TemplateFault}
 use Rattle.device_template.specs.declared.fault.TemplateFault.TheVariants as faults
 use Rattle.scenario_layout.specs.Growing.{refusal, with_definitions}
@@ -66,7 +66,8 @@ none_found number n (x ∷ xs) h =
 
 -- a definition that may stand after so few is not refused
 fits_lines : (a b c : Bool) → a ≡ true → b ≡ false → c ≡ false
-    → first_line ((not a, catalog.IdRange) ∷ (b, catalog.Duplicate) ∷ (c, catalog.TooMany) ∷ []) ≡ None
+    → first_line ((not a, catalog_faults.IdRange) ∷ (b, catalog_faults.Duplicate) ∷ (c, catalog_faults.TooMany) ∷ [])
+    ≡ None
 fits_lines true false false h i j = refl
 fits_lines false b c h i j = absurd cc
 fits_lines true true c h i j = absurd cc
@@ -76,10 +77,10 @@ few : (n : ℕ) → n < 64 → nat_le 64 n ≡ false
 few n h = grind (arith, nat_tests)
 
 pub not_refused_at : (c : Template) (id : ℕ) (before : List ResourceDef) (d : ResourceDef) → is_vendor id ≡ true
-    → object_of c.catalogue id ≡ Some (defined id before) → (resource before).Good d → length before < 64
+    → object_of c.catalog id ≡ Some (defined id before) → (resource before).Good d → length before < 64
     → definition_fault c id d ≡ None
 not_refused_at c id before d vendor found good short =
-    ap (λ b. option_map fault_of (resource_fault_in d (cond b (object_of c.catalogue id) None))) vendor
+    ap (λ b. option_map fault_of (resource_fault_in d (cond b (object_of c.catalog id) None))) vendor
     ∙ ap (λ o. option_map fault_of (resource_fault_in d o)) found
     ∙ ap (option_map fault_of) (fits_lines (is_sound d) (is_some (resource_in before d.id)) (nat_le 64 (length before))
     (sound before d good) (ap is_some (none_found (λ r. r.id) d.id before (is_above before d good)))
@@ -155,7 +156,7 @@ few_definitions ds i good lt =
     omega (arith, ltb-true (length ds) 65 good.0.1, length-take-le i ds (omega (arith, lt)), lt)
 
 pub free_at : (c : Template) (id : ℕ) (ds : List ResourceDef) (i : ℕ) (d : ResourceDef) → is_vendor id ≡ true
-    → resources.Good ds → i < length ds → d ≡ get_or ds i d → object_of c.catalogue id ≡ Some (defined id (take i ds))
+    → resources.Good ds → i < length ds → d ≡ get_or ds i d → object_of c.catalog id ≡ Some (defined id (take i ds))
     → definition_fault c id d ≡ None
 free_at c id ds i d vendor good lt item found =
     not_refused_at c id (take i ds) d vendor found (item_good ds i d good lt item) (few_definitions ds i good lt)
@@ -165,22 +166,22 @@ next : (ds : List ResourceDef) (i : ℕ) (d : ResourceDef) → i < length ds →
 next ds i d lt item = take_more ds i d lt ∙ ap (λ y. take i ds ++ y ∷ []) (sym item)
 
 pub made_on : (c t u : Template) (id : ℕ) (ds : List ResourceDef) (i : ℕ) (d : ResourceDef) → i < length ds
-    → d ≡ get_or ds i d → t ≡ with_catalogue c (with_definitions c.catalogue id (take i ds))
-    → u ≡ with_catalogue t (with_resource t.catalogue id d)
-    → u ≡ with_catalogue c (with_definitions c.catalogue id (take (i + 1) ds))
+    → d ≡ get_or ds i d → t ≡ with_catalog c (with_definitions c.catalog id (take i ds))
+    → u ≡ with_catalog t (with_resource t.catalog id d)
+    → u ≡ with_catalog c (with_definitions c.catalog id (take (i + 1) ds))
 made_on c t u id ds i d lt item so_far made =
     made
-    ∙ ap (λ (k : Template). with_catalogue k (with_resource k.catalogue id d)) so_far
-    ∙ ap (with_catalogue c) (sym (with_definitions-push c.catalogue id (take i ds) d)
-    ∙ ap (with_definitions c.catalogue id) (sym (next ds i d lt item)))
+    ∙ ap (λ (k : Template). with_catalog k (with_resource k.catalog id d)) so_far
+    ∙ ap (with_catalog c) (sym (with_definitions-push c.catalog id (take i ds) d)
+    ∙ ap (with_definitions c.catalog id) (sym (next ds i d lt item)))
 
 pub found_more : (t u : Template) (id : ℕ) (ds : List ResourceDef) (i : ℕ) (d : ResourceDef) → resources.Good ds
-    → i < length ds → d ≡ get_or ds i d → object_of t.catalogue id ≡ Some (defined id (take i ds))
-    → u ≡ with_catalogue t (with_resource t.catalogue id d)
-    → object_of u.catalogue id ≡ Some (defined id (take (i + 1) ds))
+    → i < length ds → d ≡ get_or ds i d → object_of t.catalog id ≡ Some (defined id (take i ds))
+    → u ≡ with_catalog t (with_resource t.catalog id d)
+    → object_of u.catalog id ≡ Some (defined id (take (i + 1) ds))
 found_more t u id ds i d good lt item found made =
-    ap (λ (k : Template). object_of k.catalogue id) made
-    ∙ found_on t.catalogue id (take i ds) d found (item_good ds i d good lt item)
+    ap (λ (k : Template). object_of k.catalog id) made
+    ∙ found_on t.catalog id (take i ds) d found (item_good ds i d good lt item)
     ∙ ap (λ xs. Some (defined id xs)) (sym (next ds i d lt item))
 
 pub clash : (o : Option TemplateFault) (f : TemplateFault) → o ≡ None → o ≡ Some f → ⊥

@@ -18,7 +18,7 @@ use Rattle.object_defs.specs.declared.path.FullPath.{FullPath}
 use Rattle.object_defs.specs.declared.path.InstancePath.{InstancePath}
 use Rattle.object_defs.proofs.PathOrder.{path_total, instance_total}
 use Rattle.instance_store.specs.Stored.{with_instance, with_value}
-use Rattle.device_template.specs.Template.{Template, with_catalogue, with_store, instance_fault}
+use Rattle.device_template.specs.Template.{Template, with_catalog, with_store, instance_fault}
 use Rattle.device_template.specs.declared.fault.TemplateFault.{TemplateFault}
 use Rattle.device_template.specs.declared.fault.TemplateFault.TheVariants as faults
 use Rattle.scenario_layout.specs.Growing.{grown, refusal, IsLast}
@@ -171,14 +171,14 @@ value_added c p v h = insert_end path_total c.store.values p v h
 
 -- ---- a class that has none yet
 
-pub objects_none : (c : Template) → c.catalogue ≡ base → objects_in c ≡ []
+pub objects_none : (c : Template) → c.catalog ≡ base → objects_in c ≡ []
 objects_none c h = ap (drop (length base)) h
 
-pub objects_itself : (c : Template) → c.catalogue ≡ base → c ≡ with_objects c (objects_in c)
-objects_itself c h = ap (with_catalogue c) (h ∙ ap (λ t. base ++ t) (sym (objects_none c h)))
+pub objects_itself : (c : Template) → c.catalog ≡ base → c ≡ with_objects c (objects_in c)
+objects_itself c h = ap (with_catalog c) (h ∙ ap (λ t. base ++ t) (sym (objects_none c h)))
 
 pub objects_now : (c t : Template) → t ≡ with_objects c (objects_in t) → t ≡ with_objects t (objects_in t)
-objects_now c t h = ap (with_catalogue t) (ap (λ (k : Template). k.catalogue) h)
+objects_now c t h = ap (with_catalog t) (ap (λ (k : Template). k.catalog) h)
 
 pub no_entries : {K X : Type 0} (R : K → K → Ordering) → finite.entries (finite.empty {X = X} {R = R}) ≡ []
 no_entries {X = X} R = nil_from_length _ (sym (finite.len-entries finite.empty) ∙ finite.len-empty R X)

@@ -8,14 +8,14 @@ use Rattle.byte_layout.proofs.Fields.{number_good}
 use Rattle.object_defs.specs.Lines.{first_line}
 use Rattle.device_template.specs.declared.fault.TemplateFault.TheVariants.{Range}
 use Rattle.device_template.proofs.Building.{notify_fits}
-use Rattle.device_template.specs.Template.{Template, empty_class, is_notify, with_catalogue, with_notify}
+use Rattle.device_template.specs.Template.{Template, empty_class, is_notify, with_catalog, with_notify}
 use Rattle.device_template.specs.Built.{IsBuilt}
 use Rattle.scenario_layout.specs.Class.{objects_in, instances_in, values_in, with_accounts, with_objects}
 use Rattle.scenario_layout.specs.Class.{with_instances, with_values, class, behind_notify, behind_accounts}
 use Rattle.scenario_layout.specs.Class.{behind_objects, behind_instances, notify, notify_in}
 use Rattle.scenario_layout.proofs.Filling.{instances_itself, values_itself}
 use Rattle.scenario_layout.proofs.GoodAccounts.{accounts_good}
-use Rattle.scenario_layout.proofs.GoodObjects.{has_objects, objects_good, catalogue_is, few_objects}
+use Rattle.scenario_layout.proofs.GoodObjects.{has_objects, objects_good, catalog_is, few_objects}
 use Rattle.scenario_layout.proofs.GoodInstances.{instances_good}
 use Rattle.scenario_layout.proofs.GoodEntries.{values_good}
 
@@ -30,14 +30,14 @@ all_of_it : (c : Template) → IsBuilt c → c ≡ with_values (with_instances (
 all_of_it c built =
     values_itself c
     ∙ ap (λ (k : Template). with_values k (values_in c)) (instances_itself c)
-    ∙ ap (λ t. with_values (with_instances (with_catalogue c t) (instances_in c)) (values_in c))
-    (sym (catalogue_is c (has_objects c built)))
+    ∙ ap (λ t. with_values (with_instances (with_catalog c t) (instances_in c)) (values_in c))
+    (sym (catalog_is c (has_objects c built)))
 
 accounts_on : (c : Template) → IsBuilt c → (behind_notify (with_notify empty_class c.notify)).Good c
 unfolding behind_notify behind_accounts behind_objects behind_instances
 accounts_on c built =
     let own = has_objects c built in
-    let same = catalogue_is c own in (
+    let same = catalog_is c own in (
       accounts_good c built,
       (
         objects_good c (bare c) own,

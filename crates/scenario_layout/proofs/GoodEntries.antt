@@ -16,7 +16,7 @@ use Rattle.lwm2m_values.specs.declared.kind.ValueKind.TheVariants as kinds
 use Rattle.lwm2m_values.specs.declared.value.Value.{Value}
 use Rattle.lwm2m_values.specs.declared.value.Value.TheVariants as held
 use Rattle.lwm2m_values.specs.Value.{kind_of, IsGood}
-use Rattle.object_defs.specs.Catalogue.{object_of, resource_in, definition_of}
+use Rattle.object_defs.specs.Catalog.{object_of, resource_in, definition_of}
 use Rattle.object_defs.specs.Lines.{first_line}
 use Rattle.object_defs.specs.Operations.{can_read}
 use Rattle.object_defs.specs.Path.{path_cmp, instance_cmp}
@@ -56,11 +56,11 @@ abbrev Places : Type 0
 Places = finite.FinMap instance_cmp (Unit {0})
 
 -- a value that fits the definition at its path, in an instance that is there
-record IsHeld (catalogue : List ObjectDef) (places : Places) (e : Entry) : Type 0 where
+record IsHeld (catalog : List ObjectDef) (places : Places) (e : Entry) : Type 0 where
   short : IsShort e.0
   good : IsGood e.1
   def : ResourceDef
-  defined : definition_of catalogue e.0.object e.0.resource ≡ Some def
+  defined : definition_of catalog e.0.object e.0.resource ≡ Some def
   fitting : fits_resource e.0 e.1 (Some def) ≡ true
   unset : is_set_at_start e.0 ≡ false
   placed : finite.contains_key places (instance_at e.0) ≡ true
@@ -69,8 +69,8 @@ record IsHeld (catalogue : List ObjectDef) (places : Places) (e : Entry) : Type 
 parts : ResourcePath → List Entry → List ℕ
 parts r es = filter_map (λ e. e.0.part) (filter (λ e. lies_in (resource_path r) e.0) es)
 
-record HasValues (catalogue : List ObjectDef) (places : Places) (es : List Entry) : Type 0 where
-  each : AllByRecursion (IsHeld catalogue places) es
+record HasValues (catalog : List ObjectDef) (places : Places) (es : List Entry) : Type 0 where
+  each : AllByRecursion (IsHeld catalog places) es
   few_parts : (r : ResourcePath) → length (parts r es) ≤ 32
   few : length es ≤ 65535
 
@@ -165,23 +165,23 @@ still_few r p es new true e more room few =
 still_few r p es new false e more room few = omega (arith, more, few)
 
 value_more : (c : Template) (p : FullPath) (v : Value) → IsShort p → IsGood v
-    → HasValues c.catalogue c.store.instances (finite.entries c.store.values) → value_fault_at c p v ≡ None
-    → HasValues c.catalogue c.store.instances (finite.entries (finite.insert c.store.values p v))
+    → HasValues c.catalog c.store.instances (finite.entries c.store.values) → value_fault_at c p v ≡ None
+    → HasValues c.catalog c.store.instances (finite.entries (finite.insert c.store.values p v))
 unfolding parts
 value_more c p v short good before free =
     let es = finite.entries c.store.values in
-    let lines = five_lines (not (fits c.catalogue p v)) (not (has_place c.catalogue c.store p))
+    let lines = five_lines (not (fits c.catalog p v)) (not (has_place c.catalog c.store p))
     (is_some (value_at c.store p)) (nat_le 65535 (value_count c.store)) (has_all_parts c.store p) _ _ _ _ _ free in
-    let fit = both_true (has_good_length v) (fits_object p v (object_of c.catalogue p.object))
-    (not_false (fits c.catalogue p v) lines.0) in
-    let there = both_true (is_some (object_of c.catalogue p.object))
-    (finite.contains_key c.store.instances (instance_at p)) (not_false (has_place c.catalogue c.store p) lines.1) in
-    let found = defined_in p v (object_of c.catalogue p.object) fit.1 there.0 in
+    let fit = both_true (has_good_length v) (fits_object p v (object_of c.catalog p.object))
+    (not_false (fits c.catalog p v) lines.0) in
+    let there = both_true (is_some (object_of c.catalog p.object))
+    (finite.contains_key c.store.instances (instance_at p)) (not_false (has_place c.catalog c.store p) lines.1) in
+    let found = defined_in p v (object_of c.catalog p.object) fit.1 there.0 in
     let more = insert_more path_total c.store.values p v (not_there (finite.get c.store.values p) lines.2) in
     let room : length es < 65535 =
     below (length es) 65535 (ap (nat_le 65535) (sym (finite.len-entries c.store.values)) ∙ lines.3) in
     record {
-      each = all_more (IsHeld c.catalogue c.store.instances) (p, v) es _ more
+      each = all_more (IsHeld c.catalog c.store.instances) (p, v) es _ more
           (record {
             short = short;
             good = good;
@@ -247,7 +247,7 @@ held_by_instance c m place e h =
     either false o some = some
 
 has_values : (class : Template) → IsBuilt class
-    → HasValues class.catalogue class.store.instances (finite.entries class.store.values)
+    → HasValues class.catalog class.store.instances (finite.entries class.store.values)
 unfolding parts
 has_values _ nothing =
     subst (HasValues _ _) (sym (no_entries path_cmp))
@@ -256,7 +256,7 @@ has_values _ (account {class} server built free) = has_values class built
 has_values _ (object {class} id built free) =
     let before = has_values class built in
     record {
-      each = all_weaker _ _ (held_by_object class.catalogue class.store.instances id (no_fault _ free)) _
+      each = all_weaker _ _ (held_by_object class.catalog class.store.instances id (no_fault _ free)) _
           before.each;
       few_parts = before.few_parts;
       few = before.few;
@@ -264,7 +264,7 @@ has_values _ (object {class} id built free) =
 has_values _ (resource {class} id d short built free) =
     let before = has_values class built in
     record {
-      each = all_weaker _ _ (held_by_resource class.catalogue class.store.instances id d (no_fault _ free)) _
+      each = all_weaker _ _ (held_by_resource class.catalog class.store.instances id d (no_fault _ free)) _
           before.each;
       few_parts = before.few_parts;
       few = before.few;
@@ -272,7 +272,7 @@ has_values _ (resource {class} id d short built free) =
 has_values _ (instance {class} place short built free) =
     let before = has_values class built in
     record {
-      each = all_weaker _ _ (held_by_instance class.catalogue class.store.instances place) _ before.each;
+      each = all_weaker _ _ (held_by_instance class.catalog class.store.instances place) _ before.each;
       few_parts = before.few_parts;
       few = before.few;
     }
@@ -377,9 +377,9 @@ own_resource p =
 
 module _ (k : Template) (front : List Entry) (e : Entry) (back : List Entry)
     (h : Ascends path_cmp (λ e. e.0) (front ++ e ∷ back))
-    (all : HasValues k.catalogue k.store.instances (front ++ e ∷ back)) where
-  is : IsHeld k.catalogue k.store.instances e
-  is = all_of (IsHeld k.catalogue k.store.instances) front e back all.each
+    (all : HasValues k.catalog k.store.instances (front ++ e ∷ back)) where
+  is : IsHeld k.catalog k.store.instances e
+  is = all_of (IsHeld k.catalog k.store.instances) front e back all.each
 
   low : list_all (λ b. is_lt (path_cmp b.0 e.0)) front ≡ true
   low = front_below path_cmp (λ b. b.0) front e back h
@@ -403,19 +403,19 @@ module _ (k : Template) (front : List Entry) (e : Entry) (back : List Entry)
       ap (λ t. is_some e.0.part && nat_le 32 (length (parts r t))) (front_entries front (e ∷ back) h)
       ∙ full_line e.0.part (length (parts r front)) (omega (arith, own, before, all.few_parts r))
 
-  free : (d : ResourceDef) → definition_of k.catalogue e.0.object e.0.resource ≡ Some d
+  free : (d : ResourceDef) → definition_of k.catalog e.0.object e.0.resource ≡ Some d
       → fits_resource e.0 e.1 (Some d) ≡ true → is_set_at_start e.0 ≡ false
       → finite.contains_key k.store.instances (instance_at e.0) ≡ true
       → value_fault_at (with_values k front) e.0 (plain d.kind) ≡ None
   free d defined fitting unset placed =
       no_five _ _ _ _ _ _ _ _ _ _
-      (not_true (fits k.catalogue e.0 (plain d.kind))
+      (not_true (fits k.catalog e.0 (plain d.kind))
       (and_true (has_good_length (plain d.kind)) _ (plain_short d.kind)
-      (plain_fits e.0 d (object_of k.catalogue e.0.object) defined
+      (plain_fits e.0 d (object_of k.catalog e.0.object) defined
       (plain_fits_resource e.0 e.1 d fitting).1 unset)))
-      (not_true (has_place k.catalogue k.store e.0)
-      (and_true (is_some (object_of k.catalogue e.0.object)) _
-      (some_object (object_of k.catalogue e.0.object) e.0.resource d defined) placed))
+      (not_true (has_place k.catalog k.store e.0)
+      (and_true (is_some (object_of k.catalog e.0.object)) _
+      (some_object (object_of k.catalog e.0.object) e.0.resource d defined) placed))
       no_value room more_parts
 
   taken : kind_taken (with_values k front) e.0 ≡ Some is.def.kind
@@ -436,25 +436,25 @@ module _ (k : Template) (front : List Entry) (e : Entry) (back : List Entry)
     ),
   )
 
-pub values_good : (c k : Template) → IsBuilt c → k.catalogue ≡ c.catalogue → k.store.instances ≡ c.store.instances
+pub values_good : (c k : Template) → IsBuilt c → k.catalog ≡ c.catalog → k.store.instances ≡ c.store.instances
     → (values k).Good (values_in c)
 unfolding values
-values_good c k built same_catalogue same_places =
+values_good c k built same_catalog same_places =
     let es = values_in c in
-    let h : HasValues k.catalogue k.store.instances es =
-    subst (λ (t : List ObjectDef). HasValues t k.store.instances es) (sym same_catalogue)
-    (subst (λ (m : Places). HasValues c.catalogue m es) (sym same_places) (has_values c built)) in (
+    let h : HasValues k.catalog k.store.instances es =
+    subst (λ (t : List ObjectDef). HasValues t k.store.instances es) (sym same_catalog)
+    (subst (λ (m : Places). HasValues c.catalog m es) (sym same_places) (has_values c built)) in (
       number_good w16 (length es) (omega (arith, h.few)),
       each_good (layout.entry k) es [] es refl (λ front e back is.
           entry_good k front e back (subst (Ascends path_cmp (λ (b : Entry). b.0)) is
-          (map_ascends path_total c.store.values)) (subst (HasValues k.catalogue k.store.instances) is h)),
+          (map_ascends path_total c.store.values)) (subst (HasValues k.catalog k.store.instances) is h)),
     )
 
 -- ---- what their writer asks for
 
 pub each_held : (c : Template) → IsBuilt c → All (λ e. IsGood e.1) (values_in c)
 each_held c built =
-    All-from_recursion _ _ (all_weaker (IsHeld c.catalogue c.store.instances) (λ e. IsGood e.1) (λ e h. h.good)
+    All-from_recursion _ _ (all_weaker (IsHeld c.catalog c.store.instances) (λ e. IsGood e.1) (λ e h. h.good)
     (values_in c) (has_values c built).each)
 
 pub few_values : (c : Template) → IsBuilt c → length (values_in c) < 65536

@@ -12,7 +12,7 @@ use Rattle.std.proofs.lemmas.List.{map-append}
 use Rattle.std.proofs.lemmas.List.Elements.{filter-append}
 use Rattle.byte_layout.proofs.Fields.{number_good}
 use Rattle.object_defs.specs.Base.{base}
-use Rattle.object_defs.specs.Catalogue.{object_of}
+use Rattle.object_defs.specs.Catalog.{object_of}
 use Rattle.object_defs.specs.Lines.{first_line}
 use Rattle.object_defs.specs.Path.{instance_cmp}
 use Rattle.object_defs.specs.Vendor.{vendor_fault, with_object, with_resource}
@@ -44,10 +44,10 @@ abbrev numbers_of : ℕ → List Entry → List ℕ
 numbers_of o es = map (λ p. p.instance) (filter (λ p. eqb p.object o) (map (λ e. e.0) es))
 
 abbrev IsPlace : List ObjectDef → Entry → Type 0
-IsPlace catalogue e = (e.0.object < 65536) × (may_stand e.0 ≡ true) × (is_some (object_of catalogue e.0.object) ≡ true)
+IsPlace catalog e = (e.0.object < 65536) × (may_stand e.0 ≡ true) × (is_some (object_of catalog e.0.object) ≡ true)
 
-pub record HasInstances (catalogue : List ObjectDef) (es : List Entry) : Type 0 where
-  each : AllByRecursion (IsPlace catalogue) es
+pub record HasInstances (catalog : List ObjectDef) (es : List Entry) : Type 0 where
+  each : AllByRecursion (IsPlace catalog) es
   few : (o : ℕ) → length (numbers_of o es) ≤ 64
 
 joins : (o : ℕ) (xs ys : List Entry) → numbers_of o (xs ++ ys) ≡ numbers_of o xs ++ numbers_of o ys
@@ -57,7 +57,7 @@ joins o xs ys =
     ∙ map-append (λ p. p.instance) (filter (λ p. eqb p.object o) (map (λ e. e.0) xs))
     (filter (λ p. eqb p.object o) (map (λ e. e.0) ys))
 
--- ---- a catalogue that grows knows what it knew
+-- ---- a catalog that grows knows what it knew
 
 clash : {X : Type 0} (o : Option X) → o ≡ None → is_some o ≡ true → ⊥
 clash None none some = let e : false ≡ true = some in cc
@@ -130,21 +130,21 @@ instance_more c s p short before may known absent room =
     }
 
 pub has_instances : (class : Template) → IsBuilt class
-    → HasInstances class.catalogue (finite.entries class.store.instances)
+    → HasInstances class.catalog (finite.entries class.store.instances)
 has_instances _ nothing =
     subst (HasInstances base) (sym (no_entries instance_cmp)) (record { each = tt; few = λ o. omega arith })
 has_instances _ (account {class} server built free) = has_instances class built
 has_instances _ (object {class} id built free) =
     let before = has_instances class built in
-    record { each = all_weaker _ _ (place_kept class.catalogue id (no_fault _ free)) _ before.each; few = before.few }
+    record { each = all_weaker _ _ (place_kept class.catalog id (no_fault _ free)) _ before.each; few = before.few }
 has_instances _ (resource {class} id d short built free) =
     let before = has_instances class built in
-    record { each = all_weaker _ _ (place_known class.catalogue id d) _ before.each; few = before.few }
+    record { each = all_weaker _ _ (place_known class.catalog id d) _ before.each; few = before.few }
 has_instances _ (instance {class} place short built free) =
-    let lines = four_lines (not (may_stand place)) (not (is_some (object_of class.catalogue place.object)))
+    let lines = four_lines (not (may_stand place)) (not (is_some (object_of class.catalog place.object)))
     (is_some (finite.get class.store.instances place))
     (nat_le 64 (length (instances_of class.store place.object))) _ _ _ _ free in
-    instance_more class.catalogue class.store place short (has_instances class built) (not_false _ lines.0)
+    instance_more class.catalog class.store place short (has_instances class built) (not_false _ lines.0)
     (not_false _ lines.1) (not_there _ lines.2) (below _ 64 lines.3)
 has_instances _ (value {class} p v short good built free) = has_instances class built
 has_instances _ (notify {class} seconds built fits) = has_instances class built
@@ -275,7 +275,7 @@ low_entries p (q ∷ front) h =
 
 instance_free : (k : Template) (front : List InstancePath) (p : InstancePath) (back : List InstancePath)
     → Ascends instance_cmp (λ q. q) (front ++ p ∷ back) → may_stand p ≡ true
-    → is_some (object_of k.catalogue p.object) ≡ true
+    → is_some (object_of k.catalog p.object) ≡ true
     → length (numbered p.object (front ++ p ∷ back)) ≤ 64 → instance_fault (with_instances k front) p ≡ None
 unfolding numbered
 instance_free k front p back h may known few =
@@ -287,7 +287,7 @@ instance_free k front p back h may known few =
     = ap (λ t. length (numbers_of p.object t)) es
     ∙ ap (λ t. length (map (λ (q : InstancePath). q.instance) (filter (λ q. eqb q.object p.object) t)))
     (map_units front) in
-    no_four _ _ _ _ _ _ _ _ (not_true (may_stand p) may) (not_true (is_some (object_of k.catalogue p.object)) known)
+    no_four _ _ _ _ _ _ _ _ (not_true (may_stand p) may) (not_true (is_some (object_of k.catalog p.object)) known)
     (ap is_some (finite.get-entries (finite.from_sorted {R = instance_cmp} (as_entries front)) p
     ∙ ap (find instance_cmp p) es ∙ none_behind instance_total p _ (low_entries p front low)))
     (is_below _ 64 (omega (arith, same, room, itself p, few)))
@@ -299,11 +299,11 @@ all_places c (e ∷ es) h = (h.0, all_places c es h.1)
 
 instance_good : (k : Template) (front : List InstancePath) (p : InstancePath) (back : List InstancePath)
     → Ascends instance_cmp (λ q. q) (front ++ p ∷ back)
-    → AllByRecursion (λ q. IsPlace k.catalogue (q, tt)) (front ++ p ∷ back)
+    → AllByRecursion (λ q. IsPlace k.catalog (q, tt)) (front ++ p ∷ back)
     → length (numbered p.object (front ++ p ∷ back)) ≤ 64 → (layout.instance k front).Good p
 unfolding layout.instance
 instance_good k front p back h all few =
-    let is = all_of (λ q. IsPlace k.catalogue (q, tt)) front p back all in (
+    let is = all_of (λ q. IsPlace k.catalog (q, tt)) front p back all in (
       place_good p is.0 (number_small p is.1),
       and_true _ _ (front_below instance_cmp (λ q. q) front p back h)
           (taken_none _ (instance_free k front p back h is.1 is.2 few)),
@@ -315,20 +315,20 @@ instance_good k front p back h all few =
     number_small : (q : InstancePath) → may_stand q ≡ true → q.instance < 65536
     number_small q may = low q.instance (both_true _ _ (both_true (not (eqb q.object 0)) _ may).1).0
 
-pub instances_good : (c k : Template) → IsBuilt c → length c.catalogue ≤ 16 → k.catalogue ≡ c.catalogue
+pub instances_good : (c k : Template) → IsBuilt c → length c.catalog ≤ 16 → k.catalog ≡ c.catalog
     → (instances k).Good (instances_in c)
 unfolding instances numbered
 instances_good c k built small same =
     let h = has_instances c built in
     let ps = instances_in c in
     let all = subst (λ (t : List ObjectDef). AllByRecursion (λ p. IsPlace t (p, tt)) ps) (sym same)
-    (all_places c.catalogue (finite.entries c.store.instances) h.each) in (
-      number_good w16 (length ps) (keys_few c.catalogue (finite.entries c.store.instances) h small),
+    (all_places c.catalog (finite.entries c.store.instances) h.each) in (
+      number_good w16 (length ps) (keys_few c.catalog (finite.entries c.store.instances) h small),
       each_good (layout.instance k) ps [] ps refl (λ front p back e.
           instance_good k front p back (subst (Ascends instance_cmp (λ q. q)) e (places_ascend c))
-          (subst (AllByRecursion (λ q. IsPlace k.catalogue (q, tt))) e all)
+          (subst (AllByRecursion (λ q. IsPlace k.catalog (q, tt))) e all)
           (subst (λ (t : List InstancePath). length (numbered p.object t) ≤ 64) e (h.few p.object))),
     )
 
-pub few_instances : (c : Template) → IsBuilt c → length c.catalogue ≤ 16 → length (instances_in c) < 65536
-few_instances c built small = keys_few c.catalogue (finite.entries c.store.instances) (has_instances c built) small
+pub few_instances : (c : Template) → IsBuilt c → length c.catalog ≤ 16 → length (instances_in c) < 65536
+few_instances c built small = keys_few c.catalog (finite.entries c.store.instances) (has_instances c built) small

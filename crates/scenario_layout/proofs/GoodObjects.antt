@@ -13,7 +13,7 @@ use Rattle.byte_layout.proofs.Fields.{number_good}
 use Rattle.lwm2m_values.specs.declared.kind.ValueKind.{ValueKind}
 use Rattle.lwm2m_values.specs.declared.kind.ValueKind.TheVariants as kinds
 use Rattle.object_defs.specs.Base.{base}
-use Rattle.object_defs.specs.Catalogue.{object_of, resource_in}
+use Rattle.object_defs.specs.Catalog.{object_of, resource_in}
 use Rattle.object_defs.specs.Vendor.{inserted, is_sound, is_text, is_vendor, new_object, vendor_fault, resource_fault}
 use Rattle.object_defs.specs.Vendor.{resource_fault_in, with_definition, with_object, with_resource}
 use Rattle.object_defs.specs.declared.definition.Ops.{Ops}
@@ -124,9 +124,9 @@ pub record IsOwn (os : List ObjectDef) : Type 0 where
   each : AllByRecursion IsOwnObject os
   pub few : length os ≤ 11
 
-pub record HasObjects (catalogue : List ObjectDef) : Type 0 where
+pub record HasObjects (catalog : List ObjectDef) : Type 0 where
   pub own : List ObjectDef
-  pub behind : catalogue ≡ base ++ own
+  pub behind : catalog ≡ base ++ own
   pub good : IsOwn own
 
 vendor_above : (id : ℕ) → is_vendor id ≡ true → 10240 < id
@@ -176,18 +176,18 @@ pub no_fault : (o : Option CatalogFault) → option_map fault_of o ≡ None → 
 no_fault None h = refl
 no_fault (Some f) h = absurd cc
 
-object_more : (catalogue : List ObjectDef) (id : ℕ) → HasObjects catalogue → vendor_fault catalogue id ≡ None
-    → HasObjects (with_object catalogue id)
-object_more catalogue id h free =
-    let lines = three_lines (not (is_vendor id)) (is_some (object_of catalogue id))
-    (nat_le 16 (length catalogue)) _ _ _ free in
+object_more : (catalog : List ObjectDef) (id : ℕ) → HasObjects catalog → vendor_fault catalog id ≡ None
+    → HasObjects (with_object catalog id)
+object_more catalog id h free =
+    let lines = three_lines (not (is_vendor id)) (is_some (object_of catalog id))
+    (nat_le 16 (length catalog)) _ _ _ free in
     let vendor = not_false (is_vendor id) lines.0 in
     let low = base_low id vendor in
     let more = inserted_more (λ o. o.id) (new_object id) h.own in
     let absent : is_some (object_of h.own id) ≡ false =
     ap is_some (sym (found_behind base h.own id low)) ∙ ap (λ c. is_some (object_of c id)) (sym h.behind)
     ∙ lines.1 in
-    let room : length h.own < 11 = omega (arith, below (length catalogue) 16 lines.2, ap length h.behind) in
+    let room : length h.own < 11 = omega (arith, below (length catalog) 16 lines.2, ap length h.behind) in
     record {
       own = inserted (λ o. o.id) (new_object id) h.own;
       behind = ap (λ c. with_object c id) h.behind ∙ inserted_behind (λ o. o.id) (new_object id) base h.own low;
@@ -234,10 +234,10 @@ vendor_is : (b : Bool) (d : ResourceDef) (o : Option ObjectDef) → resource_fau
 vendor_is true d o h = (refl, h)
 vendor_is false d o h = absurd cc
 
-resource_more : (catalogue : List ObjectDef) (id : ℕ) (d : ResourceDef) → d.id < 65536 → HasObjects catalogue
-    → resource_fault catalogue id d ≡ None → HasObjects (with_resource catalogue id d)
-resource_more catalogue id d short h free =
-    let p = vendor_is (is_vendor id) d (object_of catalogue id) free in
+resource_more : (catalog : List ObjectDef) (id : ℕ) (d : ResourceDef) → d.id < 65536 → HasObjects catalog
+    → resource_fault catalog id d ≡ None → HasObjects (with_resource catalog id d)
+resource_more catalog id d short h free =
+    let p = vendor_is (is_vendor id) d (object_of catalog id) free in
     let low = base_low id p.0 in
     let found : resource_fault_in d (object_of h.own id) ≡ None =
     ap (resource_fault_in d) (sym (found_behind base h.own id low) ∙ ap (λ c. object_of c id) (sym h.behind))
@@ -252,13 +252,13 @@ resource_more catalogue id d short h free =
       };
     }
 
-pub has_objects : (class : Template) → IsBuilt class → HasObjects class.catalogue
+pub has_objects : (class : Template) → IsBuilt class → HasObjects class.catalog
 has_objects _ nothing = record { own = []; behind = refl; good = record { rising = tt; each = tt; few = omega arith } }
 has_objects _ (account {class} server built free) = has_objects class built
 has_objects _ (object {class} id built free) =
-    object_more class.catalogue id (has_objects class built) (no_fault _ free)
+    object_more class.catalog id (has_objects class built) (no_fault _ free)
 has_objects _ (resource {class} id d short built free) =
-    resource_more class.catalogue id d short (has_objects class built) (no_fault _ free)
+    resource_more class.catalog id d short (has_objects class built) (no_fault _ free)
 has_objects _ (instance {class} place short built free) = has_objects class built
 has_objects _ (value {class} p v short good built free) = has_objects class built
 has_objects _ (notify {class} seconds built fits) = has_objects class built
@@ -291,26 +291,26 @@ own_good k own h = (
   each_good (layout.object k) own [] own refl (λ front o back e. object_good k front o back (subst IsOwn e h)),
 )
 
-pub own_is : (c : Template) (h : HasObjects c.catalogue) → objects_in c ≡ h.own
+pub own_is : (c : Template) (h : HasObjects c.catalog) → objects_in c ≡ h.own
 own_is c h = ap (drop (length base)) h.behind
 
-pub objects_good : (c k : Template) → HasObjects c.catalogue → (objects k).Good (objects_in c)
+pub objects_good : (c k : Template) → HasObjects c.catalog → (objects k).Good (objects_in c)
 objects_good c k h = subst (λ (os : List ObjectDef). (objects k).Good os) (sym (own_is c h)) (own_good k h.own h.good)
 
 -- a class's objects are the base objects and its own
-pub catalogue_is : (c : Template) → HasObjects c.catalogue → base ++ objects_in c ≡ c.catalogue
-catalogue_is c h = ap (λ t. base ++ t) (own_is c h) ∙ sym h.behind
+pub catalog_is : (c : Template) → HasObjects c.catalog → base ++ objects_in c ≡ c.catalog
+catalog_is c h = ap (λ t. base ++ t) (own_is c h) ∙ sym h.behind
 
-pub few_objects : (c : Template) → HasObjects c.catalogue → length c.catalogue ≤ 16
+pub few_objects : (c : Template) → HasObjects c.catalog → length c.catalog ≤ 16
 few_objects c h = omega (arith, ap length h.behind, h.good.few)
 
 -- ---- what their writer asks for
 
-pub each_defined : (c : Template) → HasObjects c.catalogue → All (λ o. resources.Good o.resources) (objects_in c)
+pub each_defined : (c : Template) → HasObjects c.catalog → All (λ o. resources.Good o.resources) (objects_in c)
 each_defined c h =
     subst (All (λ (o : ObjectDef). resources.Good o.resources)) (sym (own_is c h))
     (All-from_recursion _ _ (all_weaker IsOwnObject (λ o. resources.Good o.resources)
     (λ o own. definitions_good o.resources own.1) h.own h.good.each))
 
-pub few_own : (c : Template) → HasObjects c.catalogue → length (objects_in c) ≤ 11
+pub few_own : (c : Template) → HasObjects c.catalog → length (objects_in c) ≤ 11
 few_own c h = subst (λ (os : List ObjectDef). length os ≤ 11) (sym (own_is c h)) h.good.few

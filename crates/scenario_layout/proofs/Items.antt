@@ -19,18 +19,18 @@ use Rattle.lwm2m_values.specs.declared.value.Value.{Value}
 use Rattle.lwm2m_values.specs.declared.value.Value.TheVariants as held
 use Rattle.lwm2m_values.specs.Value.{kind_of, IsGood}
 use Rattle.object_defs.specs.Base.{base}
-use Rattle.object_defs.specs.Catalogue.{object_of}
+use Rattle.object_defs.specs.Catalog.{object_of}
 use Rattle.object_defs.specs.Lines.{first_line}
 use Rattle.object_defs.specs.Path.{path_cmp, instance_cmp}
 use Rattle.object_defs.specs.Vendor.{inserted, is_vendor, new_object, with_object}
 use Rattle.object_defs.specs.declared.fault.CatalogFault.{CatalogFault}
-use Rattle.object_defs.specs.declared.fault.CatalogFault.TheVariants as catalog
+use Rattle.object_defs.specs.declared.fault.CatalogFault.TheVariants as catalog_faults
 use Rattle.object_defs.specs.declared.path.FullPath.{FullPath}
 use Rattle.object_defs.specs.declared.path.InstancePath.{InstancePath}
 use Rattle.object_defs.proofs.PathOrder.{path_total, instance_total}
 use Rattle.scenario_layout.specs.Value.{place, path, value, kind_number, kind_numbered, fits}
 use Rattle.scenario_layout.proofs.ExactValue.{value_exact}
-use Rattle.device_template.specs.Template.{Template, with_catalogue, with_store, account_fault, object_fault, fault_of}
+use Rattle.device_template.specs.Template.{Template, with_catalog, with_store, account_fault, object_fault, fault_of}
 use Rattle.device_template.specs.Template.{empty_class, kind_taken, value_fault, value_fault_at, with_account}
 use Rattle.device_template.specs.Values.{has_kind, with_value_at}
 use Rattle.lwm2m_values.specs.Value.{has_good_length}
@@ -80,26 +80,26 @@ account_made c u n e = e ∙ ap (with_accounts c) (sym (ap (λ k. k.accounts) e)
 -- ---- objects
 
 pub object_made : (c u : Template) (id : ℕ) → c ≡ with_objects c (objects_in c)
-    → list_all (λ o. nat_lt o.id id) c.catalogue ≡ true → u ≡ with_catalogue c (with_object c.catalogue id)
+    → list_all (λ o. nat_lt o.id id) c.catalog ≡ true → u ≡ with_catalog c (with_object c.catalog id)
     → u ≡ with_objects c (objects_in c ++ new_object id ∷ [])
 object_made c u id itself above made =
     made
-    ∙ ap (with_catalogue c)
-    (inserted_end (λ o. o.id) (new_object id) c.catalogue above
-    ∙ ap (λ (k : Template). k.catalogue ++ new_object id ∷ []) itself
+    ∙ ap (with_catalog c)
+    (inserted_end (λ o. o.id) (new_object id) c.catalog above
+    ∙ ap (λ (k : Template). k.catalog ++ new_object id ∷ []) itself
     ∙ append_assoc base (objects_in c) (new_object id ∷ []))
 
 vendor_line : (b : Bool) (lines : List (Bool × CatalogFault))
-    → option_map fault_of (first_line ((not b, catalog.IdRange) ∷ lines)) ≡ None → b ≡ true
+    → option_map fault_of (first_line ((not b, catalog_faults.IdRange) ∷ lines)) ≡ None → b ≡ true
 vendor_line true lines h = refl
 vendor_line false lines h = absurd cc
 
 pub object_vendor : (c : Template) (id : ℕ) → object_fault c id ≡ None → is_vendor id ≡ true
 object_vendor c id h =
     vendor_line (is_vendor id) ((
-      is_some (object_of c.catalogue id),
-      catalog.Duplicate,
-    ) ∷ (nat_le 16 (length c.catalogue), catalog.TooMany) ∷ []) h
+      is_some (object_of c.catalog id),
+      catalog_faults.Duplicate,
+    ) ∷ (nat_le 16 (length c.catalog), catalog_faults.TooMany) ∷ []) h
 
 -- ---- instances
 

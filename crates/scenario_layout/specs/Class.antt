@@ -17,7 +17,7 @@ use Rattle.object_defs.specs.declared.path.InstancePath.{InstancePath}
 use Rattle.scenario_layout.specs.Value.{place, path, value}
 use Rattle.scenario_layout.specs.Definition.{resources}
 use Rattle.device_template.specs.declared.fault.TemplateFault.{TemplateFault}
-use Rattle.device_template.specs.Template.{Template, empty_class, with_catalogue, with_notify, with_store}
+use Rattle.device_template.specs.Template.{Template, empty_class, with_catalog, with_notify, with_store}
 use Rattle.device_template.specs.Template.{account_fault, object_fault, instance_fault, kind_taken, is_notify}
 use Rattle.device_template.specs.Template.{most_accounts}
 
@@ -25,7 +25,7 @@ use Rattle.device_template.specs.Template.{most_accounts}
 
 -- the objects of the class's own: those after the base objects
 abbrev pub objects_in : Template → List ObjectDef
-objects_in c = drop (length base) c.catalogue
+objects_in c = drop (length base) c.catalog
 
 abbrev pub instances_in : Template → List InstancePath
 instances_in c = finite.keys c.store.instances
@@ -36,18 +36,17 @@ values_in c = finite.entries c.store.values
 -- ---- a class that has these
 
 abbrev pub with_accounts : Template → List ℕ → Template
-with_accounts c accounts =
-    record { accounts = accounts; catalogue = c.catalogue; store = c.store; notify = c.notify }
+with_accounts c accounts = record c { accounts = accounts }
 
 abbrev pub with_objects : Template → List ObjectDef → Template
-with_objects c objects = with_catalogue c (base ++ objects)
+with_objects c objects = with_catalog c (base ++ objects)
 
 abbrev pub with_instances : Template → List InstancePath → Template
 with_instances c places =
-    with_store c (record { values = c.store.values; instances = finite.from_sorted (map (λ p. (p, tt)) places) })
+    with_store c (record c.store { instances = finite.from_sorted (map (λ p. (p, tt)) places) })
 
 abbrev pub with_values : Template → List (FullPath × Value) → Template
-with_values c values = with_store c (record { values = finite.from_sorted values; instances = c.store.instances })
+with_values c values = with_store c (record c.store { values = finite.from_sorted values })
 
 -- ---- the parts
 

@@ -35,7 +35,7 @@ refusal faults.Missing left = errors.Fault (BadField left)
 refusal faults.Duplicate left = errors.Fault (BadField left)
 refusal faults.Full left = errors.Fault (BadField left)
 
--- a catalogue whose object of this number has these definitions more, one after another
+-- a catalog whose object of this number has these definitions more, one after another
 abbrev pub with_definitions : List ObjectDef → ℕ → List ResourceDef → List ObjectDef
 with_definitions c id [] = c
 with_definitions c id (d ∷ ds) = with_definitions (with_resource c id d) id ds

@@ -83,7 +83,7 @@ fn behind_accounts_at<'a>(
     template: &mut Template,
     bytes: &'a [u8],
 ) -> Result<&'a [u8], ReadError>
-    requires base { template.now.catalogue ≡ base }
+    requires base { template.now.catalog ≡ base }
     requires empty { template.now.store ≡ empty }
     ensures { Gives (λ rest. (template.new, rest.now)) result ((behind_accounts template.old).read bytes.now) }
 {

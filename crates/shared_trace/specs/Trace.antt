@@ -43,30 +43,15 @@ pub record IsReady (t : Traced) (d : ℕ) : Type 0 where
 
 -- the device is out under the worker
 abbrev pub with_out : Traced → ℕ → ℕ → Traced
-with_out t d worker = record {
-  subject = t.subject;
-  entries = t.entries;
-  places = slice_set t.places d (Out worker);
-  stopped_by = t.stopped_by;
-}
+with_out t d worker = record t { places = slice_set t.places d (Out worker) }
 
 -- the device is parked, after these entries more
 abbrev pub with_block : Traced → ℕ → Holding → List Entry → Traced
-with_block t d x block = record {
-  subject = t.subject;
-  entries = t.entries ++ block;
-  places = slice_set t.places d (Parked x);
-  stopped_by = t.stopped_by;
-}
+with_block t d x block = record t { entries = t.entries ++ block; places = slice_set t.places d (Parked x) }
 
 -- the worker has stopped it
 abbrev pub stopped_under : Traced → ℕ → Traced
-stopped_under t worker = record {
-  subject = t.subject;
-  entries = t.entries;
-  places = t.places;
-  stopped_by = worker ∷ t.stopped_by;
-}
+stopped_under t worker = record t { stopped_by = worker ∷ t.stopped_by }
 
 -- ---- the open work
 

@@ -91,7 +91,7 @@ fn enter(
         })).left) }
 
     // Only a new name takes memory, where there is a place for it.
-    ensures grows { OnErr result (has_name observations.old.list server token ≡ false) }
+    ensures may_lack_memory { OnErr result (has_name observations.old.list server token ≡ false) }
     ensures place { OnErr result (lacks_place observations.old.list server token ≡ false) }
     ensures unchanged { OnErr result (observations.new ≡ observations.old) }
 {
@@ -157,7 +157,7 @@ impl Machine {
             (noted_read self.old.flat.kept server message.now path accept answer.now)) }
         ensures recorded { OnOk result (self.new.flat.recorded ≡ self.old.flat.recorded) }
         ensures up_to_date { OnOk result (IsUpToDate self.new) }
-        ensures grows { OnErr result (is_content answer.now ≡ true) }
+        ensures may_lack_memory { OnErr result (is_content answer.now ≡ true) }
         ensures left { OnErr result (KeepsRecords self.old.flat self.new.flat) }
     {
         if answer.is_content() {
@@ -184,7 +184,7 @@ impl Machine {
 
         // Only the content of a Read that registers takes memory.
         ensures content { OnErr result (is_content answer.now ≡ true) }
-        ensures grows { OnErr result (is_some interest ≡ true) }
+        ensures may_lack_memory { OnErr result (is_some interest ≡ true) }
         ensures left { OnErr result (KeepsRecords self.old.flat self.new.flat) }
     {
         match interest {

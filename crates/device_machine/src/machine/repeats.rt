@@ -2,7 +2,7 @@
 
 ghost use Rattle.std.specs.Prelude.{◌≡◌, true, IfOk, OnErr};
 ghost use Rattle.std.specs.Option.{option_copied};
-ghost use Rattle.device_machine.specs.Memory.{again_grows};
+ghost use Rattle.device_machine.specs.Memory.{again_takes_memory};
 ghost use Rattle.device_machine.specs.Reactions.{again, repeat_of};
 
 use crate::machine::Machine;
@@ -21,7 +21,7 @@ pub(super) fn again(
     reply: &Option<Bytes>,
 ) -> Result<Outputs, AllocError>
     ensures sends { IfOk result (λ o. o ≡ again server kind reply.now) }
-    ensures grows { OnErr result (again_grows kind reply.now ≡ true) }
+    ensures may_lack_memory { OnErr result (again_takes_memory kind reply.now ≡ true) }
 {
     match kind {
         Kind::Con => sent_to(alloc, server, reply),

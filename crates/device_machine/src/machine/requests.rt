@@ -6,7 +6,8 @@ ghost use Rattle.coap_codec.specs.Fault.{is_empty_message};
 ghost use Rattle.device_machine.specs.declared.event.Event.TheVariants.{Recv};
 ghost use Rattle.device_machine.specs.Reactions.{Gives, claims_confirmable, is_request, on_fresh, on_message, on_noise};
 ghost use Rattle.device_machine.specs.Reactions.{on_outcome, on_request, reaction_to, repeat_of, reply_to};
-ghost use Rattle.device_machine.specs.Memory.{KeepsRecords, event_grows, is_ignored, message_grows, request_grows};
+ghost use Rattle.device_machine.specs.Memory.{KeepsRecords, event_takes_memory, is_ignored, message_takes_memory};
+ghost use Rattle.device_machine.specs.Memory.{request_takes_memory};
 ghost use Rattle.device_machine.specs.Held.{IsUpToDate};
 ghost use Rattle.device_requests.specs.Answer.{is_change};
 ghost use Rattle.device_machine.specs.State.{lifetime};
@@ -79,7 +80,7 @@ impl Machine {
         requires { is_rejected ≡ has_unrecognized_critical message.now.options }
         ensures reply { IfOk result (λ r.
             r ≡ reply_to self.now.flat.kept.next_id message.now message.now.kind number answer) }
-        ensures grows { OnErr result
+        ensures may_lack_memory { OnErr result
             (is_some (reply_to self.now.flat.kept.next_id message.now message.now.kind number answer) ≡ true) }
     {
         // A message whose options are borrowed is known to be well formed.
@@ -160,7 +161,8 @@ impl Machine {
         ensures gives { IfOk result
             (λ o. Gives o self.new.flat (on_request self.old.flat server message.now
             (repeat_of self.old.flat server message.now))) }
-        ensures grows { OnErr result (request_grows message.now.kind (repeat_of self.old.flat server message.now)
+        ensures may_lack_memory { OnErr result (request_takes_memory message.now.kind
+            (repeat_of self.old.flat server message.now)
             ≡ true) }
         ensures up_to_date { OnOk result (IsUpToDate self.new) }
         ensures left { OnErr result (KeepsRecords self.old.flat self.new.flat) }
@@ -176,7 +178,8 @@ impl Machine {
         requires { IsUpToDate self.old }
         ensures gives { IfOk result (λ o. Gives o self.new.flat
             (on_message self.old.flat server message.now message.now.kind)) }
-        ensures grows { OnErr result (message_grows self.old.flat server message.now message.now.kind ≡ true) }
+        ensures may_lack_memory { OnErr result (message_takes_memory self.old.flat server message.now message.now.kind
+            ≡ true) }
         ensures up_to_date { OnOk result (IsUpToDate self.new) }
         ensures left { OnErr result (KeepsRecords self.old.flat self.new.flat) }
     {
@@ -217,7 +220,7 @@ impl Machine {
         requires { IsUpToDate self.old }
         ensures gives { IfOk result (λ o. Gives o self.new.flat
             (on_message self.old.flat server message message.kind)) }
-        ensures grows { OnErr result (message_grows self.old.flat server message message.kind ≡ true) }
+        ensures may_lack_memory { OnErr result (message_takes_memory self.old.flat server message message.kind ≡ true) }
         ensures up_to_date { OnOk result (IsUpToDate self.new) }
         ensures left { OnErr result (KeepsRecords self.old.flat self.new.flat) }
     {
@@ -231,7 +234,7 @@ impl Machine {
         ensures gives { IfOk result (λ o. Gives o self.now.flat (on_noise self.now.flat server bytes.now)) }
 
         // Only a Reset takes memory.
-        ensures grows { OnErr result (claims_confirmable bytes.now ≡ true) }
+        ensures may_lack_memory { OnErr result (claims_confirmable bytes.now ≡ true) }
     {
         let Some((kind, mid)) = header(bytes) else {
             return Ok(Outputs::none(self.alloc));
@@ -248,7 +251,7 @@ impl Machine {
         ensures gives { IfOk result (λ o. Gives o self.new.flat (reaction_to self.old.flat (Recv server bytes.now))) }
 
         // Only a CON, or a NON that is copied, of a server with an account takes memory.
-        ensures grows { OnErr result (event_grows self.old.flat.kept (Recv server bytes.now) ≡ true) }
+        ensures may_lack_memory { OnErr result (event_takes_memory self.old.flat.kept (Recv server bytes.now) ≡ true) }
         ensures up_to_date { OnOk result (IsUpToDate self.new) }
         ensures left { OnErr result (KeepsRecords self.old.flat self.new.flat) }
     {

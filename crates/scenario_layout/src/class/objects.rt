@@ -5,7 +5,7 @@ ghost use Rattle.byte_layout.specs.Layout.{each};
 ghost use Rattle.object_defs.specs.Base.{base};
 ghost use Rattle.object_defs.specs.Vendor.{is_vendor, new_object};
 ghost use Rattle.object_defs.specs.declared.definition.ObjectDef.{ObjectDef};
-ghost use Rattle.device_template.specs.Template.{with_catalogue};
+ghost use Rattle.device_template.specs.Template.{with_catalog};
 ghost use Rattle.scenario_layout.specs.Definition.{resource};
 ghost use Rattle.scenario_layout.specs.Growing.{grown};
 ghost use Rattle.scenario_layout.specs.Class.{defined, object, object_id, objects, objects_in, with_objects};
@@ -25,7 +25,7 @@ pub(crate) fn objects_at<'a>(
     template: &mut Template,
     bytes: &'a [u8],
 ) -> Result<&'a [u8], ReadError>
-    requires { template.now.catalogue ≡ base }
+    requires { template.now.catalog ≡ base }
     ensures read { Gives (λ rest. (objects_in template.new, rest.now)) result ((objects template.old).read bytes.now) }
     ensures made { OnOk result (template.new ≡ with_objects template.old (objects_in template.new)) }
 {
@@ -39,7 +39,7 @@ fn objects_each<'a>(
     count: u8,
     bytes: &'a [u8],
 ) -> Result<&'a [u8], ReadError>
-    requires { template.now.catalogue ≡ base }
+    requires { template.now.catalog ≡ base }
     ensures read { Gives (λ rest. (objects_in template.new, rest.now)) result
         ((each (object template.old) count []).read bytes.now) }
     ensures made { OnOk result (template.new ≡ with_objects template.old (objects_in template.new)) }
@@ -78,7 +78,7 @@ fn object_id_at<'a>(template: &mut Template, bytes: &'a [u8]) -> Result<(u16, &'
         ((object_id template.old (objects_in template.old)).read bytes.now) }
     ensures made { IfOk result (λ x. template.new
         ≡ with_objects template.old (objects_in template.old ++ new_object x.0 ∷ [])) }
-    ensures above { IfOk result (λ x. list_all (λ o. nat_lt o.id x.0) template.old.catalogue ≡ true) }
+    ensures above { IfOk result (λ x. list_all (λ o. nat_lt o.id x.0) template.old.catalog ≡ true) }
     ensures vendor { IfOk result (λ x. is_vendor x.0 ≡ true) }
 {
     let (id, rest) = u16_at(bytes)?;

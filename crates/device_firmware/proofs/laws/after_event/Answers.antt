@@ -1,7 +1,7 @@
 use Rattle.std.proofs.Common.{ap, sym, ◌∙◌}
 use Rattle.device_firmware.specs.Firmware.{state_in, uri_of, with_uri}
 use Rattle.device_firmware.specs.Firmware.{held}
-use Rattle.device_firmware.proofs.Behind.{taken, taken_as, state-outcome, code-outcome, uri-outcome, uri-uri}
+use Rattle.device_firmware.proofs.AfterEvent.{taken, taken_as, state-outcome, code-outcome, uri-outcome, uri-uri}
 use Rattle.device_firmware.proofs.laws.after_event.Goals as goal
 
 pub returns-clause-outcome : goal.returns-clause-outcome

@@ -1,7 +1,7 @@
 use Rattle.std.proofs.Common.{ap, sym, ◌∙◌}
 use Rattle.instance_store.specs.Stored.{Stored, value_at}
 use Rattle.device_firmware.specs.Firmware.{uri_of, with_uri}
-use Rattle.device_firmware.proofs.Behind.{taken, other-outcome, other-uri, same_instances}
+use Rattle.device_firmware.proofs.AfterEvent.{taken, other-outcome, other-uri, same_instances}
 use Rattle.device_firmware.proofs.laws.others.Goals as goal
 
 pub returns : goal.returns

@@ -22,10 +22,11 @@ on_error : {T E : Type 0} (r : Result T E) (P : Type 0) → P → OnErr r P
 on_error (Ok x) P p = tt
 on_error (Err e) P p = p
 
-pub returns-in_err-say_if_reached-clause-grows : goal.returns-in_err-say_if_reached-clause-grows
-returns-in_err-say_if_reached-clause-grows c =
+pub returns-in_err-say_if_reached-clause-may_lack_memory : goal.returns-in_err-say_if_reached-clause-may_lack_memory
+returns-in_err-say_if_reached-clause-may_lack_memory c =
     let os = c.args.observations.now.list in
     let n = c.loop-place.place in
     let here = there os n (omega (arith, c.loop-place-test.true, c.len-place-end.ensures.len)) in
     on_error c.from_residual.result _ (one_of c.args.paths.now os n here.0 here.1
-    (c.in_err-say_if_reached.ensures.grows here.0 (ap (λ xs. slice_get xs n) c.loop-place.invariant.0 ∙ here.1)))
+    (c.in_err-say_if_reached.ensures.may_lack_memory here.0
+    (ap (λ xs. slice_get xs n) c.loop-place.invariant.0 ∙ here.1)))

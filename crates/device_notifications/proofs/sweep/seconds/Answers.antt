@@ -41,8 +41,8 @@ returns-in_err-second-clause-stops c =
     c.loop-due.observations.list c.loop-due.observations.said c.args.outbox.now c.loop-due.outbox
     c.loop-due.invariant.2 within c.loop-due.invariant.1 c.in-Some.ensures.0 c.loop-due.invariant.0))
 
-pub returns-in_err-second-clause-grows : goal.returns-in_err-second-clause-grows
-returns-in_err-second-clause-grows c =
+pub returns-in_err-second-clause-may_lack_memory : goal.returns-in_err-second-clause-may_lack_memory
+returns-in_err-second-clause-may_lack_memory c =
     let within : c.in-Some.due ≤ c.args.clock + c.args.count = omega (arith, c.in-Some.ensures.1, c.from.ensures) in
     on_error c.from_residual.result _
     (acts_in_all c.args.client.now c.args.clock c.args.count c.args.outbox.now.next_id c.args.observations.now.list

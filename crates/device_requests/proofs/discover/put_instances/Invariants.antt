@@ -6,7 +6,7 @@ use Rattle.device_requests.proofs.discover.put_instances.Given as goal
 
 abbrev pub invariant-loop-instance : goal.invariant-loop-instance
 invariant-loop-instance l =
-    l.text.items ++ more_links l.client l.server (flat_map (instance_paths l.client.catalogue l.client.store l.object)
+    l.text.items ++ more_links l.client l.server (flat_map (instance_paths l.client.catalog l.client.store l.object)
     (drop l.instance-index l.instances))
     ≡ l.fn.text.items ++ more_links l.client l.server
-    (flat_map (instance_paths l.client.catalogue l.client.store l.object) l.instances)
+    (flat_map (instance_paths l.client.catalog l.client.store l.object) l.instances)

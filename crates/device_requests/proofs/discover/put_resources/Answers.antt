@@ -11,11 +11,11 @@ loop-definition-preserved c =
     let client = c.args.client.now in
     let place = c.args.place in
     ap (λ t. t ++ more_links client c.args.server
-    (existing client.catalogue client.store place.object place.instance
+    (existing client.catalog client.store place.object place.instance
     (drop (c.loop-definition.definition-index + 1) c.args.resources.now)))
     c.in_ok-put_existing.ensures
     ∙ filtered_at c.loop-definition.text.items (λ p. 44 ∷ link client c.args.server false p)
-    (exists client.catalogue client.store)
+    (exists client.catalog client.store)
     (λ d. Resource place.object place.instance d.id) c.args.resources.now c.loop-definition.definition-index _
     c.loop-definition-test.true
     ∙ c.loop-definition.invariant

@@ -5,7 +5,7 @@ use Rattle.device_requests.proofs.discover.put_resources.Given as goal
 
 abbrev pub invariant-loop-definition : goal.invariant-loop-definition
 invariant-loop-definition l =
-    l.text.items ++ more_links l.client l.server (existing l.client.catalogue l.client.store l.place.object
+    l.text.items ++ more_links l.client l.server (existing l.client.catalog l.client.store l.place.object
     l.place.instance (drop l.definition-index l.resources))
     ≡ l.fn.text.items ++ more_links l.client l.server
-    (existing l.client.catalogue l.client.store l.place.object l.place.instance l.resources)
+    (existing l.client.catalog l.client.store l.place.object l.place.instance l.resources)

@@ -44,9 +44,9 @@ returns-clause-added c =
     e ∙ ap (λ v. not (is_some v)) (sym (value-some c.args.objects.now c.args.path c.in-Some-get_mut.instance.now
     (found c))))
 
-pub returns-clause-grows : goal.returns-clause-grows
-returns-clause-grows c = λ h.
-    value-some c.args.objects.now c.args.path c.in-Some-get_mut.instance.now (found c) ∙ c.put.ensures.grows h
+pub returns-clause-may_lack_memory : goal.returns-clause-may_lack_memory
+returns-clause-may_lack_memory c = λ h.
+    value-some c.args.objects.now c.args.path c.in-Some-get_mut.instance.now (found c) ∙ c.put.ensures.may_lack_memory h
 
 pub returns-clause-err : goal.returns-clause-err
 returns-clause-err c =

@@ -38,14 +38,14 @@ returns-in_err-put_part-clause-full c = λ h.
     (c.loop-part.invariant.left ∙ ap (λ t. c.loop-part.yielded ++ t) c.in-Some.ensures.steps.0)
     (ap (λ s. is_full s c.args.path c.in-Some.part) (sym c.loop-part.invariant.set) ∙ full.1)
 
-pub returns-in_err-put_part-clause-grows : goal.returns-in_err-put_part-clause-grows
-returns-in_err-put_part-clause-grows c = λ h.
+pub returns-in_err-put_part-clause-may_lack_memory : goal.returns-in_err-put_part-clause-may_lack_memory
+returns-in_err-put_part-clause-may_lack_memory c = λ h.
     let p = err_from_is_err_and c.from_residual.result c.from_residual.ensures.1 in
     part_new c.args.store.now c.args.path c.args.parts c.loop-part.yielded
     (c.in-Some.part, c.in-Some.value) c.next.new.self.rest.items
     (c.loop-part.invariant.left ∙ ap (λ t. c.loop-part.yielded ++ t) c.in-Some.ensures.steps.0)
     (ap (λ s. value_at s (part_of c.args.path c.in-Some.part)) (sym c.loop-part.invariant.set)
-    ∙ c.in_err-put_part.ensures.grows (ap Err (sym p.2) ∙ sym p.1 ∙ h))
+    ∙ c.in_err-put_part.ensures.may_lack_memory (ap Err (sym p.2) ∙ sym p.1 ∙ h))
 
 pub returns-in_err-put_part-clause-elsewhere : goal.returns-in_err-put_part-clause-elsewhere
 returns-in_err-put_part-clause-elsewhere c = λ q h.

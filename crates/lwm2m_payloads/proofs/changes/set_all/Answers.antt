@@ -42,8 +42,8 @@ returns-in_err-set_assigned-clause-full c = λ h.
     c.in-Some.assignment.given) (sym c.loop-assignment.invariant.set)
     ∙ c.in_err-set_assigned.ensures.full (ap Err (sym p.2) ∙ sym p.1 ∙ h))
 
-pub returns-in_err-set_assigned-clause-grows : goal.returns-in_err-set_assigned-clause-grows
-returns-in_err-set_assigned-clause-grows c = λ h.
+pub returns-in_err-set_assigned-clause-may_lack_memory : goal.returns-in_err-set_assigned-clause-may_lack_memory
+returns-in_err-set_assigned-clause-may_lack_memory c = λ h.
     let p = err_from_is_err_and c.from_residual.result c.from_residual.ensures.1 in
     one_new c.args.mode c.args.resources.now c.args.store.now c.args.place c.args.given c.loop-assignment.yielded
     c.in-Some.assignment c.next.new.self.rest.items
@@ -52,7 +52,7 @@ returns-in_err-set_assigned-clause-grows c = λ h.
     (ap (λ s. is_kept c.args.resources.now c.in-Some.assignment
     && gives_new c.args.mode s (resource_of c.args.place c.in-Some.assignment.resource)
     c.in-Some.assignment.given) (sym c.loop-assignment.invariant.set)
-    ∙ c.in_err-set_assigned.ensures.grows (ap Err (sym p.2) ∙ sym p.1 ∙ h))
+    ∙ c.in_err-set_assigned.ensures.may_lack_memory (ap Err (sym p.2) ∙ sym p.1 ∙ h))
 
 pub returns-in_err-set_assigned-clause-elsewhere : goal.returns-in_err-set_assigned-clause-elsewhere
 returns-in_err-set_assigned-clause-elsewhere c = λ q h.

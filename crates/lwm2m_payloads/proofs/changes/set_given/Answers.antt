@@ -17,14 +17,15 @@ returns-in_ok-clear_resource-in-Replace-clause-full c = λ h.
     (sym c.in_ok-clear_resource-in-Replace.ensures.ok)
     ∙ c.put_parts.ensures.full h
 
-pub returns-in_ok-clear_resource-in-Replace-clause-grows : goal.returns-in_ok-clear_resource-in-Replace-clause-grows
-returns-in_ok-clear_resource-in-Replace-clause-grows c = λ h.
+pub returns-in_ok-clear_resource-in-Replace-clause-may_lack_memory :
+    goal.returns-in_ok-clear_resource-in-Replace-clause-may_lack_memory
+returns-in_ok-clear_resource-in-Replace-clause-may_lack_memory c = λ h.
     ap (λ m. gives_new m c.args.store.now c.args.path c.args.given) c.in-Replace.is
     ∙ ap (λ g. gives_new Replace c.args.store.now c.args.path g) c.in-Parts.is
     ∙ some_new c.args.store.now c.args.path c.in-Parts.parts
     (ap (λ s. gives_new Update s c.args.path (Parts c.in-Parts.parts))
     (sym c.in_ok-clear_resource-in-Replace.ensures.ok)
-    ∙ c.put_parts.ensures.grows h)
+    ∙ c.put_parts.ensures.may_lack_memory h)
 
 pub returns-in-Single-clause-elsewhere : goal.returns-in-Single-clause-elsewhere
 returns-in-Single-clause-elsewhere c =

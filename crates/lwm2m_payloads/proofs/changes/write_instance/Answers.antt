@@ -11,13 +11,14 @@ returns-in_ok-clear_lost-in-Replace-clause-absent c = λ h.
     ∙ ap (λ s. has_instance s c.args.place) (sym c.in_ok-clear_lost-in-Replace.ensures.ok)
     ∙ c.set_all.ensures.absent h
 
-pub returns-in_ok-clear_lost-in-Replace-clause-grows : goal.returns-in_ok-clear_lost-in-Replace-clause-grows
-returns-in_ok-clear_lost-in-Replace-clause-grows c = λ h.
+pub returns-in_ok-clear_lost-in-Replace-clause-may_lack_memory :
+    goal.returns-in_ok-clear_lost-in-Replace-clause-may_lack_memory
+returns-in_ok-clear_lost-in-Replace-clause-may_lack_memory c = λ h.
     ap (λ m. has_new m c.args.resources.now c.args.store.now c.args.place c.args.given) c.in-Replace.is
     ∙ sym (lost_new Replace c.args.resources.now c.args.store.now c.args.place c.args.given)
     ∙ ap (λ s. has_new Replace c.args.resources.now s c.args.place c.args.given)
     (sym c.in_ok-clear_lost-in-Replace.ensures.ok)
-    ∙ c.set_all.ensures.grows h
+    ∙ c.set_all.ensures.may_lack_memory h
 
 pub returns-in_ok-clear_lost-in-Replace-clause-elsewhere : goal.returns-in_ok-clear_lost-in-Replace-clause-elsewhere
 returns-in_ok-clear_lost-in-Replace-clause-elsewhere c = λ q h.

@@ -6,4 +6,4 @@ returns-clause-reading c = is_reading _ _ c.good_of.result c.good_of.ensures.fou
 
 pub returns-clause-bad : goal.returns-clause-bad
 returns-clause-bad c =
-    is_bad _ _ c.good_of.result c.good_of.ensures.found c.good_of.ensures.fixed c.good_of.ensures.memory
+    is_bad _ _ c.good_of.result c.good_of.ensures.found c.good_of.ensures.fixed c.good_of.ensures.may_lack_memory

@@ -15,8 +15,8 @@ returns-clause-listed c =
     (sym (entries-from_entries key_total key_exact c.args.numbers.now.entries
     c.into_iter-key-iterator.ensures.into_iter_gives.5))
 
-pub returns-in_err-push-clause-grows : goal.returns-in_err-push-clause-grows
-returns-in_err-push-clause-grows c =
+pub returns-in_err-push-clause-may_lack_memory : goal.returns-in_err-push-clause-may_lack_memory
+returns-in_err-push-clause-may_lack_memory c =
     on_error c.from_residual.result _
     (λ none. one_found c.loop-key.found.items (λ e. (path_of e.0, e.0.name, e.1))
     (λ e. e.0.server == c.args.server) c.loop-key.key-iterator

@@ -14,12 +14,13 @@ returns-in_err-add_query-clause-fault c =
     c.loop-query.query-index _ c.in_err-add_query.field-0.0 c.loop-query-test.true
     (c.in_err-add_query.ensures.fault other))
 
-pub returns-in_err-add_query-clause-grows : goal.returns-in_err-add_query-clause-grows
-returns-in_err-add_query-clause-grows c =
+pub returns-in_err-add_query-clause-may_lack_memory : goal.returns-in_err-add_query-clause-may_lack_memory
+returns-in_err-add_query-clause-may_lack_memory c =
     λ grew.
     first_spelled c.args.level c.args.queries.now c.loop-query.query-index _ c.loop-query.changes c.loop-query-test.true
     c.loop-query.invariant.1
-    (c.add_query.ensures.grows (same_fault c.from_residual.result c.add_query.result c.in_err-add_query.field-0.0 Memory
+    (c.add_query.ensures.may_lack_memory (same_fault c.from_residual.result c.add_query.result
+    c.in_err-add_query.field-0.0 Memory
     c.from_residual.ensures.1 c.in_err-add_query.was grew))
 
 pub loop-query-preserved : goal.loop-query-preserved

@@ -3,7 +3,7 @@ use Rattle.std.proofs.Common.{◌≡◌, ◌<◌, ◌∙◌, Err, true, ap, arit
 use Rattle.std.proofs.lemmas.List.Elements.{All-from_get_or}
 use Rattle.std.proofs.lemmas.Result.{on_err_weaker}
 use Rattle.device_requests.specs.Client.{has_account}
-use Rattle.device_machine.specs.Memory.{datagram_grows, message_grows}
+use Rattle.device_machine.specs.Memory.{datagram_takes_memory, message_takes_memory}
 use Rattle.device_machine.specs.Reactions.{Gives}
 use Rattle.device_machine.specs.Held.{Held}
 use Rattle.device_machine.proofs.Copying.{grows_taken, grows_wanting, ignored}
@@ -18,21 +18,21 @@ returns-then-is_ignored-clause-gives c =
     (sym c.is_ignored.ensures ∙ c.if-is_ignored.true)))
     (record { sent = c.none-then-is_ignored.ensures; then_flat = refl })
 
-pub returns-in-Ok-clause-grows : goal.returns-in-Ok-clause-grows
-returns-in-Ok-clause-grows c =
+pub returns-in-Ok-clause-may_lack_memory : goal.returns-in-Ok-clause-may_lack_memory
+returns-in-Ok-clause-may_lack_memory c =
     on_err_weaker c.take_owned.result
-    (λ g. all_true (has_account c.args.self.now.flat.kept.client c.args.server) (datagram_grows c.args.bytes.now)
+    (λ g. all_true (has_account c.args.self.now.flat.kept.client c.args.server) (datagram_takes_memory c.args.bytes.now)
     (ap (λ (h : Held). has_account h.flat.kept.client c.args.server) (sym c.self.view_is) ∙ sym c.has_account.ensures
     ∙ c.if-not-has_account.false)
     (grows_taken c.args.self.now.flat c.args.server c.args.bytes.now c.in-Ok.message c.in-Ok.ensures.found
     c.in-Ok.ensures.early
-    (subst (λ (h : Held). message_grows h.flat c.args.server c.in-Ok.message c.in-Ok.message.kind ≡ true)
+    (subst (λ (h : Held). message_takes_memory h.flat c.args.server c.in-Ok.message c.in-Ok.message.kind ≡ true)
     c.self.view_is g)))
-    c.take_owned.ensures.grows
+    c.take_owned.ensures.may_lack_memory
 
-pub returns-in-Err-Memory-clause-grows : goal.returns-in-Err-Memory-clause-grows
-returns-in-Err-Memory-clause-grows c =
-    all_true (has_account c.args.self.now.flat.kept.client c.args.server) (datagram_grows c.args.bytes.now)
+pub returns-in-Err-Memory-clause-may_lack_memory : goal.returns-in-Err-Memory-clause-may_lack_memory
+returns-in-Err-Memory-clause-may_lack_memory c =
+    all_true (has_account c.args.self.now.flat.kept.client c.args.server) (datagram_takes_memory c.args.bytes.now)
     (ap (λ (h : Held). has_account h.flat.kept.client c.args.server) (sym c.self.view_is) ∙ sym c.has_account.ensures
     ∙ c.if-not-has_account.false)
     (grows_wanting c.args.bytes.now (Err c.in-Err-Memory.field-0) c.in-Err-Memory.ensures.early

@@ -12,13 +12,13 @@ use Rattle.device_machine.specs.Records.{AllLive}
 use Rattle.device_machine.proofs.Lives.{kept_live}
 use Rattle.device_machine.proofs.machine.Machine.tick.Goals as goal
 
-pub returns-in_err-outputs-clause-grows : goal.returns-in_err-outputs-clause-grows
-returns-in_err-outputs-clause-grows c =
+pub returns-in_err-outputs-clause-may_lack_memory : goal.returns-in_err-outputs-clause-may_lack_memory
+returns-in_err-outputs-clause-may_lack_memory c =
     let os = c.self.inside.observations.list in
     on_error c.from_residual-in_err-outputs.result _
     (subst (λ (h : Held). does_act (sweep_in h.flat.kept c.args.count) h.flat.kept.observations ≡ true) c.self.view_is
     (acts_is (seconds c.self.inside.client c.self.inside.clock c.args.count c.self.inside.next_id os) os
-    (inl (λ none. c.in_err-outputs.ensures.grows
+    (inl (λ none. c.in_err-outputs.ensures.may_lack_memory
     (c.into_vec.ensures ∙ c.in_ok-seconds.ensures.done.sent
     ∙ ap (λ (box : Outbox). box.sent ++ (seconds c.self.inside.client c.self.inside.clock c.args.count box.next_id
     os).sent) c.new-outbox.ensures

@@ -8,13 +8,13 @@ use Rattle.device_requests.proofs.client.Client.write_attributes.Goals as goal
 
 pub returns-clause-begins : goal.returns-clause-begins
 returns-clause-begins c =
-    let catalogue = c.args.self.now.catalogue in
+    let catalog = c.args.self.now.catalog in
     let queries = queries_of c.args.options.now in
-    let given : changes_given catalogue c.args.path queries ≡ Some c.in-Some.changes =
-    ap (λ m. changes_given m.catalogue c.args.path queries) (sym c.self.view_is)
+    let given : changes_given catalog c.args.path queries ≡ Some c.in-Some.changes =
+    ap (λ m. changes_given m.catalog c.args.path queries) (sym c.self.view_is)
     ∙ sym c.in_ok-changes.ensures.read
     ∙ c.in-Some.is in
     of_error c.annotate.result _ _
-    (λ some. first_begins (level_at catalogue c.args.path) queries c.in-Some.changes given
+    (λ some. first_begins (level_at catalog c.args.path) queries c.in-Some.changes given
     (λ none. some (c.as_slice.ensures ∙ none)))
-    c.annotate.ensures.some
+    c.annotate.ensures.only_with_changes

@@ -29,11 +29,11 @@ returns-in-Some-clause-added c =
     (sym c.in-Some.ensures.value))
     ∙ ap (λ m. fin_map.get m (at_part c.args.resource c.args.part)) c.self.view_is))
 
-pub returns-in-Some-clause-grows : goal.returns-in-Some-clause-grows
-returns-in-Some-clause-grows c = λ h.
+pub returns-in-Some-clause-may_lack_memory : goal.returns-in-Some-clause-may_lack_memory
+returns-in-Some-clause-may_lack_memory c = λ h.
     ap (λ m. fin_map.get m (at_part c.args.resource c.args.part)) (sym c.self.view_is)
     ∙ get_some c.self.inside.resources c.args.resource c.args.part c.in-Some.held.now (sym c.in-Some.ensures.value)
-    ∙ c.put.ensures.grows h
+    ∙ c.put.ensures.may_lack_memory h
 
 pub returns-in-Some-clause-err : goal.returns-in-Some-clause-err
 returns-in-Some-clause-err c =
@@ -43,8 +43,8 @@ returns-in-Some-clause-err c =
     (sym c.in-Some.ensures.value))
     ∙ c.self.view_is)
 
-pub returns-in_err-held-in-None-clause-grows : goal.returns-in_err-held-in-None-clause-grows
-returns-in_err-held-in-None-clause-grows c = λ h.
+pub returns-in_err-held-in-None-clause-may_lack_memory : goal.returns-in_err-held-in-None-clause-may_lack_memory
+returns-in_err-held-in-None-clause-may_lack_memory c = λ h.
     ap (λ m. fin_map.get m (at_part c.args.resource c.args.part)) (sym c.self.view_is)
     ∙ get_none c.self.inside.resources c.args.resource c.args.part (sym c.in-None.ensures.value)
 
@@ -74,7 +74,7 @@ returns-in_ok-held-in-None-clause-added c =
     (sym c.in-None.ensures.value))
     ∙ ap (λ m. fin_map.get m (at_part c.args.resource c.args.part)) c.self.view_is))
 
-pub returns-in_ok-held-in-None-clause-grows : goal.returns-in_ok-held-in-None-clause-grows
-returns-in_ok-held-in-None-clause-grows c = λ h.
+pub returns-in_ok-held-in-None-clause-may_lack_memory : goal.returns-in_ok-held-in-None-clause-may_lack_memory
+returns-in_ok-held-in-None-clause-may_lack_memory c = λ h.
     ap (λ m. fin_map.get m (at_part c.args.resource c.args.part)) (sym c.self.view_is)
     ∙ get_none c.self.inside.resources c.args.resource c.args.part (sym c.in-None.ensures.value)

@@ -35,5 +35,5 @@ returns-in-Some-clause-added c =
     rw c.in-Some.is (if_ok_then c.insert.result _ _ c.insert.ensures.added (λ b e.
     e ∙ ap (λ o. not (is_some o)) (sym (there c))))
 
-pub returns-in-Some-clause-grows : goal.returns-in-Some-clause-grows
-returns-in-Some-clause-grows c = λ h. rw c.in-Some.is (there c ∙ c.insert.ensures.grows h)
+pub returns-in-Some-clause-may_lack_memory : goal.returns-in-Some-clause-may_lack_memory
+returns-in-Some-clause-may_lack_memory c = λ h. rw c.in-Some.is (there c ∙ c.insert.ensures.may_lack_memory h)

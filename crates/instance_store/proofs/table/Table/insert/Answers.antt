@@ -5,13 +5,13 @@ use Rattle.instance_store.specs.Table.{table_of}
 use Rattle.instance_store.proofs.TableLaws.{table-set, table-insert, IsTable-insert, none-table, some-table, index-ok}
 use Rattle.instance_store.proofs.table.Table.insert.Goals as goal
 
-pub returns-in_err-reserve-in-Err-clause-grows : goal.returns-in_err-reserve-in-Err-clause-grows
-returns-in_err-reserve-in-Err-clause-grows g c =
+pub returns-in_err-reserve-in-Err-clause-may_lack_memory : goal.returns-in_err-reserve-in-Err-clause-may_lack_memory
+returns-in_err-reserve-in-Err-clause-may_lack_memory g c =
     λ _. rw (← c.self.view_is) (none-table c.self.inside.numbers.items c.self.inside.items.items c.in-Err.index
     c.args.number c.self.invariant (rw c.deref.ensures.value at c.in-Err.ensures.position))
 
-pub returns-in_err-insert-in-Err-clause-grows : goal.returns-in_err-insert-in-Err-clause-grows
-returns-in_err-insert-in-Err-clause-grows g c =
+pub returns-in_err-insert-in-Err-clause-may_lack_memory : goal.returns-in_err-insert-in-Err-clause-may_lack_memory
+returns-in_err-insert-in-Err-clause-may_lack_memory g c =
     λ _. rw (← c.self.view_is) (none-table c.self.inside.numbers.items c.self.inside.items.items c.in-Err.index
     c.args.number c.self.invariant (rw c.deref.ensures.value at c.in-Err.ensures.position))
 

@@ -38,8 +38,8 @@ returns-then-len-ge-MOST-clause-full c =
     ) in
     (λ _. (absent, count), λ _. refl)
 
-pub returns-in_err-push-in-None-clause-grows : goal.returns-in_err-push-in-None-clause-grows
-returns-in_err-push-in-None-clause-grows c =
+pub returns-in_err-push-in-None-clause-may_lack_memory : goal.returns-in_err-push-in-None-clause-may_lack_memory
+returns-in_err-push-in-None-clause-may_lack_memory c =
     λ _. known (values_of c.self.inside.entries.entries) c.args.self.now.list c.args.server c.as_slice.result.now
     c.args.token c.place_of.result None (ap (λ (w : Watch). w.list) c.self.view_is) c.as_slice.ensures
     c.place_of.ensures c.in-None.is
@@ -83,8 +83,8 @@ returns-in_default-clause-number c =
     c.place_of.ensures c.in-None.is in
     sym (number_for-none c.args.self.now.list c.args.server c.args.token absent)
 
-pub returns-in-Err-clause-grows : goal.returns-in-Err-clause-grows
-returns-in-Err-clause-grows c =
+pub returns-in-Err-clause-may_lack_memory : goal.returns-in-Err-clause-may_lack_memory
+returns-in-Err-clause-may_lack_memory c =
     λ _. known (values_of c.self.inside.entries.entries) c.args.self.now.list c.args.server c.as_slice.result.now
     c.args.token c.place_of.result None (ap (λ (w : Watch). w.list) c.self.view_is) c.as_slice.ensures
     c.place_of.ensures c.in-None.is

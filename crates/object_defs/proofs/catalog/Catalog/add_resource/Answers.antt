@@ -1,5 +1,5 @@
 use Rattle.std.proofs.Common.{◌≡◌, sym, ap, ◌∙◌, None}
-use Rattle.object_defs.specs.Catalogue.{definition_of}
+use Rattle.object_defs.specs.Catalog.{definition_of}
 use Rattle.object_defs.specs.Order.{is_in_order}
 use Rattle.object_defs.specs.Vendor.{resource_fault, resource_fault_in}
 use Rattle.object_defs.proofs.Inserting.{stands, resource_put}

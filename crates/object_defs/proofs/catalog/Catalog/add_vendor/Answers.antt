@@ -1,6 +1,6 @@
 use Rattle.std.proofs.Common.{ap, sym, ◌∙◌, ltb, arith}
 use Rattle.std.specs.List.{insert, position_or_len}
-use Rattle.object_defs.specs.Catalogue.{object_of}
+use Rattle.object_defs.specs.Catalog.{object_of}
 use Rattle.object_defs.specs.Order.{is_in_order}
 use Rattle.object_defs.specs.Vendor.{new_object, with_object}
 use Rattle.object_defs.proofs.LookUps.{object_of-with_object_same, object_of-with_object_other}

@@ -1,7 +1,7 @@
 use Rattle.std.proofs.Common.{◌≡◌, cond, eqb, None, subst}
 use Rattle.std.specs.Option.{IfNone, IfSome}
 use Rattle.std.specs.List.{slice_get}
-use Rattle.object_defs.specs.Catalogue.{object_of}
+use Rattle.object_defs.specs.Catalog.{object_of}
 use Rattle.object_defs.proofs.Inserting.{placed}
 use Rattle.object_defs.proofs.catalog.Catalog.vendor_place.Goals as goal
 

@@ -1,6 +1,6 @@
 use Rattle.std.proofs.Common.{ap, ◌∙◌}
 use Rattle.std.proofs.lemmas.List.{get_or_default, take_all}
-use Rattle.device_template.specs.Template.{with_catalogue}
+use Rattle.device_template.specs.Template.{with_catalog}
 use Rattle.scenario_layout.specs.Growing.{with_definitions}
 use Rattle.scenario_layout.proofs.Defined.{free_at, made_on, found_more}
 use Rattle.scenario_layout.proofs.class.definitions.define.Goals as goal
@@ -27,5 +27,5 @@ loop-definition-preserved c = record {
 pub returns-clause-made : goal.returns-clause-made
 returns-clause-made c =
     c.loop-definition.invariant.made
-    ∙ ap (λ xs. with_catalogue c.args.template.now (with_definitions c.args.template.now.catalogue c.args.id xs))
+    ∙ ap (λ xs. with_catalog c.args.template.now (with_definitions c.args.template.now.catalog c.args.id xs))
     (take_all c.loop-definition.definition-index c.args.definitions.now c.loop-definition-test.false)

@@ -1,6 +1,6 @@
 use Rattle.std.proofs.Common.{◌≡◌, Some, take}
-use Rattle.object_defs.specs.Catalogue.{object_of}
-use Rattle.device_template.specs.Template.{with_catalogue}
+use Rattle.object_defs.specs.Catalog.{object_of}
+use Rattle.device_template.specs.Template.{with_catalog}
 use Rattle.scenario_layout.specs.Growing.{with_definitions}
 use Rattle.scenario_layout.specs.Class.{defined}
 use Rattle.scenario_layout.proofs.class.definitions.define.Given as goal
@@ -8,7 +8,7 @@ use Rattle.scenario_layout.proofs.class.definitions.define.Given as goal
 -- the object has the definitions before the index
 abbrev pub invariant-loop-definition : goal.invariant-loop-definition
 invariant-loop-definition l = record {
-  made : l.template ≡ with_catalogue l.fn.template
-      (with_definitions l.fn.template.catalogue l.id (take l.definition-index l.definitions));
-  found : object_of l.template.catalogue l.id ≡ Some (defined l.id (take l.definition-index l.definitions));
+  made : l.template ≡ with_catalog l.fn.template
+      (with_definitions l.fn.template.catalog l.id (take l.definition-index l.definitions));
+  found : object_of l.template.catalog l.id ≡ Some (defined l.id (take l.definition-index l.definitions));
 }

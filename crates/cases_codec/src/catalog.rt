@@ -11,7 +11,7 @@ use object_defs::{Catalog, CatalogFault, Ops, ResourceDef, decimal_number};
 pub fn answer(subject: &str, question: &mut Question<'_>, out: &mut Sheet) -> bool {
     match subject {
         "decimal" => decimal(question, out),
-        "catalogue" => catalogue(question, out),
+        "catalog" => steps(question, out),
         _ => return false,
     }
     true
@@ -23,8 +23,8 @@ fn decimal(question: &mut Question<'_>, out: &mut Sheet) {
     put_number_or_none(out, decimal_number(text.as_slice()));
 }
 
-/// `catalogue STEP; STEP; ..`: what a copy of the base catalogue answers to each of these in turn.
-fn catalogue(question: &mut Question<'_>, out: &mut Sheet) {
+/// `catalog STEP; STEP; ..`: what a copy of the base catalog answers to each of these in turn.
+fn steps(question: &mut Question<'_>, out: &mut Sheet) {
     match Catalog::base(out.alloc()) {
         Ok(base) => take_steps_of_copy(question, out, &base),
         Err(_) => out.cut(),
@@ -53,7 +53,7 @@ fn take_step(question: &mut Question<'_>, out: &mut Sheet, catalog: &mut Catalog
         "object" => object(question, out, catalog),
         "resource" => resource(question, out, catalog),
         "objects" => objects(question, out, catalog),
-        _ => question.refuse("not a step of a catalogue"),
+        _ => question.refuse("not a step of a catalog"),
     }
 }
 

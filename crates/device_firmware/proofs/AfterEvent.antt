@@ -18,7 +18,7 @@ use Rattle.device_firmware.specs.Firmware.{firmware_resource, firmware_after, ou
 use Rattle.device_firmware.specs.Firmware.{state_in}
 use Rattle.device_firmware.specs.Firmware.{uri_of, with_uri, with_outcome}
 use Rattle.device_firmware.specs.Firmware.{held, is_ready}
-use Rattle.device_firmware.specs.Laws.{uri_behind}
+use Rattle.device_firmware.specs.Laws.{uri_after}
 
 abbrev at : ℕ → FullPath
 at n = single_of (firmware_resource n)
@@ -47,7 +47,7 @@ uri-outcome s o =
     value_after (with_value s (at 3) (number (state_number o.state))) (at 5) (at 1) (number o.code)
     ∙ value_after s (at 3) (at 1) (number (state_number o.state))
 
-pub uri-uri : (s : Stored) (uri : Option (List ℕ)) → held (with_uri s uri) 1 ≡ uri_behind (held s 1) uri
+pub uri-uri : (s : Stored) (uri : Option (List ℕ)) → held (with_uri s uri) 1 ≡ uri_after (held s 1) uri
 uri-uri s None = refl
 uri-uri s (Some text) = value_after s (at 1) (at 1) (Text text)
 
