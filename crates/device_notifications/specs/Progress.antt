@@ -15,6 +15,7 @@ pub record Leaves (before : Outbox) (turn : Sweep) (left : List Observation) (af
 abbrev pub Acts : Sweep → List Observation → Type 0
 Acts turn os = (turn.sent ≢ []) ⊎ (length turn.left < length os)
 
+-- something is sent or removed, as a test
 abbrev pub does_act : Sweep → List Observation → Bool
 does_act turn os = nat_lt 0 (length turn.sent) || nat_lt (length turn.left) (length os)
 

@@ -15,6 +15,7 @@ use Rattle.device_template.specs.Template.{notify_fault, value_fault_at}
 abbrev pub IsShort : FullPath → Type 0
 IsShort p = (p.object < 65536) × (p.instance < 65536) × (p.resource < 65536) × IfSome p.part (λ n. n < 65536)
 
+-- a class that is made of the empty one by additions that it does not refuse
 pub data IsBuilt : Template → Type 0 where
   nothing : IsBuilt empty_class
   -- each addition is one that the class before it does not refuse; its numbers are of 16 bits, and its value is a good

@@ -54,6 +54,7 @@ with_notify class seconds = record class { notify = seconds }
 abbrev pub is_notify : ℕ → Bool
 is_notify seconds = seconds == 0 || (seconds == 2 || seconds == 3)
 
+-- why devices cannot notify by CONs with this first timeout; 0 stands for NONs
 abbrev pub notify_fault : ℕ → Option TemplateFault
 notify_fault seconds = first_line ((not (is_notify seconds), Range) ∷ [])
 

@@ -79,6 +79,7 @@ HasFields (Need group count) = group < 256
 
 -- ---- which scenarios are valid
 
+-- a step that a device of a class with these accounts may have
 pub record IsGoodStep (accounts : List ℕ) (step : Step) : Type 0 where
   pub fields : HasFields step
   pub range : is_in_range step ≡ true

@@ -36,6 +36,7 @@ module _ {T E S O : Type 0} where
     shares = [];
   }
 
+  -- it has seen that no ticket is left
   abbrev pub ended : View T E S O → View T E S O
   ended v = record v { end = true }
 

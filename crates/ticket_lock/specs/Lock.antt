@@ -66,6 +66,7 @@ module _ {T : Type 0} where
   Stands next serving value (Inside t x) = (serving ≡ 2 * t + 1) × (t < next) × (x ≡ value)
 
 module _ {T E S O : Type 0} where
+  -- the pass stands for this number, maybe with others
   abbrev pub HasNumber : View T E S O → ℕ → Type 0
   HasNumber v n = (v.low ≤ n) × (n < v.low + v.count)
 
