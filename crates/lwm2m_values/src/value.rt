@@ -56,7 +56,7 @@ impl Value {
             }
             Value::Flag(_) => true,
             Value::Link(object, instance) => {
-                let _known = (*object, *instance);
+                let (_object, _instance) = (*object, *instance);
                 true
             }
         }
