@@ -147,8 +147,8 @@ pub fn takes(store: &Store, event: &FirmwareEvent) -> bool
 }
 
 /// Applies an event, and returns whether it is in the table of what the device's State allows; one that is not changes
-/// nothing. An allocation can fail only for one that is (`taken`), and only if what it sets is not all held (`memory`),
-/// as before the first event: State and Update Result, and Package URI if that changes.
+/// nothing. An allocation can fail only for one that is (`taken`), and only if what it sets is not all held
+/// (`may_lack_memory`), as before the first event: State and Update Result, and Package URI if that changes.
 pub fn take(alloc: Global, store: &mut Store, event: FirmwareEvent) -> Result<bool, AllocError>
     ensures answer { IfOk result (λ taken. taken ≡ is_some (firmware_after store.old event)) }
     ensures change { OnOk result (store.new ≡ unwrap_or (firmware_after store.old event) store.old) }

@@ -13,4 +13,5 @@ pub mod Refusing
 pub mod Repeating
 mod Sending
 mod Settling
+mod Stopping
 mod Ticks

@@ -1,5 +1,5 @@
 -- Which events may take memory, and what is left of a device where there is none.
-use Rattle.std.specs.Prelude.{◌≡◌, ℕ, ◌+◌, ◌/◌, ◌%◌, ◌==◌, nat_le, Bool, true, false, not, ◌&&◌, ◌||◌}
+use Rattle.std.specs.Prelude.{◌≡◌, ◌≤◌, ◌⊎◌, ℕ, ◌+◌, ◌/◌, ◌%◌, ◌==◌, nat_le, Bool, true, false, not, ◌&&◌, ◌||◌}
 use Rattle.std.specs.Prelude.{List, [], ◌∷◌, length, drop, slice_index, Option, None, Some, is_none, is_some}
 use Rattle.std.specs.Option.{option_or, option_to_list}
 use Rattle.coap_codec.specs.declared.fault.CoapFault.{CoapFault}
@@ -9,17 +9,18 @@ use Rattle.coap_codec.specs.Fault.{header_fault, is_empty_message, place_fault, 
 use Rattle.coap_codec.specs.Message.{Message}
 use Rattle.device_firmware.specs.Firmware.{firmware_after, firmware_resource, is_ready}
 use Rattle.device_firmware.specs.declared.event.FirmwareEvent.TheVariants.{Ended}
-use Rattle.device_requests.specs.Client.{has_account}
+use Rattle.device_requests.specs.Client.{Client, has_account, with_stored}
 use Rattle.device_machine.specs.declared.event.Event.{Event}
 use Rattle.device_machine.specs.declared.event.Event.TheVariants.{Recv, Put, Firmware, Tick}
 use Rattle.device_machine.specs.declared.recorded.Recorded.{Recorded}
 use Rattle.device_notifications.specs.Progress.{does_act}
 use Rattle.device_notifications.specs.Reach.{is_one_reached}
-use Rattle.device_machine.specs.Reactions.{claims_confirmable, is_request, repeat_of, sweep_in}
+use Rattle.device_machine.specs.Reactions.{claims_confirmable, flat_after, is_request, repeat_of, sweep_in}
 use Rattle.device_machine.specs.State.{Machine, Kept, living, value_in}
 use Rattle.device_template.specs.Values.{misses}
 use Rattle.lwm2m_values.specs.Value.{holds_bytes, kind_of}
 use Rattle.lwm2m_values.specs.declared.value.Value.{Value}
+use Rattle.notifier.specs.declared.observation.Observation.{Observation}
 use Rattle.object_defs.specs.Numbers.{update_result, update_state}
 use Rattle.object_defs.specs.Path.{full_path, single_of}
 use Rattle.object_defs.specs.declared.path.FullPath.{FullPath}
@@ -101,6 +102,37 @@ pub record KeepsRecords (old new : Machine) : Type 0 where
   pub clock : new.kept.clock ≡ old.kept.clock
   pub next_id : new.kept.next_id ≡ old.kept.next_id
   pub recorded : new.recorded ≡ old.recorded
+
+-- values may have changed, and nothing else of what is managed, and no observation
+pub record ChangesValuesAlone (old new : Kept) : Type 0 where
+  pub client : new.client ≡ with_stored old.client new.client.store
+  pub observations : new.observations ≡ old.observations
+
+-- what is managed is this, and the observations are as before or these
+pub record IsManaged (old : Kept) (client : Client) (left : List Observation) (new : Kept) : Type 0 where
+  pub client_is : new.client ≡ client
+  pub observations : (new.observations ≡ old.observations) ⊎ (new.observations ≡ left)
+
+-- some of these seconds have passed for the observations, and nothing of what is managed has changed
+pub record HasPassed (old new : Kept) (count : ℕ) : Type 0 where
+  pub client : new.client ≡ old.client
+  pub passed : ℕ
+  pub within : passed ≤ count
+  pub observations : new.observations ≡ (sweep_in old passed).left
+
+-- a datagram is left off: some of the values that it asks for may be set, and nothing else is done; or all is done that
+-- is managed, and its observation is noted or not
+abbrev pub LeavesOff : Kept → Kept → Kept → Type 0
+LeavesOff old after new =
+    ChangesValuesAlone old new ⊎ IsManaged old after.client after.observations new
+
+-- what is left of a device where memory runs out in an event: of a datagram and of seconds a part is done, of all else
+-- nothing or all of it
+abbrev pub IsLeftBy : Machine → Event → Kept → Type 0
+IsLeftBy f (Recv server bytes) new = LeavesOff f.kept (flat_after f (Recv server bytes)).kept new
+IsLeftBy f (Put path value) new = (new ≡ f.kept) ⊎ (new ≡ (flat_after f (Put path value)).kept)
+IsLeftBy f (Firmware code) new = (new ≡ f.kept) ⊎ (new ≡ (flat_after f (Firmware code)).kept)
+IsLeftBy f (Tick count) new = HasPassed f.kept new count
 
 -- what a device keeps of a flat state after an event: a tick ends the life of requests, and those are forgotten
 abbrev pub remembered : Machine → Event → Machine

@@ -2,7 +2,7 @@ ghost use Rattle.std.specs.Prelude.{◌≡◌, ◌↔◌, [], IfOk, MatchOption,
 ghost use Rattle.std.specs.Option.{option_copied};
 ghost use Rattle.object_defs.specs.Path.{full_path};
 ghost use Rattle.device_machine.specs.Template.{start_of};
-ghost use Rattle.device_machine.specs.Memory.{KeepsRecords, event_takes_memory};
+ghost use Rattle.device_machine.specs.Memory.{IsLeftBy, KeepsRecords, event_takes_memory};
 ghost use Rattle.device_machine.specs.Held.{IsNextSending, IsSilent};
 ghost use Rattle.device_machine.specs.State.{Machine as FlatState, Shows, value_in};
 ghost use Rattle.device_machine.specs.Reactions.{outputs_of, flat_after, is_refused, passes_end};
@@ -108,10 +108,12 @@ impl Device {
     /// start: that the device may forget those past their lifetime is proved.
     ///
     /// `Memory` leaves the device spent, and nothing else does; its clock, its next message ID and its recorded
-    /// requests are as before (`left`). `Spent`: it was spent, or the tick would take its clock past 2^63 - 1; nothing
-    /// changes.
+    /// requests are as before (`left`). Its attributes, values and observations are as before the event or as after it;
+    /// but after a tick the observations are as some of its seconds leave them, and after a datagram some values alone
+    /// may be others, or the observations alone as before (`part`). `Spent`: it was spent, or the tick would take its
+    /// clock past 2^63 - 1; nothing changes.
     ///
-    /// No event ends a device for lack of memory that is (`grows`): a datagram of a server without an account, of
+    /// No event ends a device for lack of memory that is (`may_lack_memory`): a datagram of a server without an account, of
     /// another version or of fewer than four bytes; an acknowledgement or a Reset, whatever follows the header; a NON
     /// that is Empty or has a format error in its header or right after its token; seconds in which nothing is sent and
     /// no observation removed; a Put that does not fit, or one of an Integer, Time, Flag or Link over a value that is
@@ -130,6 +132,7 @@ impl Device {
         ensures may_lack_memory { result ≡ Err StepFault.Memory
             → IsTrue (event_takes_memory self.old.flat.kept event.now) }
         ensures left { result ≡ Err StepFault.Memory → KeepsRecords self.old.flat self.new.flat }
+        ensures part { result ≡ Err StepFault.Memory → IsLeftBy self.old.flat event.now self.new.flat.kept }
     {
         if self.spent || passes_end(self.machine.clock(), event) {
             return Err(StepFault::Spent);

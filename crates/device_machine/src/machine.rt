@@ -1,13 +1,13 @@
 //! All that a device keeps, and what it does on an event.
 
-ghost use Rattle.std.specs.Prelude.{◌≡◌, ◌+◌, ◌<◌, ◌^◌, [], true, false, None, Some, IfOk, OnErr, OnOk, IsFalse};
+ghost use Rattle.std.specs.Prelude.{◌≡◌, ◌⊎◌, ◌+◌, ◌<◌, ◌^◌, [], true, false, None, Some, IfOk, OnErr, OnOk, IsFalse};
 ghost use Rattle.std.specs.Prelude.{MatchOption};
 ghost use Rattle.instance_store.specs.Stored.{has_instance, value_at};
 ghost use Rattle.device_template.specs.Values.{instance_at, is_one_too_many, with_value_at};
 ghost use Rattle.device_requests.specs.Client.{with_stored};
 ghost use Rattle.object_defs.specs.Path.{full_path};
 ghost use Rattle.device_machine.specs.Template.{start_of};
-ghost use Rattle.device_machine.specs.Memory.{KeepsRecords, event_takes_memory, put_takes_memory};
+ghost use Rattle.device_machine.specs.Memory.{HasPassed, IsLeftBy, KeepsRecords, event_takes_memory, put_takes_memory};
 ghost use Rattle.device_machine.specs.declared.event.Event.TheVariants.{Firmware, Tick};
 ghost use Rattle.device_machine.specs.Reactions.{Gives, on_firmware, on_put, passes_end, sweep_in};
 ghost use Rattle.device_machine.specs.Records.{remembering};
@@ -24,7 +24,7 @@ use crate::event::Event;
 use crate::output::{Output, Outputs};
 use crate::records::Records;
 use coap_codec::Opt;
-use device_notifications::{Outbox, say_reached, seconds};
+use device_notifications::{say_reached, seconds};
 use device_requests::{Act, Client};
 use device_template::{Template, misses};
 use instance_store::{Store, StoreFault};
@@ -197,16 +197,16 @@ impl Machine {
         ensures may_lack_memory { OnErr result
             (does_act (sweep_in self.old.flat.kept count) self.old.flat.kept.observations ≡ true) }
         ensures left { OnErr result (KeepsRecords self.old.flat self.new.flat) }
+        ensures part { OnErr result (HasPassed self.old.flat.kept self.new.flat.kept count) }
     {
-        let mut outbox = Outbox::new(self.alloc, self.next_id);
         let observations = &mut self.observations;
-        seconds(
+        let outbox = seconds(
             self.alloc,
             &self.client,
             observations,
             self.clock,
             count,
-            &mut outbox,
+            self.next_id,
         )?;
         let next_id = outbox.next_id();
         let outputs = Outputs::of_datagrams(self.alloc, outbox.into_vec())?;
@@ -224,6 +224,8 @@ impl Machine {
         ensures up_to_date { OnOk result (IsUpToDate self.new) }
         ensures may_lack_memory { OnErr result (put_takes_memory self.old.flat.kept (full_path path) value.now ≡ true) }
         ensures left { OnErr result (KeepsRecords self.old.flat self.new.flat) }
+        ensures part { OnErr result ((self.new.flat.kept ≡ self.old.flat.kept)
+            ⊎ (self.new.flat.kept ≡ (on_put self.old.flat (full_path path) value.now).flat.kept)) }
     {
         let Some(full) = path.full() else {
             return Outputs::one(self.alloc, Output::Act(Act::Missed));
@@ -245,6 +247,9 @@ impl Machine {
         ensures up_to_date { OnOk result (IsUpToDate self.new) }
         ensures may_lack_memory { OnErr result (event_takes_memory self.old.flat.kept (Firmware code) ≡ true) }
         ensures left { OnErr result (KeepsRecords self.old.flat self.new.flat) }
+        ensures part { OnErr result ((self.new.flat.kept ≡ self.old.flat.kept)
+            ⊎ (self.new.flat.kept ≡ (on_firmware self.old.flat
+            (firmware_after self.old.flat.kept.client.store (Ended code))).flat.kept)) }
     {
         if self.client.end_firmware(code)? {
             say_reached(&self.client, &mut self.observations, &[STATE, RESULT])?;
@@ -262,6 +267,7 @@ impl Machine {
         ensures up_to_date { OnOk result (IsUpToDate self.new) }
         ensures may_lack_memory { OnErr result (event_takes_memory self.old.flat.kept event.now ≡ true) }
         ensures left { OnErr result (KeepsRecords self.old.flat self.new.flat) }
+        ensures part { OnErr result (IsLeftBy self.old.flat event.now self.new.flat.kept) }
     {
         match event {
             Event::Recv { server, bytes } => self.receive(*server, bytes.as_slice()),

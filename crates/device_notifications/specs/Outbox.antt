@@ -7,6 +7,10 @@ pub record Outbox : Type 0 where
   pub sent : List Datagram
   pub next_id : ℕ
 
+-- nothing is sent yet
+abbrev pub empty : ℕ → Outbox
+empty next_id = record { sent = []; next_id = next_id }
+
 -- the message ID after this one, modulo 65,536
 abbrev pub id_after : ℕ → ℕ
 id_after next_id = (next_id + 1) % 65536

@@ -1,5 +1,5 @@
-ghost use Rattle.std.specs.Prelude.{◌≡◌, [], OnErr, OnOk};
-ghost use Rattle.device_notifications.specs.Outbox.{posted, reposted};
+ghost use Rattle.std.specs.Prelude.{◌≡◌, OnErr, OnOk};
+ghost use Rattle.device_notifications.specs.Outbox.{empty, posted, reposted};
 
 use crate::datagram::Datagram;
 use std::alloc::{AllocError, Global};
@@ -22,8 +22,8 @@ impl Model for Outbox {
 
 impl Outbox {
     /// Nothing to send yet, and the device's next message ID.
-    pub fn new(alloc: Global, next_id: u16) -> Outbox
-        ensures { result ≡ record { sent = []; next_id = next_id } }
+    pub(crate) fn new(alloc: Global, next_id: u16) -> Outbox
+        ensures { result ≡ empty next_id }
     {
         Outbox {
             items: Vec::new(alloc),

@@ -1,7 +1,8 @@
 //! A second, and seconds: the observations have their turns, in their order, and the clock jumps over the seconds in
 //! which nothing is due.
 
-ghost use Rattle.std.specs.Prelude.{◌≡◌, ◌+◌, ◌<◌, ◌^◌, true, OnErr, OnOk};
+ghost use Rattle.std.specs.Prelude.{◌≡◌, ◌+◌, ◌<◌, ◌^◌, true, IfOk, OnErr, OnOk};
+ghost use Rattle.device_notifications.specs.Outbox.{empty};
 ghost use Rattle.device_notifications.specs.Outlooks.{IsKnown};
 ghost use Rattle.device_notifications.specs.Progress.{Leaves, StopsIn, does_act};
 ghost use Rattle.device_notifications.specs.Second.{second, seconds};
@@ -34,33 +35,34 @@ fn second(
 }
 
 /// What the observations do in n seconds, where the clock shows `clock` before the first of them: it goes up by one,
-/// then each has its turn. It is exactly which observations send, which datagrams, in which order, what is left of
-/// each, and the next message ID; nothing else changes. It takes memory only where something is sent or an observation
-/// is removed; where there is none, one of the seconds stops before it changes an observation, and those after it are
-/// still to come.
+/// then each has its turn. Returns what they send, the first message ID of which is `next_id`: exactly which
+/// observations send, which datagrams, in which order, what is left of each, and the next message ID. It takes memory
+/// only where something is sent or an observation is removed; where there is none, one of the seconds stops before it
+/// changes an observation, and those after it are still to come.
 pub fn seconds(
     alloc: Global,
     client: &Client,
     observations: &mut Observations,
     clock: u64,
     count: u32,
-    outbox: &mut Outbox,
-) -> Result<(), AllocError>
+    next_id: u16,
+) -> Result<Outbox, AllocError>
     requires fits { clock + count < 2 ^ 64 }
     requires known { IsKnown client.now observations.old }
-    ensures done { OnOk result (Leaves outbox.old
-        (seconds client.now clock count outbox.old.next_id observations.old.list) observations.new.list outbox.new) }
+    ensures done { IfOk result (λ outbox. Leaves (empty next_id)
+        (seconds client.now clock count next_id observations.old.list) observations.new.list outbox) }
     ensures known { IsKnown client.now observations.new }
     ensures may_lack_memory { OnErr result (does_act
-        (seconds client.now clock count outbox.old.next_id observations.old.list) observations.old.list ≡ true) }
-    ensures stops { OnErr result (StopsIn client.now clock count outbox.old.next_id observations.old.list
+        (seconds client.now clock count next_id observations.old.list) observations.old.list ≡ true) }
+    ensures stops { OnErr result (StopsIn client.now clock count next_id observations.old.list
         observations.new.list) }
 {
+    let mut outbox = Outbox::new(alloc, next_id);
     let end = clock + u64::from(count);
     let mut now = clock;
     while let Some(due) = due_within(observations, now, end) {
-        second(alloc, client, observations, due, outbox)?;
+        second(alloc, client, observations, due, &mut outbox)?;
         now = due;
     }
-    Ok(())
+    Ok(outbox)
 }

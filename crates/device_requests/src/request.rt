@@ -117,9 +117,9 @@ impl Client {
     ///
     /// No refusal of an option, a path, a method, a server, an operation that the target does not have or a format
     /// takes memory (`request`, `has`); those that may are listed by code, and of 4.05 only that of a firmware that
-    /// does not take a Package, a Package URI or an Update now (`grows`). If memory runs out, some of the values and
-    /// instances that it asks for may have changed, and nothing else (`left`); nothing at all in Create, Delete and
-    /// Write-Attributes.
+    /// does not take a Package, a Package URI or an Update now (`may_lack_memory`). If memory runs out, some of the
+    /// values and instances that it asks for may have changed, and nothing else (`left`); nothing at all in Create,
+    /// Delete and Write-Attributes.
     pub fn answer(&mut self, server: u16, message: &Message) -> Result<RequestResult, AllocError>
         ensures outcome { IfOk result (λ h. Leaves h.answer self.new (outcome_of self.old server message.now)) }
         ensures interest { IfOk result (λ h. h.interest ≡ interest_of message.now) }

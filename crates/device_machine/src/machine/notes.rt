@@ -4,7 +4,7 @@ ghost use Rattle.std.specs.Prelude.{◌≡◌, ◌≤◌, true, false, is_some, 
 ghost use Rattle.device_machine.specs.Observing.{Notes, begun, entered, lacks_place, noted_by, noted_read, replies_non};
 ghost use Rattle.device_machine.specs.Observing.{reply_mid};
 ghost use Rattle.device_machine.specs.Held.{IsUpToDate};
-ghost use Rattle.device_machine.specs.Memory.{KeepsRecords};
+ghost use Rattle.device_machine.specs.Memory.{IsManaged, KeepsRecords};
 ghost use Rattle.device_requests.specs.Answer.{is_content};
 ghost use Rattle.notifier.specs.Observed.{has_name};
 
@@ -121,6 +121,9 @@ impl Machine {
         ensures recorded { OnOk result (self.new.flat.recorded ≡ self.old.flat.recorded) }
         ensures up_to_date { OnOk result (IsUpToDate self.new) }
         ensures left { OnErr result (KeepsRecords self.old.flat self.new.flat) }
+        ensures part { OnErr result (IsManaged self.old.flat.kept self.old.flat.kept.client
+            (entered self.old.flat.kept.observations
+            (begun self.old.flat.kept server message.now path accept payload)).left self.new.flat.kept) }
     {
         let token = token_of(message)?;
         let report = report_of(&self.client, path, payload);
@@ -159,6 +162,8 @@ impl Machine {
         ensures up_to_date { OnOk result (IsUpToDate self.new) }
         ensures may_lack_memory { OnErr result (is_content answer.now ≡ true) }
         ensures left { OnErr result (KeepsRecords self.old.flat self.new.flat) }
+        ensures part { OnErr result (IsManaged self.old.flat.kept self.old.flat.kept.client
+            (noted_read self.old.flat.kept server message.now path accept answer.now).left self.new.flat.kept) }
     {
         if answer.is_content() {
             let payload = answer.payload.clone()?;
@@ -186,6 +191,8 @@ impl Machine {
         ensures content { OnErr result (is_content answer.now ≡ true) }
         ensures may_lack_memory { OnErr result (is_some interest ≡ true) }
         ensures left { OnErr result (KeepsRecords self.old.flat self.new.flat) }
+        ensures part { OnErr result (IsManaged self.old.flat.kept self.old.flat.kept.client
+            (noted_by self.old.flat.kept server message.now answer.now interest).left self.new.flat.kept) }
     {
         match interest {
             None => Ok(None),

@@ -6,7 +6,8 @@ ghost use Rattle.coap_codec.specs.Fault.{is_empty_message};
 ghost use Rattle.device_machine.specs.declared.event.Event.TheVariants.{Recv};
 ghost use Rattle.device_machine.specs.Reactions.{Gives, claims_confirmable, is_request, on_fresh, on_message, on_noise};
 ghost use Rattle.device_machine.specs.Reactions.{on_outcome, on_request, reaction_to, repeat_of, reply_to};
-ghost use Rattle.device_machine.specs.Memory.{KeepsRecords, event_takes_memory, is_ignored, message_takes_memory};
+ghost use Rattle.device_machine.specs.Memory.{KeepsRecords, LeavesOff, event_takes_memory, is_ignored};
+ghost use Rattle.device_machine.specs.Memory.{message_takes_memory};
 ghost use Rattle.device_machine.specs.Memory.{request_takes_memory};
 ghost use Rattle.device_machine.specs.Held.{IsUpToDate};
 ghost use Rattle.device_requests.specs.Answer.{is_change};
@@ -145,6 +146,8 @@ impl Machine {
             (outcome_of self.old.flat.kept.client server message.now))) }
         ensures up_to_date { OnOk result (IsUpToDate self.new) }
         ensures left { OnErr result (KeepsRecords self.old.flat self.new.flat) }
+        ensures part { OnErr result (LeavesOff self.old.flat.kept (on_outcome self.old.flat server message.now
+            (outcome_of self.old.flat.kept.client server message.now)).flat.kept self.new.flat.kept) }
     {
         let handled = self.client.answer(server, message)?;
         say_after(&self.client, &mut self.observations, handled.answer.code)?;
@@ -166,6 +169,8 @@ impl Machine {
             ≡ true) }
         ensures up_to_date { OnOk result (IsUpToDate self.new) }
         ensures left { OnErr result (KeepsRecords self.old.flat self.new.flat) }
+        ensures part { OnErr result (LeavesOff self.old.flat.kept (on_request self.old.flat server message.now
+            (repeat_of self.old.flat server message.now)).flat.kept self.new.flat.kept) }
     {
         match self.repeat_of(server, message) {
             Some(first) => again(self.alloc, server, message.kind(), &first.reply),
@@ -182,6 +187,8 @@ impl Machine {
             ≡ true) }
         ensures up_to_date { OnOk result (IsUpToDate self.new) }
         ensures left { OnErr result (KeepsRecords self.old.flat self.new.flat) }
+        ensures part { OnErr result (LeavesOff self.old.flat.kept (on_message self.old.flat server message.now
+            message.now.kind).flat.kept self.new.flat.kept) }
     {
         match message.kind() {
             Kind::Con => {
@@ -223,6 +230,8 @@ impl Machine {
         ensures may_lack_memory { OnErr result (message_takes_memory self.old.flat server message message.kind ≡ true) }
         ensures up_to_date { OnOk result (IsUpToDate self.new) }
         ensures left { OnErr result (KeepsRecords self.old.flat self.new.flat) }
+        ensures part { OnErr result (LeavesOff self.old.flat.kept (on_message self.old.flat server message
+            message.kind).flat.kept self.new.flat.kept) }
     {
         let outputs = self.take(server, &message)?;
         self.spare = message.into_spare();
@@ -254,6 +263,8 @@ impl Machine {
         ensures may_lack_memory { OnErr result (event_takes_memory self.old.flat.kept (Recv server bytes.now) ≡ true) }
         ensures up_to_date { OnOk result (IsUpToDate self.new) }
         ensures left { OnErr result (KeepsRecords self.old.flat self.new.flat) }
+        ensures part { OnErr result (LeavesOff self.old.flat.kept
+            (reaction_to self.old.flat (Recv server bytes.now)).flat.kept self.new.flat.kept) }
     {
         if !self.client.has_account(server) {
             return Ok(Outputs::none(self.alloc));

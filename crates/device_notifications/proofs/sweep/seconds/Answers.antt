@@ -1,13 +1,16 @@
-use Rattle.std.proofs.Common.{◌≤◌, ◌+◌, ap, arith, subst, sym}
+use Rattle.std.proofs.Common.{◌≤◌, ◌+◌, ◌-◌, ap, arith, subst, sym}
 use Rattle.notifier.specs.Said.{Watch}
 use Rattle.notifier.proofs.Answers.{on_error}
+use Rattle.device_notifications.specs.Outbox.{Outbox, empty}
 use Rattle.device_notifications.specs.Progress.{StopsIn}
-use Rattle.device_notifications.proofs.Jumps.{acts_in_all, finished, jumped, none_passed, stopped_at}
+use Rattle.device_notifications.proofs.Jumps.{HavePassed, acts_in_all, finished, jumped, none_passed, stopped_at}
 use Rattle.device_notifications.proofs.sweep.seconds.Goals as goal
 
 pub loop-due-init : goal.loop-due-init
 loop-due-init c = (
-  none_passed c.args.client.now c.args.clock _ c.args.observations.now.list c.args.outbox.now (omega arith),
+  subst (λ (box : Outbox). HavePassed c.args.client.now c.args.clock c.args.observations.now.list (empty c.args.next_id)
+      (c.args.clock - c.args.clock) c.args.observations.now.list box) (sym c.new-outbox.ensures)
+      (none_passed c.args.client.now c.args.clock _ c.args.observations.now.list (empty c.args.next_id) (omega arith)),
   c.requires.known,
   omega arith,
   omega arith,
@@ -20,7 +23,8 @@ loop-due-preserved c =
     let later = first.later in
     let within : c.in-Some.due ≤ c.args.clock + c.args.count = omega (arith, c.in-Some.ensures.1, c.from.ensures) in (
       jumped c.args.client.now c.args.clock c.args.count c.loop-due.now c.in-Some.due c.args.observations.now.list
-          c.loop-due.observations.list c.loop-due.observations.said c.second.new.observations.list c.args.outbox.now
+          c.loop-due.observations.list c.loop-due.observations.said c.second.new.observations.list
+          (empty c.args.next_id)
           c.loop-due.outbox c.second.new.outbox since within c.loop-due.invariant.1 first
           c.in_ok-second.ensures.done c.loop-due.invariant.0,
       c.in_ok-second.ensures.known,
@@ -35,25 +39,25 @@ pub returns-in_err-second-clause-stops : goal.returns-in_err-second-clause-stops
 returns-in_err-second-clause-stops c =
     let within : c.in-Some.due ≤ c.args.clock + c.args.count = omega (arith, c.in-Some.ensures.1, c.from.ensures) in
     on_error c.from_residual.result _
-    (subst (λ (w : Watch). StopsIn c.args.client.now c.args.clock c.args.count c.args.outbox.now.next_id
+    (subst (λ (w : Watch). StopsIn c.args.client.now c.args.clock c.args.count c.args.next_id
     c.args.observations.now.list w.list) (sym c.in_err-second.ensures.unchanged)
     (stopped_at c.args.client.now c.args.clock c.args.count c.loop-due.now c.in-Some.due c.args.observations.now.list
-    c.loop-due.observations.list c.loop-due.observations.said c.args.outbox.now c.loop-due.outbox
+    c.loop-due.observations.list c.loop-due.observations.said (empty c.args.next_id) c.loop-due.outbox
     c.loop-due.invariant.2 within c.loop-due.invariant.1 c.in-Some.ensures.0 c.loop-due.invariant.0))
 
 pub returns-in_err-second-clause-may_lack_memory : goal.returns-in_err-second-clause-may_lack_memory
 returns-in_err-second-clause-may_lack_memory c =
     let within : c.in-Some.due ≤ c.args.clock + c.args.count = omega (arith, c.in-Some.ensures.1, c.from.ensures) in
     on_error c.from_residual.result _
-    (acts_in_all c.args.client.now c.args.clock c.args.count c.args.outbox.now.next_id c.args.observations.now.list
+    (acts_in_all c.args.client.now c.args.clock c.args.count c.args.next_id c.args.observations.now.list
     c.loop-due.observations.list
     (stopped_at c.args.client.now c.args.clock c.args.count c.loop-due.now c.in-Some.due c.args.observations.now.list
-    c.loop-due.observations.list c.loop-due.observations.said c.args.outbox.now c.loop-due.outbox
+    c.loop-due.observations.list c.loop-due.observations.said (empty c.args.next_id) c.loop-due.outbox
     c.loop-due.invariant.2 within c.loop-due.invariant.1 c.in-Some.ensures.0 c.loop-due.invariant.0))
 
 pub returns-clause-done : goal.returns-clause-done
 returns-clause-done c =
     finished c.args.client.now c.args.clock c.args.count c.loop-due.now (c.args.clock + c.from.result)
-    c.args.observations.now.list c.loop-due.observations.list c.loop-due.observations.said c.args.outbox.now
+    c.args.observations.now.list c.loop-due.observations.list c.loop-due.observations.said (empty c.args.next_id)
     c.loop-due.outbox c.loop-due.invariant.2 c.loop-due.invariant.3 (ap (λ n. c.args.clock + n) c.from.ensures)
     c.loop-due.invariant.1 c.in_default.ensures c.loop-due.invariant.0

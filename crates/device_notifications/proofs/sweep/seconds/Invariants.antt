@@ -1,12 +1,13 @@
 -- The seconds up to this one have passed, and what was said of each observation is so.
 use Rattle.std.proofs.Common.{◌+◌, ◌-◌, ◌≤◌}
 use Rattle.device_notifications.specs.Outlooks.{IsKnown}
+use Rattle.device_notifications.specs.Outbox.{empty}
 use Rattle.device_notifications.proofs.Jumps.{HavePassed}
 use Rattle.device_notifications.proofs.sweep.seconds.Given as goal
 
 abbrev pub invariant-loop-due : goal.invariant-loop-due
 invariant-loop-due l =
-    HavePassed l.fn.client l.fn.clock l.fn.observations.list l.fn.outbox (l.now - l.fn.clock) l.observations.list
+    HavePassed l.fn.client l.fn.clock l.fn.observations.list (empty l.fn.next_id) (l.now - l.fn.clock) l.observations.list
     l.outbox
     × IsKnown l.fn.client l.observations
     × (l.fn.clock ≤ l.now)

@@ -1,10 +1,13 @@
 -- The device's own requests and those of the flat state are alike: the same ones live. What lies in the device's place
 -- is what the device keeps.
-use Rattle.std.proofs.Common.{refl, ap, ◌∙◌}
+use Rattle.std.proofs.Common.{refl, ap, subst, ◌∙◌}
 use Rattle.device_machine.specs.Held.{Held}
+use Rattle.device_machine.specs.Memory.{IsLeftBy}
 use Rattle.device_machine.specs.Reactions.{flat_after}
+use Rattle.device_machine.specs.State.{Machine as FlatState}
 use Rattle.device_machine.specs.State.{living}
 use Rattle.device_machine.proofs.Living.{alike, living_remembered}
+use Rattle.device_machine.proofs.Stopping.{left_by_living}
 use Rattle.device_machine.proofs.device.Device.step.Goals as goal
 
 pub returns-clause-outputs : goal.returns-clause-outputs
@@ -24,3 +27,10 @@ returns-clause-shows c =
           (ap (λ (h : Held). living h.flat) c.deref_mut.ensures.value ∙ (ap (λ s. s.flat) c.self.view_is ∙ shows.holds))
           c.args.event.now).living_then);
     }
+
+pub returns-in_err-outputs-clause-part : goal.returns-in_err-outputs-clause-part
+returns-in_err-outputs-clause-part c =
+    λ memory. subst (λ (f : FlatState). IsLeftBy f c.args.event.now c.react.new.self.flat.kept)
+    (ap (λ (h : Held). living h.flat) c.deref_mut.ensures.value ∙ ap (λ s. s.flat) c.self.view_is)
+    (left_by_living c.deref_mut.result.now.flat c.args.event.now c.react.new.self.flat.kept
+    c.in_err-outputs.ensures.part)

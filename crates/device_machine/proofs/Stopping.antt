@@ -1,0 +1,60 @@
+-- What is left of a device where memory runs out in an event.
+use Rattle.std.proofs.Common.{◌≡◌, ℕ, Bool, Option, refl, sym, ap, subst, ◌∙◌, ◌⊎◌, inl, inr}
+use Rattle.coap_codec.specs.Message.{Message}
+use Rattle.device_requests.specs.Answer.{Leaves}
+use Rattle.device_requests.specs.Client.{Client}
+use Rattle.device_requests.specs.Observe.{interest_of}
+use Rattle.device_requests.specs.Request.{outcome_of}
+use Rattle.device_requests.specs.declared.answer.Answer.{Answer}
+use Rattle.device_requests.specs.declared.observe.Interest.{Interest}
+use Rattle.device_machine.specs.Memory.{IsLeftBy, IsManaged, LeavesOff}
+use Rattle.device_machine.specs.Observing.{noted, noted_by}
+use Rattle.device_machine.specs.Reactions.{flat_after, on_outcome, reply_to}
+use Rattle.device_machine.specs.State.{Kept, Machine, is_live, living, with_client, with_observations}
+use Rattle.device_machine.specs.declared.event.Event.{Event}
+use Rattle.device_machine.specs.declared.event.Event.TheVariants.{Recv, Put, Firmware, Tick}
+use Rattle.device_machine.specs.declared.recorded.Recorded.{Recorded}
+use Rattle.device_machine.proofs.Living.{alike, filter-filter}
+use Rattle.device_machine.proofs.Refusing.{observations_after}
+use Rattle.device_machine.proofs.Repeating.{client_after}
+
+-- one of two, the second of which is another
+pub or_else : {X : Type 0} (a b c d : X) → (a ≡ b) ⊎ (a ≡ c) → c ≡ d → (a ≡ b) ⊎ (a ≡ d)
+or_else a b c d (inl h) e = inl h
+or_else a b c d (inr h) e = inr (h ∙ e)
+
+-- what is managed and noted of a request that is no repeat, before it is recorded
+pub left_off : (f : Machine) (server : ℕ) (m : Message) (client : Client) (answer : Answer) (interest : Option Interest)
+    (new : Kept) → Leaves answer client (outcome_of f.kept.client server m) → interest ≡ interest_of m
+    → IsManaged f.kept client (noted_by (with_client f.kept client) server m answer interest).left new
+    → LeavesOff f.kept (on_outcome f server m (outcome_of f.kept.client server m)).flat.kept new
+left_off f server m client answer interest new leaves asks h =
+    let outcome = outcome_of f.kept.client server m in
+    let told = noted (with_client f.kept outcome.client) server m outcome.answer in
+    let kept = with_observations (with_client f.kept outcome.client) told.left in
+    let reply = reply_to f.kept.next_id m m.kind told.number outcome.answer in
+    let same : (noted_by (with_client f.kept client) server m answer interest).left ≡ told.left =
+    λ i. (noted_by (with_client f.kept (leaves.then_client i)) server m (leaves.says i) (asks i)).left in
+    inr (record {
+      client_is = h.client_is ∙ leaves.then_client ∙ sym (client_after kept m.kind reply);
+      observations = or_else _ _ _ _ h.observations (same ∙ sym (observations_after kept m.kind reply));
+    })
+
+-- those that live, of those that live
+twice : (f : Machine) → living f ≡ living (living f)
+twice f =
+    let lives : Recorded → Bool = λ r. is_live f.kept.clock r in
+    λ j. record { kept = f.kept; recorded = sym (filter-filter lives lives (λ r h. h) f.recorded) j }
+
+-- what is kept after an event does not depend on the requests that no longer live
+kept_then : (f : Machine) (event : Event) → (flat_after f event).kept ≡ (flat_after (living f) event).kept
+kept_then f event = ap (λ (s : Machine). s.kept) (alike f (living f) (twice f) event).living_then
+
+pub left_by_living : (f : Machine) (event : Event) (new : Kept) → IsLeftBy f event new → IsLeftBy (living f) event new
+left_by_living f (Recv server bytes) new h =
+    subst (λ (k : Kept). LeavesOff f.kept k new) (kept_then f (Recv server bytes)) h
+left_by_living f (Put path value) new h =
+    subst (λ (k : Kept). (new ≡ f.kept) ⊎ (new ≡ k)) (kept_then f (Put path value)) h
+left_by_living f (Firmware code) new h =
+    subst (λ (k : Kept). (new ≡ f.kept) ⊎ (new ≡ k)) (kept_then f (Firmware code)) h
+left_by_living f (Tick count) new h = h
