@@ -1,6 +1,7 @@
 ghost use Rattle.std.specs.Prelude.{◌≡◌, ◌↔◌, [], IfOk, MatchOption, OnOk, IsTrue, Ok, Err};
 ghost use Rattle.std.specs.Option.{option_copied};
 ghost use Rattle.object_defs.specs.Path.{full_path};
+ghost use Rattle.device_notifications.specs.Outlooks.{outlooks_of};
 ghost use Rattle.device_machine.specs.Template.{start_of};
 ghost use Rattle.device_machine.specs.Memory.{IsLeftBy, KeepsRecords, event_takes_memory};
 ghost use Rattle.device_machine.specs.Held.{IsNextSending, IsSilent};
@@ -151,10 +152,12 @@ impl Device {
         self.machine.attributes()
     }
 
-    /// The observations, in the order of registration; a spent device gives those that it was
-    /// left with.
+    /// The observations, in the order of registration, with what their present answers are, and their periods; a
+    /// spent device gives the observations that it was left with.
     pub fn observations(&self) -> &Observations
         ensures shown { (f : FlatState) → Shows self.now f → result.now.list ≡ f.kept.observations }
+        ensures said { (f : FlatState) → Shows self.now f
+            → result.now.said ≡ outlooks_of f.kept.client f.kept.observations }
         ensures left { result.now.list ≡ self.now.flat.kept.observations }
     {
         self.machine.observations()

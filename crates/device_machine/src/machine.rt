@@ -161,7 +161,8 @@ impl Machine {
 
     /// The observations.
     pub(crate) fn observations(&self) -> &Observations
-        ensures { result.now.list ≡ self.now.flat.kept.observations }
+        ensures list { result.now.list ≡ self.now.flat.kept.observations }
+        ensures said { result.now.said ≡ self.now.said }
     {
         &self.observations
     }
