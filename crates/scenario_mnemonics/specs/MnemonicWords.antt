@@ -178,7 +178,7 @@ action_at verb.Exec ws = payload_at ws >>= (λ b. Ok (act.Exec b))
 abbrev pub said : Head → Action → ℕ × Mnemonic
 said h a = (
   h.server,
-  mnemonic.Request (record h { action = a }),
+  mnemonic.Request (record { kind = h.kind; mid = h.mid; token = h.token; path = h.path; action = a }),
 )
 
 -- the words after a keyword: a server, and the mnemonic that it sends
