@@ -26,6 +26,9 @@ MARK = re.compile(r" ?\[([a-z0-9]+(?:-[a-z0-9]+)+(?: [a-z0-9]+(?:-[a-z0-9]+)+)*)
 # A program that uses threads prints a line for each thing that it tries; a rule names the line in `shown_by`.
 USES = {"lock": "crates/ticket_lock_uses/stdout", "workers": "crates/fleet_workers_uses/stdout"}
 
+# A wrong body carries an id in a line that its readers pass over.
+RULE = "# rule: "
+
 NAMES = {"id", "sentence", "standard", "page", "definition", "code"}
 MORE = {"number", "shown_by", "not_shown", "no_case", "no_wrong_body"}
 
@@ -189,9 +192,9 @@ def wrong_bodies():
     for folder in ("wrong-bodies", "must-fail"):
         for file in sorted(ROOT.glob(f"crates/*/{folder}/*.edit")):
             lines = read(file).splitlines()
-            ids = [(number, line) for number, line in enumerate(lines, 1) if line.startswith("rule: ")]
+            ids = [(number, line) for number, line in enumerate(lines, 1) if line.startswith(RULE)]
             if ids:
-                names = [name for _, line in ids for name in line[len("rule: ") :].split()]
+                names = [name for _, line in ids for name in line[len(RULE) :].split()]
                 yield WrongBody(file, ids[0][0], changed(tool, file, lines)), names
 
 
