@@ -1,6 +1,6 @@
 -- What a command came to, put together from its parts.
-use Rattle.std.proofs.Common.{◌≡◌, ◌⊎◌, ◌≤◌, ◌+◌, ℕ, List, Option, None, Some, Result, Ok, Err, IfErr, IfOk, OnOk}
-use Rattle.std.proofs.Common.{inl, inr, sym, subst, arith}
+use Rattle.std.proofs.Common.{ℕ, ◌≡◌, ◌⊎◌, List, Option, None, Some, Result, Ok, Err, IfErr, IfOk, OnErr, OnOk}
+use Rattle.std.proofs.Common.{inl, inr, sym, subst, arith, ◌∙◌}
 use Rattle.std.specs.Io.KnownBytes.{Appends}
 use Rattle.std.specs.String.{string_bytes}
 use Rattle.command_line.specs.Words.{IsReadAs}
@@ -9,20 +9,28 @@ use Rattle.command_line.specs.declared.words.Asked.TheVariants as asked
 use Rattle.command_line.specs.declared.words.Job.{Job}
 use Rattle.command_line.specs.declared.words.Job.TheVariants as jobs
 use Rattle.command_line.specs.declared.words.Live.{Live}
-use Rattle.bench_commands.specs.Answers.{IsUndelivered, files_of}
-use Rattle.bench_commands.specs.Command.{Ends, IsAnswerTo, IsAnswered, IsCutJob, IsDebugCut, IsDebugged, IsDebuggedJob}
+use Rattle.command_files.specs.Answers.{IsUndelivered, files_of}
+use Rattle.bench_commands.specs.Command.{Ends, IsAnswerTo, IsCutJob, IsDebugCut, IsDebugged, IsDebuggedJob}
 use Rattle.bench_commands.specs.Command.{IsFinished, IsRefused, IsUnfinished}
-use Rattle.bench_commands.specs.Files.{Grows, most_bytes}
-use Rattle.bench_commands.specs.Input.{IsWithin, WhereKnown}
-use Rattle.bench_commands.specs.Live.{IsLiveDone, IsLiveFault}
-use Rattle.bench_commands.specs.Refusals.{IsTold}
-use Rattle.bench_commands.specs.World.{FilesKnown, IsAside, IsIdle, StreamFaults, Streams, World}
-use Rattle.bench_commands.specs.declared.answer.Answer.{Answer}
-use Rattle.bench_commands.specs.declared.fault.Fault.{Fault}
-use Rattle.bench_commands.specs.declared.fault.Fault.TheVariants.{Memory}
-use Rattle.bench_commands.specs.declared.refusal.Refusal.{Refusal}
-use Rattle.bench_commands.specs.declared.status.Status.{Status}
-use Rattle.bench_commands.specs.declared.status.Status.TheVariants as ends
+use Rattle.command_files.specs.Files.{Grows, most_bytes}
+use Rattle.command_files.specs.Input.{IsWithin, WhereKnown}
+use Rattle.command_live.specs.Live.{IsLiveDone, IsLiveFault}
+use Rattle.command_files.specs.Refusals.{IsTold}
+use Rattle.command_files.specs.World.{FilesKnown, IsAside, IsIdle, StreamFaults, Streams, World}
+use Rattle.command_files.specs.declared.answer.Answer.{Answer}
+use Rattle.command_files.specs.declared.fault.Fault.{Fault}
+use Rattle.command_files.specs.declared.fault.Fault.TheVariants.{Memory}
+use Rattle.command_files.specs.declared.refusal.Refusal.{Refusal}
+use Rattle.command_files.specs.declared.status.Status.{Status}
+use Rattle.command_files.specs.declared.status.Status.TheVariants as ends
+
+-- ---- what is known of a call that has neither an input nor standard error
+
+abbrev pub aside_faults : StreamFaults → StreamFaults
+aside_faults faults = record { input_fails = ⊥; output_refuses = faults.output_refuses; errors_refuse = λ _. ⊥ }
+
+abbrev pub aside_streams : Option (List ℕ) → Streams
+aside_streams output = record { input = None; output = output; errors = None }
 
 -- ---- done
 
@@ -61,24 +69,87 @@ conversed_so files faults before after words asked status read debugged ended no
     inr (record { asked = asked; read = read; debugged = debugged; ended = ended }, none)
 
 -- a session was concluded
-pub lived : (files : FilesKnown) (faults : StreamFaults) (before after : World) (words : List (List ℕ)) (live : Live)
+lived : (files : FilesKnown) (faults : StreamFaults) (before after : World) (words : List (List ℕ)) (live : Live)
     (status : Status) → IsReadAs words (asked.Live live)
-    → IsLiveDone files.holds before.made after.made before.streams.output after.streams.output live
+    → IsLiveDone files (record { made = before.made; streams = aside_streams before.streams.output })
+    (record { made = after.made; streams = aside_streams after.streams.output }) live
     → status ≡ ends.Done → IsAside before.streams after.streams → IsFinished files faults before after words status
 lived files faults before after words live status read done ended aside =
-    inl (inr (record { live = live; read = read; done = done; ended = ended }), aside)
+    inl (
+      inr (record {
+        live = live;
+        read = read;
+        done = record {
+          class = done.class;
+          session = done.session;
+          ran = done.ran;
+          between = done.between;
+          none_made = done.none_made;
+          shown = done.shown;
+          concluded = record { printed = done.concluded.printed; saved = done.concluded.saved };
+        };
+        ended = ended;
+      }),
+      aside,
+    )
+
+-- the same of a session that may have been lost
+pub lived_if : {E : Type 0}
+    → (files : FilesKnown) (faults : StreamFaults) (before after : World) (words : List (List ℕ)) (live : Live)
+    (result : Result Status E) → IsReadAs words (asked.Live live)
+    → OnOk result (IsLiveDone files (record { made = before.made; streams = aside_streams before.streams.output })
+    (record { made = after.made; streams = aside_streams after.streams.output }) live)
+    → IfOk result (λ status. status ≡ ends.Done) → IsAside before.streams after.streams
+    → IfOk result (IsFinished files faults before after words)
+lived_if files faults before after words live (Ok status) read done ended aside =
+    lived files faults before after words live status read done ended aside
+lived_if files faults before after words live (Err e) read done ended aside = tt
 
 -- ---- not done
 
 -- a session was not concluded
-pub live_lost : (files : FilesKnown) (faults : StreamFaults) (before after : World) (words : List (List ℕ))
+live_lost : (files : FilesKnown) (faults : StreamFaults) (before after : World) (words : List (List ℕ))
     (live : Live) (fault : Fault) → IsReadAs words (asked.Live live)
-    → IsLiveFault files.holds files.fails files.refuses faults.output_refuses before.streams.output
-    after.streams.output live fault
+    → IsLiveFault files (aside_faults faults) (aside_streams before.streams.output)
+    (aside_streams after.streams.output) live fault
     → IsAside before.streams after.streams → after.made ≡ before.made
     → IsUnfinished files faults before after words fault
 live_lost files faults before after words live fault read lost aside none =
-    inr (inr (record { live = live; read = read; lost = lost }, aside), none)
+    inr (inr (record { live = live; read = read; lost = so lost }, aside), none)
+  where
+    so : IsLiveFault files (aside_faults faults) (aside_streams before.streams.output)
+        (aside_streams after.streams.output) live fault
+        → IsLiveFault files faults before.streams after.streams live fault
+    so (inl none) = inl (record { why = none.why; silent = none.silent })
+    so (inr (inl cut)) =
+        inr (inl (record {
+          scenario = cut.scenario;
+          found = cut.found;
+          class = cut.class;
+          row = cut.row;
+          why = cut.why;
+          shown = cut.shown;
+        }))
+    so (inr (inr lost)) =
+        inr (inr (record {
+          class = lost.class;
+          session = lost.session;
+          ran = lost.ran;
+          between = lost.between;
+          shown = lost.shown;
+          why = lost.why;
+        }))
+
+-- the same of a session that may have been concluded
+pub live_lost_if : (files : FilesKnown) (faults : StreamFaults) (before after : World) (words : List (List ℕ))
+    (live : Live) (result : Result Status Refusal) → IsReadAs words (asked.Live live)
+    → IfErr result (λ r. IsLiveFault files (aside_faults faults) (aside_streams before.streams.output)
+    (aside_streams after.streams.output) live r.fault)
+    → IsAside before.streams after.streams → OnErr result (after.made ≡ before.made)
+    → IfErr result (λ r. IsUnfinished files faults before after words r.fault)
+live_lost_if files faults before after words live (Ok status) read lost aside none = tt
+live_lost_if files faults before after words live (Err r) read lost aside none =
+    live_lost files faults before after words live r.fault read lost aside none
 
 pub no_memory : (files : FilesKnown) (faults : StreamFaults) (before after : World) (words : List (List ℕ))
     (fault : Fault) → fault ≡ Memory → after.made ≡ before.made → IsIdle before.streams after.streams
@@ -103,23 +174,22 @@ pub undelivered_if : (files : FilesKnown) (faults : StreamFaults) (before after 
     → IsReadAs words asked
     → IsAnswerTo files.holds asked answer.status (string_bytes answer.text) (files_of answer.file)
     → IsAside before.streams after.streams → between ≡ before.streams.output
-    → IfErr delivered (λ r. IsUndelivered files.refuses before.made after.made faults.output_refuses between
-    after.streams.output answer r.fault)
+    → IfErr delivered (λ r. IsUndelivered files (aside_faults faults)
+    (record { made = before.made; streams = aside_streams between })
+    (record { made = after.made; streams = aside_streams after.streams.output }) answer r.fault)
     → IfErr delivered (λ r. IsUnfinished files faults before after words r.fault)
 undelivered_if files faults before after between words asked answer (Ok status) read right aside silent lost = tt
 undelivered_if files faults before after between words asked answer (Err r) read right aside silent lost =
     inl (
-      inr (record {
-        asked = asked;
-        read = read;
-        answer = answer;
-        right = right;
-        undelivered =
-            subst (λ t. IsUndelivered files.refuses before.made after.made faults.output_refuses t after.streams.output
-            answer r.fault) silent lost;
-      }),
+      inr (record { asked = asked; read = read; answer = answer; right = right; undelivered = so lost }),
       aside,
     )
+  where
+    so : IsUndelivered files (aside_faults faults) (record { made = before.made; streams = aside_streams between })
+        (record { made = after.made; streams = aside_streams after.streams.output }) answer r.fault
+        → IsUndelivered files faults before after answer r.fault
+    so (inl none) = inl (record { failed = none.failed; none = none.none; silent = none.silent ∙ silent })
+    so (inr unprinted) = inr (record { failed = unprinted.failed; made = unprinted.made })
 
 -- ---- what was read
 
@@ -181,8 +251,10 @@ finished files faults before after words status done = record { ended = inl done
 pub faulted : (files : FilesKnown) (faults : StreamFaults) (before between after : World) (about : Option (List ℕ))
     (words : List (List ℕ)) (fault : Fault) (status : Status) → status ≡ ends.Fault
     → IsUnfinished files faults before between words fault
-    → IsTold faults.output_refuses between.streams.output after.streams.output faults.errors_refuse
-    between.streams.errors after.streams.errors about fault
+    → IsTold
+    (record { input_fails = ⊥; output_refuses = faults.output_refuses; errors_refuse = faults.errors_refuse })
+    (record { input = None; output = between.streams.output; errors = between.streams.errors })
+    (record { input = None; output = after.streams.output; errors = after.streams.errors }) about fault
     → after.made ≡ between.made → after.streams.input ≡ between.streams.input
     → Ends files faults before after words status
 faulted files faults before between after about words fault status ended undone told none_made none_read =

@@ -1,5 +1,5 @@
 -- What a command comes to: the words were answered, or refused, and the status says which.
-use Rattle.std.specs.Prelude.{◌≡◌, ℕ, ◌⊎◌, List, [], Option, option_map}
+use Rattle.std.specs.Prelude.{ℕ, ◌≡◌, ◌⊎◌, List, [], Option, option_map}
 use Rattle.std.specs.Io.KnownBytes.{Appends}
 use Rattle.std.specs.String.{string_bytes}
 use Rattle.command_line.specs.Words.{IsReadAs}
@@ -8,23 +8,25 @@ use Rattle.command_line.specs.declared.words.Asked.TheVariants as asked
 use Rattle.command_line.specs.declared.words.Job.{Job}
 use Rattle.command_line.specs.declared.words.Job.TheVariants as jobs
 use Rattle.command_line.specs.declared.words.Live.{Live}
-use Rattle.bench_commands.specs.Answers.{IsUndelivered, files_of}
-use Rattle.bench_commands.specs.Debugging.{IsDebugCutAt, IsDebuggedAt}
-use Rattle.bench_commands.specs.Files.{Grows, Made, most_bytes}
-use Rattle.bench_commands.specs.Input.{IsWithin, WhereKnown}
-use Rattle.bench_commands.specs.Jobs.{IsAsmDone, IsCheckDone, IsCheckRefused, IsDebugRefused, IsDisDone, IsImageFault}
-use Rattle.bench_commands.specs.Jobs.{IsOneDone, IsOneFault, IsRunDone, IsRunRefused}
-use Rattle.bench_commands.specs.Live.{IsLiveDone, IsLiveFault}
-use Rattle.bench_commands.specs.Refusals.{IsTold}
-use Rattle.bench_commands.specs.Status.{text_status}
-use Rattle.bench_commands.specs.Texts.{IsTextFault}
-use Rattle.bench_commands.specs.Traces.{IsPcapDone, IsPcapRefused, IsShowDone, IsShowRefused}
-use Rattle.bench_commands.specs.World.{FilesKnown, IsAside, StreamFaults, Streams, World}
-use Rattle.bench_commands.specs.declared.answer.Answer.{Answer}
-use Rattle.bench_commands.specs.declared.fault.Fault.{Fault}
-use Rattle.bench_commands.specs.declared.fault.Fault.TheVariants.{Memory}
-use Rattle.bench_commands.specs.declared.status.Status.{Status}
-use Rattle.bench_commands.specs.declared.status.Status.TheVariants as ends
+use Rattle.command_files.specs.Answers.{IsUndelivered, files_of}
+use Rattle.command_debug.specs.Debugging.{IsDebugCutAt, IsDebuggedAt, IsDebugRefused}
+use Rattle.command_files.specs.Files.{Grows, Made, most_bytes}
+use Rattle.command_files.specs.Input.{IsWithin, WhereKnown}
+use Rattle.command_scenarios.specs.Jobs.{IsAsmDone, IsDisDone, IsRunDone, IsRunRefused}
+use Rattle.command_files.specs.Verdicts.{IsCheckDone}
+use Rattle.command_files.specs.Loading.{IsCheckRefused, IsImageFault}
+use Rattle.command_demo.specs.One.{IsOneDone, IsOneFault}
+use Rattle.command_live.specs.Live.{IsLiveDone, IsLiveFault}
+use Rattle.command_files.specs.Refusals.{IsTold}
+use Rattle.command_files.specs.Status.{text_status}
+use Rattle.command_scenarios.specs.Texts.{IsTextFault}
+use Rattle.command_traces.specs.Traces.{IsPcapDone, IsPcapRefused, IsShowDone, IsShowRefused}
+use Rattle.command_files.specs.World.{FilesKnown, IsAside, StreamFaults, Streams, World}
+use Rattle.command_files.specs.declared.answer.Answer.{Answer}
+use Rattle.command_files.specs.declared.fault.Fault.{Fault}
+use Rattle.command_files.specs.declared.fault.Fault.TheVariants.{Memory}
+use Rattle.command_files.specs.declared.status.Status.{Status}
+use Rattle.command_files.specs.declared.status.Status.TheVariants as ends
 
 -- ---- what words are answered with
 
@@ -118,9 +120,7 @@ pub record IsLost (files : FilesKnown) (faults : StreamFaults) (before after : W
   pub read : IsReadAs words asked
   pub answer : Answer
   pub right : IsAnswerTo files.holds asked answer.status (string_bytes answer.text) (files_of answer.file)
-  pub undelivered :
-      IsUndelivered files.refuses before.made after.made faults.output_refuses before.streams.output
-      after.streams.output answer fault
+  pub undelivered : IsUndelivered files faults before after answer fault
 
 -- no memory was left for an answer, or there was a fault, and then nothing was made and nothing printed; or the answer
 -- was lost
@@ -149,8 +149,7 @@ pub record IsConversationLost (files : FilesKnown) (faults : StreamFaults) (befo
 pub record IsLived (files : FilesKnown) (before after : World) (words : List (List ℕ)) (status : Status) : Type 0 where
   pub live : Live
   pub read : IsReadAs words (asked.Live live)
-  pub done :
-      IsLiveDone files.holds before.made after.made before.streams.output after.streams.output live
+  pub done : IsLiveDone files before after live
   pub ended : status ≡ ends.Done
 
 -- the words ask for a device on UDP, and this fault kept it from a session or from its conclusion
@@ -158,9 +157,7 @@ pub record IsLiveLost (files : FilesKnown) (faults : StreamFaults) (before after
     (fault : Fault) : Type 0 where
   pub live : Live
   pub read : IsReadAs words (asked.Live live)
-  pub lost :
-      IsLiveFault files.holds files.fails files.refuses faults.output_refuses before.streams.output
-      after.streams.output live fault
+  pub lost : IsLiveFault files faults before.streams after.streams live fault
 
 -- the words were answered, or a session was concluded, and nothing was read from standard input, and standard error got
 -- nothing; or a conversation came to its end, and no file was made
@@ -188,9 +185,7 @@ pub record IsFaulted (files : FilesKnown) (faults : StreamFaults) (before after 
   pub undone : IsUnfinished files faults before between words fault
   -- the file or the word that standard error names
   pub about : Option (List ℕ)
-  pub told :
-      IsTold faults.output_refuses between.streams.output after.streams.output faults.errors_refuse
-      between.streams.errors after.streams.errors about fault
+  pub told : IsTold faults between.streams after.streams about fault
   pub none_made : after.made ≡ between.made
   pub none_read : after.streams.input ≡ between.streams.input
 

@@ -1,37 +1,20 @@
-//! What the program does for each of its commands, from its words to the status that it ends with: what it reads,
-//! makes and prints, and the fault of each that is refused.
+//! What the program does for each of its commands, from its words to the status that it ends with. The words are read
+//! here (`command_line`), and one family of commands is called, each of which is a crate of its own:
+//!
+//! | Commands | Crate |
+//! |---|---|
+//! | `one` | `command_demo` |
+//! | `asm`, `dis`, `run`, `check` | `command_scenarios` |
+//! | `show`, `pcap` | `command_traces` |
+//! | `debug` | `command_debug` |
+//! | `live` | `command_live` |
+//!
+//! What they share is in `command_files`. What each is answered with stands in specs/Command.antt (`IsDone`,
+//! `IsDebugged`, `IsLived`), and why it is refused (`IsRefusedJob`).
 #![tactic(auto)]
 
-mod answer;
-pub mod answers;
-mod blame;
-mod conversation;
-pub mod debugging;
-pub mod demo;
-mod fault;
-pub mod files;
-pub mod hex_text;
-mod input;
-pub mod live_device;
-pub mod loading;
-mod output;
 mod program;
-mod refusal;
-mod runs;
-pub mod showing;
-mod status;
 mod system;
-mod telling;
-pub mod texts;
-pub mod traces;
 
-pub use answer::{Answer, NewFile, deliver};
-pub use conversation::converse;
-pub use fault::{Fault, FaultLine};
-pub use input::Input;
-pub use output::Output;
 pub use program::command;
-pub use refusal::{Refusal, Why, complaint};
-pub use status::Status;
 pub use system::{conclude, start};
-pub use telling::tell;

@@ -1,23 +1,19 @@
 //! One command: its words, its answer, and the status that the program ends with.
-ghost use Rattle.std.specs.Prelude.{◌≡◌, ◌⊎◌, IfErr, IfNone, IfOk, IfSome, map};
+ghost use Rattle.std.specs.Prelude.{◌⊎◌, IfErr, IfNone, IfOk, IfSome, map};
 ghost use Rattle.std.specs.String.{string_bytes};
-ghost use Rattle.bench_commands.specs.Answers.{files_of};
+ghost use Rattle.command_files.specs.Answers.{files_of};
 ghost use Rattle.bench_commands.specs.Command.{Ends, IsCutJob, IsDebuggedJob, IsDone, IsFinished, IsRefusedJob};
 ghost use Rattle.bench_commands.specs.Command.{IsUnfinished};
-ghost use Rattle.bench_commands.specs.World.{IsIdle};
+ghost use Rattle.command_files.specs.World.{IsIdle};
 
-use crate::answer::{Answer, deliver};
-use crate::answers;
-use crate::debugging::debug;
-use crate::files::Files;
-use crate::input::Input;
-use crate::live_device::live;
-use crate::output::Output;
-use crate::refusal::Refusal;
-use crate::status::Status;
-use crate::telling::tell;
-use crate::traces::{pcap, show};
+use command_debug::debug;
+use command_demo::one;
+use command_files::files::Files;
+use command_files::{Answer, Input, Output, Refusal, Status, deliver, tell};
 use command_line::{Asked, Job, read};
+use command_live::live;
+use command_scenarios::{asm, check, dis, run};
+use command_traces::{pcap, show};
 use std::alloc::Global;
 use std::net::Net;
 use std::rt::Clock;
@@ -41,7 +37,6 @@ use trace_text::Selection;
 ///   not take it, and `errors` got nothing. What was left at it is said too: nothing made and nothing printed where
 ///   memory ran out or the words were refused; the file made where its text could not be printed; and how far a
 ///   conversation or a session came.
-#[tactic(auto, using(crate::proofs::Ended::finished, crate::proofs::Ended::faulted))]
 pub fn command<R: Threads + Wait + Sync + Net + Clock, F: Files, I: Input, O: Output, E: Output>(
     rt: &R,
     alloc: Global,
@@ -78,7 +73,7 @@ pub fn command<R: Threads + Wait + Sync + Net + Clock, F: Files, I: Input, O: Ou
     }
 }
 
-#[tactic(auto, using(crate::proofs::Ended::answered_if, crate::proofs::Ended::lived, crate::proofs::Ended::live_lost, crate::proofs::Ended::no_memory, crate::proofs::Ended::unanswered, crate::proofs::Ended::undelivered_if, crate::proofs::Ended::conversed_so))]
+#[tactic(auto, using(crate::proofs::Ended::answered_if, crate::proofs::Ended::no_memory, crate::proofs::Ended::unanswered, crate::proofs::Ended::undelivered_if, crate::proofs::Ended::conversed_so))]
 fn perform<'a, R: Threads + Wait + Sync + Net + Clock, F: Files, I: Input, O: Output, E: Output>(
     rt: &R,
     alloc: Global,
@@ -175,19 +170,19 @@ fn answer_to<'a, R: Threads + Wait + Sync, F: Files, I: Input, O: Output, E: Out
         r.fault) }
 {
     match job {
-        Job::One { hex } => Ok(Some(answers::one(alloc, hex)?)),
+        Job::One { hex } => Ok(Some(one(alloc, hex)?)),
         Job::Asm {
             input: text,
             output: path,
-        } => Ok(Some(answers::asm(alloc, text, path, files)?)),
-        Job::Dis { input: path } => Ok(Some(answers::dis(alloc, path, files)?)),
+        } => Ok(Some(asm(alloc, text, path, files)?)),
+        Job::Dis { input: path } => Ok(Some(dis(alloc, path, files)?)),
         Job::Run {
             image,
             workers,
             batch,
             trace,
-        } => Ok(Some(answers::run(rt, alloc, image, workers, batch, trace, files)?)),
-        Job::Check { image, trace } => Ok(Some(answers::check(alloc, image, trace, files)?)),
+        } => Ok(Some(run(rt, alloc, image, workers, batch, trace, files)?)),
+        Job::Check { image, trace } => Ok(Some(check(alloc, image, trace, files)?)),
         Job::Show {
             image,
             trace,

@@ -3,19 +3,13 @@ ghost use Rattle.std.specs.Prelude.{◌≡◌, IfErr, IfOk, map};
 ghost use Rattle.std.specs.Process.{exit_status};
 ghost use Rattle.std.specs.String.{string_bytes};
 ghost use Rattle.bench_commands.specs.Command.{Ends};
-ghost use Rattle.bench_commands.specs.Status.{exit_code};
+ghost use Rattle.command_files.specs.Status.{exit_code};
 ghost use Rattle.bench_commands.specs.Unread.{EndsUnread, IsToldUnread};
-ghost use Rattle.bench_commands.specs.declared.status.Status.{Status as Ending};
+ghost use Rattle.command_files.specs.declared.status.Status.{Status as Ending};
 
-use crate::answer::unwritten;
-use crate::fault::Fault;
-use crate::files::{Files, SystemFiles};
-use crate::input::Input;
-use crate::output::Output;
 use crate::program::command;
-use crate::refusal::Refusal;
-use crate::status::Status;
-use crate::telling::tell;
+use command_files::files::{Files, SystemFiles};
+use command_files::{Fault, Input, Output, Refusal, Status, tell, unwritten};
 use command_line::NO_TEXT;
 use std::alloc::Global;
 use std::io::ErrorKind;
@@ -59,6 +53,7 @@ fn words_of<R: Env + AllocGlobal>(rt: &R) -> Result<Vec<String>, ErrorKind> {
 /// The whole program: from its words to the status that its process ends with, which is that of `command` for these
 /// words (`ran`). Where the words could not be had, it is 2 with the text that says so, or a fault; nothing is read of
 /// standard input and no file is made (`unread`).
+#[tactic(auto, using(crate::proofs::Unread::ends_unread))]
 pub fn conclude<R: Threads + Wait + Sync + Net + Clock, F: Files, I: Input, O: Output, E: Output>(
     rt: &R,
     alloc: Global,
@@ -116,15 +111,18 @@ pub fn conclude<R: Threads + Wait + Sync + Net + Clock, F: Files, I: Input, O: O
 }
 
 /// Answers where the words could not be had at all: one of them is not a text, or memory ran out.
-#[tactic(auto, using(crate::proofs::Unread::used, crate::proofs::Unread::no_memory, crate::proofs::Unread::lost, crate::proofs::Delivered::unwritten))]
+#[tactic(auto, using(crate::proofs::Unread::used, crate::proofs::Unread::no_memory, crate::proofs::Unread::lost, command_files::proofs::Delivered::unwritten))]
 fn refuse<O: Output, E: Output>(
     alloc: Global,
     why: ErrorKind,
     output: &mut O,
     errors: &mut E,
 ) -> Status
-    ensures { IsToldUnread O.refuses (O.taken output.old) (O.taken output.new)
-        E.refuses (E.taken errors.old) (E.taken errors.new) NO_TEXT.now why result }
+    ensures { IsToldUnread
+        (record { input_fails = ⊥; output_refuses = O.refuses; errors_refuse = E.refuses })
+        (record { input = None; output = O.taken output.old; errors = E.taken errors.old })
+        (record { input = None; output = O.taken output.new; errors = E.taken errors.new })
+        NO_TEXT.now why result }
 {
     if why == ErrorKind::OutOfMemory {
         return tell(alloc, &Refusal::from(Fault::Memory), output, errors);

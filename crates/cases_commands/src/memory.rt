@@ -2,7 +2,7 @@
 ghost use Rattle.std.specs.Prelude.{None};
 
 use crate::table::GivenFile;
-use bench_commands::files::{FileFault, Files, most_bytes, read_at_most};
+use command_files::files::{FileFault, Files, most_bytes, read_at_most};
 use std::alloc::Global;
 
 /// The files of a table, and what a command made. Nothing can be written to `full`.

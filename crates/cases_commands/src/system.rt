@@ -1,5 +1,5 @@
 //! The files of the system, of which nothing is proved.
-use bench_commands::files::{FileFault, Files, SystemFiles};
+use command_files::files::{FileFault, Files, SystemFiles};
 use std::alloc::Global;
 
 /// Whether a file is read as it was written, also over an older one; whether nothing else is left of it; and whether a

@@ -2,8 +2,23 @@ use Rattle.std.proofs.Common.{◌≡◌, Global, map, refl, rules, subst}
 use Rattle.std.specs.String.{string_bytes}
 use Rattle.command_line.specs.Words.{IsReadAs}
 use Rattle.command_line.specs.declared.words.Asked.TheVariants as asked
-use Rattle.bench_commands.proofs.Ended.{answered_if, undelivered_if}
+use Rattle.bench_commands.proofs.Ended.{answered_if, live_lost_if, lived_if, undelivered_if}
 use Rattle.bench_commands.proofs.program.perform.Goals as goal
+
+pub returns-in-Live-clause-done : goal.returns-in-Live-clause-done
+returns-in-Live-clause-done g c =
+    let words = map (string_bytes {Z = Global}) c.args.words.now in
+    let same : c.in_ok-asked.field-0 ≡ asked.Live c.in-Live.asked = search rules in
+    let read : IsReadAs words (asked.Live c.in-Live.asked) = subst (IsReadAs words) same c.in_ok-asked.ensures in
+    lived_if _ _ _ _ words c.in-Live.asked c.live.result read c.live.ensures.done c.live.ensures.status (refl, refl)
+
+pub returns-in-Live-clause-refused : goal.returns-in-Live-clause-refused
+returns-in-Live-clause-refused g c =
+    let words = map (string_bytes {Z = Global}) c.args.words.now in
+    let same : c.in_ok-asked.field-0 ≡ asked.Live c.in-Live.asked = search rules in
+    let read : IsReadAs words (asked.Live c.in-Live.asked) = subst (IsReadAs words) same c.in_ok-asked.ensures in
+    live_lost_if _ _ _ _ words c.in-Live.asked c.live.result read c.live.ensures.refused (refl, refl)
+    c.live.ensures.kept
 
 pub returns-in-Some-clause-done : goal.returns-in-Some-clause-done
 returns-in-Some-clause-done g c =

@@ -4,5 +4,5 @@ use Rattle.bench_commands.proofs.system.refuse.Goals as goal
 
 pub returns-then-eq : goal.returns-then-eq
 returns-then-eq g c =
-    no_memory _ _ _ _ _ _ _ _ c.args.why c.from.result.fault c.tell.result c.tell.ensures.status
+    no_memory _ _ _ _ _ c.args.why c.from.result.fault c.tell.result c.tell.ensures.status
     (search rules) c.from.ensures c.tell.ensures.told

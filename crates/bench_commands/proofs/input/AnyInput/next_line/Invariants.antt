@@ -1,9 +1,0 @@
-use Rattle.std.proofs.Common.{◌≡◌, vec_len}
-use Rattle.bench_commands.proofs.Lines.{IsPart}
-use Rattle.bench_commands.proofs.input.AnyInput.next_line.Given as goal
-
-abbrev pub invariant-loop : goal.invariant-loop
-invariant-loop g l = record {
-  count : vec_len l.line ≡ l.counter;
-  part : IsPart (g.B.Read.remaining l.initial.self) (g.B.Read.remaining l.self) l.line.items;
-}

@@ -1,0 +1,3 @@
+pub mod Conversing
+pub mod Debugged
+pub mod Turns

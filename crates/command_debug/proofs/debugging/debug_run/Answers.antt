@@ -1,0 +1,44 @@
+use Rattle.std.proofs.Common.{◌≡◌, ◌⊎◌, inr, rules, subst}
+use Rattle.std.proofs.lemmas.Result.{err_from_is_err_and}
+use Rattle.fleet_core.specs.Run.{IsRun}
+use Rattle.debugger.specs.Session.{opened}
+use Rattle.command_debug.specs.Conversation.{IsCutShort}
+use Rattle.command_files.specs.World.{IsIdle, StreamFaults, Streams}
+use Rattle.command_files.specs.declared.fault.Fault.TheVariants.{Memory}
+use Rattle.command_files.proofs.Built.{judged_none}
+use Rattle.command_debug.proofs.debugging.debug_run.Goals as goal
+
+pub returns-in_ok-no_run-in-Err-NotRun-clause-told : goal.returns-in_ok-no_run-in-Err-NotRun-clause-told
+returns-in_ok-no_run-in-Err-NotRun-clause-told g c =
+    judged_none _ _ c.in-Err-NotRun.place _ _ (c.open.ensures.not_run c.in-Err-NotRun.place (search rules))
+    (search rules) (search rules)
+
+pub returns-in_err-converse-in-Ok-clause-refused : goal.returns-in_err-converse-in-Ok-clause-refused
+returns-in_err-converse-in-Ok-clause-refused g c =
+    let faults : StreamFaults = record {
+      input_fails = g.I.Input.fails;
+      output_refuses = g.O.Output.refuses;
+      errors_refuse = g.E.Output.refuses;
+    } in
+    let before : Streams = record {
+      input = g.I.Input.rest c.args.input.now;
+      output = g.O.Output.taken c.args.output.now;
+      errors = g.E.Output.taken c.args.errors.now;
+    } in
+    let after : Streams = record {
+      input = g.I.Input.rest c.converse.new.input;
+      output = g.O.Output.taken c.converse.new.output;
+      errors = g.E.Output.taken c.converse.new.errors;
+    } in
+    let cut : IsCutShort faults before after (opened c.args.scenario.now c.args.entries)
+    c.in_err-converse-in-Ok.field-0.0.fault =
+    subst (λ session. IsCutShort faults before after session c.in_err-converse-in-Ok.field-0.0.fault)
+    c.in-Ok.ensures.opened c.in_err-converse-in-Ok.ensures.cut in
+    let run : IsRun c.args.scenario.now c.args.entries = c.in-Ok.ensures.run in
+    let right : ((c.in_err-converse-in-Ok.field-0.0.fault ≡ Memory) × IsIdle before after)
+    ⊎ (IsRun c.args.scenario.now c.args.entries
+    × IsCutShort faults before after (opened c.args.scenario.now c.args.entries)
+    c.in_err-converse-in-Ok.field-0.0.fault) =
+    inr (run, cut) in
+    let p = err_from_is_err_and c.from_residual.result c.from_residual.ensures.1 in
+    rw (p.1, p.2) right

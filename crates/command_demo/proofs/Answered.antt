@@ -1,0 +1,29 @@
+-- What `one` came to, put together from its parts.
+use Rattle.std.proofs.Common.{ℕ, ◌≡◌, ◌⊎◌, List, [], inl, inr}
+use Rattle.std.proofs.Common.{subst}
+use Rattle.std.specs.Result.{IsOkAnd}
+use Rattle.hex.specs.Hex.{decode_of}
+use Rattle.command_demo.specs.Demo.{demo_outputs}
+use Rattle.debug_answers.specs.Printed.{printed}
+use Rattle.command_files.specs.Files.{Made}
+use Rattle.command_demo.specs.One.{IsOneDone}
+use Rattle.command_files.specs.declared.fault.Fault.{Fault}
+use Rattle.command_files.specs.declared.status.Status.{Status}
+use Rattle.command_files.specs.declared.status.Status.TheVariants.{Done}
+use Rattle.std.proofs.Common.{IsErr}
+use Rattle.std.proofs.Common.{sym}
+use Rattle.command_files.specs.declared.fault.Fault.TheVariants as faults
+use Rattle.command_demo.specs.One.{IsOneFault}
+
+pub one_done : (hex : List ℕ) (status : Status) (text : List ℕ) (made : List Made) → status ≡ Done → made ≡ []
+    → IsOkAnd (decode_of hex) (λ bytes. text ≡ printed (demo_outputs bytes)) → IsOneDone hex status text made
+one_done hex status text made ended none said = record { text_is = said; status_is = ended; made_is = none }
+
+-- the demonstration device's faults
+pub no_hex : (hex : List ℕ) (f : Fault) → (f ≡ faults.Memory) ⊎ ((f ≡ faults.Hex) × IsErr (decode_of hex))
+    → IsOneFault hex f
+no_hex hex f (inl memory) = subst (λ g. IsOneFault hex g) (sym memory) tt
+no_hex hex f (inr bad) = subst (λ g. IsOneFault hex g) (sym bad.0) bad.1
+
+pub one_memory : (hex : List ℕ) (f : Fault) → f ≡ faults.Memory → IsOneFault hex f
+one_memory hex f same = subst (λ g. IsOneFault hex g) (sym same) tt

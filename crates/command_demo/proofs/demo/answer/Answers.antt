@@ -1,0 +1,10 @@
+use Rattle.std.proofs.Common.{[]}
+use Rattle.device_machine.specs.Template.{start_of}
+use Rattle.command_demo.specs.Demo.{demo_class, demo_outputs}
+use Rattle.command_demo.proofs.demo.answer.Goals as goal
+
+pub returns-in-Ok-clause-put_out : goal.returns-in-Ok-clause-put_out
+unfolding demo_outputs
+returns-in-Ok-clause-put_out c =
+    c.in-Ok.ensures.outputs (record { kept = start_of demo_class; recorded = [] })
+    (rw (← c.in_ok-template.ensures.made) c.in_ok-device.ensures)

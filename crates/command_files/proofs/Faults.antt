@@ -1,0 +1,55 @@
+-- From the faults of a file to those of what reads it.
+use Rattle.std.proofs.Common.{ℕ, ◌≡◌, ◌≢◌, List, rules}
+use Rattle.std.proofs.Common.{subst, sym}
+use Rattle.byte_layout.specs.declared.fault.LayoutFault.{LayoutFault}
+use Rattle.byte_layout.specs.declared.fault.LayoutFault.TheVariants as layout
+use Rattle.command_files.specs.declared.fault.Fault.{Fault}
+use Rattle.command_files.specs.declared.fault.Fault.TheVariants as faults
+use Rattle.command_files.specs.Fault.{IsReadingFault, layout_fault}
+use Rattle.command_files.specs.Loading.{IsFileFault}
+
+-- a file that was not read
+pub reading_file : (holds : List ℕ → List ℕ → Type 0) (fails : List ℕ → Type 0) (broken : List ℕ → LayoutFault → Type 0)
+    (path : List ℕ) (f : Fault)
+    → IsReadingFault (fails path) f → IsFileFault holds fails broken path f
+reading_file holds fails broken path faults.Memory h = tt
+reading_file holds fails broken path faults.Read h = h
+reading_file holds fails broken path faults.Hex h = absurd h
+reading_file holds fails broken path faults.Write h = absurd h
+reading_file holds fails broken path (faults.Layout fault) h = absurd h
+reading_file holds fails broken path (faults.Text fault) h = absurd h
+reading_file holds fails broken path faults.TooLarge h = absurd h
+reading_file holds fails broken path (faults.Template fault) h = absurd h
+reading_file holds fails broken path faults.Workers h = absurd h
+reading_file holds fails broken path faults.Batch h = absurd h
+reading_file holds fails broken path faults.Spent h = absurd h
+reading_file holds fails broken path faults.NoDevice h = absurd h
+reading_file holds fails broken path faults.PastEnd h = absurd h
+reading_file holds fails broken path faults.Range h = absurd h
+reading_file holds fails broken path faults.TooLong h = absurd h
+reading_file holds fails broken path faults.Bind h = absurd h
+reading_file holds fails broken path (faults.Session fault) h = absurd h
+
+-- a file whose bytes break off
+pub broken_at : (holds : List ℕ → List ℕ → Type 0) (fails : List ℕ → Type 0) (broken : List ℕ → LayoutFault → Type 0)
+    (path bytes : List ℕ) → holds path bytes
+    → (fault : LayoutFault) → (fault ≢ layout.Memory → broken bytes fault)
+    → IsFileFault holds fails broken path (layout_fault fault)
+broken_at holds fails broken path bytes held layout.Magic h =
+    record { bytes = bytes; held = held; faulty = h (search rules) }
+broken_at holds fails broken path bytes held layout.Version h =
+    record { bytes = bytes; held = held; faulty = h (search rules) }
+broken_at holds fails broken path bytes held layout.Cut h =
+    record { bytes = bytes; held = held; faulty = h (search rules) }
+broken_at holds fails broken path bytes held layout.Trailing h =
+    record { bytes = bytes; held = held; faulty = h (search rules) }
+broken_at holds fails broken path bytes held (layout.BadField place) h =
+    record { bytes = bytes; held = held; faulty = h (search rules) }
+broken_at holds fails broken path bytes held (layout.Limit place) h =
+    record { bytes = bytes; held = held; faulty = h (search rules) }
+broken_at holds fails broken path bytes held layout.Memory h = tt
+
+pub file_memory : (holds : List ℕ → List ℕ → Type 0) (fails : List ℕ → Type 0) (broken : List ℕ → LayoutFault → Type 0)
+    (path : List ℕ) (f : Fault) → f ≡ faults.Memory
+    → IsFileFault holds fails broken path f
+file_memory holds fails broken path f same = subst (λ g. IsFileFault holds fails broken path g) (sym same) tt

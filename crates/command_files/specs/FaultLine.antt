@@ -1,0 +1,78 @@
+-- What the program prints for a fault.
+use Rattle.std.specs.Prelude.{ℕ, List, ◌++◌, Option, None, Some, codes}
+use Rattle.std.specs.Fmt.{decimal}
+use Rattle.scenario_words.specs.CauseWords.{cause_words}
+use Rattle.byte_layout.specs.declared.fault.LayoutFault.{LayoutFault}
+use Rattle.byte_layout.specs.declared.fault.LayoutFault.TheVariants.{Magic, Version, Cut, Trailing, BadField, Limit}
+use Rattle.byte_layout.specs.declared.fault.LayoutFault.TheVariants as layout
+use Rattle.device_template.specs.declared.fault.TemplateFault.{TemplateFault}
+use Rattle.device_template.specs.declared.fault.TemplateFault.TheVariants as template
+use Rattle.scenario_image.specs.declared.fault.ScenarioFault.{ScenarioFault}
+use Rattle.scenario_image.specs.declared.fault.ScenarioFault.TheVariants as session
+use Rattle.command_files.specs.Lines.{line}
+use Rattle.command_files.specs.declared.fault.Fault.{Fault}
+use Rattle.command_files.specs.declared.fault.Fault.TheVariants as faults
+
+-- the word of a fault of bytes
+abbrev pub layout_word : LayoutFault → List ℕ
+layout_word Magic = codes "magic"
+layout_word Version = codes "version"
+layout_word Cut = codes "cut"
+layout_word Trailing = codes "trailing"
+layout_word (BadField place) = codes "bad field"
+layout_word (Limit place) = codes "limit"
+layout_word layout.Memory = codes "memory"
+
+-- the word of a refusal of a template
+abbrev pub template_word : TemplateFault → List ℕ
+template_word template.Range = codes "range"
+template_word template.Missing = codes "missing"
+template_word template.Duplicate = codes "duplicate"
+template_word template.Full = codes "full"
+template_word template.Memory = codes "memory"
+
+-- the word of a refusal of a session's steps
+abbrev pub session_word : ScenarioFault → List ℕ
+session_word session.Range = codes "range"
+session_word session.Missing = codes "missing"
+session_word session.Limit = codes "limit"
+session_word session.Memory = codes "memory"
+
+-- the word of a fault
+abbrev pub fault_word : Fault → List ℕ
+fault_word faults.Hex = codes "hex"
+fault_word faults.Memory = codes "memory"
+fault_word faults.Read = codes "read"
+fault_word faults.Write = codes "write"
+fault_word faults.TooLarge = codes "too large"
+fault_word (faults.Layout fault) = layout_word fault
+fault_word (faults.Text fault) = cause_words fault.cause
+fault_word (faults.Template fault) = template_word fault
+fault_word faults.Workers = codes "workers"
+fault_word faults.Batch = codes "batch"
+fault_word faults.Spent = codes "spent"
+fault_word faults.NoDevice = codes "no device"
+fault_word faults.PastEnd = codes "past end"
+fault_word faults.Range = codes "range"
+fault_word faults.TooLong = codes "too long"
+fault_word faults.Bind = codes "bind"
+fault_word (faults.Session fault) = session_word fault
+
+-- the place of a fault of bytes, in bytes from 0
+abbrev pub place_of : Fault → Option ℕ
+place_of (faults.Layout (BadField place)) = Some place
+place_of (faults.Layout (Limit place)) = Some place
+place_of _ = None
+
+abbrev pub placed : List ℕ → Option ℕ → List ℕ
+placed word None = word
+placed word (Some place) = word ++ codes " at " ++ decimal place
+
+-- the name of a fault: its word, after the line where it is a text's, and with its place where it has one
+abbrev pub fault_name : Fault → List ℕ
+fault_name (faults.Text fault) = codes "line " ++ decimal fault.line ++ codes ": " ++ cause_words fault.cause
+fault_name fault = placed (fault_word fault) (place_of fault)
+
+-- the line of a fault
+abbrev pub fault_line : Fault → List ℕ
+fault_line fault = line (codes "fault: " ++ fault_name fault)

@@ -1,0 +1,30 @@
+-- What is known of files that are read and made.
+use Rattle.std.specs.Prelude.{⊤, ℕ, ◌≡◌, ◌≢◌, List, ◌++◌, Option, None, Some}
+use Rattle.std.specs.declared.io.ErrorKind.{ErrorKind}
+use Rattle.std.specs.declared.io.ErrorKind.TheVariants.{OutOfMemory}
+use Rattle.command_files.specs.declared.files.FileFault.{FileFault}
+use Rattle.command_files.specs.declared.files.FileFault.TheVariants.{Failed, Memory}
+
+-- 64 MiB
+abbrev pub most_bytes : ℕ
+most_bytes = 67108864
+
+-- a file that was made: its path, and all its bytes
+abbrev pub Made : Type 0
+Made = List ℕ × List ℕ
+
+-- these were added to what is known, and nothing else
+abbrev pub Grows : Option (List Made) → Option (List Made) → List Made → Type 0
+Grows None new more = ⊤
+Grows (Some old) None more = ⊥
+Grows (Some old) (Some new) more = new ≡ old ++ more
+
+-- the fault of an error of this kind: a lack of memory is not the file's fault
+abbrev pub IsFileFaultOf : ErrorKind → FileFault → Type 0
+IsFileFaultOf kind Memory = kind ≡ OutOfMemory
+IsFileFaultOf kind (Failed why) = kind ≢ OutOfMemory
+
+-- the file is to blame, unless no memory was left
+abbrev pub IsFailure : Type 0 → FileFault → Type 0
+IsFailure failed Memory = ⊤
+IsFailure failed (Failed why) = failed

@@ -1,0 +1,11 @@
+pub mod Answers
+pub mod Fault
+pub mod FaultLine
+pub mod Files
+pub mod Input
+pub mod Lines
+pub mod Loading
+pub mod Refusals
+pub mod Status
+pub mod Verdicts
+pub mod World

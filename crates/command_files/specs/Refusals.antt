@@ -1,0 +1,33 @@
+-- What standard error says of a fault.
+use Rattle.std.specs.Prelude.{ℕ, ◌≡◌, ◌⊎◌, List, ◌++◌, Option, None, Some, codes}
+use Rattle.std.specs.Io.KnownBytes.{Appends}
+use Rattle.command_files.specs.FaultLine.{fault_line}
+use Rattle.command_files.specs.Lines.{line}
+use Rattle.command_files.specs.World.{StreamFaults, Streams}
+use Rattle.command_files.specs.declared.fault.Fault.{Fault}
+
+-- `lwbench: ABOUT: WHY`
+abbrev pub about_line : List ℕ → List ℕ → List ℕ
+about_line about why = line (codes "lwbench: " ++ about ++ codes ": " ++ why)
+
+-- `lwbench: WHY`
+abbrev pub plain_line : List ℕ → List ℕ
+plain_line why = line (codes "lwbench: " ++ why)
+
+-- a line about this file or word, if the fault is about one, with any reason
+abbrev pub IsAbout : Option (List ℕ) → List ℕ → Type 0
+IsAbout None text = (why : List ℕ) × (text ≡ plain_line why)
+IsAbout (Some about) text = (why : List ℕ) × (text ≡ about_line about why)
+
+-- standard error got nothing, or a line about this, which it may not have taken
+abbrev pub IsReported : StreamFaults → Streams → Streams → Option (List ℕ) → Type 0
+IsReported faults before after about =
+    (after.errors ≡ before.errors)
+    ⊎ ((text : List ℕ) × IsAbout about text × (Appends before.errors after.errors text ⊎ faults.errors_refuse text))
+
+-- standard output got the fault's line, and standard error at most one line about it; or the first was not taken, and
+-- the second got nothing
+abbrev pub IsTold : StreamFaults → Streams → Streams → Option (List ℕ) → Fault → Type 0
+IsTold faults before after about fault =
+    (Appends before.output after.output (fault_line fault) × IsReported faults before after about)
+    ⊎ (faults.output_refuses (fault_line fault) × (after.errors ≡ before.errors))

@@ -1,0 +1,49 @@
+-- What the files and the streams were at one moment, where that is known, and what is known of why one of them failed.
+use Rattle.std.specs.Prelude.{ℕ, ◌≡◌, List, Option}
+use Rattle.command_files.specs.Files.{Made}
+
+-- the streams at one moment
+pub record Streams : Type 0 where
+  -- what standard input has still to give
+  pub input : Option (List ℕ)
+  -- what standard output got
+  pub output : Option (List ℕ)
+  -- what standard error got
+  pub errors : Option (List ℕ)
+
+-- why a stream failed
+pub record StreamFaults : Type 1 where
+  -- standard input could not be read
+  pub input_fails : Type 0
+  -- standard output did not take these bytes
+  pub output_refuses : List ℕ → Type 0
+  -- standard error did not take these bytes
+  pub errors_refuse : List ℕ → Type 0
+
+-- the files and the streams at one moment
+pub record World : Type 0 where
+  -- the files that were made
+  pub made : Option (List Made)
+  pub streams : Streams
+
+-- what is known of files
+pub record FilesKnown : Type 1 where
+  -- the file at this path had these bytes when it was read
+  pub holds : List ℕ → List ℕ → Type 0
+  -- the file at this path could not be read
+  pub fails : List ℕ → Type 0
+  -- no file could be made at this path
+  pub refuses : List ℕ → Type 0
+
+-- nothing was printed
+abbrev pub IsSilent : Streams → Streams → Type 0
+IsSilent before after = (after.output ≡ before.output) × (after.errors ≡ before.errors)
+
+-- nothing was read from standard input, and standard error got nothing
+abbrev pub IsAside : Streams → Streams → Type 0
+IsAside before after = (after.input ≡ before.input) × (after.errors ≡ before.errors)
+
+-- nothing was read, and nothing printed
+abbrev pub IsIdle : Streams → Streams → Type 0
+IsIdle before after =
+    (after.input ≡ before.input) × (after.output ≡ before.output) × (after.errors ≡ before.errors)

@@ -1,0 +1,115 @@
+//! An answer of the program: the file that it makes, what it prints, and how it then ends.
+ghost use Rattle.std.specs.Prelude.{◌≡◌, None, IfErr, IfOk, IfSome, OnErr, OnOk};
+ghost use Rattle.std.specs.Io.KnownBytes.{Appends};
+ghost use Rattle.std.specs.String.{string_bytes};
+ghost use Rattle.command_files.specs.Answers.{IsUndelivered, files_of, writing_fault};
+ghost use Rattle.command_files.specs.Fault.{IsWritingFault};
+ghost use Rattle.command_files.specs.Files.{Grows};
+
+use crate::fault::Fault;
+use crate::files::{FileFault, Files};
+use crate::output::Output;
+use crate::refusal::{Refusal, Why};
+use crate::status::Status;
+use octets::Bytes;
+
+/// A file that is still to be made.
+#[derive(Drop)]
+pub struct NewFile<'a> {
+    /// Where it goes. What is there is replaced.
+    pub path: &'a str,
+    /// All that it has.
+    pub bytes: Bytes,
+}
+
+/// What the program answers: it makes the file, if there is one, then prints the text, and then ends.
+#[derive(Drop)]
+pub struct Answer<'a> {
+    /// How it ends.
+    pub status: Status,
+    /// The lines, each with its line feed.
+    pub text: String,
+    /// The file that is made before the text is printed.
+    pub file: Option<NewFile<'a>>,
+}
+
+impl<'a> Answer<'a> {
+    /// The answer that makes no file.
+    pub fn printed(status: Status, text: String) -> Answer<'a>
+        ensures status { result.status ≡ status }
+        ensures text { result.text ≡ text }
+        ensures file { result.file ≡ None }
+    {
+        Answer {
+            status,
+            text,
+            file: None,
+        }
+    }
+}
+
+/// Makes the file, if there is one.
+#[tactic(auto, using(crate::proofs::Delivered::unwritten))]
+pub fn make<'a, F: Files>(file: &Option<NewFile<'a>>, files: &mut F) -> Result<(), Refusal<'a>>
+    ensures made { OnOk result (Grows (F.made files.old) (F.made files.new) (files_of file.now)) }
+    ensures kept { OnErr result (F.made files.new ≡ F.made files.old) }
+    ensures refused { IfErr result (λ r. IsWritingFault (IfSome file.now (λ f. F.refuses f.path.now)) r.fault) }
+{
+    match file {
+        None => Ok(()),
+        Some(file) => match files.write_all(file.path, file.bytes.as_slice()) {
+            Ok(()) => Ok(()),
+            Err(fault) => Err(unwritten(file.path, fault)),
+        },
+    }
+}
+
+/// The refusal of a file that was not made, or of a text that was not printed.
+pub fn unwritten<'a>(about: &'a str, fault: FileFault) -> Refusal<'a>
+    ensures { result.fault ≡ writing_fault fault }
+{
+    match fault {
+        FileFault::Failed(why) => Refusal {
+            fault: Fault::Write,
+            about: Some(about),
+            why: Why::Known(why),
+        },
+        FileFault::Memory => Refusal {
+            fault: Fault::Memory,
+            about: Some(about),
+            why: Why::Named,
+        },
+    }
+}
+
+/// Makes the file of an answer, if it has one, and then prints its text. Nothing is printed before the file is made. It
+/// has neither an input nor standard error, of which nothing is said.
+#[tactic(auto, using(crate::proofs::Delivered::unwritten, crate::proofs::Delivered::unmade, crate::proofs::Delivered::unprinted))]
+pub fn deliver<'a, F: Files, O: Output>(
+    answer: &Answer<'a>,
+    files: &mut F,
+    output: &mut O,
+) -> Result<Status, Refusal<'a>>
+    ensures status { IfOk result (λ status. status ≡ answer.now.status) }
+    ensures made { OnOk result (Grows (F.made files.old) (F.made files.new) (files_of answer.now.file)) }
+    ensures printed { OnOk result (Appends (O.taken output.old) (O.taken output.new) (string_bytes answer.now.text)) }
+    ensures refused { IfErr result (λ r.
+        IsUndelivered
+        (record { holds = F.holds files.old; fails = F.fails files.old; refuses = F.refuses })
+        (record { input_fails = ⊥; output_refuses = O.refuses; errors_refuse = λ _. ⊥ })
+        (record {
+          made = F.made files.old;
+          streams = record { input = None; output = O.taken output.old; errors = None };
+        })
+        (record {
+          made = F.made files.new;
+          streams = record { input = None; output = O.taken output.new; errors = None };
+        })
+        answer.now r.fault) }
+{
+    make(&answer.file, files)?;
+    match output.print(answer.text.as_str()) {
+        Ok(()) => Ok(answer.status),
+        Err(fault) => Err(unwritten("standard output", fault)),
+    }
+}

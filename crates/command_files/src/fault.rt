@@ -1,0 +1,257 @@
+ghost use Rattle.std.specs.Prelude.{◌≡◌};
+ghost use Rattle.command_files.specs.FaultLine.{fault_word, layout_word, session_word, template_word};
+
+use byte_layout::LayoutFault;
+use device_machine::TemplateFault;
+use hex::FromHexError;
+use scenario_asm::AsmFault;
+use scenario_image::ScenarioFault;
+use scenario_words::{Cause, cause_words};
+use std::alloc::{AllocError, AllocFailed};
+use std::fmt;
+use trace_file::WriteFault;
+
+/// Why the program could not do what its words ask for. It prints as the fault's name.
+#[derive(Clone, Copy, Debug, PartialEq, Eq)]
+pub enum Fault {
+    /// A word that has to be hex is not.
+    Hex,
+    /// No memory was left.
+    Memory,
+    /// A file could not be read, is larger than 64 MiB, or is no UTF-8 where it has to be text.
+    Read,
+    /// The answer or a file could not be written.
+    Write,
+    /// The bytes of a file are not an image, or not a trace file.
+    Layout(LayoutFault),
+    /// A line of a scenario's text is refused.
+    Text(AsmFault),
+    /// A run has no trace file.
+    TooLarge,
+    /// A template refused one of its parts.
+    Template(TemplateFault),
+    /// A run has not from 1 to 64 workers.
+    Workers,
+    /// A batch is not one of 1 to 64 steps.
+    Batch,
+    /// A run ended because the lock ran out of tickets.
+    Spent,
+    /// A scenario has no device of a number.
+    NoDevice,
+    /// The entries of a trace end before a number.
+    PastEnd,
+    /// `--to` is below `--from`.
+    Range,
+    /// A datagram is too long for a capture.
+    TooLong,
+    /// A UDP port could not be bound.
+    Bind,
+    /// What a device did is not the row of a scenario.
+    Session(ScenarioFault),
+}
+
+impl fmt::Display for Fault {
+    ghost use Rattle.std.specs.Prelude.{Some};
+    ghost use Rattle.command_files.specs.FaultLine.{fault_name};
+
+    ghost output = { λ fault. Some (fault_name fault) };
+
+    fn fmt<W: fmt::Write>(&self, f: &mut fmt::Formatter<W>) -> fmt::Result {
+        match self {
+            Fault::Layout(LayoutFault::BadField(place)) => write!(f, "bad field at {place}"),
+            Fault::Layout(LayoutFault::Limit(place)) => write!(f, "limit at {place}"),
+            Fault::Text(AsmFault { line, cause }) => {
+                let words = cause_words(*cause);
+                write!(f, "line {line}: {words}")
+            }
+            _ => {
+                let word = word_of(*self);
+                write!(f, "{word}")
+            }
+        }
+    }
+}
+
+/// The line of a fault, as standard output gets it.
+#[derive(Clone, Copy)]
+pub struct FaultLine(pub Fault);
+
+impl fmt::Display for FaultLine {
+    ghost use Rattle.std.specs.Prelude.{Some};
+    ghost use Rattle.command_files.specs.FaultLine.{fault_line};
+
+    ghost output = { λ line. Some (fault_line line.0) };
+
+    fn fmt<W: fmt::Write>(&self, f: &mut fmt::Formatter<W>) -> fmt::Result {
+        let fault = self.0;
+        writeln!(f, "fault: {fault}")
+    }
+}
+
+/// The name of a fault; of one with a place or a line, without it.
+fn word_of(fault: Fault) -> &'static str
+    ensures { result.now ≡ fault_word fault }
+{
+    match fault {
+        Fault::Hex => "hex",
+        Fault::Memory => "memory",
+        Fault::Read => "read",
+        Fault::Write => "write",
+        Fault::TooLarge => "too large",
+        Fault::Layout(fault) => layout_word(fault),
+        Fault::Text(fault) => cause_words(fault.cause),
+        Fault::Template(fault) => template_word(fault),
+        Fault::Workers => "workers",
+        Fault::Batch => "batch",
+        Fault::Spent => "spent",
+        Fault::NoDevice => "no device",
+        Fault::PastEnd => "past end",
+        Fault::Range => "range",
+        Fault::TooLong => "too long",
+        Fault::Bind => "bind",
+        Fault::Session(fault) => session_word(fault),
+    }
+}
+
+fn layout_word(fault: LayoutFault) -> &'static str
+    ensures { result.now ≡ layout_word fault }
+{
+    match fault {
+        LayoutFault::Magic => "magic",
+        LayoutFault::Version => "version",
+        LayoutFault::Cut => "cut",
+        LayoutFault::Trailing => "trailing",
+        LayoutFault::BadField(_) => "bad field",
+        LayoutFault::Limit(_) => "limit",
+        LayoutFault::Memory => "memory",
+    }
+}
+
+fn template_word(fault: TemplateFault) -> &'static str
+    ensures { result.now ≡ template_word fault }
+{
+    match fault {
+        TemplateFault::Range => "range",
+        TemplateFault::Missing => "missing",
+        TemplateFault::Duplicate => "duplicate",
+        TemplateFault::Full => "full",
+        TemplateFault::Memory => "memory",
+    }
+}
+
+fn session_word(fault: ScenarioFault) -> &'static str
+    ensures { result.now ≡ session_word fault }
+{
+    match fault {
+        ScenarioFault::Range => "range",
+        ScenarioFault::Missing => "missing",
+        ScenarioFault::Limit => "limit",
+        ScenarioFault::Memory => "memory",
+    }
+}
+
+impl From<AllocError> for Fault {
+    ghost use Rattle.std.specs.Prelude.{◌≡◌};
+    ghost use Rattle.command_files.specs.declared.fault.Fault.TheVariants.{Memory};
+
+    ghost from_gives = { λ _ e. e ≡ Memory };
+
+    fn from(_error: AllocError) -> Fault {
+        Fault::Memory
+    }
+}
+
+impl<T: Drop> From<AllocFailed<T>> for Fault {
+    ghost use Rattle.std.specs.Prelude.{◌≡◌};
+    ghost use Rattle.command_files.specs.declared.fault.Fault.TheVariants.{Memory};
+
+    ghost from_gives = { λ _ e. e ≡ Memory };
+
+    fn from(_error: AllocFailed<T>) -> Fault {
+        Fault::Memory
+    }
+}
+
+impl From<FromHexError> for Fault {
+    ghost use Rattle.std.specs.Prelude.{◌≡◌};
+    ghost use Rattle.command_files.specs.Fault.{hex_fault};
+
+    ghost from_gives = { λ error e. e ≡ hex_fault error };
+
+    fn from(error: FromHexError) -> Fault {
+        match error {
+            FromHexError::OutOfMemory => Fault::Memory,
+            _ => Fault::Hex,
+        }
+    }
+}
+
+impl From<TemplateFault> for Fault {
+    ghost use Rattle.std.specs.Prelude.{◌≡◌};
+    ghost use Rattle.command_files.specs.Fault.{template_fault};
+
+    ghost from_gives = { λ fault e. e ≡ template_fault fault };
+
+    fn from(fault: TemplateFault) -> Fault {
+        match fault {
+            TemplateFault::Memory => Fault::Memory,
+            _ => Fault::Template(fault),
+        }
+    }
+}
+
+impl From<LayoutFault> for Fault {
+    ghost use Rattle.std.specs.Prelude.{◌≡◌};
+    ghost use Rattle.command_files.specs.Fault.{layout_fault};
+
+    ghost from_gives = { λ fault e. e ≡ layout_fault fault };
+
+    fn from(fault: LayoutFault) -> Fault {
+        match fault {
+            LayoutFault::Memory => Fault::Memory,
+            _ => Fault::Layout(fault),
+        }
+    }
+}
+
+impl From<AsmFault> for Fault {
+    ghost use Rattle.std.specs.Prelude.{◌≡◌};
+    ghost use Rattle.command_files.specs.Fault.{text_fault};
+
+    ghost from_gives = { λ fault e. e ≡ text_fault fault };
+
+    fn from(fault: AsmFault) -> Fault {
+        match fault.cause {
+            Cause::Memory => Fault::Memory,
+            _ => Fault::Text(fault),
+        }
+    }
+}
+
+impl From<ScenarioFault> for Fault {
+    ghost use Rattle.std.specs.Prelude.{◌≡◌};
+    ghost use Rattle.command_files.specs.Fault.{session_fault};
+
+    ghost from_gives = { λ fault e. e ≡ session_fault fault };
+
+    fn from(fault: ScenarioFault) -> Fault {
+        match fault {
+            ScenarioFault::Memory => Fault::Memory,
+            _ => Fault::Session(fault),
+        }
+    }
+}
+
+impl From<WriteFault> for Fault {
+    ghost use Rattle.std.specs.Prelude.{◌≡◌};
+    ghost use Rattle.command_files.specs.Fault.{trace_fault};
+
+    ghost from_gives = { λ fault e. e ≡ trace_fault fault };
+
+    fn from(fault: WriteFault) -> Fault {
+        match fault {
+            WriteFault::TooLarge => Fault::TooLarge,
+            WriteFault::Memory => Fault::Memory,
+        }
+    }
+}

@@ -1,0 +1,28 @@
+//! What all commands of the program share: files and streams, answers and refusals with their faults, and how the
+//! program ends.
+#![tactic(auto)]
+
+mod answer;
+mod fault;
+pub mod files;
+mod hex_text;
+mod image;
+mod input;
+mod loading;
+mod output;
+mod refusal;
+mod status;
+mod telling;
+mod verdicts;
+
+pub use answer::{Answer, NewFile, deliver, make, unwritten};
+pub use fault::{Fault, FaultLine};
+pub use hex_text::read_hex;
+pub use image::image_file;
+pub use input::Input;
+pub use loading::{load_scenario, load_trace, read_file};
+pub use output::Output;
+pub use refusal::{Refusal, Why, complaint};
+pub use status::Status;
+pub use telling::tell;
+pub use verdicts::{judge, no_run};

@@ -1,0 +1,62 @@
+//! What is said of a trace: whether it is a run.
+ghost use Rattle.std.specs.Prelude.{◌≡◌, [], IfOk};
+ghost use Rattle.std.specs.String.{string_bytes};
+ghost use Rattle.command_files.specs.Answers.{files_of};
+ghost use Rattle.command_files.specs.Verdicts.{IsJudged, verdict_line, verdict_status};
+
+use crate::answer::Answer;
+use crate::status::Status;
+use fleet_core::{Verdict, check};
+use scenario_image::Scenario;
+use std::alloc::{AllocError, Global};
+use trace_file::Entry;
+
+/// Whether the entries are a run of the scenario, and what is said of that.
+#[tactic(auto, using(crate::proofs::Built::judged_as))]
+pub fn judge<'a>(
+    alloc: Global,
+    scenario: &Scenario,
+    entries: &[Entry],
+) -> Result<Answer<'a>, AllocError>
+    ensures judged { IfOk result (λ a. IsJudged scenario.now entries.now a.status (string_bytes a.text)) }
+    ensures made { IfOk result (λ a. files_of a.file ≡ []) }
+{
+    let verdict = check(alloc, scenario, entries)?;
+    told_verdict(alloc, verdict)
+}
+
+/// The answer that entries are not a run, from this one on.
+pub fn no_run<'a>(alloc: Global, place: usize) -> Result<Answer<'a>, AllocError>
+    ensures text { IfOk result (λ a. string_bytes a.text ≡ verdict_line (Verdict.NotRun place)) }
+    ensures status { IfOk result (λ a. a.status ≡ verdict_status (Verdict.NotRun place)) }
+    ensures made { IfOk result (λ a. files_of a.file ≡ []) }
+{
+    told_verdict(alloc, Verdict::NotRun(place))
+}
+
+fn told_verdict<'a>(alloc: Global, verdict: Verdict) -> Result<Answer<'a>, AllocError>
+    ensures text { IfOk result (λ a. string_bytes a.text ≡ verdict_line verdict) }
+    ensures status { IfOk result (λ a. a.status ≡ verdict_status verdict) }
+    ensures made { IfOk result (λ a. files_of a.file ≡ []) }
+{
+    let text = verdict_line(alloc, verdict)?;
+    Ok(Answer::printed(verdict_status(verdict), text))
+}
+
+fn verdict_status(verdict: Verdict) -> Status
+    ensures { result ≡ verdict_status verdict }
+{
+    match verdict {
+        Verdict::Run => Status::Done,
+        Verdict::NotRun(_) => Status::NotRun,
+    }
+}
+
+fn verdict_line(alloc: Global, verdict: Verdict) -> Result<String, AllocError>
+    ensures { IfOk result (λ text. string_bytes text ≡ verdict_line verdict) }
+{
+    match verdict {
+        Verdict::Run => String::from_str(alloc, "run\n"),
+        Verdict::NotRun(place) => format!(in alloc; "not a run at {place}\n"),
+    }
+}

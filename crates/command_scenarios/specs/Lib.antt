@@ -1,0 +1,4 @@
+pub mod Jobs
+pub mod RunAnswer
+pub mod Runs
+pub mod Texts

@@ -1,0 +1,95 @@
+//! What the program answers to the words that are about scenarios and their runs. Nothing is written or printed here: a
+//! file that is only borrowed cannot be.
+ghost use Rattle.std.specs.Prelude.{IfErr, IfOk, option_map};
+ghost use Rattle.std.specs.String.{string_bytes};
+ghost use Rattle.command_files.specs.Answers.{files_of};
+ghost use Rattle.command_files.specs.Loading.{IsCheckRefused, IsImageFault};
+ghost use Rattle.command_files.specs.Verdicts.{IsCheckDone};
+ghost use Rattle.command_scenarios.specs.Jobs.{IsAsmDone, IsDisDone, IsRunDone, IsRunRefused};
+ghost use Rattle.command_scenarios.specs.Texts.{IsTextFault};
+
+use crate::runs::run_scenario;
+use crate::texts::{count_line, load_text};
+use command_files::files::Files;
+use command_files::{Answer, Refusal, Status, image_file, judge, load_scenario, load_trace};
+use scenario_asm::disassemble;
+use std::alloc::Global;
+use std::sync::Wait;
+use std::thread::Threads;
+
+/// `asm IN OUT`: the scenario of a text, whose image goes to OUT, in version 2.
+#[tactic(auto, using(crate::proofs::Built::asm_done, crate::proofs::Faults::text_memory))]
+pub fn asm<'a, F: Files>(
+    alloc: Global,
+    input: &'a str,
+    output: &'a str,
+    files: &F,
+) -> Result<Answer<'a>, Refusal<'a>>
+    ensures done { IfOk result (λ a.
+        IsAsmDone (F.holds files.now) input.entry.now output.entry.now a.status (string_bytes a.text)
+        (files_of a.file)) }
+    ensures refused { IfErr result (λ r. IsTextFault (F.holds files.now) (F.fails files.now) input.entry.now r.fault) }
+{
+    let scenario = load_text(alloc, input, files)?;
+    let file = image_file(alloc, &scenario, output)?;
+    let text = count_line(alloc, &scenario)?;
+    Ok(Answer {
+        status: Status::Done,
+        text,
+        file: Some(file),
+    })
+}
+
+/// `dis IN`: the canonical text of the scenario of an image, of either version.
+#[tactic(auto, using(crate::proofs::Built::dis_done, command_files::proofs::Faults::file_memory))]
+pub fn dis<'a, F: Files>(
+    alloc: Global,
+    input: &'a str,
+    files: &F,
+) -> Result<Answer<'a>, Refusal<'a>>
+    ensures done { IfOk result (λ a.
+        IsDisDone (F.holds files.now) input.entry.now a.status (string_bytes a.text) (files_of a.file)) }
+    ensures refused { IfErr result (λ r. IsImageFault (F.holds files.now) (F.fails files.now) input.entry.now r.fault) }
+{
+    let scenario = load_scenario(alloc, input, files)?;
+    let text = disassemble(alloc, &scenario)?;
+    Ok(Answer::printed(Status::Done, text))
+}
+
+/// `run IMAGE [--workers N] [--batch N] [--trace FILE]`: a run of the scenario, whose trace file goes to FILE.
+#[tactic(auto, using(crate::proofs::Built::run_done, crate::proofs::Built::run_image, crate::proofs::Built::run_work))]
+pub fn run<'a, R: Threads + Wait + Sync, F: Files>(
+    rt: &R,
+    alloc: Global,
+    image: &'a str,
+    workers: u16,
+    batch: u32,
+    trace: Option<&'a str>,
+    files: &F,
+) -> Result<Answer<'a>, Refusal<'a>>
+    ensures done { IfOk result (λ a. IsRunDone (F.holds files.now) image.entry.now workers batch
+        (option_map (λ p. p.now) trace.entry) a.status (string_bytes a.text) (files_of a.file)) }
+    ensures refused { IfErr result (λ r.
+        IsRunRefused (F.holds files.now) (F.fails files.now) image.entry.now workers batch r.fault) }
+{
+    let scenario = load_scenario(alloc, image, files)?;
+    Ok(run_scenario(rt, alloc, &scenario, workers, batch, trace)?)
+}
+
+/// `check IMAGE TRACE`: whether the trace is a run of the scenario, else the least place at which it is not.
+#[tactic(auto, using(crate::proofs::Built::check_done, command_files::proofs::Built::check_image, command_files::proofs::Built::check_trace, command_files::proofs::Faults::file_memory))]
+pub fn check<'a, F: Files>(
+    alloc: Global,
+    image: &'a str,
+    trace: &'a str,
+    files: &F,
+) -> Result<Answer<'a>, Refusal<'a>>
+    ensures done { IfOk result (λ a. IsCheckDone (F.holds files.now) image.entry.now trace.entry.now
+        a.status (string_bytes a.text) (files_of a.file)) }
+    ensures refused { IfErr result (λ r.
+        IsCheckRefused (F.holds files.now) (F.fails files.now) image.entry.now trace.entry.now r.fault) }
+{
+    let scenario = load_scenario(alloc, image, files)?;
+    let entries = load_trace(alloc, trace, files)?;
+    Ok(judge(alloc, &scenario, entries.as_slice())?)
+}

@@ -1,0 +1,161 @@
+//! A run of a scenario by workers, and what is said of it.
+ghost use Rattle.std.specs.Prelude.{◌≡◌, option_map, IfErr, IfOk};
+ghost use Rattle.std.specs.String.{string_bytes};
+ghost use Rattle.command_scenarios.specs.Runs.{device_word, device_words, done_line, end_line, end_status};
+ghost use Rattle.command_scenarios.specs.Runs.{stalled_line, stalled_text};
+ghost use Rattle.command_files.specs.Answers.{files_of};
+ghost use Rattle.command_scenarios.specs.RunAnswer.{run_fault, IsRunBy, IsRunFault, IsSavedAs, IsSavingFault};
+ghost use Rattle.command_scenarios.specs.RunAnswer.{IsRunAnswer};
+
+use command_files::{Answer, Fault, NewFile, Status};
+use fleet_workers::{FleetRun, OpenGate, RunFault, run_fleet};
+use scenario_image::Scenario;
+use std::alloc::{AllocError, Global};
+use std::sync::Wait;
+use std::thread::Threads;
+use trace_file::{Entry, write_entries};
+
+/// A run of a scenario by workers: what is said of it, and its trace file for the path, if there is one.
+#[tactic(auto, using(crate::proofs::Built::run_answer, crate::proofs::Faults::unsaved_run))]
+pub fn run_scenario<'a, R: Threads + Wait + Sync>(
+    rt: &R,
+    alloc: Global,
+    scenario: &Scenario,
+    workers: u16,
+    batch: u32,
+    trace: Option<&'a str>,
+) -> Result<Answer<'a>, Fault>
+    ensures done { IfOk result (λ a.
+        IsRunAnswer scenario.now workers batch (option_map (λ p. p.now) trace.entry) a.status (string_bytes a.text)
+        (files_of a.file)) }
+    ensures refused { IfErr result (IsRunFault scenario.now workers batch) }
+{
+    let run = made_by_workers(rt, alloc, scenario, workers, batch)?;
+    let ended = end_of(alloc, run.entries.len(), run.end.waiting())?;
+    let file = trace_file(alloc, trace, run.entries.as_slice())?;
+    Ok(Answer {
+        status: ended.status,
+        text: ended.text,
+        file,
+    })
+}
+
+#[tactic(auto, using(crate::proofs::Faults::run_fault_is, crate::proofs::Built::run_by))]
+fn made_by_workers<R: Threads + Wait + Sync>(
+    rt: &R,
+    alloc: Global,
+    scenario: &Scenario,
+    workers: u16,
+    batch: u32,
+) -> Result<FleetRun, Fault>
+    ensures run { IfOk result (IsRunBy scenario.now workers batch) }
+    ensures refused { IfErr result (IsRunFault scenario.now workers batch) }
+{
+    match run_fleet(rt, alloc, scenario, workers, batch, &OpenGate) {
+        Ok(run) => Ok(run),
+        Err(fault) => Err(fault_of(fault)),
+    }
+}
+
+/// The fault of a run that the workers did not end.
+fn fault_of(fault: RunFault) -> Fault
+    ensures { result ≡ run_fault fault }
+{
+    match fault {
+        RunFault::Memory(_) => Fault::Memory,
+        RunFault::Spent(_) => Fault::Spent,
+        RunFault::Workers => Fault::Workers,
+        RunFault::Batch => Fault::Batch,
+    }
+}
+
+/// The trace file of the entries for the path, if there is one.
+#[tactic(auto, using(crate::proofs::Faults::unsaved, crate::proofs::Built::not_saved, crate::proofs::Built::saved_as))]
+fn trace_file<'a>(
+    alloc: Global,
+    trace: Option<&'a str>,
+    entries: &[Entry],
+) -> Result<Option<NewFile<'a>>, Fault>
+    ensures saved { IfOk result (λ file. IsSavedAs (option_map (λ p. p.now) trace.entry) entries.now (files_of file)) }
+    ensures refused { IfErr result (IsSavingFault entries.now) }
+{
+    match trace {
+        Some(path) => {
+            let bytes = write_entries(alloc, entries)?;
+            Ok(Some(NewFile { path, bytes }))
+        }
+        None => Ok(None),
+    }
+}
+
+/// How a run ended, or what a trace is.
+#[derive(Drop)]
+struct Ending {
+    status: Status,
+    text: String,
+}
+
+/// What is said of a run of `count` entries, after which the devices in `waiting` are not at the end of their rows.
+fn end_of(alloc: Global, count: usize, waiting: &[u16]) -> Result<Ending, AllocError>
+    ensures text { IfOk result (λ a. string_bytes a.text ≡ end_line count waiting.now) }
+    ensures status { IfOk result (λ a. a.status ≡ end_status waiting.now) }
+{
+    Ok(Ending {
+        status: end_status(waiting),
+        text: end_line(alloc, count, waiting)?,
+    })
+}
+
+fn end_status(waiting: &[u16]) -> Status
+    ensures { result ≡ end_status waiting.now }
+{
+    match waiting {
+        [] => Status::Done,
+        [_, ..] => Status::NotRun,
+    }
+}
+
+fn end_line(alloc: Global, count: usize, waiting: &[u16]) -> Result<String, AllocError>
+    ensures { IfOk result (λ text. string_bytes text ≡ end_line count waiting.now) }
+{
+    match waiting {
+        [] => done_line(alloc, count),
+        [_, ..] => stalled_line(alloc, count, waiting),
+    }
+}
+
+fn done_line(alloc: Global, count: usize) -> Result<String, AllocError>
+    ensures { IfOk result (λ text. string_bytes text ≡ done_line count) }
+{
+    format!(in alloc; "done {count}\n")
+}
+
+fn stalled_line(alloc: Global, count: usize, waiting: &[u16]) -> Result<String, AllocError>
+    ensures { IfOk result (λ text. string_bytes text ≡ stalled_line count waiting.now) }
+{
+    let devices = device_words(alloc, waiting)?;
+    stalled_text(alloc, count, devices.as_str())
+}
+
+fn stalled_text(alloc: Global, count: usize, devices: &str) -> Result<String, AllocError>
+    ensures { IfOk result (λ text. string_bytes text ≡ stalled_text count devices.now) }
+{
+    format!(in alloc; "stalled {count} waiting{devices}\n")
+}
+
+fn device_words(alloc: Global, devices: &[u16]) -> Result<String, AllocError>
+    ensures { IfOk result (λ text. string_bytes text ≡ device_words devices.now) }
+{
+    let mut text = String::new(alloc);
+    for device in devices {
+        let word = device_word(alloc, *device)?;
+        text.push_str(word.as_str())?;
+    }
+    Ok(text)
+}
+
+fn device_word(alloc: Global, device: u16) -> Result<String, AllocError>
+    ensures { IfOk result (λ text. string_bytes text ≡ device_word device) }
+{
+    format!(in alloc; " {device}")
+}

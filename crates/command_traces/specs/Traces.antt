@@ -1,0 +1,118 @@
+-- What the program answers to its words about the trace of a run: `show` and `pcap`.
+use Rattle.std.specs.Prelude.{⊤, ℕ, ◌≡◌, ◌⊎◌, IsTrue, List, [], ◌∷◌, ◌++◌, length, codes}
+use Rattle.std.specs.Fmt.{decimal}
+use Rattle.scenario_image.specs.Scenario.{Scenario}
+use Rattle.trace_file.specs.declared.entry.Entry.{Entry}
+use Rattle.fleet_core.specs.Run.{IsRun}
+use Rattle.trace_text.specs.declared.selection.Selection.{Selection}
+use Rattle.trace_text.specs.declared.selection.SelectionFault.{SelectionFault}
+use Rattle.trace_text.specs.declared.selection.SelectionFault.TheVariants as selection
+use Rattle.trace_text.specs.Selection.{IsSelectable, IsSelectionFault, selected_text}
+use Rattle.trace_pcap.specs.declared.fault.PcapFault.{PcapFault}
+use Rattle.trace_pcap.specs.declared.fault.PcapFault.TheVariants as pcap
+use Rattle.trace_pcap.specs.Packets.{has_long, trace_packets}
+use Rattle.udp_capture.specs.Capture.{IsCapture}
+use Rattle.command_files.specs.Lines.{line}
+use Rattle.command_files.specs.Files.{Made}
+use Rattle.command_files.specs.Loading.{IsCheckRefused, IsScenarioAt, IsTraceAt}
+use Rattle.command_files.specs.Verdicts.{IsJudged}
+use Rattle.command_files.specs.declared.fault.Fault.{Fault}
+use Rattle.command_files.specs.declared.fault.Fault.TheVariants as faults
+use Rattle.command_files.specs.declared.status.Status.{Status}
+use Rattle.command_files.specs.declared.status.Status.TheVariants.{Done, NotRun}
+
+-- the files at the paths are a scenario's image and a trace file, and this holds of the scenario and the entries
+pub record IsOverTrace (holds : List ℕ → List ℕ → Type 0) (image trace : List ℕ)
+    (over : Scenario → List Entry → Type 0) : Type 0 where
+  pub scenario : Scenario
+  pub found : IsScenarioAt holds image scenario
+  pub entries : List Entry
+  pub read : IsTraceAt holds trace entries
+  pub so : over scenario entries
+
+-- the entries are not a run, which is answered as `check` answers it
+pub record IsNoRun (s : Scenario) (es : List Entry) (status : Status) (text : List ℕ) (made : List Made)
+    : Type 0 where
+  pub judged : IsJudged s es status text
+  pub no_run : status ≡ NotRun
+  pub made_is : made ≡ []
+
+-- ---- `show IMAGE TRACE [--device N] [--from N] [--to N]`
+
+-- the entries are a run, and the text of those that are asked for is printed
+pub record IsRunShown (sel : Selection) (s : Scenario) (es : List Entry) (status : Status) (text : List ℕ)
+    (made : List Made) : Type 0 where
+  pub run : IsRun s es
+  pub selectable : IsSelectable s sel es
+  pub text_is : text ≡ selected_text s sel es
+  pub status_is : status ≡ Done
+  pub made_is : made ≡ []
+
+abbrev pub IsShownAs : Selection → Status → List ℕ → List Made → Scenario → List Entry → Type 0
+IsShownAs sel status text made s es = IsNoRun s es status text made ⊎ IsRunShown sel s es status text made
+
+abbrev pub IsShowDone : (List ℕ → List ℕ → Type 0) → List ℕ → List ℕ → Selection → Status → List ℕ → List Made
+    → Type 0
+IsShowDone holds image trace sel status text made = IsOverTrace holds image trace (IsShownAs sel status text made)
+
+-- the entries are a run, and the scenario has no such device, or the run no entry of the first number, or the numbers
+-- are not in order, the first of these; or no memory was left
+abbrev pub IsShowFault : Selection → Fault → Scenario → List Entry → Type 0
+IsShowFault sel faults.NoDevice s es = IsRun s es × IsSelectionFault s sel es selection.NoDevice
+IsShowFault sel faults.PastEnd s es = IsRun s es × IsSelectionFault s sel es selection.PastEnd
+IsShowFault sel faults.Range s es = IsRun s es × IsSelectionFault s sel es selection.Range
+IsShowFault sel faults.Memory s es = ⊤
+IsShowFault sel _ s es = ⊥
+
+-- first the image is to blame, then the trace file, and then what is asked for
+abbrev pub IsShowRefused : (List ℕ → List ℕ → Type 0) → (List ℕ → Type 0) → List ℕ → List ℕ → Selection → Fault
+    → Type 0
+IsShowRefused holds fails image trace sel fault =
+    IsCheckRefused holds fails image trace fault ⊎ IsOverTrace holds image trace (IsShowFault sel fault)
+
+-- the fault of entries that a trace does not have: a lack of memory is not the trace's fault
+abbrev pub selection_fault : SelectionFault → Fault
+selection_fault selection.NoDevice = faults.NoDevice
+selection_fault selection.PastEnd = faults.PastEnd
+selection_fault selection.Range = faults.Range
+selection_fault selection.Memory = faults.Memory
+
+-- ---- `pcap IMAGE TRACE OUT`
+
+-- `ok N packets`
+abbrev pub packets_line : ℕ → List ℕ
+packets_line count = line (codes "ok " ++ decimal count ++ codes " packets")
+
+-- the entries are a run, the capture of its packets is made, and how many there are is printed
+pub record IsRunCaptured (output : List ℕ) (s : Scenario) (es : List Entry) (status : Status) (text : List ℕ)
+    (made : List Made) : Type 0 where
+  pub run : IsRun s es
+  pub bytes : List ℕ
+  pub capture : IsCapture bytes (trace_packets s es)
+  pub text_is : text ≡ packets_line (length (trace_packets s es))
+  pub status_is : status ≡ Done
+  pub made_is : made ≡ (output, bytes) ∷ []
+
+abbrev pub IsCapturedAs : List ℕ → Status → List ℕ → List Made → Scenario → List Entry → Type 0
+IsCapturedAs output status text made s es =
+    IsNoRun s es status text made ⊎ IsRunCaptured output s es status text made
+
+abbrev pub IsPcapDone : (List ℕ → List ℕ → Type 0) → List ℕ → List ℕ → List ℕ → Status → List ℕ → List Made → Type 0
+IsPcapDone holds image trace output status text made =
+    IsOverTrace holds image trace (IsCapturedAs output status text made)
+
+-- the entries are a run, and it has a datagram that no packet carries; or no memory was left
+abbrev pub IsPcapFault : Fault → Scenario → List Entry → Type 0
+IsPcapFault faults.TooLong s es = IsRun s es × IsTrue (has_long s es)
+IsPcapFault faults.Memory s es = ⊤
+IsPcapFault _ s es = ⊥
+
+-- first the image is to blame, then the trace file, and then a datagram of the run
+abbrev pub IsPcapRefused : (List ℕ → List ℕ → Type 0) → (List ℕ → Type 0) → List ℕ → List ℕ → Fault → Type 0
+IsPcapRefused holds fails image trace fault =
+    IsCheckRefused holds fails image trace fault ⊎ IsOverTrace holds image trace (IsPcapFault fault)
+
+-- the fault of entries that got no capture
+abbrev pub pcap_fault : PcapFault → Fault
+pcap_fault pcap.TooLong = faults.TooLong
+pcap_fault pcap.Memory = faults.Memory

@@ -1,0 +1,180 @@
+//! What the program answers to its words about the trace of a run: `show` and `pcap`. Where the trace is not a run, the
+//! answer is that of `check`.
+ghost use Rattle.std.specs.Prelude.{◌≡◌, IfErr, IfNone, IfOk, IfSome};
+ghost use Rattle.std.specs.String.{string_bytes};
+ghost use Rattle.fleet_core.specs.Run.{IsRun};
+ghost use Rattle.command_files.specs.Answers.{files_of};
+ghost use Rattle.command_traces.specs.Traces.{IsCapturedAs, IsNoRun, IsPcapDone, IsPcapFault, IsPcapRefused};
+ghost use Rattle.command_traces.specs.Traces.{IsRunCaptured, IsRunShown, IsShowDone, IsShowFault, IsShowRefused};
+ghost use Rattle.command_traces.specs.Traces.{IsShownAs, packets_line, pcap_fault, selection_fault};
+
+use command_files::files::Files;
+use command_files::{Answer, Fault, NewFile, Refusal, Status, load_scenario, load_trace, no_run};
+use fleet_core::{Verdict, check};
+use scenario_image::Scenario;
+use std::alloc::{AllocError, Global};
+use trace_file::Entry;
+use trace_pcap::{PcapFault, packet_count, trace_pcap};
+use trace_text::{Selection, SelectionFault, selected_text};
+
+/// The answer that entries are not a run; none where they are one.
+#[tactic(auto, using(crate::proofs::Traced::no_run))]
+fn answer_no_run<'a>(
+    alloc: Global,
+    scenario: &Scenario,
+    entries: &[Entry],
+) -> Result<Option<Answer<'a>>, AllocError>
+    ensures no_run { IfOk result (λ o. IfSome o (λ a.
+        IsNoRun scenario.now entries.now a.status (string_bytes a.text) (files_of a.file))) }
+    ensures run { IfOk result (λ o. IfNone o (IsRun scenario.now entries.now)) }
+{
+    match check(alloc, scenario, entries)? {
+        Verdict::Run => Ok(None),
+        Verdict::NotRun(place) => Ok(Some(no_run(alloc, place)?)),
+    }
+}
+
+/// `show IMAGE TRACE [--device N] [--from N] [--to N]`: the text of those entries of a run that are asked for.
+#[tactic(auto, using(crate::proofs::Traced::shown_at, crate::proofs::Traced::unshown_at, crate::proofs::Traced::unshown_image, crate::proofs::Traced::unshown_trace))]
+pub fn show<'a, F: Files>(
+    alloc: Global,
+    image: &'a str,
+    trace: &'a str,
+    selection: Selection,
+    files: &F,
+) -> Result<Answer<'a>, Refusal<'a>>
+    ensures done { IfOk result (λ a. IsShowDone (F.holds files.now) image.entry.now trace.entry.now selection
+        a.status (string_bytes a.text) (files_of a.file)) }
+    ensures refused { IfErr result (λ r.
+        IsShowRefused (F.holds files.now) (F.fails files.now) image.entry.now trace.entry.now selection r.fault) }
+{
+    let scenario = load_scenario(alloc, image, files)?;
+    let entries = load_trace(alloc, trace, files)?;
+    Ok(show_trace(alloc, &scenario, entries.as_slice(), selection)?)
+}
+
+#[tactic(auto, using(crate::proofs::Traced::unshown_run, crate::proofs::Traced::shown_run, crate::proofs::Traced::unshown_memory))]
+fn show_trace<'a>(
+    alloc: Global,
+    scenario: &Scenario,
+    entries: &[Entry],
+    selection: Selection,
+) -> Result<Answer<'a>, Fault>
+    ensures done { IfOk result (λ a.
+        IsShownAs selection a.status (string_bytes a.text) (files_of a.file) scenario.now entries.now) }
+    ensures refused { IfErr result (λ f. IsShowFault selection f scenario.now entries.now) }
+{
+    match answer_no_run(alloc, scenario, entries)? {
+        Some(answer) => Ok(answer),
+        None => show_run(alloc, scenario, entries, selection),
+    }
+}
+
+#[tactic(auto, using(crate::proofs::Traced::run_shown, crate::proofs::Traced::unselected))]
+fn show_run<'a>(
+    alloc: Global,
+    scenario: &Scenario,
+    entries: &[Entry],
+    selection: Selection,
+) -> Result<Answer<'a>, Fault>
+    requires { IsRun scenario.now entries.now }
+    ensures done { IfOk result (λ a.
+        IsRunShown selection scenario.now entries.now a.status (string_bytes a.text) (files_of a.file)) }
+    ensures refused { IfErr result (λ f. IsShowFault selection f scenario.now entries.now) }
+{
+    match selected_text(alloc, scenario, entries, selection) {
+        Ok(text) => Ok(Answer::printed(Status::Done, text)),
+        Err(fault) => Err(unselected(fault)),
+    }
+}
+
+/// The fault of entries that a trace does not have.
+fn unselected(fault: SelectionFault) -> Fault
+    ensures { result ≡ selection_fault fault }
+{
+    match fault {
+        SelectionFault::NoDevice => Fault::NoDevice,
+        SelectionFault::PastEnd => Fault::PastEnd,
+        SelectionFault::Range => Fault::Range,
+        SelectionFault::Memory => Fault::Memory,
+    }
+}
+
+/// `pcap IMAGE TRACE OUT`: the datagrams of a run, as a capture of packets that goes to OUT.
+#[tactic(auto, using(crate::proofs::Traced::captured_at, crate::proofs::Traced::uncaptured_at, crate::proofs::Traced::uncaptured_image, crate::proofs::Traced::uncaptured_trace))]
+pub fn pcap<'a, F: Files>(
+    alloc: Global,
+    image: &'a str,
+    trace: &'a str,
+    output: &'a str,
+    files: &F,
+) -> Result<Answer<'a>, Refusal<'a>>
+    ensures done { IfOk result (λ a. IsPcapDone (F.holds files.now) image.entry.now trace.entry.now output.entry.now
+        a.status (string_bytes a.text) (files_of a.file)) }
+    ensures refused { IfErr result (λ r.
+        IsPcapRefused (F.holds files.now) (F.fails files.now) image.entry.now trace.entry.now r.fault) }
+{
+    let scenario = load_scenario(alloc, image, files)?;
+    let entries = load_trace(alloc, trace, files)?;
+    Ok(capture_trace(alloc, &scenario, entries.as_slice(), output)?)
+}
+
+#[tactic(auto, using(crate::proofs::Traced::uncaptured_run, crate::proofs::Traced::captured_run, crate::proofs::Traced::uncaptured_memory))]
+fn capture_trace<'a>(
+    alloc: Global,
+    scenario: &Scenario,
+    entries: &[Entry],
+    output: &'a str,
+) -> Result<Answer<'a>, Fault>
+    ensures done { IfOk result (λ a.
+        IsCapturedAs output.entry.now a.status (string_bytes a.text) (files_of a.file) scenario.now entries.now) }
+    ensures refused { IfErr result (λ f. IsPcapFault f scenario.now entries.now) }
+{
+    match answer_no_run(alloc, scenario, entries)? {
+        Some(answer) => Ok(answer),
+        None => capture_run(alloc, scenario, entries, output),
+    }
+}
+
+#[tactic(auto, using(crate::proofs::Traced::run_captured, crate::proofs::Traced::unpacked, crate::proofs::Traced::uncaptured_memory))]
+fn capture_run<'a>(
+    alloc: Global,
+    scenario: &Scenario,
+    entries: &[Entry],
+    output: &'a str,
+) -> Result<Answer<'a>, Fault>
+    requires { IsRun scenario.now entries.now }
+    ensures done { IfOk result (λ a. IsRunCaptured output.entry.now scenario.now entries.now
+        a.status (string_bytes a.text) (files_of a.file)) }
+    ensures refused { IfErr result (λ f. IsPcapFault f scenario.now entries.now) }
+{
+    let bytes = match trace_pcap(alloc, scenario, entries) {
+        Ok(bytes) => bytes,
+        Err(fault) => return Err(uncaptured(fault)),
+    };
+    let text = packets_line(alloc, packet_count(scenario, entries))?;
+    Ok(Answer {
+        status: Status::Done,
+        text,
+        file: Some(NewFile {
+            path: output,
+            bytes,
+        }),
+    })
+}
+
+/// The fault of entries that got no capture.
+fn uncaptured(fault: PcapFault) -> Fault
+    ensures { result ≡ pcap_fault fault }
+{
+    match fault {
+        PcapFault::TooLong => Fault::TooLong,
+        PcapFault::Memory => Fault::Memory,
+    }
+}
+
+fn packets_line(alloc: Global, count: u128) -> Result<String, AllocError>
+    ensures { IfOk result (λ text. string_bytes text ≡ packets_line count) }
+{
+    format!(in alloc; "ok {count} packets\n")
+}
