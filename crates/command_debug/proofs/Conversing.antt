@@ -2,8 +2,8 @@
 use Rattle.std.proofs.Common.{ℕ, ◌≡◌, ◌+◌, ◌⊎◌, List, [], ◌∷◌, ◌++◌, length, Option, None, Some}
 use Rattle.std.proofs.Common.{refl, sym, ap, subst, arith, ◌∙◌, inl, inr, append_assoc, append-nil}
 use Rattle.std.proofs.KnownBytes.{Appends-nil, Appends-trans}
-use Rattle.debug_words.specs.declared.command.Command.TheVariants.{Quit}
-use Rattle.debug_words.specs.Saying.{IsLineOf}
+use Rattle.debug_answers.specs.declared.command.Command.TheVariants.{Quit}
+use Rattle.debug_answers.specs.Saying.{IsLineOf}
 use Rattle.debugger.specs.Session.{Session}
 use Rattle.debug_answers.specs.Notes.{IsNote}
 use Rattle.debug_answers.specs.Replies.{IsReply}

@@ -5,8 +5,8 @@ use Rattle.std.proofs.Common.{refl, sym, ap, subst, arith, ◌∙◌, Bool, true
 use Rattle.std.specs.Io.BufRead.{DropsThrough, drop_through, strip_last, take_through}
 use Rattle.std.specs.Io.KnownBytes.{Appends}
 use Rattle.std.proofs.BufReadLemmas.{take_through-nil}
-use Rattle.debug_words.specs.declared.command.Command.TheVariants.{Quit}
-use Rattle.debug_words.specs.Saying.{IsLineOf}
+use Rattle.debug_answers.specs.declared.command.Command.TheVariants.{Quit}
+use Rattle.debug_answers.specs.Saying.{IsLineOf}
 use Rattle.debugger.specs.Session.{Session}
 use Rattle.debug_answers.specs.Notes.{IsNote}
 use Rattle.debug_answers.specs.Replies.{IsReply}

@@ -2,8 +2,8 @@
 use Rattle.std.specs.Prelude.{ℕ, ◌≡◌, ◌≢◌, ◌<◌, ◌+◌, ◌⊎◌, List, [], ◌∷◌, ◌++◌, length, Option, None, Some}
 use Rattle.std.specs.Io.BufRead.{drop_through, first_piece}
 use Rattle.std.specs.Io.KnownBytes.{Appends}
-use Rattle.debug_words.specs.declared.command.Command.TheVariants.{Quit}
-use Rattle.debug_words.specs.Saying.{IsLineOf}
+use Rattle.debug_answers.specs.declared.command.Command.TheVariants.{Quit}
+use Rattle.debug_answers.specs.Saying.{IsLineOf}
 use Rattle.debugger.specs.Session.{Session}
 use Rattle.debug_answers.specs.Notes.{IsNote}
 use Rattle.debug_answers.specs.Replies.{IsReply}

@@ -4,7 +4,7 @@ use Rattle.std.proofs.Common.{subst}
 use Rattle.std.specs.Result.{IsOkAnd}
 use Rattle.hex.specs.Hex.{decode_of}
 use Rattle.command_demo.specs.Demo.{demo_outputs}
-use Rattle.debug_answers.specs.Printed.{printed}
+use Rattle.debug_answers.specs.Outputs.{output_lines}
 use Rattle.command_files.specs.Files.{Made}
 use Rattle.command_demo.specs.One.{IsOneDone}
 use Rattle.command_files.specs.declared.fault.Fault.{Fault}
@@ -16,7 +16,7 @@ use Rattle.command_files.specs.declared.fault.Fault.TheVariants as faults
 use Rattle.command_demo.specs.One.{IsOneFault}
 
 pub one_done : (hex : List ℕ) (status : Status) (text : List ℕ) (made : List Made) → status ≡ Done → made ≡ []
-    → IsOkAnd (decode_of hex) (λ bytes. text ≡ printed (demo_outputs bytes)) → IsOneDone hex status text made
+    → IsOkAnd (decode_of hex) (λ bytes. text ≡ output_lines (demo_outputs bytes)) → IsOneDone hex status text made
 one_done hex status text made ended none said = record { text_is = said; status_is = ended; made_is = none }
 
 -- the demonstration device's faults

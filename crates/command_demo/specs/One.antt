@@ -2,7 +2,7 @@
 use Rattle.std.specs.Prelude.{⊤, ℕ, ◌≡◌, List, [], IsErr}
 use Rattle.std.specs.Result.{IsOkAnd}
 use Rattle.hex.specs.Hex.{decode_of}
-use Rattle.debug_answers.specs.Printed.{printed}
+use Rattle.debug_answers.specs.Outputs.{output_lines}
 use Rattle.command_files.specs.Files.{Made}
 use Rattle.command_files.specs.declared.fault.Fault.{Fault}
 use Rattle.command_files.specs.declared.fault.Fault.TheVariants as faults
@@ -12,7 +12,7 @@ use Rattle.command_demo.specs.Demo.{demo_outputs}
 
 -- the lines of what the DEMO device outputs
 pub record IsOneDone (hex : List ℕ) (status : Status) (text : List ℕ) (made : List Made) : Type 0 where
-  pub text_is : IsOkAnd (decode_of hex) (λ bytes. text ≡ printed (demo_outputs bytes))
+  pub text_is : IsOkAnd (decode_of hex) (λ bytes. text ≡ output_lines (demo_outputs bytes))
   pub status_is : status ≡ Done
   pub made_is : made ≡ []
 

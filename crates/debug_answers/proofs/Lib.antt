@@ -1,4 +1,9 @@
-pub mod Left
-pub mod Observed
-pub mod Replied
-pub mod Showing
+pub mod Arguments
+pub mod Asking
+pub mod Found
+pub mod Again
+pub mod Written
+pub mod WithoutMemory
+pub mod ObservationLines
+pub mod ReplyParts
+pub mod CutLines

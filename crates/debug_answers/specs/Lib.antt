@@ -1,6 +1,9 @@
+pub mod Saying
+pub mod Spelling
+pub mod Reading
 pub mod Lines
-pub mod Printed
-pub mod Shown
+pub mod Outputs
+pub mod Show
 pub mod Help
 pub mod Notes
 pub mod Answers

@@ -1,25 +1,25 @@
 -- What a person gets on standard error beside the answer `bad command`.
 use Rattle.std.specs.Prelude.{◌≡◌, ℕ, nat_le, List, [], ◌++◌, length, take, Option, None, Some, codes, if◌then◌else◌}
 use Rattle.scenario_words.specs.Quoted.{quoted_word}
-use Rattle.debug_words.specs.declared.command.Command.{Command}
-use Rattle.debug_words.specs.Saying.{IsHelp, IsLineOf}
+use Rattle.debug_answers.specs.declared.command.Command.{Command}
+use Rattle.debug_answers.specs.Saying.{IsHelp, IsLineOf}
 use Rattle.debug_answers.specs.Help.{help_text}
 use Rattle.debug_answers.specs.Lines.{line}
 
 -- at most this many bytes of a line are shown
-abbrev pub most_shown : ℕ
-most_shown = 200
+abbrev pub most_shown_bytes : ℕ
+most_shown_bytes = 200
 
 -- what follows the bytes that are shown: ` and more` where there are more
 abbrev pub cut_mark : List ℕ → List ℕ
-cut_mark said = if nat_le (length said) most_shown then [] else codes " and more"
+cut_mark said = if nat_le (length said) most_shown_bytes then [] else codes " and more"
 
 abbrev pub no_command_line : List ℕ → List ℕ → List ℕ
 no_command_line shown mark = line (codes "lwbench: standard input: not a command: " ++ shown ++ mark)
 
 -- the line that was not understood, in quotes: what is not printable ASCII is a backslash and two hex digits
 abbrev pub no_command : List ℕ → List ℕ
-no_command said = no_command_line (quoted_word (take most_shown said)) (cut_mark said)
+no_command said = no_command_line (quoted_word (take most_shown_bytes said)) (cut_mark said)
 
 -- the note on a line of the debugger's input: none on a command; on `help`, the commands; on any other line, that it
 -- was not understood

@@ -1,23 +1,23 @@
 -- What is answered to a line of the debugger's input, and where the debugger then is.
 use Rattle.std.specs.Prelude.{◌≡◌, ℕ, ◌<◌, ◌≤◌, List, [], length, codes}
-use Rattle.debug_words.specs.declared.command.Command.{Command}
-use Rattle.debug_words.specs.declared.command.Command.TheVariants as command
-use Rattle.debug_words.specs.declared.command.Point.{Point}
-use Rattle.debug_words.specs.declared.command.Point.TheVariants as point
-use Rattle.debug_words.specs.Saying.{IsLineOf}
+use Rattle.debug_answers.specs.declared.command.Command.{Command}
+use Rattle.debug_answers.specs.declared.command.Command.TheVariants as command
+use Rattle.debug_answers.specs.declared.command.Point.{Point}
+use Rattle.debug_answers.specs.declared.command.Point.TheVariants as point
+use Rattle.debug_answers.specs.Saying.{IsLineOf}
 use Rattle.debugger.specs.declared.breaks.Break.{Break}
 use Rattle.debugger.specs.declared.breaks.Break.TheVariants as breaks
 use Rattle.debugger.specs.Session.{Session}
 use Rattle.debugger.specs.Shown.{value_shown, observations_shown, outputs_shown}
 use Rattle.debug_answers.specs.Lines.{line, at_line}
-use Rattle.debug_answers.specs.Printed.{printed}
-use Rattle.debug_answers.specs.Shown.{value_line, observation_lines}
-use Rattle.debug_answers.specs.Answers.{IsKept, IsForward, IsBack, IsBreak, IsCleared, IsResumed}
+use Rattle.debug_answers.specs.Outputs.{output_lines}
+use Rattle.debug_answers.specs.Show.{value_line, observation_lines}
+use Rattle.debug_answers.specs.Answers.{IsCommandRefused, IsForward, IsBack, IsBreak, IsCleared, IsResumed}
 
 -- this is shown of a device, or `no device` where the scenario has no row for it
-pub record IsShown (v : Session) (d : ℕ) (shown text : List ℕ) : Type 0 where
-  pub row : d < length v.scenario.rows → text ≡ shown
-  pub none : length v.scenario.rows ≤ d → text ≡ line (codes "no device")
+pub record IsDeviceAnswer (v : Session) (d : ℕ) (shown text : List ℕ) : Type 0 where
+  pub device_there : d < length v.scenario.rows → text ≡ shown
+  pub no_device : length v.scenario.rows ≤ d → text ≡ line (codes "no device")
 
 -- the breakpoint of a point
 abbrev pub break_of : Point → Break
@@ -36,14 +36,15 @@ IsAnswer old (command.Break p) new text = IsBreak old (break_of p) new text
 IsAnswer old (command.Clear id) new text = IsCleared old id new text
 IsAnswer old command.Resume new text = IsResumed old new text
 IsAnswer old (command.Value d p) new text =
-    (new ≡ old) × IsShown old d (value_line (value_shown old.scenario old.entries old.place d p)) text
+    (new ≡ old) × IsDeviceAnswer old d (value_line (value_shown old.scenario old.entries old.place d p)) text
 IsAnswer old (command.Observations d) new text =
-    (new ≡ old) × IsShown old d (observation_lines (observations_shown old.scenario old.entries old.place d)) text
+    (new ≡ old) × IsDeviceAnswer old d (observation_lines (observations_shown old.scenario old.entries old.place d))
+    text
 IsAnswer old (command.Outputs d) new text =
-    (new ≡ old) × IsShown old d (printed (outputs_shown old.scenario old.entries old.place d)) text
+    (new ≡ old) × IsDeviceAnswer old d (output_lines (outputs_shown old.scenario old.entries old.place d)) text
 IsAnswer old command.Quit new text = (new ≡ old) × (text ≡ [])
 
 -- what is answered to a line: the answer to the command that it says, or `bad command` where it says none
 pub record IsReply (old : Session) (said : List ℕ) (new : Session) (text : List ℕ) : Type 0 where
   pub answer : (c : Command) → IsLineOf c said → IsAnswer old c new text
-  pub bad : ((c : Command) → IsLineOf c said → ⊥) → IsKept old new (codes "bad command") text
+  pub bad_command : ((c : Command) → IsLineOf c said → ⊥) → IsCommandRefused old new (codes "bad command") text

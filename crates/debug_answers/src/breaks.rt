@@ -9,10 +9,11 @@ use std::alloc::{AllocError, Global};
 
 /// `break ..`: `break ID` with the number of the new breakpoint, or `full`. Without memory the breakpoint may have been
 /// added, and nothing else has changed.
-#[tactic(auto, using(crate::proofs::Left::added_left))]
+#[tactic(auto, using(crate::proofs::WithoutMemory::added_left))]
 pub fn add_break(alloc: Global, debugger: &mut Debugger, point: Break) -> Result<String, AllocError>
     ensures answer { IfOk result (λ text. IsBreak debugger.old point debugger.new (string_bytes text)) }
-    ensures left { OnErr result (IsAsBeforeOrAfter (IsBreak debugger.old point) debugger.old debugger.new) }
+    ensures as_before_or_after { OnErr result
+        (IsAsBeforeOrAfter (IsBreak debugger.old point) debugger.old debugger.new) }
 {
     match debugger.add_break(point) {
         Ok(id) => break_line(alloc, id),
@@ -35,10 +36,10 @@ pub fn clear(alloc: Global, debugger: &mut Debugger, id: u8) -> Result<String, A
 
 /// `resume`: `break ID at N`, or `end at N`. Without memory the debugger may be at the next stop, and nothing else has
 /// changed.
-#[tactic(auto, using(crate::proofs::Left::resumed_left))]
+#[tactic(auto, using(crate::proofs::WithoutMemory::resumed_left))]
 pub fn resume(alloc: Global, debugger: &mut Debugger) -> Result<String, AllocError>
     ensures answer { IfOk result (λ text. IsResumed debugger.old debugger.new (string_bytes text)) }
-    ensures left { OnErr result (IsAsBeforeOrAfter (IsResumed debugger.old) debugger.old debugger.new) }
+    ensures as_before_or_after { OnErr result (IsAsBeforeOrAfter (IsResumed debugger.old) debugger.old debugger.new) }
 {
     let stop = debugger.resume()?;
     stop_line(alloc, stop, debugger.at())

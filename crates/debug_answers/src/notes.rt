@@ -2,7 +2,7 @@
 ghost use Rattle.std.specs.Prelude.{◌≡◌, ◌++◌, IfOk, OnOk, take};
 ghost use Rattle.std.specs.String.{string_bytes};
 ghost use Rattle.scenario_words.specs.Quoted.{escaped, is_plain, quoted_word};
-ghost use Rattle.debug_answers.specs.Notes.{cut_mark, most_shown, no_command, no_command_line};
+ghost use Rattle.debug_answers.specs.Notes.{cut_mark, most_shown_bytes, no_command, no_command_line};
 
 use scenario_words::hex_word;
 use std::alloc::{AllocError, Global};
@@ -14,7 +14,7 @@ const MOST_SHOWN: usize = 200;
 pub fn no_command(alloc: Global, line: &[u8]) -> Result<String, AllocError>
     ensures { IfOk result (λ text. string_bytes text ≡ no_command line.now) }
 {
-    let shown = in_quotes(alloc, front(line))?;
+    let shown = in_quotes(alloc, first_bytes(line))?;
     no_command_line(alloc, shown.as_str(), cut_mark(line))
 }
 
@@ -24,10 +24,10 @@ fn no_command_line(alloc: Global, shown: &str, mark: &str) -> Result<String, All
     format!(in alloc; "lwbench: standard input: not a command: {shown}{mark}\n")
 }
 
-/// What is shown of a line.
-#[tactic(auto, using(crate::proofs::Showing::all_shown))]
-fn front(line: &[u8]) -> &[u8]
-    ensures { result.now ≡ take most_shown line.now }
+/// The bytes of a line that are shown.
+#[tactic(auto, using(crate::proofs::CutLines::all_shown))]
+fn first_bytes(line: &[u8]) -> &[u8]
+    ensures { result.now ≡ take most_shown_bytes line.now }
 {
     if line.len() <= MOST_SHOWN {
         return line;
@@ -35,7 +35,7 @@ fn front(line: &[u8]) -> &[u8]
     &line[..MOST_SHOWN]
 }
 
-/// What follows that.
+/// What follows these bytes: a mark if there are more.
 fn cut_mark(line: &[u8]) -> &'static str
     ensures { result.now ≡ cut_mark line.now }
 {

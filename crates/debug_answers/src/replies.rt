@@ -1,20 +1,21 @@
 //! The answer to a line of the debugger's input.
 ghost use Rattle.std.specs.Prelude.{◌≡◌, ◌↔◌, true, Some, IfOk, OnErr, option_map};
 ghost use Rattle.std.specs.String.{string_bytes};
-ghost use Rattle.debug_words.specs.declared.command.Command.TheVariants.{Quit};
-ghost use Rattle.debug_words.specs.Saying.{IsHelp, IsLineOf};
+ghost use Rattle.debug_answers.specs.declared.command.Command.TheVariants.{Quit};
+ghost use Rattle.debug_answers.specs.Saying.{IsHelp, IsLineOf};
 ghost use Rattle.debug_answers.specs.Answers.{IsAsBeforeOrAfter};
 ghost use Rattle.debug_answers.specs.Help.{help_text};
 ghost use Rattle.debug_answers.specs.Notes.{IsNote, no_command};
 ghost use Rattle.debug_answers.specs.Replies.{break_of, IsAnswer, IsReply};
 
 use crate::breaks::{add_break, clear, resume};
+use crate::command::{Command, Point};
 use crate::help::show_help;
 use crate::lines::fixed_line;
 use crate::moves::{back, forward, place};
 use crate::notes::no_command;
-use crate::shown::{show_observations, show_outputs, show_value};
-use debug_words::{Command, Point, asks_for_help, read_command};
+use crate::reading::{asks_for_help, read_command};
+use crate::show::{show_observations, show_outputs, show_value};
 use debugger::{Break, Debugger};
 use std::alloc::{AllocError, Global};
 
@@ -45,7 +46,8 @@ fn break_of(point: Point) -> Break
 /// The answer to a command. Without memory the debugger is as before, or as after the command.
 fn answer(alloc: Global, debugger: &mut Debugger, command: Command) -> Result<String, AllocError>
     ensures answer { IfOk result (λ text. IsAnswer debugger.old command debugger.new (string_bytes text)) }
-    ensures left { OnErr result (IsAsBeforeOrAfter (IsAnswer debugger.old command) debugger.old debugger.new) }
+    ensures as_before_or_after { OnErr result
+        (IsAsBeforeOrAfter (IsAnswer debugger.old command) debugger.old debugger.new) }
 {
     match command {
         Command::At => place(alloc, debugger),
@@ -70,7 +72,7 @@ fn is_quit(command: Command) -> bool
 /// The note on a line that says no command: on `help` the commands, on another that it was not understood.
 fn note_on(alloc: Global, line: &[u8]) -> Result<String, AllocError>
     ensures help { IfOk result (λ text. IsHelp line.now → string_bytes text ≡ help_text) }
-    ensures other { IfOk result (λ text. (IsHelp line.now → ⊥) → string_bytes text ≡ no_command line.now) }
+    ensures other_line { IfOk result (λ text. (IsHelp line.now → ⊥) → string_bytes text ≡ no_command line.now) }
 {
     if asks_for_help(line) {
         show_help(alloc)
@@ -82,14 +84,15 @@ fn note_on(alloc: Global, line: &[u8]) -> Result<String, AllocError>
 /// The answer to a line of the debugger's input, without the LF that ends it: that to the command that it says, or `bad
 /// command` where it says none, which changes nothing. There is no note on a command; on `help` it is the list of the
 /// commands, and on any other line that says none it shows at most 200 bytes of that line. `quit` is answered by
-/// nothing, and nothing else asks for the end (`last`). Without memory the debugger is as before, or as after the
-/// command (`left`).
-#[tactic(auto, using(crate::proofs::Replied::reply_of, crate::proofs::Replied::bad_reply, crate::proofs::Replied::no_note, crate::proofs::Replied::note_of, crate::proofs::Left::reply_left))]
+/// nothing, and nothing else asks for the end (`asks_for_end`). Without memory the debugger is as before, or as after
+/// the command (`as_before_or_after`).
+#[tactic(auto, using(crate::proofs::ReplyParts::reply_of, crate::proofs::ReplyParts::bad_reply, crate::proofs::ReplyParts::no_note, crate::proofs::ReplyParts::note_of, crate::proofs::WithoutMemory::reply_left))]
 pub fn reply_to(alloc: Global, debugger: &mut Debugger, line: &[u8]) -> Result<Reply, AllocError>
     ensures reply { IfOk result (λ r. IsReply debugger.old line.now debugger.new (string_bytes r.text)) }
     ensures note { IfOk result (λ r. IsNote line.now (option_map (λ text. string_bytes text) r.note)) }
-    ensures left { OnErr result (IsAsBeforeOrAfter (IsReply debugger.old line.now) debugger.old debugger.new) }
-    ensures last { IfOk result (λ r. (r.is_last ≡ true) ↔ IsLineOf Quit line.now) }
+    ensures as_before_or_after { OnErr result
+        (IsAsBeforeOrAfter (IsReply debugger.old line.now) debugger.old debugger.new) }
+    ensures asks_for_end { IfOk result (λ r. (r.is_last ≡ true) ↔ IsLineOf Quit line.now) }
 {
     match read_command(line) {
         Some(command) => Ok(Reply {
