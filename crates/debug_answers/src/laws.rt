@@ -4,8 +4,8 @@ ghost use Rattle.debug_answers.specs.declared.command.Command.{Command};
 ghost use Rattle.debug_answers.specs.Saying.{IsHelp, IsLineOf, IsSaidBy};
 ghost use Rattle.debug_answers.specs.Spelling.{IsCommand, line_of, words_of};
 
-/// The law of lines: the same words say at most one command (`at_most_one`), and the numbers of that one have their bits
-/// (`numbers_fit`); `help` says none.
+/// The law of lines: the same words say at most one command (`at_most_one`), and the numbers of that one have their
+/// bits (`numbers_fit`); `help` says none.
 pub fn one_command()
     ensures at_most_one { (c d : Command) (ws : List (List ℕ)) → IsSaidBy c ws → IsSaidBy d ws → c ≡ d }
     ensures numbers_fit { (c : Command) (ws : List (List ℕ)) → IsSaidBy c ws → IsCommand c }
