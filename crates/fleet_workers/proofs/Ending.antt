@@ -10,6 +10,7 @@ use Rattle.fleet_core.specs.Run.{IsRun, IsComplete}
 use Rattle.fleet_core.specs.Waiting.{is_waiting, waiting}
 use Rattle.fleet_core.proofs.Agreeing.{same_made}
 use Rattle.ticket_lock.specs.declared.rule.TheConstants.{NUMBERS}
+use Rattle.ticket_lock.specs.Log.{shares}
 use Rattle.ticket_lock.specs.Changes.{whole}
 use Rattle.ticket_lock.proofs.Logs.{every_one}
 use Rattle.shared_trace.specs.Trace.{Traced, trace_log}
@@ -22,7 +23,7 @@ use Rattle.fleet_workers.specs.declared.fleet.RunFault.{RunFault}
 use Rattle.fleet_workers.specs.declared.fleet.RunFault.TheVariants as faults
 use Rattle.fleet_workers.specs.Knowing.{Seen}
 use Rattle.fleet_workers.specs.Crew.{IsByCrew, CrewFollows, CrewEndsAs, HavePut, HaveWorked}
-use Rattle.fleet_workers.specs.Fleet.{IsByWorker, IsEndOf, IsFleetRun, HasEnded, IsLeft, AreByBlocks, IsMade}
+use Rattle.fleet_workers.specs.Fleet.{IsByWorker, IsEndOf, IsFleetRun, HasEnded, IsLeft, AreByBlocks, IsNew, IsMade}
 use Rattle.fleet_workers.specs.Fleet.{IsOutcome, left_by}
 use Rattle.fleet_workers.proofs.Blocks.{put_nothing}
 
@@ -72,15 +73,27 @@ by_blocks came s n batch v x all es opened empty put log by =
           (subst (λ k. HavePut came s k n batch v.front all.front) low put));
     }
 
--- what a crew of the numbers from 1 to n leaves
+-- what a crew of the numbers from 1 to n leaves in the trace that the lock gives back
 pub is_made : (came : ℕ → ℕ → Type 0) (s : Scenario) (n batch : ℕ) (v : Seen) (x : Traced) (all : Seen)
-    (es : List Entry) (end : LoopEnd) → v ≡ whole trace_log x 0 → x.subject ≡ s → x.entries ≡ []
-    → HaveWorked came s batch n v all end → es ≡ all.front → IsMade came s n batch es end
-is_made came s n batch v x all es end opened subject empty worked log =
-    let left = is_left s n v x all es end opened subject empty worked.follows worked.ends log in
+    (closed : Traced) (end : LoopEnd) → v ≡ whole trace_log x 0 → IsNew s x → HaveWorked came s batch n v all end
+    → closed.entries ≡ all.front → all.shares ≡ shares trace_log closed 1 NUMBERS
+    → IsMade came s n batch closed.entries end
+is_made came s n batch v x all closed end opened new worked log same =
+    let es = closed.entries in
+    let left = is_left s n v x all es end opened new.subject new.entries worked.follows worked.ends log in
     record {
       left = left;
-      blocks = by_blocks came s n batch v x all es opened empty worked.blocks log left.by_workers;
+      blocks = by_blocks came s n batch v x all es opened new.entries worked.blocks log left.by_workers;
+      run = record {
+        opened = x;
+        new = new;
+        last = all;
+        worked = subst (λ u. HaveWorked came s batch n u all end) opened worked;
+        closed = closed;
+        entries = refl;
+        front = sym log;
+        shares = same;
+      };
     }
 
 -- of no entries there are no blocks

@@ -2,7 +2,6 @@
 use Rattle.std.proofs.Common.{◌≡◌, ℕ, ◌+◌, ◌⊎◌, inl, inr, ◌++◌, set, Some, slice_get, sym, ap, subst, ◌∙◌, arith}
 use Rattle.std.specs.Prelude.{Contains}
 use Rattle.std.proofs.lemmas.Bool.{cases_eq}
-use Rattle.trace_file.specs.declared.entry.Entry.{Entry}
 use Rattle.fleet_core.specs.Run.{made_by}
 use Rattle.ticket_lock.specs.Changes.{arrived, ended}
 use Rattle.ticket_lock.specs.Names.{lowest_work}
@@ -11,7 +10,7 @@ use Rattle.shared_trace.specs.declared.station.Place.TheVariants.{Parked, Out}
 use Rattle.shared_trace.specs.declared.claims.Claim.{Claim}
 use Rattle.shared_trace.specs.declared.claims.Claim.TheVariants.{Got, Busy, Done, Stalled, Stopped}
 use Rattle.shared_trace.specs.declared.work.OpenWork.{OpenWork}
-use Rattle.shared_trace.specs.Trace.{Traced, with_out, with_block, stopped_under, open_by, work_by, no_work, trace_log}
+use Rattle.shared_trace.specs.Trace.{Traced, with_block, stopped_under, open_by, work_by, no_work, trace_log}
 use Rattle.shared_trace.specs.Job.{Task}
 use Rattle.shared_trace.specs.Claims.{Claims}
 use Rattle.shared_trace.proofs.Lists.{set_gives, get-set_other}

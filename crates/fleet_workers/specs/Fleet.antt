@@ -5,8 +5,12 @@ use Rattle.scenario_image.specs.Scenario.{Scenario}
 use Rattle.trace_file.specs.declared.entry.Entry.{Entry}
 use Rattle.fleet_core.specs.Run.{IsRun, IsComplete, IsSerial, IsSame}
 use Rattle.fleet_core.specs.Waiting.{is_waiting, waiting}
-use Rattle.fleet_workers.specs.Knowing.{IsDone, IsStalled}
-use Rattle.fleet_workers.specs.Crew.{HavePut}
+use Rattle.ticket_lock.specs.declared.rule.TheConstants.{NUMBERS}
+use Rattle.ticket_lock.specs.Log.{shares}
+use Rattle.ticket_lock.specs.Changes.{whole}
+use Rattle.shared_trace.specs.Trace.{Traced, trace_log}
+use Rattle.fleet_workers.specs.Knowing.{Seen, IsDone, IsStalled}
+use Rattle.fleet_workers.specs.Crew.{HavePut, HaveWorked}
 use Rattle.fleet_workers.specs.declared.loops.LoopEnd.{LoopEnd}
 use Rattle.fleet_workers.specs.declared.loops.LoopEnd.TheVariants as loops
 use Rattle.fleet_workers.specs.declared.fleet.FleetRun.{FleetRun}
@@ -95,11 +99,32 @@ IsOutcome es loops.Stopped answer = answer ≡ Err (faults.Memory es)
 IsOutcome es loops.Memory answer = answer ≡ Err (faults.Memory es)
 IsOutcome es loops.Spent answer = answer ≡ Err (faults.Spent es)
 
+-- a new trace of the scenario: without entries, and nobody has stopped it
+pub record IsNew (s : Scenario) (t : Traced) : Type 0 where
+  pub subject : t.subject ≡ s
+  pub entries : t.entries ≡ []
+  pub going : t.stopped_by ≡ []
+
+-- how the workers of the numbers from 1 on worked over a new trace, by the first pass of its lock, and ended together
+-- so: by what the pass that came back in the end had seen, which was all of these entries, and of each number what the
+-- trace, when the lock gave it back, had of it
+pub record HaveRun (came : ℕ → ℕ → Type 0) (s : Scenario) (workers batch : ℕ) (es : List Entry) (end : LoopEnd)
+    : Type 0 where
+  pub opened : Traced
+  pub new : IsNew s opened
+  pub last : Seen
+  pub worked : HaveWorked came s batch workers (whole trace_log opened 0) last end
+  pub closed : Traced
+  pub entries : closed.entries ≡ es
+  pub front : last.front ≡ closed.entries
+  pub shares : last.shares ≡ shares trace_log closed 1 NUMBERS
+
 -- what came of a run: these entries, and how the workers ended together, where each has put its own in blocks
 pub record IsMade (came : ℕ → ℕ → Type 0) (s : Scenario) (workers batch : ℕ) (es : List Entry) (end : LoopEnd)
     : Type 0 where
   pub left : IsLeft s workers es end
   pub blocks : AreByBlocks came s workers batch es
+  pub run : HaveRun came s workers batch es end
 
 -- the answer has the entries that the workers left; or it is Memory without any, where there are none to have: the run
 -- could not begin, a worker could not be started, or there was no memory for a list of the entries

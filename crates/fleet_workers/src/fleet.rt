@@ -8,7 +8,8 @@ ghost use Rattle.ticket_lock.specs.Names.{lock_id, opening_value, pass_view, IsP
 ghost use Rattle.shared_trace.specs.Trace.{trace_log};
 ghost use Rattle.fleet_workers.specs.Knowing.{IsStalled};
 ghost use Rattle.fleet_workers.specs.Fleet.{IsByWorker, IsFleetRun, IsEndOf, Leaves, IsLeft, HasEnded, left_by};
-ghost use Rattle.fleet_workers.specs.Fleet.{IsOutcome, IsAnswer, AreByBlocks, LeavesBlocks, AreWorkers, IsBatch};
+ghost use Rattle.fleet_workers.specs.Fleet.{IsOutcome, IsMade, IsAnswer, AreByBlocks, LeavesBlocks, AreWorkers};
+ghost use Rattle.fleet_workers.specs.Fleet.{IsBatch};
 
 use crate::crew::run_crew;
 use crate::gate::Gate;
@@ -132,10 +133,10 @@ fn run_all<R: Threads + Wait + Sync, G: Gate + Sync>(
     requires whole { pass_view pass ≡ whole trace_log (opening_value lock) 0 }
     requires subject { (opening_value lock).subject ≡ scenario.now }
     requires empty { (opening_value lock).entries ≡ [] }
+    requires going { (opening_value lock).stopped_by ≡ [] }
     requires workers { AreWorkers workers }
     requires batch { 1 ≤ batch }
-    ensures left { IfSome result (λ r. IsLeft scenario.now workers r.0.entries r.1) }
-    ensures blocks { IfSome result (λ r. AreByBlocks (G.came gate.now) scenario.now workers batch r.0.entries) }
+    ensures made { IfSome result (λ r. IsMade (G.came gate.now) scenario.now workers batch r.0.entries r.1) }
 {
     let (pass, end) = run_crew(rt, &lock, pass, scenario, batch, gate, workers)?;
     let Ok(trace) = lock.close(pass) else {
@@ -156,8 +157,7 @@ fn make_run<R: Threads + Wait + Sync, G: Gate + Sync>(
 ) -> Option<(Entries, LoopEnd)>
     requires workers { AreWorkers workers }
     requires batch { 1 ≤ batch }
-    ensures left { IfSome result (λ r. IsLeft scenario.now workers r.0 r.1) }
-    ensures blocks { IfSome result (λ r. AreByBlocks (G.came gate.now) scenario.now workers batch r.0) }
+    ensures made { IfSome result (λ r. IsMade (G.came gate.now) scenario.now workers batch r.0 r.1) }
 {
     let Ok(trace) = Trace::new(alloc, scenario) else {
         return None;

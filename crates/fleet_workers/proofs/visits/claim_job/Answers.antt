@@ -1,4 +1,4 @@
-use Rattle.std.proofs.Common.{[], inl, ap, subst, ◌∙◌}
+use Rattle.std.proofs.Common.{inl, ap, subst, ◌∙◌}
 use Rattle.shared_trace.specs.Trace.{work_by, no_work}
 use Rattle.shared_trace.specs.Claims.{Claims, ClaimStands}
 use Rattle.fleet_workers.proofs.Following.{has_claimed}

@@ -1,4 +1,4 @@
-use Rattle.std.proofs.Common.{[], sym, ap, subst, ◌∙◌, arith}
+use Rattle.std.proofs.Common.{sym, ap, subst, ◌∙◌, arith}
 use Rattle.ticket_lock.specs.Log.{Adds}
 use Rattle.shared_trace.specs.Trace.{with_block, stopped_under, no_work, trace_log}
 use Rattle.shared_trace.specs.Job.{MayPut}
