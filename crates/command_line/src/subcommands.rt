@@ -80,7 +80,7 @@ fn described<'a>(alloc: Global, name: &'a str, about: &'a str, below: &'a str) -
 fn one_command<'a>(alloc: Global) -> Result<Command<'a>, AllocError>
     ensures { IfOk result (λ c. app_of c ≡ one_app) }
 {
-    let about = "Gives the DEMO device one datagram from server 1";
+    let about = "Gives the demonstration device one datagram from server 1";
     described(alloc, "one", about, help::ONE).arg(needed(alloc, "HEX").help(
         "The bytes of the datagram, in hex",
     ))
@@ -159,7 +159,7 @@ fn show_command<'a>(alloc: Global) -> Result<Command<'a>, AllocError>
     let about = "Prints the trace of a run as text";
     let run = with_trace(alloc, described(alloc, "show", about, help::SHOW))?;
     let of_device = run.arg(optional_small(alloc, "device").help(
-        "The device whose entries alone are printed",
+        "Print only the entries of this device",
     ))?;
     with_range(alloc, of_device)
 }
@@ -215,7 +215,7 @@ fn with_port<'a>(alloc: Global, command: Command<'a>) -> Result<Command<'a>, All
     command
         .arg(needed(alloc, "IMAGE").help("The scenario, as an image"))?
         .arg(needed_small(alloc, "DEVICE").help("The number of the device"))?
-        .arg(needed_small(alloc, "PORT").help("Its UDP port; 0: one that is free"))
+        .arg(needed_small(alloc, "PORT").help("Its UDP port (0: any free port)"))
 }
 
 fn turns<'a>(alloc: Global) -> Arg<'a>
