@@ -13,12 +13,12 @@ from importlib.machinery import SourceFileLoader
 ROOT = pathlib.Path(__file__).resolve().parent.parent
 sys.dont_write_bytecode = True
 
-# Files of cases: what they are called, and where they are. A case carries ids in brackets, at the end of its title (a
-# line `case ..`, where the title is free text) or of a comment.
+# Files of cases: what they are called, and where they are, in one file or in those of a folder. A case carries ids in
+# brackets, at the end of its title (a line `case ..`, where the title is free text) or of a comment.
 SHEETS = {
     "device": "crates/cases_device/stdin",
     "codec": "crates/cases_codec/stdin",
-    "commands": "crates/cases_commands/stdin",
+    "commands": "cases/commands",
     "live": "crates/cases_live/stdin",
     "memory": "crates/cases_memory/stdin",
 }
@@ -119,13 +119,13 @@ def read_rules(faults):
         if rule.id in by_id:
             faults.append((rule.file, rule.line, f"another rule has the id {rule.id}"))
         by_id[rule.id] = rule
-    for sheet, file in SHEETS.items():
-        for place, ids in marks(sheet, file):
+    for sheet, at in SHEETS.items():
+        for place, ids in (it for file in files_at(at) for it in marks(sheet, file)):
             for name in ids:
                 if name in by_id:
                     by_id[name].cases.append(place)
                 else:
-                    faults.append((file, place.line, f"no rule {name}"))
+                    faults.append((place.file, place.line, f"no rule {name}"))
     for rule in by_id.values():
         for words in rule.shown_by:
             place = shown(words)
@@ -140,6 +140,11 @@ def read_rules(faults):
             else:
                 faults.append((inside(body.file), body.line, f"no rule {name}"))
     return subjects
+
+
+def files_at(at):
+    """The file at a path, or the files of cases in the folder there."""
+    return [inside(it) for it in sorted((ROOT / at).glob("*.txt"))] if (ROOT / at).is_dir() else [at]
 
 
 def marks(sheet, file):
