@@ -1,6 +1,6 @@
 -- What is among the elements of a list, among the entries of a map, and among the instances of an object.
-use Rattle.std.proofs.Common.{◌≡◌, ◌↔◌, inl, inr, ℕ, Bool, true, false, cond, ◌&&◌, ◌||◌, ◌==◌, List, [], ◌∷◌}
-use Rattle.std.proofs.Common.{map, Some, Ordering, refl, sym, ap, subst, ◌∙◌, arith}
+use Rattle.std.proofs.Common.{◌≡◌, ◌↔◌, inl, inr, ℕ, Bool, true, false, cond, ◌||◌, ◌==◌, List, [], ◌∷◌}
+use Rattle.std.proofs.Common.{map, Some, refl, sym, ap, subst, ◌∙◌}
 use Rattle.std.proofs.Math.Dec.{T}
 use Rattle.std.specs.Cmp.{eq_by_cmp_equiv}
 use Rattle.std.specs.FinMap as finite
@@ -8,9 +8,12 @@ use Rattle.std.specs.FinMap.{find, is_sorted}
 use Rattle.std.specs.FinMap.Entries.{below_all}
 use Rattle.std.specs.List as lists
 use Rattle.std.specs.List.{filter, list_any}
-use Rattle.std.specs.Ordering.{eq_by_cmp, is_eq, is_lt}
-use Rattle.std.specs.declared.cmp.Ordering.TheVariants.{Less, Equal, Greater}
-use Rattle.std.proofs.lemmas.Bool.Decides.{nat_tests}
+use Rattle.std.specs.Ordering.{eq_by_cmp, is_eq}
+use Rattle.std.specs.declared.cmp.Ordering.TheVariants.{Less}
+use Rattle.std.proofs.lemmas.Bool.{eqb-true}
+use Rattle.lemmas.proofs.Numbers.{eqb_itself}
+use Rattle.lemmas.proofs.Tests.{T_first, T_second, T_both}
+use Rattle.lemmas.proofs.Orders.{is_less, is_equal}
 use Rattle.lwm2m_values.specs.declared.value.Value.{Value}
 use Rattle.object_defs.specs.Path.{instance_cmp, path_cmp}
 use Rattle.object_defs.specs.declared.path.FullPath.{FullPath}
@@ -20,20 +23,6 @@ use Rattle.instance_store.specs.Stored.{Stored, has_instance, instances_of, valu
 use Rattle.lwm2m_payloads.specs.Nodes.{Pairs}
 use Rattle.device_requests.specs.Laws.{IsAmong}
 use Rattle.device_requests.specs.Targets.{place_of}
-
-pub same_number : (a b : ℕ) → (a == b) ≡ true → a ≡ b
-same_number a b h = grind (arith, nat_tests)
-
-pub number_same : (a : ℕ) → (a == a) ≡ true
-number_same a = grind (arith, nat_tests)
-
-pub both : (a b : Bool) → (a && b) ≡ true → (a ≡ true) × (b ≡ true)
-both true b h = (refl, h)
-both false b h = cc
-
-pub and_true : (a b : Bool) → a ≡ true → b ≡ true → (a && b) ≡ true
-and_true true b h k = k
-and_true false b h k = h
 
 -- ---- a list
 
@@ -96,35 +85,13 @@ found p x (z ∷ xs) h =
 
 -- ---- the entries of a map
 
-first_of : (a b : Bool) → T (a && b) → T a
-first_of true b p = tt
-first_of false b p = p
-
-second_of : (a b : Bool) → T (a && b) → T b
-second_of true b p = p
-second_of false b p = absurd p
-
-joined : (a b : Bool) → T a → T b → T (a && b)
-joined true b p q = q
-joined false b p q = p
-
-is_less : (r : Ordering) → T (is_lt r) → r ≡ Less
-is_less Less h = refl
-is_less Equal h = absurd h
-is_less Greater h = absurd h
-
-is_equal : (r : Ordering) → is_eq r ≡ true → r ≡ Equal
-is_equal Less h = cc
-is_equal Equal h = refl
-is_equal Greater h = cc
-
 below_filtered : (q : FullPath) (p : FullPath × Value → Bool) (es : Pairs) → T (below_all path_cmp q es)
     → T (below_all path_cmp q (filter p es))
 below_filtered q p [] h = tt
 below_filtered q p (e ∷ es) h =
     elim (p e) as (λ b. T (below_all path_cmp q (cond b (e ∷ filter p es) (filter p es)))) [
-      | true ↦ joined _ _ (first_of _ _ h) (below_filtered q p es (second_of _ _ h))
-      | false ↦ below_filtered q p es (second_of _ _ h)
+      | true ↦ T_both _ _ (T_first _ _ h) (below_filtered q p es (T_second _ _ h))
+      | false ↦ below_filtered q p es (T_second _ _ h)
     ]
 
 pub sorted_filtered : (p : FullPath × Value → Bool) (es : Pairs) → T (is_sorted path_cmp es)
@@ -132,23 +99,23 @@ pub sorted_filtered : (p : FullPath × Value → Bool) (es : Pairs) → T (is_so
 sorted_filtered p [] h = tt
 sorted_filtered p (e ∷ es) h =
     elim (p e) as (λ b. T (is_sorted path_cmp (cond b (e ∷ filter p es) (filter p es)))) [
-      | true ↦ joined _ _ (below_filtered e.0 p es (first_of _ _ h)) (sorted_filtered p es (second_of _ _ h))
-      | false ↦ sorted_filtered p es (second_of _ _ h)
+      | true ↦ T_both _ _ (below_filtered e.0 p es (T_first _ _ h)) (sorted_filtered p es (T_second _ _ h))
+      | false ↦ sorted_filtered p es (T_second _ _ h)
     ]
 
 among_below : (q : FullPath) (es : Pairs) (e : FullPath × Value) → T (below_all path_cmp q es) → IsAmong e es
     → path_cmp q e.0 ≡ Less
 among_below q [] e h among = absurd among
-among_below q (d ∷ es) e h (inl is) = rw (← is) (is_less (path_cmp q d.0) (first_of _ _ h))
-among_below q (d ∷ es) e h (inr among) = among_below q es e (second_of _ _ h) among
+among_below q (d ∷ es) e h (inl is) = rw (← is) (is_less (path_cmp q d.0) (T_first _ _ h))
+among_below q (d ∷ es) e h (inr among) = among_below q es e (T_second _ _ h) among
 
 -- the first of sorted entries is below all others, and these are sorted
 pub sorted_first : (d : FullPath × Value) (es : Pairs) → T (is_sorted path_cmp (d ∷ es)) → (e : FullPath × Value)
     → IsAmong e es → path_cmp d.0 e.0 ≡ Less
-sorted_first d es h e among = among_below d.0 es e (first_of _ _ h) among
+sorted_first d es h e among = among_below d.0 es e (T_first _ _ h) among
 
 pub sorted_rest : (d : FullPath × Value) (es : Pairs) → T (is_sorted path_cmp (d ∷ es)) → T (is_sorted path_cmp es)
-sorted_rest d es h = second_of _ _ h
+sorted_rest d es h = T_second _ _ h
 
 found_among : (q : FullPath) (v : Value) (es : Pairs) → find path_cmp q es ≡ Some v → IsAmong (q, v) es
 found_among q v [] h = cc
@@ -179,7 +146,7 @@ among_found q v (e ∷ es) h (inr among) =
           let same : q ≡ e.0 = path_exact q e.0 (is_equal (path_cmp q e.0) is) in
           absurd (equal_itself q (subst (λ (x : FullPath). path_cmp x q ≡ Less) (sym same)
           (sorted_first e es h (q, v) among)))
-      | false ↦ λ is. among_found q v es (second_of _ _ h) among
+      | false ↦ λ is. among_found q v es (T_second _ _ h) among
     ] refl
 
 -- the entries are what the store has at full paths
@@ -203,7 +170,7 @@ has_listed stored o n h =
     let e : place_of o n ≡ k.0 = place_found k.0 o n k.2 in
     let here : IsAmong (place_of o n) (finite.keys stored.instances) = rw e k.1 in
     among_map (λ p. p.instance) (place_of o n) _ (among_filter (λ p. p.object == o) (place_of o n)
-    (finite.keys stored.instances) (number_same o) here)
+    (finite.keys stored.instances) (eqb_itself o) here)
 
 place_is : (k : InstancePath) (o n : ℕ) → k.object ≡ o → k.instance ≡ n → k ≡ place_of o n
 place_is k o n h i = λ j. record { object = h j; instance = i j }
@@ -212,7 +179,7 @@ listed_has : (stored : Stored) (o n : ℕ) → IsAmong n (instances_of stored o)
 listed_has stored o n h =
     let k = mapped (λ p. p.instance) n (filter (λ p. p.object == o) (finite.keys stored.instances)) h in
     let f = filtered (λ p. p.object == o) k.0 (finite.keys stored.instances) k.1 in
-    let e : k.0 ≡ place_of o n = place_is k.0 o n (same_number k.0.object o f.1) k.2 in
+    let e : k.0 ≡ place_of o n = place_is k.0 o n (eqb-true k.0.object o f.1) k.2 in
     finite.contains_key-keys stored.instances (place_of o n)
     ∙ among_any (eq_by_cmp instance_cmp (place_of o n)) k.0 (finite.keys stored.instances) f.0
     (ap (eq_by_cmp instance_cmp (place_of o n)) e ∙ (eq_by_cmp_equiv instance_total).refl (place_of o n))

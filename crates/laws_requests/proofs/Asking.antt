@@ -1,8 +1,8 @@
 -- What a request that asks for an operation comes to, and which codes the lines of refusals give.
-use Rattle.std.proofs.Common.{◌≡◌, ℕ, Bool, true, false, cond, not, List, [], ◌∷◌, Option, None, Some, Result, Ok, Err}
+use Rattle.std.proofs.Common.{◌≡◌, ℕ, Bool, true, false, cond, List, [], ◌∷◌, Option, None, Some, Result, Ok, Err}
 use Rattle.std.proofs.Common.{refl, sym, ap, ◌∙◌}
 use Rattle.std.specs.Bool.{if◌then◌else◌}
-use Rattle.std.specs.Option.{is_some}
+use Rattle.std.proofs.lemmas.Option.{same_Some}
 use Rattle.coap_codec.specs.Message.{Message}
 use Rattle.object_defs.specs.Lines.{first_line}
 use Rattle.object_defs.specs.declared.path.Path.{Path}
@@ -18,7 +18,7 @@ use Rattle.device_requests.specs.Order.{Asks}
 use Rattle.device_requests.specs.Request.{outcome_at, outcome_for, outcome_of, request_by, request_of, request_on}
 use Rattle.device_requests.specs.Request.{request_with}
 
-asked : (m : Message) (path : Path) (operation : Operation) → Asks m path operation
+pub asked : (m : Message) (path : Path) (operation : Operation) → Asks m path operation
     → request_of m ≡ Ok (request_with m path operation)
 asked m path operation asks =
     ap (λ (b : Bool). if b then Err BadOption else request_on m (path_of (segments_of m.options))) asks.understood
@@ -37,15 +37,12 @@ abbrev pub AllRefuse : List (Bool × Code) → Type 0
 AllRefuse [] = Unit {0}
 AllRefuse (line ∷ lines) = (is_refusal line.1 ≡ true) × AllRefuse lines
 
-pub told : (said code : Code) → Some said ≡ Some code → said ≡ code
-told said code h = cc
-
 pub refuses : (lines : List (Bool × Code)) → AllRefuse lines → (code : Code) → first_line lines ≡ Some code
     → is_refusal code ≡ true
 refuses [] all code h = cc
 refuses (line ∷ lines) all code h =
     elim line.0 as (λ b. cond b (Some line.1) (first_line lines) ≡ Some code → is_refusal code ≡ true) [
-      | true ↦ λ said. sym (ap is_refusal (told line.1 code said)) ∙ all.0
+      | true ↦ λ said. sym (ap is_refusal (same_Some line.1 code said)) ∙ all.0
       | false ↦ λ said. refuses lines all.1 code said
     ] h
 
@@ -71,10 +68,6 @@ fails (line ∷ lines) h =
       | true ↦ λ k. cc
       | false ↦ λ k. (refl, fails lines k)
     ] h
-
-pub there : {A : Type 0} (x : Option A) → not (is_some x) ≡ false → (a : A) × (x ≡ Some a)
-there None h = cc
-there (Some a) h = (a, refl)
 
 pub chosen : {X : Type 0} (b c : Bool) (x y : X) → b ≡ c → (if b then x else y) ≡ (if c then x else y)
 chosen b c x y h = ap (λ (a : Bool). if a then x else y) h

@@ -5,6 +5,7 @@ use Rattle.std.specs.Bool.{if◌then◌else◌}
 use Rattle.std.specs.FinMap as map
 use Rattle.std.specs.Option.{is_some, option_map}
 use Rattle.std.proofs.lemmas.Bool.{false≢true}
+use Rattle.lemmas.proofs.Options.{some_if_denied}
 use Rattle.object_defs.specs.Path.{part_of, single_of}
 use Rattle.object_defs.specs.declared.definition.ResourceDef.{ResourceDef}
 use Rattle.object_defs.specs.declared.path.FullPath.{FullPath}
@@ -12,6 +13,7 @@ use Rattle.object_defs.specs.declared.path.InstancePath.{InstancePath}
 use Rattle.object_defs.specs.declared.path.Path.TheVariants.{Object, Instance, Resource}
 use Rattle.instance_store.specs.Stored.{Stored, has_instance, lies_in, value_at, with_instance, with_value}
 use Rattle.instance_store.specs.Stored.{without_values}
+use Rattle.instance_store.proofs.SetValues.{value_elsewhere}
 use Rattle.lwm2m_values.specs.declared.value.Value.{Value}
 use Rattle.lwm2m_values.specs.declared.value.Value.TheVariants.{Whole}
 use Rattle.lwm2m_payloads.specs.Given.{creation_given}
@@ -36,8 +38,7 @@ use Rattle.device_requests.specs.Laws.{is_refusal}
 use Rattle.device_requests.specs.Refusals.{is_fixed, refusals_of, to_create}
 use Rattle.device_requests.specs.Targets.{defined, place_of, resource_place}
 use Rattle.laws_requests.specs.Creations.{CreatesAdd, IsControlOf, IsCreated, IsSame}
-use Rattle.laws_requests.proofs.Asking.{chosen, fails, passes, there}
-use Rattle.laws_requests.proofs.Executing.{elsewhere}
+use Rattle.laws_requests.proofs.Asking.{chosen, fails, passes}
 
 -- ---- the instance of Access Control
 
@@ -81,9 +82,9 @@ control_rest s j server place q not0 not1 not3 =
     let bare = without_values there (Resource 2 j 2) in
     let one = with_value bare (single_of (resource_place 2 j 0)) (Whole (pos place.object)) in
     let two = with_value one (single_of (resource_place 2 j 1)) (Whole (pos place.instance)) in
-    elsewhere two (single_of (resource_place 2 j 3)) q (Whole (pos server)) not3
-    ∙ elsewhere one (single_of (resource_place 2 j 1)) q (Whole (pos place.instance)) not1
-    ∙ elsewhere bare (single_of (resource_place 2 j 0)) q (Whole (pos place.object)) not0
+    value_elsewhere two (single_of (resource_place 2 j 3)) q (Whole (pos server)) not3
+    ∙ value_elsewhere one (single_of (resource_place 2 j 1)) q (Whole (pos place.instance)) not1
+    ∙ value_elsewhere bare (single_of (resource_place 2 j 0)) q (Whole (pos place.object)) not0
     ∙ kept there (Resource 2 j 2) q
     ∙ nothing_or (lies_in (Resource 2 j 2) q) (value_at s q)
 
@@ -190,7 +191,7 @@ creates_add client server o number payload h =
     let none = passes rules (refl, (refl, (refl, (refl, (refl, (refl, (refl, (refl, tt))))))))
     (λ (code : Option Code). create_unless code client server o new) (λ c. refl) (ap is_refusal h) in
     let all = fails rules none in
-    let b = there new all.1.1.1.1.1.0 in
+    let b = some_if_denied new all.1.1.1.1.1.0 in
     subst (λ (out : Outcome). IsCreated client server o payload out)
     (sym (ap (λ (code : Option Code). create_unless code client server o new) none
     ∙ ap (λ (x : Option Newborn). create_unless None client server o x) b.1))

@@ -1,6 +1,7 @@
 -- Which of the rules decides.
 use Rattle.std.proofs.Common.{◌≡◌, ℕ, Bool, true, false, ◌==◌, [], ◌∷◌, Some, refl, sym, ap, ◌∙◌}
 use Rattle.std.proofs.lemmas.Bool.{ne_eqb}
+use Rattle.std.proofs.lemmas.Option.{same_Some}
 use Rattle.coap_codec.specs.Message.{Message}
 use Rattle.object_defs.specs.Lines.{first_line}
 use Rattle.object_defs.specs.Path.{object_in}
@@ -17,9 +18,6 @@ use Rattle.device_requests.specs.Refusals.{lacks_format, lacks_operation, lacks_
 use Rattle.device_requests.specs.Refusals.{to_delete, to_discover, to_read}
 use Rattle.device_requests.specs.Request.{outcome_of, purpose_of}
 use Rattle.laws_requests.specs.Good.{GoodIsDone, IsGood, LimitsComeLast}
-
-told : (said code : Code) → Some said ≡ Some code → said ≡ code
-told said code h = cc
 
 -- no rule holds
 record AreClear (a b c d e f g : Bool) : Type 0 where
@@ -43,7 +41,7 @@ refused : (a b c d e f g h : Bool) (said done code : Code) → (AreClear a b c d
     → is_refusal done ≡ false → (said ≡ InternalServerError → ⊥) → Some said ≡ Some code
     → IsDecided a b c d e f g h done code
 refused a b c d e f g h said done code some refuses succeeds other is =
-    let same = told said code is in
+    let same = same_Some said code is in
     record {
       when_done = λ p. let k : true ≡ false = sym refuses ∙ (ap is_refusal (same ∙ p) ∙ succeeds) in cc;
       when_limit = λ p. absurd (other (same ∙ p));
@@ -54,7 +52,7 @@ refused a b c d e f g h said done code some refuses succeeds other is =
 limited : (done code : Code) → is_refusal done ≡ false → Some InternalServerError ≡ Some code
     → IsDecided false false false false false false false true done code
 limited done code succeeds is =
-    let same = told InternalServerError code is in
+    let same = same_Some InternalServerError code is in
     record {
       when_done = λ p. let k : true ≡ false = ap is_refusal (same ∙ p) ∙ succeeds in cc;
       when_limit = λ p. (
@@ -68,7 +66,7 @@ limited done code succeeds is =
 finished : (done code : Code) → is_refusal done ≡ false → Some done ≡ Some code
     → IsDecided false false false false false false false false done code
 finished done code succeeds is =
-    let same = told done code is in
+    let same = same_Some done code is in
     record {
       when_done = λ p. (
         record { a_is = refl; b_is = refl; c_is = refl; d_is = refl; e_is = refl; f_is = refl; g_is = refl },

@@ -6,6 +6,7 @@ use Rattle.std.specs.FinMap as map
 use Rattle.std.specs.List.{list_any}
 use Rattle.std.specs.Option.{is_some}
 use Rattle.std.proofs.lemmas.Bool.{eqb-true}
+use Rattle.std.proofs.Math.Bool.{and-false}
 use Rattle.object_defs.proofs.MapLaws.{get_kept}
 use Rattle.object_defs.proofs.PathOrder.{instance_exact, instance_total, path_exact, path_total}
 use Rattle.object_defs.specs.declared.path.FullPath.{FullPath}
@@ -72,15 +73,11 @@ get_controls m (j ∷ js) k =
     ∙ (ap (λ (x : Option ℤ). cond (not rest) x None) (get_without m (Instance 2 j) k)
     ∙ twice (lies_under (Instance 2 j) k) rest (map.get m k))
 
-nothing : (a : Bool) → (a && false) ≡ false
-nothing true = refl
-nothing false = refl
-
 -- a key of an object lies below no instance
 none_under : (o : ℕ) (js : List ℕ) → list_any (λ (j : ℕ). o == 2 && false) js ≡ false
 none_under o [] = refl
 none_under o (j ∷ js) =
-    ap (λ (b : Bool). b || list_any (λ (i : ℕ). o == 2 && false) js) (nothing (o == 2)) ∙ none_under o js
+    ap (λ (b : Bool). b || list_any (λ (i : ℕ). o == 2 && false) js) (and-false (o == 2)) ∙ none_under o js
 
 never : (a b : Bool) → false ≡ (a && (b && false))
 never true true = refl
@@ -143,7 +140,8 @@ goes_by : (s : Stored) (o i object : ℕ) (instance : Option ℕ)
     ≡ goes_at s (place_of o i) object instance
 goes_by s o i object None =
     let js = taken_away s (without_deleted s (place_of o i)) in
-    ap (λ (b : Bool). b || list_any (λ (j : ℕ). object == 2 && false) js) (nothing (object == o)) ∙ none_under object js
+    ap (λ (b : Bool). b || list_any (λ (j : ℕ). object == 2 && false) js) (and-false (object == o))
+    ∙ none_under object js
 goes_by s o i object (Some n) =
     let went = λ (j : ℕ). not (has_instance (without_deleted s (place_of o i)) (place_of 2 j)) in
     ap (λ (b : Bool). (object == o && n == i) || b) (some_under object n went (instances_of s 2)

@@ -1,7 +1,7 @@
 -- What is alike in stores that differ only in values that a server may not read.
 use Rattle.std.proofs.Common.{nat_le, if◌then◌else◌}
 use Rattle.std.proofs.Common.{◌≡◌, ℕ, Bool, true, false, cond, not, ◌&&◌, ◌||◌, ◌==◌, nat_lt, List}
-use Rattle.std.proofs.Common.{[], ◌∷◌, length, Option, None, Some, option_map, refl, sym, ap, ◌∙◌, ◌+◌, arith}
+use Rattle.std.proofs.Common.{[], ◌∷◌, length, Option, None, Some, option_map, refl, sym, ap, ◌∙◌, ◌+◌}
 use Rattle.std.specs.FinMap as finite
 use Rattle.std.specs.FinMap.{find, is_sorted}
 use Rattle.std.specs.FinMap.Entries.{below_all, same_entries}
@@ -9,7 +9,8 @@ use Rattle.std.specs.List.{cons_option, filter, filter_map, list_any}
 use Rattle.std.specs.Option.{is_some}
 use Rattle.std.specs.Ordering.{eq_by_cmp}
 use Rattle.std.proofs.Math.Dec.{T}
-use Rattle.std.proofs.lemmas.Bool.Decides.{nat_tests}
+use Rattle.std.proofs.lemmas.Bool.{eqb-true, and_parts}
+use Rattle.lemmas.proofs.Tests.{T_both, T_first, T_second}
 use Rattle.lwm2m_values.specs.declared.value.Value.{Value}
 use Rattle.object_defs.specs.Catalog.{definition_of, object_of}
 use Rattle.object_defs.specs.Operations.{can_read}
@@ -45,18 +46,6 @@ use Rattle.laws_requests.specs.Unread.{DiffersUnread}
 
 -- ---- the full paths of values
 
-both : (a b : Bool) → T a → T b → T (a && b)
-both true b p q = q
-both false b p q = p
-
-first_of : (a b : Bool) → T (a && b) → T a
-first_of true b p = tt
-first_of false b p = p
-
-second_of : (a b : Bool) → T (a && b) → T b
-second_of true b p = p
-second_of false b p = absurd p
-
 abbrev Places : Type 0
 Places = List (FullPath × Unit {0})
 
@@ -66,11 +55,11 @@ places (e ∷ es) = (e.0, tt) ∷ places es
 
 below_places : (k : FullPath) (es : Pairs) → T (below_all path_cmp k es) → T (below_all path_cmp k (places es))
 below_places k [] h = tt
-below_places k (e ∷ es) h = both _ _ (first_of _ _ h) (below_places k es (second_of _ _ h))
+below_places k (e ∷ es) h = T_both _ _ (T_first _ _ h) (below_places k es (T_second _ _ h))
 
 sorted_places : (es : Pairs) → T (is_sorted path_cmp es) → T (is_sorted path_cmp (places es))
 sorted_places [] h = tt
-sorted_places (e ∷ es) h = both _ _ (below_places e.0 es (first_of _ _ h)) (sorted_places es (second_of _ _ h))
+sorted_places (e ∷ es) h = T_both _ _ (below_places e.0 es (T_first _ _ h)) (sorted_places es (T_second _ _ h))
 
 -- whether there is a value
 abbrev mark : Option Value → Option (Unit {0})
@@ -161,9 +150,6 @@ same_target catalog s t i (Part o n r m) =
 
 -- ---- rights
 
-same_number : (a b : ℕ) → (a == b) ≡ true → a ≡ b
-same_number a b h = grind (arith, nat_tests)
-
 -- Access Control can be read by all
 reads_control : (stored : Stored) (accounts server j : ℕ) → reads stored accounts server 2 j ≡ true
 reads_control stored accounts server j =
@@ -180,7 +166,7 @@ same_controls : (client : Client) (stored : Stored) (server : ℕ) → DiffersUn
 same_controls client stored server h = record {
   instances = h.instances;
   values = λ q is. h.values q
-      (ap (λ o. reads client.store (length client.accounts) server o q.instance) (same_number q.object 2 is)
+      (ap (λ o. reads client.store (length client.accounts) server o q.instance) (eqb-true q.object 2 is)
       ∙ reads_control client.store (length client.accounts) server q.instance);
 }
 
@@ -219,22 +205,17 @@ same_excesses mode resources s t place given h =
 
 -- ---- values that may be read
 
-two : (a b : Bool) → (a && b) ≡ true → (a ≡ true) × (b ≡ true)
-two true true h = (refl, refl)
-two true false h = cc
-two false b h = cc
-
 -- a path is that of an instance, or lies below it
 abbrev pub LiesBelow : Path → ℕ → ℕ → Type 0
 LiesBelow path o i = (q : FullPath) → lies_in path q ≡ true → (q.object ≡ o) × (q.instance ≡ i)
 
 pub instance_below : (o i : ℕ) → LiesBelow (Instance o i) o i
 instance_below o i q h =
-    let t = two (q.object == o) (q.instance == i) h in (same_number q.object o t.0, same_number q.instance i t.1)
+    let t = and_parts (q.object == o) (q.instance == i) h in (eqb-true q.object o t.0, eqb-true q.instance i t.1)
 
 pub resource_below : (o i r : ℕ) → LiesBelow (Resource o i r) o i
 resource_below o i r q h =
-    let t = two (q.object == o && q.instance == i) (q.resource == r) h in
+    let t = and_parts (q.object == o && q.instance == i) (q.resource == r) h in
     instance_below o i q t.0
 
 -- what lies below an instance that the server may read is the same

@@ -4,6 +4,7 @@ use Rattle.std.proofs.Common.{refl, sym, ap, subst, ◌∙◌}
 use Rattle.std.specs.Bool.{if◌then◌else◌}
 use Rattle.std.specs.Option.{is_some, option_and_then, unwrap_or}
 use Rattle.std.proofs.lemmas.Bool.{eqb-true}
+use Rattle.lemmas.proofs.Options.{some_if_denied}
 use Rattle.coap_codec.specs.Message.{Message}
 use Rattle.object_defs.specs.Catalog.{definition_of}
 use Rattle.object_defs.specs.Operations.{can_read}
@@ -51,7 +52,7 @@ use Rattle.laws_requests.specs.Executions.{BeginsUpdate, HasNoError}
 use Rattle.laws_requests.specs.Taken.{IsTaken}
 use Rattle.laws_requests.specs.Writes.{IsInstanceWritten, IsPartWritten, IsResourceWritten}
 use Rattle.laws_requests.proofs.Annotating.{attributes_set}
-use Rattle.laws_requests.proofs.Asking.{chosen, comes_to, fails, there}
+use Rattle.laws_requests.proofs.Asking.{chosen, comes_to, fails}
 use Rattle.laws_requests.proofs.Changing.{did, wrote}
 use Rattle.laws_requests.proofs.Creating.{creates_add}
 use Rattle.laws_requests.proofs.Deleting.{deletes_take}
@@ -125,7 +126,7 @@ firmware_takes client server mode path number payload event is h =
     let values = new_values client path number payload in
     let none = unrefused client server mode path number payload h in
     let all = fails (refusals_of client server path (to_write mode number payload)) none in
-    let after = there (firmware_after client.store event) (taken_now is all.1.1.1.1.1.1.0) in
+    let after = some_if_denied (firmware_after client.store event) (taken_now is all.1.1.1.1.1.1.0) in
     let stored : (write_outcome client server mode path number payload).client.store ≡ after.0 =
     ap (λ (code : Option Code). (write_unless code client
     (left (mode_at mode path) client path values (event_of path values))).client.store) none

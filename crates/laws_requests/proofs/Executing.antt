@@ -3,14 +3,12 @@ use Rattle.std.proofs.Common.{◌≡◌, ◌≢◌, ℕ, Bool, true, false, cond
 use Rattle.std.proofs.Common.{◌==◌, negsuc, subst, ◌∙◌, arith}
 use Rattle.std.specs.Bool.{if◌then◌else◌}
 use Rattle.std.specs.Cmp.{eq_by_cmp_equiv}
-use Rattle.std.specs.FinMap as map
 use Rattle.std.specs.Option.{is_some, option_map, unwrap_or}
-use Rattle.std.specs.Ordering.{eq_by_cmp, is_eq}
-use Rattle.std.specs.declared.cmp.Ordering.{Ordering}
-use Rattle.std.specs.declared.cmp.Ordering.TheVariants.{Less, Equal, Greater}
+use Rattle.std.specs.Ordering.{eq_by_cmp}
 use Rattle.lwm2m_values.specs.declared.value.Value.{Value}
 use Rattle.std.proofs.lemmas.Bool.{eqb-true}
 use Rattle.std.proofs.lemmas.Bool.Decides.{nat_tests}
+use Rattle.lemmas.proofs.Orders.{is_equal}
 use Rattle.lwm2m_values.specs.declared.value.Value.TheVariants.{Text, Whole, Flag, Opaque, Moment, Link}
 use Rattle.object_defs.specs.Path.{part_of, path_cmp, single_of}
 use Rattle.object_defs.specs.declared.path.FullPath.{FullPath}
@@ -18,6 +16,7 @@ use Rattle.object_defs.specs.declared.path.Path.{Path}
 use Rattle.object_defs.specs.declared.path.Path.TheVariants.{Resource}
 use Rattle.object_defs.proofs.PathOrder.{path_exact, path_total}
 use Rattle.instance_store.specs.Stored.{Stored, has_instance, lies_in, value_at, with_value, without_values}
+use Rattle.instance_store.proofs.SetValues.{value_after, value_elsewhere}
 use Rattle.device_firmware.specs.Firmware.{firmware, firmware_after, next_from, state_as, state_in, with_outcome}
 use Rattle.device_firmware.specs.declared.event.FirmwareEvent.TheVariants as event
 use Rattle.device_instances.proofs.Within.{kept}
@@ -45,25 +44,12 @@ executes_keep client server path number payload h k =
     else if is_resource 3 12 path then with_no_error client.store path else client.store) h
     ∙ ap (λ (b : Bool). if b then with_no_error client.store path else client.store) k)
 
-is_equal : (r : Ordering) → is_eq r ≡ true → r ≡ Equal
-is_equal Less h = cc
-is_equal Equal h = refl
-is_equal Greater h = cc
-
--- after an insertion
-pub behind : (s : Stored) (p q : FullPath) (v : Value)
-    → value_at (with_value s p v) q ≡ cond (eq_by_cmp path_cmp q p) (Some v) (value_at s q)
-behind s p q v = map.get-insert path_total s.values p v q
-
 pub apart : (p q : FullPath) → q ≢ p → eq_by_cmp path_cmp q p ≡ false
 apart p q other =
     elim (eq_by_cmp path_cmp q p) as (λ b. eq_by_cmp path_cmp q p ≡ b → b ≡ false) [
       | true ↦ λ h. absurd (other (path_exact q p (is_equal _ h)))
       | false ↦ λ h. refl
     ] refl
-
-pub elsewhere : (s : Stored) (p q : FullPath) (v : Value) → q ≢ p → value_at (with_value s p v) q ≡ value_at s q
-elsewhere s p q v other = behind s p q v ∙ ap (λ (b : Bool). cond b (Some v) (value_at s q)) (apart p q other)
 
 lies_there : (i : ℕ) → lies_in (Resource 3 i 11) (part_of (resource_place 3 i 11) 0) ≡ true
 lies_there i = grind (arith, nat_tests)
@@ -76,11 +62,11 @@ no_error s i =
     let p = part_of (resource_place 3 i 11) 0 in
     let bare = without_values s (Resource 3 i 11) in
     record {
-      first = behind bare p p (Whole (pos 0))
+      first = value_after bare p p (Whole (pos 0))
           ∙ ap (λ (b : Bool). cond b (Some (Whole (pos 0))) (value_at bare p)) (itself i);
-      alone = λ q lies other. elsewhere bare p q (Whole (pos 0)) other
+      alone = λ q lies other. value_elsewhere bare p q (Whole (pos 0)) other
           ∙ (kept s (Resource 3 i 11) q ∙ ap (λ (b : Bool). cond (not b) (value_at s q) None) lies);
-      others = λ q away. elsewhere bare p q (Whole (pos 0))
+      others = λ q away. value_elsewhere bare p q (Whole (pos 0))
           (λ e. let l : true ≡ false = sym (lies_there i)
           ∙ (ap (lies_in (Resource 3 i 11)) (sym e) ∙ away) in cc)
           ∙ (kept s (Resource 3 i 11) q ∙ ap (λ (b : Bool). cond (not b) (value_at s q) None) away);
@@ -145,9 +131,10 @@ begun s h =
     let r = Whole (pos 0) in
     record {
       was = h;
-      state = behind (with_value s (at 3) v) (at 5) (at 3) r ∙ behind s (at 3) (at 3) v;
-      result = behind (with_value s (at 3) v) (at 5) (at 5) r;
-      others = λ q not3 not5. elsewhere (with_value s (at 3) v) (at 5) q r not5 ∙ elsewhere s (at 3) q v not3;
+      state = value_after (with_value s (at 3) v) (at 5) (at 3) r ∙ value_after s (at 3) (at 3) v;
+      result = value_after (with_value s (at 3) v) (at 5) (at 5) r;
+      others = λ q not3 not5. value_elsewhere (with_value s (at 3) v) (at 5) q r not5
+          ∙ value_elsewhere s (at 3) q v not3;
     }
 
 begun_by : (s : Stored) (b : Bool)

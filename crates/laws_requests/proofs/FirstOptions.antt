@@ -1,14 +1,18 @@
 -- What the first option of a number says, and what the segments name.
-use Rattle.std.proofs.Common.{◌≡◌, ◌≢◌, inl, inr, ℕ, ◌+◌, ◌*◌, ◌<◌, ◌≤◌, ◌==◌, Bool, true, false, cond}
+use Rattle.std.proofs.Common.{◌≡◌, inl, inr, ℕ, ◌+◌, ◌*◌, ◌<◌, ◌≤◌, ◌==◌, Bool, true, false, cond}
 use Rattle.std.proofs.Common.{nat_le, List, [], ◌∷◌, ◌++◌, map, length, Option, None, Some, option_map}
 use Rattle.std.proofs.Common.{option_and_then, refl, sym, ap, subst, ◌∙◌, arith}
 use Rattle.std.specs.Bool.{if◌then◌else◌}
 use Rattle.std.specs.Fmt.{decimal}
 use Rattle.std.specs.List as lists
 use Rattle.std.specs.List.{filter}
-use Rattle.std.proofs.lemmas.Bool.{le-leb, ne_eqb}
+use Rattle.std.proofs.lemmas.Bool.{le-leb, ne_eqb, eqb-true, both_ways, eqb-false}
+use Rattle.std.proofs.lemmas.Option.{same_Some}
+use Rattle.lemmas.proofs.Numbers.{eqb_itself}
+use Rattle.lemmas.proofs.Options.{option_and_then_parts}
 use Rattle.coap_codec.specs.Number.{big_endian}
 use Rattle.coap_codec.specs.declared.option.Opt.{Opt}
+use Rattle.lwm2m_values.proofs.Choices.{kept_if}
 use Rattle.object_defs.specs.Decimal.{decimal_number}
 use Rattle.object_defs.specs.declared.path.Path.{Path}
 use Rattle.object_defs.specs.declared.path.Path.TheVariants.{Object, Instance, Resource, Part}
@@ -21,8 +25,6 @@ use Rattle.laws_requests.specs.Understood.{NamePath}
 use Rattle.laws_requests.specs.Understood.{SegmentsName, ValuesInOrder, its_value, name_instance}
 use Rattle.laws_requests.specs.Understood.{name_object, name_part, name_resource, no_byte, no_value, one_byte}
 use Rattle.laws_requests.specs.Understood.{other_option, three_bytes, two_bytes}
-use Rattle.laws_requests.proofs.Among.{number_same, same_number}
-use Rattle.laws_requests.proofs.Giving.{and_then_some, if_some, not_both}
 use Rattle.laws_requests.proofs.Understanding.{at_most}
 
 -- ---- the number of the first option
@@ -87,16 +89,13 @@ found_first p (x ∷ before) after o none is =
 abbrev pub read_at_most : ℕ → Opt → Option ℕ
 read_at_most most o = if nat_le (length o.value) most then Some (big_endian o.value) else None
 
-some_is : (m n : ℕ) → Some m ≡ Some n → m ≡ n
-some_is m n h = cc
-
 first_says : (number most : ℕ) (os : List Opt) (n : ℕ) → most ≤ 3
     → option_and_then (read_at_most most) (lists.find (λ o. o.number == number) os) ≡ Some n
     → FirstSays number most os n
 first_says number most os n small h =
-    let a = and_then_some (read_at_most most) (lists.find (λ o. o.number == number) os) n h in
+    let a = option_and_then_parts (read_at_most most) (lists.find (λ o. o.number == number) os) n h in
     let f = first_found (λ (o : Opt). o.number == number) os a.0 a.1 in
-    let u = if_some (nat_le (length a.0.value) most) (Some (big_endian a.0.value)) n a.2 in
+    let u = kept_if (nat_le (length a.0.value) most) (Some (big_endian a.0.value)) n a.2 in
     let l : length a.0.value ≤ most = at_most (length a.0.value) most u.0 in
     let l3 : length a.0.value ≤ 3 = omega arith in
     record {
@@ -105,10 +104,10 @@ first_says number most os n small h =
       after = f.after;
       splits = f.splits;
       none_before = λ x among same.
-          not_both (x.number == number) (f.none x among) (ap (λ (k : ℕ). k == number) same ∙ number_same number);
-      is_one = same_number a.0.number number f.passes_it;
+          both_ways (x.number == number) (f.none x among) (ap (λ (k : ℕ). k == number) same ∙ eqb_itself number);
+      is_one = eqb-true a.0.number number f.passes_it;
       fits = l;
-      says = subst (BytesSay a.0.value) (some_is (big_endian a.0.value) n u.1) (is_number a.0.value l3);
+      says = subst (BytesSay a.0.value) (same_Some (big_endian a.0.value) n u.1) (is_number a.0.value l3);
     }
 
 says_first : (number most : ℕ) (os : List Opt) (n : ℕ) → FirstSays number most os n
@@ -117,7 +116,7 @@ says_first number most os n f =
     ap (λ (t : List Opt). option_and_then (read_at_most most) (lists.find (λ o. o.number == number) t)) f.splits
     ∙ ap (option_and_then (read_at_most most)) (found_first (λ (o : Opt). o.number == number) f.before f.after f.first
     (λ x among. ne_eqb x.number number (f.none_before x among))
-    (ap (λ (k : ℕ). k == number) f.is_one ∙ number_same number))
+    (ap (λ (k : ℕ). k == number) f.is_one ∙ eqb_itself number))
     ∙ ap (λ (b : Bool). if b then Some (big_endian f.first.value) else None)
     (le-leb (length f.first.value) most f.fits)
     ∙ ap Some (number_is f.first.value n f.says)
@@ -144,7 +143,8 @@ numbers_are : (ss : List (List ℕ)) (ns : List ℕ) → numbers_of ss ≡ Some 
 numbers_are [] ns h =
     let is : [] ≡ ns = cc in (ap (λ (t : List ℕ). map decimal t) is, subst AreSmall is tt)
 numbers_are (s ∷ ss) ns h =
-    let a = and_then_some (λ (n : ℕ). option_map (λ (t : List ℕ). n ∷ t) (numbers_of ss)) (decimal_number s) ns h in
+    let a = option_and_then_parts (λ (n : ℕ). option_map (λ (t : List ℕ). n ∷ t) (numbers_of ss)) (decimal_number s) ns
+    h in
     let m = mapped_numbers a.0 (numbers_of ss) ns a.2 in
     let r = numbers_are ss m.0 m.1 in
     let d = (decimal_number-law s a.0).0 a.1 in
@@ -175,7 +175,7 @@ named_by (o ∷ i ∷ r ∷ p ∷ n ∷ ns) path h s = cc
 
 path_named : (segments : List (List ℕ)) (path : Path) → path_of segments ≡ Some path → NamePath segments path
 path_named segments path h =
-    let a = and_then_some path_from (numbers_of segments) path h in
+    let a = option_and_then_parts path_from (numbers_of segments) path h in
     let n = numbers_are segments a.0 a.1 in
     subst (λ (ss : List (List ℕ)). NamePath ss path) (sym n.0) (named_by a.0 path a.2 n.1)
 
@@ -193,9 +193,6 @@ segments_name segments path = (path_named segments path, named_path segments pat
 
 -- ---- the values of options
 
-not_equal : (n m : ℕ) → (n == m) ≡ false → n ≢ m
-not_equal n m h e = not_both (n == m) h (ap (λ (k : ℕ). k == m) e ∙ number_same m)
-
 are_values : (number : ℕ) (os : List Opt)
     → AreValues number os (map (λ o. o.value) (filter (λ o. o.number == number) os))
 are_values number [] = no_value
@@ -203,9 +200,9 @@ are_values number (o ∷ os) =
     let rest = filter (λ (x : Opt). x.number == number) os in
     elim (o.number == number) as (λ b. (o.number == number) ≡ b
     → AreValues number (o ∷ os) (map (λ x. x.value) (cond b (o ∷ rest) rest))) [
-      | true ↦ λ is. its_value o os (map (λ x. x.value) rest) (same_number o.number number is) (are_values number os)
+      | true ↦ λ is. its_value o os (map (λ x. x.value) rest) (eqb-true o.number number is) (are_values number os)
       | false ↦ λ is.
-          other_option o os (map (λ x. x.value) rest) (not_equal o.number number is) (are_values number os)
+          other_option o os (map (λ x. x.value) rest) (eqb-false o.number number is) (are_values number os)
     ] refl
 
 pub values_in_order : ValuesInOrder

@@ -3,7 +3,9 @@ use Rattle.std.proofs.Common.{◌≡◌, ◌≢◌, inl, inr, ℕ, ◌==◌, Boo
 use Rattle.std.proofs.Common.{Option, None, Some, option_map, option_and_then, refl, sym, ap, subst, ◌∙◌}
 use Rattle.std.specs.Bool.{if◌then◌else◌}
 use Rattle.std.specs.List.{list_any}
-use Rattle.std.proofs.lemmas.Bool.{ne_eqb}
+use Rattle.std.proofs.lemmas.Bool.{ne_eqb, eqb-true, false_from_ne_true, both_ways}
+use Rattle.lemmas.proofs.Numbers.{eqb_itself}
+use Rattle.lemmas.proofs.Options.{option_map_parts, option_and_then_parts}
 use Rattle.lwm2m_values.specs.Reading.{nodes_of_bytes, value_of_bytes, value_of_text}
 use Rattle.lwm2m_values.specs.Tlv.{IsTlv}
 use Rattle.lwm2m_values.specs.Tree.{Tree, Trees, instance, multi, part, single, none, more}
@@ -12,6 +14,7 @@ use Rattle.lwm2m_values.specs.declared.value.Value.{Value}
 use Rattle.lwm2m_values.proofs.BytesReading.{value_of_bytes_exact}
 use Rattle.lwm2m_values.proofs.TextReading.{value_of_text_exact}
 use Rattle.lwm2m_values.proofs.TlvReading.{nodes_of_bytes_exact}
+use Rattle.lwm2m_values.proofs.Choices.{kept_if}
 use Rattle.object_defs.specs.Catalog.{resource_in}
 use Rattle.object_defs.specs.Operations.{can_write}
 use Rattle.object_defs.specs.declared.definition.Ops.{Ops}
@@ -37,52 +40,30 @@ use Rattle.laws_requests.specs.Payloads.{GivesResource, GivesTo, InstancesAreGiv
 use Rattle.laws_requests.specs.Payloads.{OtherInstanceGivesNothing, ResourcesAreGiven, by_bytes}
 use Rattle.laws_requests.specs.Payloads.{by_instance, by_record, by_records, by_text, gives_parts, gives_value, no_part}
 use Rattle.laws_requests.specs.Payloads.{no_record, one_part_more, one_record_more}
-use Rattle.laws_requests.proofs.Among.{among_any, any_found, found, number_same, same_number}
+use Rattle.laws_requests.proofs.Among.{among_any, any_found, found}
 
 -- ---- a number that is given, or not
-
-pub never_true : (b : Bool) → (b ≡ true → ⊥) → b ≡ false
-never_true true h = absurd (h refl)
-never_true false h = refl
-
-pub not_both : (b : Bool) → b ≡ false → b ≡ true → ⊥
-not_both b h k = let l : true ≡ false = sym k ∙ h in cc
 
 any_part : (ps : PartList) (n : ℕ) → list_any (λ p. p.0 == n) ps ≡ true → HasPart ps n
 any_part ps n h =
     let f = any_found (λ (p : ℕ × Value). p.0 == n) ps h in
-    let is : n ≡ f.0.0 = sym (same_number f.0.0 n f.2) in
+    let is : n ≡ f.0.0 = sym (eqb-true f.0.0 n f.2) in
     (f.0.1, subst (λ (k : ℕ). IsAmong (k, f.0.1) ps) (sym is) f.1)
 
 part_any : (ps : PartList) (n : ℕ) → HasPart ps n → list_any (λ p. p.0 == n) ps ≡ true
-part_any ps n h = among_any (λ (p : ℕ × Value). p.0 == n) (n, h.0) ps h.1 (number_same n)
+part_any ps n h = among_any (λ (p : ℕ × Value). p.0 == n) (n, h.0) ps h.1 (eqb_itself n)
 
 pub any_named : (given : List Assignment) (r : ℕ) → list_any (λ b. b.resource == r) given ≡ true → IsNamedIn given r
 any_named given r h =
     let f = any_found (λ (b : Assignment). b.resource == r) given h in
-    let is : f.0.resource ≡ r = same_number f.0.resource r f.2 in
+    let is : f.0.resource ≡ r = eqb-true f.0.resource r f.2 in
     (f.0.given, subst (λ (k : ℕ). IsAmong (record { resource = k; given = f.0.given }) given) is f.1)
 
 pub named_any : (given : List Assignment) (r : ℕ) → IsNamedIn given r → list_any (λ b. b.resource == r) given ≡ true
 named_any given r h =
-    among_any (λ (b : Assignment). b.resource == r) (record { resource = r; given = h.0 }) given h.1 (number_same r)
+    among_any (λ (b : Assignment). b.resource == r) (record { resource = r; given = h.0 }) given h.1 (eqb_itself r)
 
 -- ---- options that are there
-
-mapped_some : {X Y : Type 0} (f : X → Y) (o : Option X) (y : Y) → option_map f o ≡ Some y
-    → (x : X) × (o ≡ Some x) × (f x ≡ y)
-mapped_some f None y h = cc
-mapped_some f (Some x) y h = (x, refl, cc)
-
-pub and_then_some : {X Y : Type 0} (f : X → Option Y) (o : Option X) (y : Y) → option_and_then f o ≡ Some y
-    → (x : X) × (o ≡ Some x) × (f x ≡ Some y)
-and_then_some f None y h = cc
-and_then_some f (Some x) y h = (x, refl, h)
-
-pub if_some : {Y : Type 0} (b : Bool) (o : Option Y) (y : Y) → (if b then o else None) ≡ Some y
-    → (b ≡ true) × (o ≡ Some y)
-if_some true o y h = (refl, h)
-if_some false o y h = cc
 
 pub unless_some : {Y : Type 0} (b : Bool) (o : Option Y) (y : Y) → (if b then None else o) ≡ Some y
     → (b ≡ false) × (o ≡ Some y)
@@ -118,7 +99,7 @@ parts_give kind (more (part n bytes) rest) ps h =
     let m = part_more n (value_of_bytes kind bytes) (parts_given kind rest) ps h in
     subst (GiveParts kind (more (part n bytes) rest)) m.are
     (one_part_more n bytes m.value rest m.others ((value_of_bytes_exact kind m.value bytes).0 m.value_is)
-    (λ k. not_both (list_any (λ p. p.0 == n) m.others) m.once (part_any m.others n k))
+    (λ k. both_ways (list_any (λ p. p.0 == n) m.others) m.once (part_any m.others n k))
     (parts_give kind rest m.others m.others_are))
 parts_give kind (more (instance i inner) rest) ps h = cc
 parts_give kind (more (multi r inner) rest) ps h = cc
@@ -131,7 +112,7 @@ give_parts kind nodes ps (one_part_more n bytes v rest others is never more_of) 
     ap (λ (o : Option Value). with_part n o (parts_given kind rest)) ((value_of_bytes_exact kind v bytes).1 is)
     ∙ ap (with_part n (Some v)) (give_parts kind rest others more_of)
     ∙ ap (λ (b : Bool). if b then None else Some ((n, v) ∷ others))
-    (never_true (list_any (λ p. p.0 == n) others) (λ k. never (any_part others n k)))
+    (false_from_ne_true (list_any (λ p. p.0 == n) others) (λ k. never (any_part others n k)))
 
 -- ---- a record of a resource
 
@@ -152,11 +133,11 @@ record_gives : (d : ResourceDef) (node : Tree) (g : Given) → number_in node �
     → GivesTo d node g
 record_gives d (single r bytes) g is h =
     let u = unless_some d.multiple (option_map Single (value_of_bytes d.kind bytes)) g h in
-    let m = mapped_some Single (value_of_bytes d.kind bytes) g u.1 in
+    let m = option_map_parts Single (value_of_bytes d.kind bytes) g u.1 in
     subst (λ (t : Tree × Given). GivesTo d t.0 t.1) (λ j. (single (sym is j) bytes, m.2 j))
     (gives_value bytes m.0 u.0 ((value_of_bytes_exact d.kind m.0 bytes).0 m.1))
 record_gives d (multi r inner) g is h =
-    let u = if_some d.multiple (some_parts d.mandatory (parts_given d.kind inner)) g h in
+    let u = kept_if d.multiple (some_parts d.mandatory (parts_given d.kind inner)) g h in
     let m = parts_for d.mandatory (parts_given d.kind inner) g u.1 in
     subst (λ (t : Tree × Given). GivesTo d t.0 t.1) (λ j. (multi (sym is j) inner, m.2 j))
     (gives_parts inner m.0 u.0 (parts_give d.kind inner m.0 m.1) m.3)
@@ -212,8 +193,8 @@ is_assigned : (purpose : Purpose) (node : Tree) (definition : Option ResourceDef
 is_assigned purpose node None a h = cc
 is_assigned purpose node (Some d) a h =
     let to = assign d.id in
-    let u = if_some (may_be_given purpose d.ops) (option_map to (given_by d node)) a h in
-    let m = mapped_some to (given_by d node) a u.1 in
+    let u = kept_if (may_be_given purpose d.ops) (option_map to (given_by d node)) a h in
+    let m = option_map_parts to (given_by d node) a u.1 in
     record { d = d; given = m.0; definition_is = refl; may = u.0; gives = m.1; is = m.2 }
 
 record IsAssignmentMore (a : Option Assignment) (o : Option (List Assignment)) (all : List Assignment) : Type 0 where
@@ -240,13 +221,13 @@ all_give purpose resources (more node rest) given h =
     let m = assignment_more (assigned_by purpose resources node) (assignments purpose resources rest) given h in
     let a = is_assigned purpose node (resource_in resources (number_in node)) m.first m.first_is in
     let f = found (λ (d : ResourceDef). d.id == number_in node) a.d resources a.definition_is in
-    let number : number_in node ≡ a.d.id = sym (same_number a.d.id (number_in node) f.1) in
+    let number : number_in node ≡ a.d.id = sym (eqb-true a.d.id (number_in node) f.1) in
     let once : list_any (λ b. b.resource == a.d.id) m.others ≡ false =
     ap (λ (k : Assignment). list_any (λ b. b.resource == k.resource) m.others) a.is ∙ m.once in
     subst (RecordsGive purpose resources (more node rest)) ((λ j. a.is j ∷ m.others) ∙ m.are)
     (one_record_more a.d node a.given rest m.others (ap (resource_in resources) (sym number) ∙ a.definition_is)
     (open_to purpose a.d.ops a.may) (record_gives a.d node a.given number a.gives)
-    (λ k. not_both (list_any (λ b. b.resource == a.d.id) m.others) once (named_any m.others a.d.id k))
+    (λ k. both_ways (list_any (λ b. b.resource == a.d.id) m.others) once (named_any m.others a.d.id k))
     (all_give purpose resources rest m.others m.others_are))
 
 pub give_all : (purpose : Purpose) (resources : List ResourceDef) (nodes : Trees) (given : List Assignment)
@@ -262,7 +243,7 @@ give_all purpose resources nodes given (one_record_more d node g rest others is_
     ap (λ (a : Option Assignment). with_assignment a (assignments purpose resources rest)) assigned
     ∙ ap (with_assignment (Some (to g))) (give_all purpose resources rest others more_of)
     ∙ ap (λ (b : Bool). if b then None else Some (to g ∷ others))
-    (never_true (list_any (λ b. b.resource == d.id) others) (λ k. never (any_named others d.id k)))
+    (false_from_ne_true (list_any (λ b. b.resource == d.id) others) (λ k. never (any_named others d.id k)))
 
 -- an Object Instance gives nothing
 
@@ -295,7 +276,7 @@ instance_from resources i payload given (more (instance j inner) none) tlv h =
     elim (j == i) as (λ b. (j == i) ≡ b → option_and_then (assignments Write resources)
     (if b then Some inner else None) ≡ Some given → GivesInstance resources i payload given) [
       | true ↦ λ is k.
-          by_instance inner (subst (λ (n : ℕ). IsTlv (more (instance n inner) none) payload) (same_number j i is) tlv)
+          by_instance inner (subst (λ (n : ℕ). IsTlv (more (instance n inner) none) payload) (eqb-true j i is) tlv)
           (all_give Write resources inner given k)
       | false ↦ λ is k. cc
     ] refl h
@@ -312,15 +293,15 @@ instance_back resources i payload given (by_instance inner tlv all) =
     ap (λ (o : Option Trees). option_and_then (assignments Write resources) (option_and_then (content_of i) o))
     ((nodes_of_bytes_exact (more (instance i inner) none) payload).1 tlv)
     ∙ ap (λ (b : Bool). option_and_then (assignments Write resources)
-    (if b then Some inner else None)) (number_same i)
+    (if b then Some inner else None)) (eqb_itself i)
     ∙ give_all Write resources inner given all
 
 pub instances_given : InstancesAreGiven
 instances_given resources i payload given = (
   λ h.
-      let c = and_then_some (assignments Write resources)
+      let c = option_and_then_parts (assignments Write resources)
       (option_and_then (content_of i) (nodes_of_bytes payload)) given h in
-      let n = and_then_some (content_of i) (nodes_of_bytes payload) c.0 c.1 in
+      let n = option_and_then_parts (content_of i) (nodes_of_bytes payload) c.0 c.1 in
       instance_from resources i payload given n.0 ((nodes_of_bytes_exact n.0 payload).0 n.1)
       (ap (option_and_then (assignments Write resources)) n.2 ∙ c.2),
   instance_back resources i payload given,
@@ -341,19 +322,19 @@ lone_gives d payload none g tlv h = cc
 lone_gives d payload (more node (more next rest)) g tlv h = cc
 lone_gives d payload (more node none) g tlv h =
     let u = given_some (number_in node == d.id) (given_by d node) g h in
-    by_record payload node g tlv (record_gives d node g (same_number (number_in node) d.id u.0) u.1)
+    by_record payload node g tlv (record_gives d node g (eqb-true (number_in node) d.id u.0) u.1)
 
 resource_from : (d : ResourceDef) (format : Format) (payload : List ℕ) (g : Given)
     → resource_given d format payload ≡ Some g → GivesResource d format payload g
 resource_from d PlainText payload g h =
-    let m = mapped_some Single (value_of_text d.kind payload) g h in
+    let m = option_map_parts Single (value_of_text d.kind payload) g h in
     subst (GivesResource d PlainText payload) m.2 (by_text payload m.0 ((value_of_text_exact d.kind m.0 payload).0 m.1))
 resource_from d OctetStream payload g h =
-    let m = mapped_some Single (value_of_bytes d.kind payload) g h in
+    let m = option_map_parts Single (value_of_bytes d.kind payload) g h in
     subst (GivesResource d OctetStream payload) m.2
     (by_bytes payload m.0 ((value_of_bytes_exact d.kind m.0 payload).0 m.1))
 resource_from d Tlv payload g h =
-    let n = and_then_some (lone_record d) (nodes_of_bytes payload) g h in
+    let n = option_and_then_parts (lone_record d) (nodes_of_bytes payload) g h in
     lone_gives d payload n.0 g ((nodes_of_bytes_exact n.0 payload).0 n.1) n.2
 
 resource_back : (d : ResourceDef) (format : Format) (payload : List ℕ) (g : Given)
@@ -365,7 +346,7 @@ resource_back d format payload g (by_bytes _ v is) =
 resource_back d format payload g (by_record _ node _ tlv gives) =
     ap (option_and_then (lone_record d)) ((nodes_of_bytes_exact (more node none) payload).1 tlv)
     ∙ ap (λ (b : Bool). given_if b (given_by d node))
-    (ap (λ (n : ℕ). n == d.id) (gives_number d node g gives) ∙ number_same d.id)
+    (ap (λ (n : ℕ). n == d.id) (gives_number d node g gives) ∙ eqb_itself d.id)
     ∙ gives_record d node g gives
 
 pub resources_given : ResourcesAreGiven

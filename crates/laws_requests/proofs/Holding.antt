@@ -1,6 +1,6 @@
 -- The parts that a resource holds, as a list in order, and a Read of them.
 use Rattle.std.proofs.Common.{◌≡◌, ℕ, Bool, true, false, cond, not, ◌&&◌, ◌||◌, ◌==◌, inl, inr, List, [], ◌∷◌}
-use Rattle.std.proofs.Common.{map, length, nat_lt, Option, None, Some, option_map, Ordering, refl, sym, ap, subst, ◌∙◌}
+use Rattle.std.proofs.Common.{map, length, nat_lt, Option, None, Some, option_map, refl, sym, ap, subst, ◌∙◌}
 use Rattle.std.proofs.Common.{arith}
 use Rattle.std.specs.Bool.{if◌then◌else◌}
 use Rattle.std.specs.FinMap as finite
@@ -11,11 +11,14 @@ use Rattle.std.specs.List.{AllByRecursion, cons_option, filter, filter_map, list
 use Rattle.std.specs.List.Sorted.{IsStrictlySortedBy}
 use Rattle.std.specs.Option.{is_some, option_and_then, unwrap_or}
 use Rattle.std.specs.Ordering.{eq_by_cmp, is_lt, nat_cmp}
-use Rattle.std.specs.declared.cmp.Ordering.TheVariants.{Less, Equal, Greater}
+use Rattle.std.specs.declared.cmp.Ordering.TheVariants.{Less}
 use Rattle.std.proofs.Math.Dec.{T}
 use Rattle.std.proofs.lemmas.Bool.Decides.{nat_tests}
-use Rattle.std.proofs.lemmas.Bool.{ne_eqb}
+use Rattle.std.proofs.lemmas.Bool.{ne_eqb, eqb-true}
 use Rattle.std.proofs.lemmas.List.{length-map}
+use Rattle.lemmas.proofs.Numbers.{eqb_itself}
+use Rattle.lemmas.proofs.Tests.{T_both, T_first, T_second}
+use Rattle.lemmas.proofs.Orders.{is_less}
 use Rattle.lwm2m_values.specs.Tlv.{shortest_tlv}
 use Rattle.lwm2m_values.specs.Tree.{Trees, multi, part, none, more}
 use Rattle.lwm2m_values.specs.Value.{bytes_of}
@@ -53,12 +56,6 @@ use Rattle.laws_requests.specs.Multiples.{HoldsParts, MultipleIsRead, answer_of_
 use Rattle.laws_requests.proofs.Executing.{apart}
 use Rattle.laws_requests.proofs.PartBack.{shown}
 
-same_number : (a b : ℕ) → (a == b) ≡ true → a ≡ b
-same_number a b h = grind (arith, nat_tests)
-
-number_same : (a : ℕ) → (a == a) ≡ true
-number_same a = grind (arith, nat_tests)
-
 -- ---- among parts given once
 
 pub value_among : (parts : PartList) (n : ℕ) (v : Value) → part_value parts (Some n) ≡ Some v → IsAmong (n, v) parts
@@ -67,14 +64,14 @@ value_among (e ∷ parts) n v h =
     elim (e.0 == n) as (λ b. (e.0 == n) ≡ b
     → option_map (λ (d : ℕ × Value). d.1) (if b then Some e else lists.find (λ d. d.0 == n) parts) ≡ Some v
     → IsAmong (n, v) (e ∷ parts)) [
-      | true ↦ λ is k. let w : e.1 ≡ v = cc in inl (λ j. (same_number e.0 n is j, w j))
+      | true ↦ λ is k. let w : e.1 ≡ v = cc in inl (λ j. (eqb-true e.0 n is j, w j))
       | false ↦ λ is k. inr (value_among parts n v k)
     ] refl h
 
 among_any : (parts : PartList) (n : ℕ) (v : Value) → IsAmong (n, v) parts → list_any (λ p. p.0 == n) parts ≡ true
 among_any [] n v h = absurd h
 among_any (e ∷ parts) n v (inl is) =
-    let first : (e.0 == n) ≡ true = ap (λ (d : ℕ × Value). d.0 == n) is ∙ number_same n in
+    let first : (e.0 == n) ≡ true = ap (λ (d : ℕ × Value). d.0 == n) is ∙ eqb_itself n in
     ap (λ (b : Bool). b || list_any (λ p. p.0 == n) parts) first
 among_any (e ∷ parts) n v (inr h) =
     elim (e.0 == n) as (λ b. (b || list_any (λ p. p.0 == n) parts) ≡ true) [
@@ -86,7 +83,7 @@ pub among_value : (parts : PartList) (n : ℕ) (v : Value) → PartsOnce parts �
     → part_value parts (Some n) ≡ Some v
 among_value [] n v once h = absurd h
 among_value (e ∷ parts) n v once (inl is) =
-    let first : (e.0 == n) ≡ true = ap (λ (d : ℕ × Value). d.0 == n) is ∙ number_same n in
+    let first : (e.0 == n) ≡ true = ap (λ (d : ℕ × Value). d.0 == n) is ∙ eqb_itself n in
     ap (λ (b : Bool). option_map (λ (d : ℕ × Value). d.1)
     (if b then Some e else lists.find (λ d. d.0 == n) parts)) first
     ∙ ap (λ (d : ℕ × Value). Some d.1) is
@@ -95,7 +92,7 @@ among_value (e ∷ parts) n v once (inr h) =
     → option_map (λ (d : ℕ × Value). d.1) (if b then Some e else lists.find (λ d. d.0 == n) parts) ≡ Some v) [
       | true ↦ λ is.
           let l : true ≡ false = sym (among_any parts n v h)
-          ∙ (ap (λ (k : ℕ). list_any (λ p. p.0 == k) parts) (sym (same_number e.0 n is)) ∙ once.0) in
+          ∙ (ap (λ (k : ℕ). list_any (λ p. p.0 == k) parts) (sym (eqb-true e.0 n is)) ∙ once.0) in
           cc
       | false ↦ λ is. among_value parts n v once.1 h
     ] refl
@@ -129,9 +126,9 @@ is_part_of : (p : ResourcePath) (q : FullPath) (n : ℕ) → lies_in (resource_p
 is_part_of p q n lies is =
     let t = all_three (q.object == p.object) (q.instance == p.instance) (q.resource == p.resource) lies in
     λ j. record {
-      object = same_number q.object p.object t.0 j;
-      instance = same_number q.instance p.instance t.1 j;
-      resource = same_number q.resource p.resource t.2 j;
+      object = eqb-true q.object p.object t.0 j;
+      instance = eqb-true q.instance p.instance t.1 j;
+      resource = eqb-true q.resource p.resource t.2 j;
       part = is j;
     }
 
@@ -144,7 +141,7 @@ ordered p n m = grind (arith, nat_tests)
 no_part : (n : ℕ) → None ≡ Some n → ⊥
 no_part n h = cc
 
-lies_here : (p : ResourcePath) (n : ℕ) → lies_in (resource_path p) (part_of p n) ≡ true
+pub lies_here : (p : ResourcePath) (n : ℕ) → lies_in (resource_path p) (part_of p n) ≡ true
 lies_here p n = grind (arith, nat_tests)
 
 found_first : (p : ResourcePath) (n : ℕ) (q : FullPath) (k : Option ℕ) (v : Value) (parts : PartList)
@@ -172,34 +169,22 @@ found_in p n (e ∷ es) =
           let l : true ≡ false = sym (lies_here p n) ∙ (ap (lies_in (resource_path p)) is ∙ away) in cc)))
     ] refl
 
-both : (a b : Bool) → T a → T b → T (a && b)
-both true b p q = q
-both false b p q = p
-
-first_of : (a b : Bool) → T (a && b) → T a
-first_of true b p = tt
-first_of false b p = p
-
-second_of : (a b : Bool) → T (a && b) → T b
-second_of true b p = p
-second_of false b p = absurd p
-
 below_first : (p : ResourcePath) (n : ℕ) (q : FullPath) (k : Option ℕ) (v : Value) (parts : PartList)
     → lies_in (resource_path p) q ≡ true → q.part ≡ k → T (is_lt (path_cmp (part_of p n) q))
     → T (below_all nat_cmp n parts) → T (below_all nat_cmp n (in_front true k v parts))
 below_first p n q None v parts lies is h below = below
 below_first p n q (Some m) v parts lies is h below =
-    both _ _ (subst T (ap (λ (x : FullPath). is_lt (path_cmp (part_of p n) x)) (is_part_of p q m lies is)
+    T_both _ _ (subst T (ap (λ (x : FullPath). is_lt (path_cmp (part_of p n) x)) (is_part_of p q m lies is)
     ∙ ordered p n m) h) below
 
 below_in : (p : ResourcePath) (n : ℕ) (es : Pairs) → T (below_all path_cmp (part_of p n) es)
     → T (below_all nat_cmp n (parts_among p es))
 below_in p n [] h = tt
 below_in p n (e ∷ es) h =
-    let rest = below_in p n es (second_of _ _ h) in
+    let rest = below_in p n es (T_second _ _ h) in
     elim (lies_in (resource_path p) e.0) as (λ b. lies_in (resource_path p) e.0 ≡ b
     → T (below_all nat_cmp n (in_front b e.0.part e.1 (parts_among p es)))) [
-      | true ↦ λ lies. below_first p n e.0 e.0.part e.1 (parts_among p es) lies refl (first_of _ _ h) rest
+      | true ↦ λ lies. below_first p n e.0 e.0.part e.1 (parts_among p es) lies refl (T_first _ _ h) rest
       | false ↦ λ away. rest
     ] refl
 
@@ -208,35 +193,30 @@ sorted_first : (p : ResourcePath) (q : FullPath) (k : Option ℕ) (v : Value) (e
     → T (is_sorted nat_cmp (parts_among p es)) → T (is_sorted nat_cmp (in_front true k v (parts_among p es)))
 sorted_first p q None v es lies is h sorted = sorted
 sorted_first p q (Some n) v es lies is h sorted =
-    both _ _ (below_in p n es (subst (λ (x : FullPath). T (below_all path_cmp x es)) (is_part_of p q n lies is) h))
+    T_both _ _ (below_in p n es (subst (λ (x : FullPath). T (below_all path_cmp x es)) (is_part_of p q n lies is) h))
     sorted
 
 sorted_in : (p : ResourcePath) (es : Pairs) → T (is_sorted path_cmp es) → T (is_sorted nat_cmp (parts_among p es))
 sorted_in p [] h = tt
 sorted_in p (e ∷ es) h =
-    let rest = sorted_in p es (second_of _ _ h) in
+    let rest = sorted_in p es (T_second _ _ h) in
     elim (lies_in (resource_path p) e.0) as (λ b. lies_in (resource_path p) e.0 ≡ b
     → T (is_sorted nat_cmp (in_front b e.0.part e.1 (parts_among p es)))) [
-      | true ↦ λ lies. sorted_first p e.0 e.0.part e.1 es lies refl (first_of _ _ h) rest
+      | true ↦ λ lies. sorted_first p e.0 e.0.part e.1 es lies refl (T_first _ _ h) rest
       | false ↦ λ away. rest
     ] refl
 
 -- ---- a sorted list
 
-is_less : (r : Ordering) → T (is_lt r) → r ≡ Less
-is_less Less h = refl
-is_less Equal h = absurd h
-is_less Greater h = absurd h
-
 all_above : (n : ℕ) (parts : PartList) → T (below_all nat_cmp n parts)
     → AllByRecursion (λ m. nat_cmp n m ≡ Less) (map (λ e. e.0) parts)
 all_above n [] h = tt
-all_above n (e ∷ parts) h = (is_less (nat_cmp n e.0) (first_of _ _ h), all_above n parts (second_of _ _ h))
+all_above n (e ∷ parts) h = (is_less (nat_cmp n e.0) (T_first _ _ h), all_above n parts (T_second _ _ h))
 
 rises : (parts : PartList) → T (is_sorted nat_cmp parts) → IsStrictlySortedBy nat_cmp (map (λ e. e.0) parts)
 unfolding IsStrictlySortedBy
 rises [] h = tt
-rises (e ∷ parts) h = (all_above e.0 parts (first_of _ _ h), rises parts (second_of _ _ h))
+rises (e ∷ parts) h = (all_above e.0 parts (T_first _ _ h), rises parts (T_second _ _ h))
 
 differs : (n m : ℕ) → nat_cmp n m ≡ Less → (m == n) ≡ false
 differs n m h = grind (arith, nat_tests)
@@ -245,12 +225,12 @@ not_above : (n : ℕ) (parts : PartList) → T (below_all nat_cmp n parts) → l
 not_above n [] h = refl
 not_above n (e ∷ parts) h =
     ap (λ (b : Bool). b || list_any (λ p. p.0 == n) parts)
-    (differs n e.0 (is_less (nat_cmp n e.0) (first_of _ _ h)))
-    ∙ not_above n parts (second_of _ _ h)
+    (differs n e.0 (is_less (nat_cmp n e.0) (T_first _ _ h)))
+    ∙ not_above n parts (T_second _ _ h)
 
 each_once : (parts : PartList) → T (is_sorted nat_cmp parts) → PartsOnce parts
 each_once [] h = tt
-each_once (e ∷ parts) h = (not_above e.0 parts (first_of _ _ h), each_once parts (second_of _ _ h))
+each_once (e ∷ parts) h = (not_above e.0 parts (T_first _ _ h), each_once parts (T_second _ _ h))
 
 test_turned : (n m : ℕ) → eq_by_cmp nat_cmp n m ≡ (m == n)
 test_turned n m = grind (arith, nat_tests)
@@ -312,7 +292,7 @@ one_more r n v (e ∷ parts) =
     let p = part n (bytes_of v) in
     let others = part_records (e ∷ parts) in
     ap (λ (b : Bool). if b then more (multi r (more p others)) none
-    else more (multi r (more p none)) (more (multi r others) none)) (number_same r)
+    else more (multi r (more p none)) (more (multi r others) none)) (eqb_itself r)
 
 -- a Read shows the parts of the resource, and not a single value
 abbrev ShowsParts : List ResourceDef → ResourcePath → Type 0
@@ -325,7 +305,7 @@ record_first : (resources : List ResourceDef) (p : ResourcePath) (q : FullPath) 
 record_first resources p q None v es parts lies is h = h
 record_first resources p q (Some n) v es parts lies is h =
     let t = all_three (q.object == p.object) (q.instance == p.instance) (q.resource == p.resource) lies in
-    (λ j. before_value (same_number q.resource p.resource t.2 j) (is j) v (h j)) ∙ one_more p.resource n v parts
+    (λ j. before_value (eqb-true q.resource p.resource t.2 j) (is j) v (h j)) ∙ one_more p.resource n v parts
 
 records : (resources : List ResourceDef) (p : ResourcePath) (es : Pairs) → ShowsParts resources p
     → nodes_of (filter (λ e. is_shown resources e.0) (filter (λ e. lies_in (resource_path p) e.0) es))
@@ -361,7 +341,7 @@ parts_shown : (client : Client) (o i r : ℕ) (d : ResourceDef) → definition_o
     → d.multiple ≡ true → can_read d.ops ≡ true → ShowsParts (defined client.catalog o) (resource_place o i r)
 parts_shown client o i r d defined_as several readable q lies =
     let t = all_three (q.object == o) (q.instance == i) (q.resource == r) lies in
-    ap (λ (s : ℕ). is_shown_as q.part (resource_in (defined client.catalog o) s)) (same_number q.resource r t.2)
+    ap (λ (s : ℕ). is_shown_as q.part (resource_in (defined client.catalog o) s)) (eqb-true q.resource r t.2)
     ∙ ap (is_shown_as q.part) (sym (is_defined_in client o r) ∙ defined_as)
     ∙ shown_as d q.part several readable
 

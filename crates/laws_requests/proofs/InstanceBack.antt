@@ -5,6 +5,8 @@ use Rattle.std.specs.Bool.{if◌then◌else◌}
 use Rattle.std.specs.List.{list_any}
 use Rattle.std.specs.Option.{option_or}
 use Rattle.std.proofs.lemmas.Bool.Decides.{nat_tests}
+use Rattle.std.proofs.lemmas.Bool.{eqb-true}
+use Rattle.lemmas.proofs.Numbers.{eqb_itself}
 use Rattle.lwm2m_values.specs.declared.value.Value.{Value}
 use Rattle.object_defs.specs.Catalog.{definition_of, resource_in}
 use Rattle.object_defs.specs.Operations.{can_write}
@@ -24,18 +26,13 @@ use Rattle.lwm2m_payloads.specs.declared.given.Mode.{Mode}
 use Rattle.lwm2m_payloads.specs.declared.given.Mode.TheVariants.{Replace, Update}
 use Rattle.lwm2m_payloads.proofs.EachOnce.{instance_once}
 use Rattle.device_requests.specs.Client.{Client}
-use Rattle.device_requests.specs.Laws.{IsAmong}
 use Rattle.device_requests.specs.Targets.{defined, is_readable, resource_place}
 use Rattle.laws_requests.specs.Instances.{InstancesHoldGiven, IsGivenTo, IsNamedIn, IsOptional, left_by}
 use Rattle.laws_requests.specs.Multiples.{HasPart}
 use Rattle.laws_requests.proofs.Holding.{among_value, is_defined_in, value_among}
 use Rattle.laws_requests.proofs.Writing.{instances_written}
-
-same_number : (a b : ℕ) → (a == b) ≡ true → a ≡ b
-same_number a b h = grind (arith, nat_tests)
-
-number_same : (a : ℕ) → (a == a) ≡ true
-number_same a = grind (arith, nat_tests)
+use Rattle.laws_requests.proofs.Among.{among_any, any_found}
+use Rattle.laws_requests.proofs.Giving.{any_named}
 
 -- ---- who is named
 
@@ -47,7 +44,7 @@ is_named : (given : List Assignment) (r : ℕ) (g : Given) → IsGivenTo given r
 is_named [] r g h = absurd h
 is_named (a ∷ given) r g (inl is) =
     ap (λ (b : Assignment). (b.resource == r) || list_any (λ a. a.resource == r) given) is
-    ∙ ap (λ (b : Bool). b || list_any (λ a. a.resource == r) given) (number_same r)
+    ∙ ap (λ (b : Bool). b || list_any (λ a. a.resource == r) given) (eqb_itself r)
 is_named (a ∷ given) r g (inr h) =
     elim (a.resource == r) as (λ b. (b || list_any (λ a. a.resource == r) given) ≡ true) [
       | true ↦ refl
@@ -59,13 +56,13 @@ is_found : (given : List Assignment) (r : ℕ) (g : Given) → EachOnce given �
 is_found [] r g once h = absurd h
 is_found (a ∷ given) r g once (inl is) =
     ap (λ (b : Assignment). if b.resource == r then Some b else find (λ a. a.resource == r) given) is
-    ∙ ap (λ (b : Bool). if b then Some (to r g) else find (λ a. a.resource == r) given) (number_same r)
+    ∙ ap (λ (b : Bool). if b then Some (to r g) else find (λ a. a.resource == r) given) (eqb_itself r)
 is_found (a ∷ given) r g once (inr h) =
     elim (a.resource == r) as (λ b. (a.resource == r) ≡ b
     → (if b then Some a else find (λ a. a.resource == r) given) ≡ Some (to r g)) [
       | true ↦ λ is.
           let l : true ≡ false = sym (is_named given r g h)
-          ∙ (ap (λ (k : ℕ). list_any (λ b. b.resource == k) given) (sym (same_number a.resource r is)) ∙ once.0) in
+          ∙ (ap (λ (k : ℕ). list_any (λ b. b.resource == k) given) (sym (eqb-true a.resource r is)) ∙ once.0) in
           cc
       | false ↦ λ is. is_found given r g once.2 h
     ] refl
@@ -76,16 +73,7 @@ is_once (a ∷ given) r g once (inl is) = subst (λ (b : Assignment). GivenOnce 
 is_once (a ∷ given) r g once (inr h) = is_once given r g once.2 h
 
 named_first : (a : Assignment) (r : ℕ) → (a.resource == r) ≡ true → a ≡ to r a.given
-named_first a r h = λ j. record { resource = same_number a.resource r h j; given = a.given }
-
-any_named : (given : List Assignment) (r : ℕ) → list_any (λ a. a.resource == r) given ≡ true → IsNamedIn given r
-any_named [] r h = cc
-any_named (a ∷ given) r h =
-    elim (a.resource == r) as (λ b. (a.resource == r) ≡ b
-    → (b || list_any (λ a. a.resource == r) given) ≡ true → IsNamedIn (a ∷ given) r) [
-      | true ↦ λ is k. (a.given, inl (named_first a r is))
-      | false ↦ λ is k. let n = any_named given r k in (n.0, inr n.1)
-    ] refl h
+named_first a r h = λ j. record { resource = eqb-true a.resource r h j; given = a.given }
 
 none_named : (given : List Assignment) (r : ℕ) → ¬ (IsNamedIn given r)
     → list_any (λ a. a.resource == r) given ≡ false
@@ -107,20 +95,6 @@ none_found (a ∷ given) r h =
 
 -- ---- what Replace takes away
 
-any_by : {X : Type 0} (p : X → Bool) (x : X) (xs : List X) → IsAmong x xs → p x ≡ true → list_any p xs ≡ true
-any_by p x [] h k = absurd h
-any_by p x (z ∷ xs) (inl is) k = ap (λ (b : Bool). b || list_any p xs) (ap p is ∙ k)
-any_by p x (z ∷ xs) (inr h) k =
-    elim (p z) as (λ b. (b || list_any p xs) ≡ true) [ true ↦ refl | false ↦ any_by p x xs h k ]
-
-any_of : {X : Type 0} (p : X → Bool) (xs : List X) → list_any p xs ≡ true → (x : X) × IsAmong x xs × (p x ≡ true)
-any_of {X} p [] h = cc
-any_of {X} p (z ∷ xs) h =
-    elim (p z) as (λ b. p z ≡ b → (b || list_any p xs) ≡ true → (x : X) × IsAmong x (z ∷ xs) × (p x ≡ true)) [
-      | true ↦ λ e k. (z, inl refl, e)
-      | false ↦ λ e k. let r = any_of p xs k in (r.0, inr r.1, r.2)
-    ] refl h
-
 lost_by : (same mandatory writable named : Bool) → same ≡ true → mandatory ≡ false → writable ≡ true → named ≡ false
     → (same && (not mandatory && (writable && not named))) ≡ true
 lost_by true false true false h k l m = refl
@@ -132,9 +106,9 @@ lost_by false mandatory writable named h k l m = cc
 is_taken : (resources : List ResourceDef) (given : List Assignment) (r : ℕ) → ¬ (IsNamedIn given r)
     → IsOptional resources r → is_taken_away resources given r ≡ true
 is_taken resources given r never d =
-    any_by (λ e. e.id == r && is_lost given e) d.0 resources d.1
+    among_any (λ e. e.id == r && is_lost given e) d.0 resources d.1
     (lost_by (d.0.id == r) d.0.mandatory (can_write d.0.ops) (list_any (λ a. a.resource == d.0.id) given)
-    (ap (λ (n : ℕ). n == r) d.2 ∙ number_same r) d.3 d.4
+    (ap (λ (n : ℕ). n == r) d.2 ∙ eqb_itself r) d.3 d.4
     (ap (λ (n : ℕ). list_any (λ a. a.resource == n) given) d.2 ∙ none_named given r never))
 
 -- what has been lost is optional, and not named
@@ -160,10 +134,10 @@ record IsTaken (resources : List ResourceDef) (given : List Assignment) (r : ℕ
 taken_means : (resources : List ResourceDef) (given : List Assignment) (r : ℕ)
     → is_taken_away resources given r ≡ true → IsTaken resources given r
 taken_means resources given r h =
-    let d = any_of (λ (e : ResourceDef). e.id == r && is_lost given e) resources h in
+    let d = any_found (λ (e : ResourceDef). e.id == r && is_lost given e) resources h in
     let l = lost_means (d.0.id == r) d.0.mandatory (can_write d.0.ops)
     (list_any (λ a. a.resource == d.0.id) given) d.2 in
-    let same = same_number d.0.id r l.is_same in
+    let same = eqb-true d.0.id r l.is_same in
     record {
       optional = (d.0, d.1, same, l.optional, l.written);
       unnamed = sym (ap (λ (n : ℕ). list_any (λ a. a.resource == n) given) same) ∙ l.unnamed;

@@ -1,10 +1,11 @@
 -- What an instance was given is read again.
-use Rattle.std.proofs.Common.{◌≡◌, ◌≢◌, inl, inr, ℕ, Bool, true, false, not, ◌&&◌, ◌==◌, List, [], Option}
+use Rattle.std.proofs.Common.{◌≡◌, ◌≢◌, inl, inr, ℕ, Bool, true, false, not, ◌==◌, List, [], Option}
 use Rattle.std.proofs.Common.{None, Some, refl, sym, ap, subst, ◌∙◌}
 use Rattle.std.specs.Bool.{if◌then◌else◌}
 use Rattle.std.specs.FinMap as finite
 use Rattle.std.specs.Option.{is_some, option_map, unwrap_or}
-use Rattle.std.proofs.lemmas.Bool.{ne_eqb}
+use Rattle.std.proofs.lemmas.Bool.{ne_eqb, eqb-false}
+use Rattle.lemmas.proofs.Tests.{second_if_denied}
 use Rattle.lwm2m_values.specs.Tree.{single}
 use Rattle.lwm2m_values.specs.declared.value.Value.{Value}
 use Rattle.object_defs.specs.Catalog.{definition_of, object_of}
@@ -167,14 +168,6 @@ read_back client mode o i payload stored other place h =
           );
     }
 
-target_there : (a b : Bool) → not (a && b) ≡ false → b ≡ true
-target_there true true h = refl
-target_there true false h = cc
-target_there false b h = cc
-
-pub is_nonzero : (o : ℕ) → (o == 0) ≡ false → o ≢ 0
-is_nonzero o h e = let l : true ≡ false = sym (ap (λ (k : ℕ). k == 0) e) ∙ h in cc
-
 pub instances_read : InstancesAreReadBack
 instances_read client server mode o i number payload h =
     let path = Instance o i in
@@ -183,7 +176,7 @@ instances_read client server mode o i number payload h =
     let all = fails (refusals_of client server path (to_write mode number payload)) no_line in
     let place : has_instance new.store (place_of o i) ≡ true =
     ap (λ m. finite.contains_key m (place_of o i)) (wrote client server mode path number payload).instances
-    ∙ target_there (is_some (object_of client.catalog o)) (has_instance client.store (place_of o i)) all.1.0 in
+    ∙ second_if_denied (is_some (object_of client.catalog o)) (has_instance client.store (place_of o i)) all.1.0 in
     subst (IsInstanceReadBack client mode o i payload) (sym (is_stored client server mode path number payload h))
-    (read_back client mode o i payload new.store (is_nonzero o all.0) place
+    (read_back client mode o i payload new.store (eqb-false o 0 all.0) place
     (instances_hold client server mode o i number payload h))

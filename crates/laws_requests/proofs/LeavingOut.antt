@@ -1,11 +1,11 @@
 -- An option that says nothing can be left out.
-use Rattle.std.proofs.Common.{◌≡◌, inl, inr, ℕ, ◌%◌, ◌<◌, ◌≤◌, ◌==◌, Bool, true, false, cond, not}
+use Rattle.std.proofs.Common.{◌≡◌, inl, inr, ℕ, ◌%◌, ◌<◌, ◌≤◌, ◌==◌, Bool, false, cond, not}
 use Rattle.std.proofs.Common.{◌&&◌, ◌||◌, List, [], ◌∷◌, ◌++◌, map, Option, None, Some}
 use Rattle.std.proofs.Common.{option_and_then, Result, Ok, Err, refl, sym, ap, subst, ◌∙◌, arith}
 use Rattle.std.specs.Bool.{if◌then◌else◌}
 use Rattle.std.specs.List as lists
 use Rattle.std.specs.List.{filter, list_any}
-use Rattle.std.proofs.lemmas.Bool.{ne_eqb}
+use Rattle.std.proofs.lemmas.Bool.{ne_eqb, false_from_ne_true, both_ways, or_parts}
 use Rattle.coap_codec.specs.Message.{Message}
 use Rattle.coap_codec.specs.declared.option.Opt.{Opt}
 use Rattle.object_defs.specs.declared.path.Path.{Path}
@@ -25,7 +25,6 @@ use Rattle.device_requests.specs.Outcomes.{attributes_outcome}
 use Rattle.device_requests.specs.Request.{outcome_by, outcome_for, request_by, request_of, request_on}
 use Rattle.laws_requests.specs.Understood.{OthersSayNothing, SaysNothing}
 use Rattle.laws_requests.specs.Understood.{with_options}
-use Rattle.laws_requests.proofs.Giving.{never_true, not_both}
 use Rattle.laws_requests.proofs.FirstOptions.{read_at_most}
 use Rattle.laws_requests.proofs.Understanding.{count, count_more, is_more, more_than_one, of_none, passes}
 
@@ -48,16 +47,11 @@ find_without p [] after o h = ap (λ (b : Bool). cond b (Some o) (lists.find p a
 find_without p (x ∷ before) after o h =
     ap (λ (t : Option Opt). cond (p x) (Some x) t) (find_without p before after o h)
 
-or_false : (a b : Bool) → (a || b) ≡ false → (a ≡ false) × (b ≡ false)
-or_false false false h = (refl, refl)
-or_false false true h = cc
-or_false true b h = cc
-
 still_none : (p : Opt → Bool) (before after : List Opt) (o : Opt) → list_any p (before ++ o ∷ after) ≡ false
     → list_any p (before ++ after) ≡ false
-still_none p [] after o h = (or_false (p o) (list_any p after) h).1
+still_none p [] after o h = (or_parts (p o) (list_any p after) h).1
 still_none p (x ∷ before) after o h =
-    let k = or_false (p x) (list_any p (before ++ o ∷ after)) h in
+    let k = or_parts (p x) (list_any p (before ++ o ∷ after)) h in
     ap (λ (b : Bool). b || list_any p (before ++ after)) k.0 ∙ still_none p before after o k.1
 
 fewer : (n : ℕ) (before after : List Opt) (o : Opt) → count n (before ++ after) ≤ count n (before ++ o ∷ after)
@@ -70,11 +64,11 @@ fewer n (x ∷ before) after o =
 still_once : (n : ℕ) (before after : List Opt) (o : Opt) → repeats n (before ++ o ∷ after) ≡ false
     → repeats n (before ++ after) ≡ false
 still_once n before after o h =
-    never_true (repeats n (before ++ after)) (λ k.
+    false_from_ne_true (repeats n (before ++ after)) (λ k.
     let l : 1 < count n (before ++ after) = is_more (count n (before ++ after)) k in
     let m : count n (before ++ after) ≤ count n (before ++ o ∷ after) = fewer n before after o in
     let t : 1 < count n (before ++ o ∷ after) = omega arith in
-    not_both (repeats n (before ++ o ∷ after)) h (more_than_one (count n (before ++ o ∷ after)) t))
+    both_ways (repeats n (before ++ o ∷ after)) h (more_than_one (count n (before ++ o ∷ after)) t))
 
 still_understood : (before after : List Opt) (o : Opt) → has_unrecognized_critical (before ++ o ∷ after) ≡ false
     → has_unrecognized_critical (before ++ after) ≡ false

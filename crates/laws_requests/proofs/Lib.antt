@@ -1,6 +1,6 @@
 mod Among
 mod Annotating
-mod Asking
+pub mod Asking
 mod Changing
 mod Creating
 mod Deciding

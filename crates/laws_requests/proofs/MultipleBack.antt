@@ -1,10 +1,11 @@
 -- A multiple resource that was written is read again.
-use Rattle.std.proofs.Common.{◌≡◌, ◌≢◌, ℕ, Bool, true, false, not, ◌&&◌, ◌==◌, List, [], ◌∷◌, Option, None, Some, refl}
-use Rattle.std.proofs.Common.{sym, ap, subst, ◌∙◌, arith}
+use Rattle.std.proofs.Common.{◌≡◌, ℕ, Bool, true, false, ◌==◌, List, [], ◌∷◌, Option, None, Some, refl}
+use Rattle.std.proofs.Common.{sym, ap, subst, ◌∙◌}
 use Rattle.std.specs.Bool.{if◌then◌else◌}
 use Rattle.std.specs.FinMap as finite
 use Rattle.std.specs.Option.{is_some, option_and_then, option_map, option_or}
-use Rattle.std.proofs.lemmas.Bool.Decides.{nat_tests}
+use Rattle.std.proofs.lemmas.Bool.{eqb-false}
+use Rattle.lemmas.proofs.Tests.{second_if_denied}
 use Rattle.lwm2m_values.specs.Reading.{nodes_of_bytes, value_of_bytes}
 use Rattle.lwm2m_values.specs.Tree.{Tree, Trees, instance, multi, part, single, none, more}
 use Rattle.lwm2m_values.specs.declared.value.Value.{Value}
@@ -14,10 +15,10 @@ use Rattle.object_defs.specs.Path.{part_of}
 use Rattle.object_defs.specs.declared.definition.ResourceDef.{ResourceDef}
 use Rattle.object_defs.specs.declared.path.Path.TheVariants.{Resource}
 use Rattle.object_defs.specs.declared.path.ResourcePath.{ResourcePath}
-use Rattle.instance_store.specs.Stored.{Stored, has_instance, lies_in, resource_path, value_at}
+use Rattle.instance_store.specs.Stored.{Stored, has_instance, value_at}
 use Rattle.lwm2m_payloads.specs.Changes.{with_given}
 use Rattle.lwm2m_payloads.specs.Formats.{extent_as, format_for, many, one}
-use Rattle.lwm2m_payloads.specs.Given.{given_by, given_if, lone_record, number_in, parts_given, resource_given}
+use Rattle.lwm2m_payloads.specs.Given.{given_by, lone_record, number_in, parts_given, resource_given}
 use Rattle.lwm2m_payloads.specs.Given.{some_parts}
 use Rattle.lwm2m_payloads.specs.PartList.{PartList}
 use Rattle.lwm2m_payloads.specs.Written.{GivenOnce, PartsOnce, part_value}
@@ -38,8 +39,9 @@ use Rattle.device_requests.specs.Targets.{place_of, resource_place}
 use Rattle.device_requests.specs.Write.{given_to_resource, write_unless}
 use Rattle.laws_requests.specs.Multiples.{ArePartsReadBack, HoldsParts, MultipleIsReadBack}
 use Rattle.laws_requests.proofs.Asking.{fails}
-use Rattle.laws_requests.proofs.Holding.{holds, multiple_read}
+use Rattle.laws_requests.proofs.Holding.{holds, multiple_read, lies_here}
 use Rattle.laws_requests.proofs.Writing.{comes, leaves, resource_good, unrefused}
+use Rattle.laws_requests.proofs.Giving.{given_some}
 
 -- ---- what the payload gives
 
@@ -66,15 +68,11 @@ record_gives_parts d (single q bytes) g k h =
     let n : None ≡ Some g = rw k at e in
     cc
 
-where_given : (b : Bool) (given : Option Given) (g : Given) → given_if b given ≡ Some g → given ≡ Some g
-where_given true given g h = h
-where_given false given g h = cc
-
 records_give_parts : (d : ResourceDef) (nodes : Trees) (g : Given) → d.multiple ≡ true → lone_record d nodes ≡ Some g
     → AreSomeParts g
 records_give_parts d none g k h = cc
 records_give_parts d (more node none) g k h =
-    record_gives_parts d node g k (where_given (number_in node == d.id) (given_by d node) g h)
+    record_gives_parts d node g k (given_some (number_in node == d.id) (given_by d node) g h).1
 records_give_parts d (more node (more next nodes)) g k h = cc
 
 nodes_give_parts : (d : ResourceDef) (nodes : Option Trees) (g : Given) → d.multiple ≡ true
@@ -131,9 +129,6 @@ or_none : (v : Option Value) → option_or v None ≡ v
 or_none None = refl
 or_none (Some v) = refl
 
-lies_here : (p : ResourcePath) (n : ℕ) → lies_in (resource_path p) (part_of p n) ≡ true
-lies_here p n = grind (arith, nat_tests)
-
 -- after Replace there are the parts given
 replaced : (stored : Stored) (p : ResourcePath) (parts : PartList) → PartsOnce parts
     → HoldsParts (with_given Replace stored p (Parts parts)) p parts
@@ -143,14 +138,6 @@ replaced stored p parts once =
     ∙ ap (λ (b : Bool). if b then option_or (part_value parts (Some n)) None else value_at stored (part_of p n))
     (lies_here p n)
     ∙ or_none (part_value parts (Some n)))
-
-target_there : (a b : Bool) → not (a && b) ≡ false → b ≡ true
-target_there true true h = refl
-target_there true false h = cc
-target_there false b h = cc
-
-is_nonzero : (o : ℕ) → (o == 0) ≡ false → o ≢ 0
-is_nonzero o h e = let l : true ≡ false = sym (ap (λ (k : ℕ). k == 0) e) ∙ h in cc
 
 is_given : (d : Option ResourceDef) (f : Format) (payload : List ℕ) (e : ResourceDef) (g : Given) → d ≡ Some e
     → given_to_resource d f payload ≡ Some g → resource_given e f payload ≡ Some g
@@ -180,8 +167,9 @@ multiple_back client server o i r d number payload defined_as several readable h
     ∙ parts_leave client Replace o i r payload c.format d parts.0 (g.1 ∙ are) defined_as readable) in
     let place : has_instance stored (place_of o i) ≡ true =
     ap (λ m. finite.contains_key m (place_of o i)) (given_instances Replace (Parts parts.0) client.store p)
-    ∙ target_there (is_some (definition_of client.catalog o r)) (has_instance client.store (place_of o i)) all.1.0 in
-    let back = multiple_read (with_stored client stored) o i r d (is_nonzero o all.0) defined_as several readable place
+    ∙ second_if_denied (is_some (definition_of client.catalog o r)) (has_instance client.store (place_of o i)) all.1.0
+    in
+    let back = multiple_read (with_stored client stored) o i r d (eqb-false o 0 all.0) defined_as several readable place
     in
     let held = replaced client.store p parts.0 once in
     subst (ArePartsReadBack o i r d payload) (sym new) (record {

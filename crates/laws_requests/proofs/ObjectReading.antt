@@ -9,10 +9,12 @@ use Rattle.std.specs.FinMap.{is_sorted}
 use Rattle.std.specs.FinMap.Entries.{below_all}
 use Rattle.std.specs.List.{filter, list_any}
 use Rattle.std.specs.Option.{is_some, option_cmp, option_map, unwrap_or}
-use Rattle.std.specs.Ordering.{is_lt, nat_cmp, ordering_then}
+use Rattle.std.specs.Ordering.{nat_cmp, ordering_then, is_lt}
 use Rattle.std.specs.declared.cmp.Ordering.TheVariants.{Less, Equal, Greater}
-use Rattle.std.proofs.lemmas.Bool.{ne_eqb}
+use Rattle.std.proofs.lemmas.Bool.{ne_eqb, eqb-true, and_parts, and_from, or_left, or_right}
 use Rattle.std.proofs.lemmas.Bool.Decides.{nat_tests}
+use Rattle.lemmas.proofs.Numbers.{eqb_itself, below_from_lt}
+use Rattle.lemmas.proofs.Tests.{T_first, T_second, true_from_T}
 use Rattle.lwm2m_values.specs.Tree.{Tree, Trees, instance, listed}
 use Rattle.lwm2m_values.specs.Value.{bytes_of}
 use Rattle.lwm2m_values.specs.declared.value.Value.{Value}
@@ -46,9 +48,9 @@ use Rattle.device_requests.specs.Targets.{defined, exists, place_of}
 use Rattle.laws_requests.specs.ObjectReads.{Ascend, HoldsReadable, InstanceIsShown, MayRead}
 use Rattle.laws_requests.specs.ObjectReads.{ObjectIsHidden, ObjectIsShown, RecordsSay, ShowsInstance, ShowsObject}
 use Rattle.laws_requests.specs.ObjectReads.{IsRecordIn}
-use Rattle.laws_requests.proofs.Among.{among_any, among_filter, among_map, and_true, any_found, both, entry_held}
+use Rattle.laws_requests.proofs.Among.{among_any, among_filter, among_map, any_found, entry_held}
 use Rattle.laws_requests.proofs.Among.{filtered}
-use Rattle.laws_requests.proofs.Among.{instance_listed, mapped, number_same, same_number, sorted_filtered, sorted_first}
+use Rattle.laws_requests.proofs.Among.{instance_listed, mapped, sorted_filtered, sorted_first}
 use Rattle.laws_requests.proofs.Among.{sorted_rest}
 use Rattle.laws_requests.proofs.Holding.{is_defined_in, is_eleven}
 use Rattle.laws_requests.proofs.PartBack.{shown}
@@ -57,9 +59,6 @@ use Rattle.laws_requests.proofs.Records.{single_formed}
 
 -- ---- sorted values of one instance
 
-less_than : (m n : ℕ) → nat_cmp m n ≡ Less → m < n
-less_than m n h = grind (arith, nat_tests)
-
 equal_to : (m n : ℕ) → nat_cmp m n ≡ Equal → m ≡ n
 equal_to m n h = grind (arith, nat_tests)
 
@@ -67,7 +66,7 @@ by_number : (a b : ℕ) (rest : Ordering) → ordering_then (nat_cmp a b) rest �
     → (a < b) ⊎ ((a ≡ b) × (rest ≡ Less))
 by_number a b rest h =
     elim (nat_cmp a b) as (λ o. nat_cmp a b ≡ o → ordering_then o rest ≡ Less → (a < b) ⊎ ((a ≡ b) × (rest ≡ Less))) [
-      | Less ↦ λ is k. inl (less_than a b is)
+      | Less ↦ λ is k. inl (below_from_lt a b (ap is_lt is))
       | Equal ↦ λ is k. inr (equal_to a b is, k)
       | Greater ↦ λ is k. cc
     ] refl h
@@ -154,9 +153,9 @@ part_first o i resources d es n sorted are is =
           let e = says_one es d.0.resource (Some m) c h in
           elim (after e.0 e.1) [
             | inl l ↦ let same = e.2.0 in absurd (omega arith)
-            | inr k ↦ less_than n m
+            | inr k ↦ below_from_lt n m (ap is_lt
                 (subst (λ (p : Option ℕ × Option ℕ). option_cmp nat_cmp p.0 p.1 ≡ Less)
-                (λ j. (is j, e.2.1 j)) k.1)
+                (λ j. (is j, e.2.1 j)) k.1))
           ];
     }
 
@@ -200,7 +199,7 @@ fits_shown false b c h k = cc
 
 lies_here : (o i r : ℕ) (n : Option ℕ)
     → lies_in (Instance o i) (record { object = o; instance = i; resource = r; part = n }) ≡ true
-lies_here o i r n = and_true (o == o) (i == i) (number_same o) (number_same i)
+lies_here o i r n = and_from (o == o) (i == i) (eqb_itself o) (eqb_itself i)
 
 -- the values that a Read of the instance lists
 abbrev listed_in : Client → ℕ → ℕ → Pairs
@@ -220,11 +219,11 @@ is_listed client o i e among =
     let f = filtered (λ d. is_shown (defined client.catalog o) d.0) e
     (filter (λ d. lies_in (Instance o i) d.0) all) among in
     let g = filtered (λ d. lies_in (Instance o i) d.0) e all f.0 in
-    let at = both (e.0.object == o) (e.0.instance == i) g.1 in
+    let at = and_parts (e.0.object == o) (e.0.instance == i) g.1 in
     record {
       is_shown_there = f.1;
-      object = same_number e.0.object o at.0;
-      place = same_number e.0.instance i at.1;
+      object = eqb-true e.0.object o at.0;
+      place = eqb-true e.0.instance i at.1;
       held = (entry_held client.store e.0 e.1).0 g.0;
     }
 
@@ -305,29 +304,16 @@ rise_filtered p (n ∷ ns) h =
       | false ↦ rise_filtered p ns h.1
     ]
 
-first_of : (a b : Bool) → T (a && b) → T a
-first_of true b p = tt
-first_of false b p = p
-
-second_of : (a b : Bool) → T (a && b) → T b
-second_of true b p = p
-second_of false b p = absurd p
-
-is_less : (r : Ordering) → T (is_lt r) → r ≡ Less
-is_less Less h = refl
-is_less Equal h = absurd h
-is_less Greater h = absurd h
-
 rise_below : (n : ℕ) (es : List (ℕ × Unit {0})) → T (below_all nat_cmp n es) → (m : ℕ)
     → IsAmong m (map (λ e. e.0) es) → n < m
 rise_below n [] h m among = absurd among
 rise_below n (e ∷ es) h m (inl is) =
-    subst (λ (x : ℕ). n < x) is (less_than n e.0 (is_less (nat_cmp n e.0) (first_of _ _ h)))
-rise_below n (e ∷ es) h m (inr among) = rise_below n es (second_of _ _ h) m among
+    subst (λ (x : ℕ). n < x) is (below_from_lt n e.0 (true_from_T _ (T_first _ _ h)))
+rise_below n (e ∷ es) h m (inr among) = rise_below n es (T_second _ _ h) m among
 
 sorted_rise : (es : List (ℕ × Unit {0})) → T (is_sorted nat_cmp es) → Rise (map (λ e. e.0) es)
 sorted_rise [] h = tt
-sorted_rise (e ∷ es) h = (rise_below e.0 es (first_of _ _ h), sorted_rise es (second_of _ _ h))
+sorted_rise (e ∷ es) h = (rise_below e.0 es (T_first _ _ h), sorted_rise es (T_second _ _ h))
 
 instances_rise : (stored : Stored) (o : ℕ) → Rise (instances_of stored o)
 instances_rise stored o =
@@ -398,14 +384,6 @@ instance_read client server o i d accept other is may k =
           ∙ ap (content_within Tlv)
           (ap (λ (f : Option Format). unwrap_or (option_map (payload_in client server path) f) []) format),
     )
-
-or_left : (a b : Bool) → a ≡ true → (a || b) ≡ true
-or_left true b h = refl
-or_left false b h = cc
-
-or_right : (a b : Bool) → b ≡ true → (a || b) ≡ true
-or_right true b h = refl
-or_right false b h = h
 
 none_there : (ns : List ℕ) → ((n : ℕ) → IsAmong n ns → ⊥) → (length ns == 0) ≡ true
 none_there [] h = refl

@@ -16,7 +16,8 @@ use Rattle.object_defs.specs.declared.definition.ResourceDef.{ResourceDef}
 use Rattle.object_defs.specs.declared.path.Path.TheVariants.{Part}
 use Rattle.object_defs.proofs.PathOrder.{path_total}
 use Rattle.instance_store.specs.Stored.{Stored, has_instance, value_at, with_value}
-use Rattle.lwm2m_payloads.specs.Given.{given_if, lone_part, one_part, part_given, part_record}
+use Rattle.instance_store.proofs.SetValues.{value_after}
+use Rattle.lwm2m_payloads.specs.Given.{lone_part, one_part, part_given, part_record}
 use Rattle.lwm2m_payloads.specs.Nodes.{value_payload}
 use Rattle.lwm2m_payloads.specs.declared.format.Format.{Format}
 use Rattle.lwm2m_payloads.specs.declared.format.Format.TheVariants.{PlainText, OctetStream, Tlv}
@@ -38,8 +39,8 @@ use Rattle.device_requests.specs.Write.{given_to_part, values_given}
 use Rattle.device_requests.specs.Write.{write_unless}
 use Rattle.laws_requests.specs.Readings.{IsPartReadBack, PartIsRead}
 use Rattle.laws_requests.proofs.Asking.{fails}
-use Rattle.laws_requests.proofs.Executing.{behind}
 use Rattle.laws_requests.proofs.Writing.{comes, leaves, unrefused}
+use Rattle.laws_requests.proofs.Giving.{given_some}
 
 -- one value is given to the part
 abbrev IsOnePart : ℕ → Given → Type 0
@@ -49,18 +50,14 @@ one_is : (n : ℕ) (value : Option Value) (g : Given) → one_part n value ≡ S
 one_is n None g h = cc
 one_is n (Some v) g h = (v, cc)
 
-where_given : (b : Bool) (given : Option Given) (g : Given) → given_if b given ≡ Some g → given ≡ Some g
-where_given true given g h = h
-where_given false given g h = cc
-
 lone_is : (kind : ValueKind) (n : ℕ) (nodes : Trees) (g : Given) → lone_part kind n nodes ≡ Some g → IsOnePart n g
 lone_is kind n (more (part m bytes) none) g h =
-    one_is n (value_of_bytes kind bytes) g (where_given (m == n) (one_part n (value_of_bytes kind bytes)) g h)
+    one_is n (value_of_bytes kind bytes) g (given_some (m == n) (one_part n (value_of_bytes kind bytes)) g h).1
 lone_is kind n nodes g h = cc
 
 record_is : (d : ResourceDef) (n : ℕ) (nodes : Trees) (g : Given) → part_record d n nodes ≡ Some g → IsOnePart n g
 record_is d n (more (multi r inner) none) g h =
-    lone_is d.kind n inner g (where_given (r == d.id) (lone_part d.kind n inner) g h)
+    lone_is d.kind n inner g (given_some (r == d.id) (lone_part d.kind n inner) g h).1
 record_is d n nodes g h = lone_is d.kind n nodes g h
 
 nodes_are : (d : ResourceDef) (n : ℕ) (nodes : Option Trees) (g : Given)
@@ -141,7 +138,7 @@ value_there : (s : Stored) (o i r n : ℕ) (v : Value)
     → value_at (with_value s (part_of (resource_place o i r) n) v) (part_of (resource_place o i r) n) ≡ Some v
 value_there s o i r n v =
     let p = part_of (resource_place o i r) n in
-    behind s p p v ∙ ap (λ (b : Bool). cond b (Some v) (value_at s p)) ((eq_by_cmp_equiv path_total).refl p)
+    value_after s p p v ∙ ap (λ (b : Bool). cond b (Some v) (value_at s p)) ((eq_by_cmp_equiv path_total).refl p)
 
 pub part_good : (client : Client) (o i r n : ℕ) (payload : List ℕ) (f : Format) (given : Option Given)
     → given_to_part (definition_of client.catalog o r) n f payload ≡ given

@@ -3,6 +3,9 @@ use Rattle.std.proofs.Common.{◌≡◌, ℕ, ◌==◌, Bool, true, false, not, 
 use Rattle.std.proofs.Common.{Option, None, Some, option_and_then, refl, sym, ap, subst, ◌∙◌}
 use Rattle.std.specs.Bool.{if◌then◌else◌}
 use Rattle.std.specs.List.{list_any}
+use Rattle.std.proofs.lemmas.Bool.{eqb-true, false_from_ne_true, both_ways}
+use Rattle.lemmas.proofs.Numbers.{eqb_itself}
+use Rattle.lemmas.proofs.Options.{option_and_then_parts}
 use Rattle.lwm2m_values.specs.Reading.{nodes_of_bytes, value_of_bytes, value_of_text}
 use Rattle.lwm2m_values.specs.Tlv.{IsTlv}
 use Rattle.lwm2m_values.specs.Tree.{Trees, instance, multi, part, single, none, more}
@@ -28,9 +31,9 @@ use Rattle.laws_requests.specs.Payloads.{GivesPart, HasMandatory}
 use Rattle.laws_requests.specs.Payloads.{PartsAreGiven}
 use Rattle.laws_requests.specs.Payloads.{part_alone, part_by_bytes}
 use Rattle.laws_requests.specs.Payloads.{part_by_text, part_in_resource, with_number, without_number}
-use Rattle.laws_requests.proofs.Among.{among_any, any_found, number_same, same_number}
-use Rattle.laws_requests.proofs.Giving.{all_give, and_then_some, any_named, give_all, given_some, named_any}
-use Rattle.laws_requests.proofs.Giving.{never_true, no_instance, not_both, unless_some}
+use Rattle.laws_requests.proofs.Among.{among_any, any_found}
+use Rattle.laws_requests.proofs.Giving.{all_give, any_named, give_all, given_some, named_any}
+use Rattle.laws_requests.proofs.Giving.{no_instance, unless_some}
 
 -- ---- a part
 
@@ -53,13 +56,13 @@ lone_is : (kind : ValueKind) (n : ℕ) (nodes : Trees) (g : Given) → lone_part
 lone_is kind n (more (part m bytes) none) g h =
     let u = given_some (m == n) (one_part n (value_of_bytes kind bytes)) g h in
     let o = one_is n (value_of_bytes kind bytes) g u.1 in
-    (o.0, bytes, λ j. more (part (same_number m n u.0 j) bytes) none, o.1, o.2)
+    (o.0, bytes, λ j. more (part (eqb-true m n u.0 j) bytes) none, o.1, o.2)
 lone_is kind n nodes g h = cc
 
 lone_back : (kind : ValueKind) (n : ℕ) (bytes : List ℕ) (v : Value) → AreBytesOf kind bytes v
     → lone_part kind n (more (part n bytes) none) ≡ Some (Parts ((n, v) ∷ []))
 lone_back kind n bytes v is =
-    ap (λ (b : Bool). given_if b (one_part n (value_of_bytes kind bytes))) (number_same n)
+    ap (λ (b : Bool). given_if b (one_part n (value_of_bytes kind bytes))) (eqb_itself n)
     ∙ ap (one_part n) ((value_of_bytes_exact kind v bytes).1 is)
 
 part_from_lone : (d : ResourceDef) (n : ℕ) (payload : List ℕ) (nodes : Trees) (g : Given) → IsTlv nodes payload
@@ -76,7 +79,7 @@ part_from_nodes : (d : ResourceDef) (n : ℕ) (payload : List ℕ) (nodes : Tree
 part_from_nodes d n payload (more (multi r inner) none) g tlv h =
     let u = given_some (r == d.id) (lone_part d.kind n inner) g h in
     let l = lone_is d.kind n inner g u.1 in
-    let same : r ≡ d.id = same_number r d.id u.0 in (
+    let same : r ≡ d.id = eqb-true r d.id u.0 in (
       l.0,
       l.4,
       part_in_resource payload l.1 l.0
@@ -95,7 +98,7 @@ part_from d n OctetStream payload g h =
     let o = one_is n (value_of_bytes d.kind payload) g h in
     (o.0, o.2, part_by_bytes payload o.0 ((value_of_bytes_exact d.kind o.0 payload).0 o.1))
 part_from d n Tlv payload g h =
-    let m = and_then_some (part_record d n) (nodes_of_bytes payload) g h in
+    let m = option_and_then_parts (part_record d n) (nodes_of_bytes payload) g h in
     part_from_nodes d n payload m.0 g ((nodes_of_bytes_exact m.0 payload).0 m.1) m.2
 
 part_back : (d : ResourceDef) (n : ℕ) (format : Format) (payload : List ℕ) (v : Value)
@@ -110,7 +113,7 @@ part_back d n format payload v (part_alone _ bytes _ tlv is) =
 part_back d n format payload v (part_in_resource _ bytes _ tlv is) =
     let inner = more (part n bytes) none in
     ap (option_and_then (part_record d n)) ((nodes_of_bytes_exact (more (multi d.id inner) none) payload).1 tlv)
-    ∙ ap (λ (b : Bool). given_if b (lone_part d.kind n inner)) (number_same d.id)
+    ∙ ap (λ (b : Bool). given_if b (lone_part d.kind n inner)) (eqb_itself d.id)
     ∙ lone_back d.kind n bytes v is
 
 pub parts_given_by : PartsAreGiven
@@ -140,7 +143,7 @@ has_mandatory : (resources : List ResourceDef) (given : List Assignment) → lac
     → HasMandatory resources given
 has_mandatory resources given h d among mandatory readable =
     let never : lacks_it given d ≡ false =
-    never_true (lacks_it given d) (λ k. not_both (lacks_mandatory resources given) h
+    false_from_ne_true (lacks_it given d) (λ k. both_ways (lacks_mandatory resources given) h
     (among_any (lacks_it given) d resources among k)) in
     any_named given d.id (lacking d.mandatory (can_read d.ops) (list_any (λ a. a.resource == d.id) given) mandatory
     readable never)
@@ -148,10 +151,10 @@ has_mandatory resources given h d among mandatory readable =
 mandatory_has : (resources : List ResourceDef) (given : List Assignment) → HasMandatory resources given
     → lacks_mandatory resources given ≡ false
 mandatory_has resources given h =
-    never_true (lacks_mandatory resources given) (λ k.
+    false_from_ne_true (lacks_mandatory resources given) (λ k.
     let f = any_found (lacks_it given) resources k in
     let l = lacks f.0.mandatory (can_read f.0.ops) (list_any (λ a. a.resource == f.0.id) given) f.2 in
-    not_both (list_any (λ a. a.resource == f.0.id) given) l.2 (named_any given f.0.id (h f.0 f.1 l.0 l.1)))
+    both_ways (list_any (λ a. a.resource == f.0.id) given) l.2 (named_any given f.0.id (h f.0 f.1 l.0 l.1)))
 
 record IsComplete (resources : List ResourceDef) (number : Option ℕ) (o : Option (List Assignment))
     (creation : Creation) : Type 0 where
@@ -221,7 +224,7 @@ creation_back resources payload creation (without_number nodes given tlv all has
 pub creations_given : CreationsAreGiven
 creations_given resources payload creation = (
   λ h.
-      let m = and_then_some (creation_in resources) (nodes_of_bytes payload) creation h in
+      let m = option_and_then_parts (creation_in resources) (nodes_of_bytes payload) creation h in
       creation_from resources payload m.0 creation ((nodes_of_bytes_exact m.0 payload).0 m.1) m.2,
   creation_back resources payload creation,
 )

@@ -2,6 +2,8 @@
 use Rattle.std.proofs.Common.{◌≡◌, ◌≢◌, ℕ, Bool, true, [], ◌∷◌, Some, inl, inr, refl, sym, ap, subst, ◌∙◌}
 use Rattle.std.specs.Bool.{if◌then◌else◌}
 use Rattle.std.specs.FinMap as finite
+use Rattle.std.proofs.lemmas.Option.{same_Some}
+use Rattle.std.proofs.lemmas.Bool.{eqb-false}
 use Rattle.lwm2m_values.specs.declared.value.Value.{Value}
 use Rattle.object_defs.specs.Catalog.{definition_of}
 use Rattle.object_defs.specs.Operations.{can_read}
@@ -23,24 +25,18 @@ use Rattle.laws_requests.specs.Multiples.{HasPart, IsPartReadAmong, PartIsReadAm
 use Rattle.laws_requests.proofs.Asking.{fails}
 use Rattle.laws_requests.proofs.Changing.{wrote}
 use Rattle.laws_requests.proofs.Holding.{multiple_read}
-use Rattle.laws_requests.proofs.InstanceReading.{IsChanged, is_nonzero, is_then, then_is}
+use Rattle.laws_requests.proofs.InstanceReading.{IsChanged, is_then, then_is}
 use Rattle.laws_requests.proofs.PartBack.{both_are}
 use Rattle.laws_requests.proofs.PartWriting.{parts_written}
 use Rattle.laws_requests.proofs.Writing.{is_stored, unrefused}
 
-same_definition : (d e : ResourceDef) → Some d ≡ Some e → d ≡ e
-same_definition d e h = cc
-
 another : (n m : ℕ) (value : Value) → ¬ (HasPart ((n, value) ∷ []) m) → m ≢ n
 another n m value never is = never (value, inl (λ j. (sym is j, value)))
-
-same_part : (n m : ℕ) → Some n ≡ Some m → n ≡ m
-same_part n m h = cc
 
 numbers_differ : (o i r n m : ℕ) → m ≢ n
     → part_of (resource_place o i r) m ≢ part_of (resource_place o i r) n
 numbers_differ o i r n m other is =
-    other (same_part m n (ap (λ (q : FullPath). q.part) is))
+    other (same_Some m n (ap (λ (q : FullPath). q.part) is))
 
 -- one part alone
 abbrev only : ℕ → Value → PartList
@@ -61,14 +57,14 @@ part_read_among client server mode o i r n d number payload defined_as readable 
     let all = fails (refusals_of client server path (to_write mode number payload))
     (unrefused client server mode path number payload h) in
     let w = parts_written client server mode o i r n number payload h in
-    let same = same_definition w.definition d (sym w.is_defined ∙ defined_as) in
+    let same = same_Some w.definition d (sym w.is_defined ∙ defined_as) in
     let target = both_are (is_multiple (definition_of client.catalog o r)) (has_instance client.store (place_of o i))
     all.1.0 in
     let place : has_instance new.store (place_of o i) ≡ true =
     ap (λ m. finite.contains_key m (place_of o i)) (wrote client server mode path number payload).instances
     ∙ target.1 in
     let several : d.multiple ≡ true = sym (ap is_multiple defined_as) ∙ target.0 in
-    let back = multiple_read (with_stored client new.store) o i r d (is_nonzero o all.0) defined_as several readable
+    let back = multiple_read (with_stored client new.store) o i r d (eqb-false o 0 all.0) defined_as several readable
     place in
     let set : value_at new.store (part_of p n) ≡ Some w.value =
     w.part ∙ ap (λ (b : Bool). if b then Some w.value else value_at client.store (part_of p n))

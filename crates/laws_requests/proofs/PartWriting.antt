@@ -11,6 +11,7 @@ use Rattle.object_defs.specs.declared.path.FullPath.{FullPath}
 use Rattle.object_defs.specs.declared.path.Path.TheVariants.{Part}
 use Rattle.object_defs.proofs.PathOrder.{path_total}
 use Rattle.instance_store.specs.Stored.{Stored, value_at, with_value}
+use Rattle.instance_store.proofs.SetValues.{value_after, value_elsewhere}
 use Rattle.lwm2m_payloads.specs.Given.{part_given}
 use Rattle.lwm2m_payloads.specs.declared.format.Format.{Format}
 use Rattle.lwm2m_payloads.specs.declared.given.Given.{Given}
@@ -20,7 +21,6 @@ use Rattle.device_requests.specs.Client.{Client}
 use Rattle.device_requests.specs.Targets.{resource_place}
 use Rattle.device_requests.specs.Write.{given_to_part}
 use Rattle.laws_requests.specs.Writes.{PartsAreWritten}
-use Rattle.laws_requests.proofs.Executing.{behind, elsewhere}
 use Rattle.laws_requests.proofs.PartBack.{gives_part, part_good}
 use Rattle.laws_requests.proofs.Writing.{comes, leaves}
 
@@ -41,12 +41,12 @@ part_leaves client mode o i r n payload f d value h k = rw (h, k) refl
 value_there : (b : Bool) (s : Stored) (p : FullPath) (v : Value)
     → value_at (if b then with_value s p v else s) p ≡ (if b then Some v else value_at s p)
 value_there true s p v =
-    behind s p p v ∙ ap (λ (b : Bool). cond b (Some v) (value_at s p)) ((eq_by_cmp_equiv path_total).refl p)
+    value_after s p p v ∙ ap (λ (b : Bool). cond b (Some v) (value_at s p)) ((eq_by_cmp_equiv path_total).refl p)
 value_there false s p v = refl
 
 others_stay : (b : Bool) (s : Stored) (p q : FullPath) (v : Value) → q ≢ p
     → value_at (if b then with_value s p v else s) q ≡ value_at s q
-others_stay true s p q v other = elsewhere s p q v other
+others_stay true s p q v other = value_elsewhere s p q v other
 others_stay false s p q v other = refl
 
 pub parts_written : PartsAreWritten

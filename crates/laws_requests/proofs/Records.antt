@@ -2,6 +2,9 @@
 use Rattle.std.proofs.Common.{◌≡◌, ◌≢◌, ◌↔◌, ◌⊎◌, inl, inr, ℕ, ◌<◌, ◌≤◌, ◌==◌, true, false}
 use Rattle.std.proofs.Common.{List, [], ◌∷◌, Option, None, Some, refl, sym, ap, subst, ◌∙◌, arith}
 use Rattle.std.specs.Bool.{if◌then◌else◌}
+use Rattle.std.proofs.lemmas.Bool.{eqb-true}
+use Rattle.std.proofs.lemmas.Option.{same_Some}
+use Rattle.lemmas.proofs.Numbers.{eqb_itself}
 use Rattle.lwm2m_values.specs.Tree.{Tree, Trees, instance, multi, part, single, none, more}
 use Rattle.lwm2m_values.specs.Value.{bytes_of}
 use Rattle.lwm2m_values.specs.declared.value.Value.{Value}
@@ -12,7 +15,6 @@ use Rattle.device_requests.specs.Laws.{IsAmong}
 use Rattle.laws_requests.specs.ObjectReads.{Ascend, IsResourceRecord}
 use Rattle.laws_requests.specs.ObjectReads.{RecordsSay, IsRecordIn}
 use Rattle.laws_requests.specs.ObjectReads.{alone, several}
-use Rattle.laws_requests.proofs.Among.{number_same, same_number}
 
 -- ---- what records say, with one more value before them
 
@@ -39,9 +41,6 @@ part_is n m b c e = (cc, cc)
 multi_is : (r s : ℕ) (ps qs : Trees) → multi r ps ≡ multi s qs → (r ≡ s) × (ps ≡ qs)
 multi_is r s ps qs e = (cc, cc)
 
-number_is : (n m : ℕ) → Some n ≡ Some m → n ≡ m
-number_is n m e = cc
-
 alone_says : (r n : ℕ) (b : List ℕ) (nodes : Trees) (s : ℕ) (k : Option ℕ) (c : List ℕ)
     → RecordsSay (more (multi r (more (part n b) none)) nodes) s k c
     ↔ (Same r (Some n) b s k c ⊎ RecordsSay nodes s k c)
@@ -64,7 +63,7 @@ alone_says r n b nodes s (Some m) c = (
     | inl same ↦ (
       more (part n b) none,
       inl (λ j. multi (same.0 j) (more (part n b) none)),
-      inl (λ j. part (number_is n m same.1 j) (same.2 j)),
+      inl (λ j. part (same_Some n m same.1 j) (same.2 j)),
     )
     | inr f ↦ (f.0, inr f.1, f.2)
   ],
@@ -92,7 +91,7 @@ grouped_says r n b q ps nodes s (Some m) c is = (
     | inl same ↦ (
       more (part n b) ps,
       inl (λ j. multi (same.0 j) (more (part n b) ps)),
-      inl (λ j. part (number_is n m same.1 j) (same.2 j)),
+      inl (λ j. part (same_Some n m same.1 j) (same.2 j)),
     )
     | inr f ↦ elim f.1 [
       | inl e ↦
@@ -119,7 +118,7 @@ before_says r (Some n) v (more (multi q ps) nodes) s m c =
     elim (q == r) as (λ t. (q == r) ≡ t → RecordsSay (if t then more (multi r (more p ps)) nodes
     else more (multi r (more p none)) (more (multi q ps) nodes)) s m c
     ↔ (Same r (Some n) (bytes_of v) s m c ⊎ RecordsSay (more (multi q ps) nodes) s m c)) [
-      | true ↦ λ is. grouped_says r n (bytes_of v) q ps nodes s m c (same_number q r is)
+      | true ↦ λ is. grouped_says r n (bytes_of v) q ps nodes s m c (eqb-true q r is)
       | false ↦ λ is. alone_says r n (bytes_of v) (more (multi q ps) nodes) s m c
     ] refl
 
@@ -279,9 +278,9 @@ part_formed r n v (more (multi q ps) nodes) h k =
     let l : r ≤ q = k.from (multi q ps) (inl refl) in
     elim (q == r) as (λ t. (q == r) ≡ t → IsFormed (if t then more (multi r (more p ps)) nodes
     else more (multi r (more p none)) (more (multi q ps) nodes))) [
-      | true ↦ λ is. grouped_formed r n (bytes_of v) q ps nodes (same_number q r is) h k.above
+      | true ↦ λ is. grouped_formed r n (bytes_of v) q ps nodes (eqb-true q r is) h k.above
       | false ↦ λ is.
-          let ne : q ≢ r = λ e. let f : true ≡ false = sym (ap (λ (x : ℕ). x == r) e ∙ number_same r) ∙ is in cc in
+          let ne : q ≢ r = λ e. let f : true ≡ false = sym (ap (λ (x : ℕ). x == r) e ∙ eqb_itself r) ∙ is in cc in
           let lt : r < q = omega arith in
           alone_formed r n (bytes_of v) (more (multi q ps) nodes) h (all_above r (multi q ps) nodes lt h.ascend)
     ] refl

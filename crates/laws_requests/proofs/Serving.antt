@@ -2,6 +2,7 @@
 use Rattle.std.proofs.Common.{◌≡◌, ◌≢◌, inl, inr, ℕ, ◌==◌, Bool, true, false, not, List, Option, None, Some}
 use Rattle.std.proofs.Common.{refl, sym, ap, subst, ◌∙◌}
 use Rattle.std.specs.Bool.{if◌then◌else◌}
+use Rattle.std.proofs.lemmas.Bool.{eqb-true, not-false}
 use Rattle.lwm2m_values.specs.declared.kind.ValueKind.{ValueKind}
 use Rattle.lwm2m_values.specs.declared.kind.ValueKind.TheVariants as kind
 use Rattle.object_defs.specs.Catalog.{definition_of}
@@ -20,7 +21,6 @@ use Rattle.laws_requests.specs.ServedFormats.{OthersTakeOne}
 use Rattle.laws_requests.specs.ServedFormats.{StandsForOne, one_part_value, one_single_value, default_bytes}
 use Rattle.laws_requests.specs.ServedFormats.{default_text, default_tlv}
 use Rattle.laws_requests.specs.ServedFormats.{named_bytes, named_text, named_tlv}
-use Rattle.laws_requests.proofs.Among.{same_number}
 
 -- what a path stands for
 abbrev extent_at : List ObjectDef → Path → Extent
@@ -86,18 +86,18 @@ named catalog path e n f s h =
       | true ↦ λ is k.
           let g : Tlv ≡ f = cc in
           subst (λ (t : ℕ × Format). GetsFormat catalog path (Some t.0) t.1)
-          (λ j. (sym (same_number n 11542 is) j, g j)) named_tlv
+          (λ j. (sym (eqb-true n 11542 is) j, g j)) named_tlv
       | false ↦ λ is k. elim (n == 0) as (λ b. (n == 0) ≡ b
           → (if b then (if is_one e then Some PlainText else None)
           else if n == 42 then (if is_opaque e then Some OctetStream else None)
           else None) ≡ Some f → GetsFormat catalog path (Some n) f) [
             | true ↦ λ zero l.
-                subst (λ (m : ℕ). GetsFormat catalog path (Some m) f) (sym (same_number n 0 zero)) (text e s l)
+                subst (λ (m : ℕ). GetsFormat catalog path (Some m) f) (sym (eqb-true n 0 zero)) (text e s l)
             | false ↦ λ more l. elim (n == 42) as (λ b. (n == 42) ≡ b
                 → (if b then (if is_opaque e then Some OctetStream else None) else None) ≡ Some f
                 → GetsFormat catalog path (Some n) f) [
                   | true ↦ λ bytes m.
-                      subst (λ (m : ℕ). GetsFormat catalog path (Some m) f) (sym (same_number n 42 bytes))
+                      subst (λ (m : ℕ). GetsFormat catalog path (Some m) f) (sym (eqb-true n 42 bytes))
                       (octets e s m)
                   | false ↦ λ other m. cc
                 ] refl l
@@ -195,12 +195,8 @@ pub default_served : DefaultIsServed
 default_served catalog path =
     let e = extent_at catalog path in (default_format e, refl, default_again e)
 
-not_false : (b : Bool) → not b ≡ false → b ≡ true
-not_false true h = refl
-not_false false h = cc
-
 is_only : (a n : ℕ) → not (n == a) ≡ false → Some n ≡ Some a
-is_only a n h = ap Some (same_number n a (not_false (n == a) h))
+is_only a n h = ap Some (eqb-true n a (not-false (n == a) h))
 
 pub others_take : OthersTakeOne
 others_take catalog path None payload = ((λ h. inl refl, λ h. refl), (λ h. inl refl, λ h. refl))

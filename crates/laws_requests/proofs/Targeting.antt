@@ -5,6 +5,9 @@ use Rattle.std.specs.List as lists
 use Rattle.std.specs.Option.{is_some, option_and_then}
 use Rattle.std.specs.Set.{is_member}
 use Rattle.std.proofs.lemmas.Bool.Decides.{nat_tests}
+use Rattle.std.proofs.lemmas.Bool.{eqb-true, and_parts, and_from, or_right, not-false}
+use Rattle.lemmas.proofs.Numbers.{eqb_itself}
+use Rattle.lemmas.proofs.Options.{some_from_test}
 use Rattle.lwm2m_values.specs.declared.value.Value.{Value}
 use Rattle.object_defs.specs.Catalog.{definition_of, object_of, resource_in}
 use Rattle.object_defs.specs.Operations.{can_read}
@@ -25,11 +28,7 @@ use Rattle.device_requests.specs.Targets.{exists, is_multiple, place_of, resourc
 use Rattle.laws_requests.specs.Existing.{Exists, ExistsWithin, IsHeld, IsKnown, IsToWrite, WhatExists, WhatIsToWrite}
 use Rattle.laws_requests.specs.Existing.{a_part, a_resource, an_instance, an_object, around, by_part, by_value}
 use Rattle.laws_requests.specs.Existing.{write_instance, write_part, write_resource}
-use Rattle.laws_requests.proofs.Among.{and_true, both, found, number_same, same_number}
-
-there : {X : Type 0} (o : Option X) → is_some o ≡ true → (x : X) × (o ≡ Some x)
-there None h = cc
-there (Some x) h = (x, refl)
+use Rattle.laws_requests.proofs.Among.{found}
 
 finds : {X : Type 0} (p : X → Bool) (x : X) (xs : List X) → IsAmong x xs → p x ≡ true → is_some (lists.find p xs) ≡ true
 finds p x [] h k = absurd h
@@ -42,13 +41,13 @@ finds p x (z ∷ xs) (inr h) k =
 
 known : (catalog : List ObjectDef) (o : ℕ) → is_some (object_of catalog o) ≡ true → IsKnown catalog o
 known catalog o h =
-    let d = there (object_of catalog o) h in
+    let d = some_from_test (object_of catalog o) h in
     let f = found (λ (c : ObjectDef). c.id == o) d.0 catalog d.1 in
-    (d.0, f.0, same_number d.0.id o f.1)
+    (d.0, f.0, eqb-true d.0.id o f.1)
 
 has_object : (catalog : List ObjectDef) (o : ℕ) → IsKnown catalog o → is_some (object_of catalog o) ≡ true
 has_object catalog o k =
-    finds (λ (c : ObjectDef). c.id == o) k.0 catalog k.1 (ap (λ (n : ℕ). n == o) k.2 ∙ number_same o)
+    finds (λ (c : ObjectDef). c.id == o) k.0 catalog k.1 (ap (λ (n : ℕ). n == o) k.2 ∙ eqb_itself o)
 
 defined_object : (catalog : List ObjectDef) (o r : ℕ) (d : ResourceDef) → definition_of catalog o r ≡ Some d
     → is_some (object_of catalog o) ≡ true
@@ -72,8 +71,8 @@ held_part stored p h =
       | [] ↦ λ is k. absurd (none_there k)
       | n ∷ ns ↦ λ is k.
           let first : is_member ◌==◌ (n ∷ ns) n ≡ true =
-          ap (λ (b : Bool). b || is_member ◌==◌ ns n) (number_same n) in
-          let v = there (value_at stored (part_of p n))
+          ap (λ (b : Bool). b || is_member ◌==◌ ns n) (eqb_itself n) in
+          let v = some_from_test (value_at stored (part_of p n))
           (sym (held_at stored p n) ∙ ap (λ (ms : List ℕ). is_member ◌==◌ ms n) is ∙ first) in
           (n, v.0, v.1)
     ] refl h
@@ -91,7 +90,7 @@ part_held stored p n v h =
 held_by : (stored : Stored) (p : ResourcePath) (d : ResourceDef) (b : Bool) → d.multiple ≡ b
     → is_held stored p b ≡ true → IsHeld stored p d
 held_by stored p d true many h = let k = held_part stored p h in by_part k.0 k.1 many k.2
-held_by stored p d false one h = let v = there (value_at stored (single_of p)) h in by_value v.0 one v.1
+held_by stored p d false one h = let v = some_from_test (value_at stored (single_of p)) h in by_value v.0 one v.1
 
 by_held : (stored : Stored) (p : ResourcePath) (d : ResourceDef) → IsHeld stored p d
     → is_held stored p d.multiple ≡ true
@@ -107,10 +106,6 @@ counts_by stored p d R is h = inr (inr (held_by stored p d d.multiple refl h))
 counts_by stored p d RW is h = inr (inr (held_by stored p d d.multiple refl h))
 counts_by stored p d W is h = inr (inl is)
 counts_by stored p d E is h = inl is
-
-or_right : (a b : Bool) → b ≡ true → (a || b) ≡ true
-or_right true b h = refl
-or_right false b h = h
 
 by_count : (stored : Stored) (p : ResourcePath) (d : ResourceDef) → CountsAs stored p d
     → (not (can_read d.ops) || is_held stored p d.multiple) ≡ true
@@ -135,36 +130,36 @@ exists_so : (catalog : List ObjectDef) (stored : Stored) (path : Path) → exist
     → Exists catalog stored path
 exists_so catalog stored (Object o) h = an_object o (known catalog o h)
 exists_so catalog stored (Instance o i) h =
-    let k = both (is_some (object_of catalog o)) (has_instance stored (place_of o i)) h in
+    let k = and_parts (is_some (object_of catalog o)) (has_instance stored (place_of o i)) h in
     an_instance o i (known catalog o k.0) k.1
 exists_so catalog stored (Resource o i r) h =
     let p = resource_place o i r in
-    let k = both (has_instance stored (place_of o i)) (exists_as stored p (definition_of catalog o r)) h in
+    let k = and_parts (has_instance stored (place_of o i)) (exists_as stored p (definition_of catalog o r)) h in
     let d = resource_there stored p (definition_of catalog o r) k.1 in
     a_resource o i r d.0 k.0 d.1 d.2
 exists_so catalog stored (Part o i r n) h =
     let q = part_of (resource_place o i r) n in
-    let k = both (has_instance stored (place_of o i))
+    let k = and_parts (has_instance stored (place_of o i))
     (is_multiple (definition_of catalog o r) && is_some (value_at stored q)) h in
-    let m = both (is_multiple (definition_of catalog o r)) (is_some (value_at stored q)) k.1 in
+    let m = and_parts (is_multiple (definition_of catalog o r)) (is_some (value_at stored q)) k.1 in
     let d = multiple_there (definition_of catalog o r) m.0 in
-    let v = there (value_at stored q) m.1 in
+    let v = some_from_test (value_at stored q) m.1 in
     a_part o i r n d.0 v.0 k.0 d.1 d.2 v.1
 
 so_exists : (catalog : List ObjectDef) (stored : Stored) (path : Path) → Exists catalog stored path
     → exists catalog stored path ≡ true
 so_exists catalog stored path (an_object o k) = has_object catalog o k
 so_exists catalog stored path (an_instance o i k h) =
-    and_true (is_some (object_of catalog o)) (has_instance stored (place_of o i)) (has_object catalog o k) h
+    and_from (is_some (object_of catalog o)) (has_instance stored (place_of o i)) (has_object catalog o k) h
 so_exists catalog stored path (a_resource o i r d h is counts) =
     let p = resource_place o i r in
-    and_true (has_instance stored (place_of o i)) (exists_as stored p (definition_of catalog o r)) h
+    and_from (has_instance stored (place_of o i)) (exists_as stored p (definition_of catalog o r)) h
     (ap (exists_as stored p) is ∙ by_count stored p d counts)
 so_exists catalog stored path (a_part o i r n d v h is many held) =
     let q = part_of (resource_place o i r) n in
-    and_true (has_instance stored (place_of o i))
+    and_from (has_instance stored (place_of o i))
     (is_multiple (definition_of catalog o r) && is_some (value_at stored q)) h
-    (and_true (is_multiple (definition_of catalog o r)) (is_some (value_at stored q)) (ap is_multiple is ∙ many)
+    (and_from (is_multiple (definition_of catalog o r)) (is_some (value_at stored q)) (ap is_multiple is ∙ many)
     (ap is_some held))
 
 pub what_exists : WhatExists
@@ -176,34 +171,30 @@ write_so : (catalog : List ObjectDef) (stored : Stored) (path : Path) → is_tar
     → IsToWrite catalog stored path
 write_so catalog stored (Object o) h = cc
 write_so catalog stored (Instance o i) h =
-    let k = both (is_some (object_of catalog o)) (has_instance stored (place_of o i)) h in
+    let k = and_parts (is_some (object_of catalog o)) (has_instance stored (place_of o i)) h in
     write_instance o i (known catalog o k.0) k.1
 write_so catalog stored (Resource o i r) h =
-    let k = both (is_some (definition_of catalog o r)) (has_instance stored (place_of o i)) h in
-    let d = there (definition_of catalog o r) k.0 in
+    let k = and_parts (is_some (definition_of catalog o r)) (has_instance stored (place_of o i)) h in
+    let d = some_from_test (definition_of catalog o r) k.0 in
     write_resource o i r d.0 k.1 d.1
 write_so catalog stored (Part o i r n) h =
-    let k = both (is_multiple (definition_of catalog o r)) (has_instance stored (place_of o i)) h in
+    let k = and_parts (is_multiple (definition_of catalog o r)) (has_instance stored (place_of o i)) h in
     let d = multiple_there (definition_of catalog o r) k.0 in
     write_part o i r n d.0 k.1 d.1 d.2
 
 so_write : (catalog : List ObjectDef) (stored : Stored) (path : Path) → IsToWrite catalog stored path
     → is_target catalog stored path ≡ true
 so_write catalog stored path (write_instance o i k h) =
-    and_true (is_some (object_of catalog o)) (has_instance stored (place_of o i)) (has_object catalog o k) h
+    and_from (is_some (object_of catalog o)) (has_instance stored (place_of o i)) (has_object catalog o k) h
 so_write catalog stored path (write_resource o i r d h is) =
-    and_true (is_some (definition_of catalog o r)) (has_instance stored (place_of o i)) (ap is_some is) h
+    and_from (is_some (definition_of catalog o r)) (has_instance stored (place_of o i)) (ap is_some is) h
 so_write catalog stored path (write_part o i r n d h is many) =
-    and_true (is_multiple (definition_of catalog o r)) (has_instance stored (place_of o i))
+    and_from (is_multiple (definition_of catalog o r)) (has_instance stored (place_of o i))
     (ap is_multiple is ∙ many) h
-
-not_false : (b : Bool) → not b ≡ false → b ≡ true
-not_false true h = refl
-not_false false h = cc
 
 pub what_is_to_write : WhatIsToWrite
 what_is_to_write client path mode format payload = (
-  λ h. write_so client.catalog client.store path (not_false (is_target client.catalog client.store path) h),
+  λ h. write_so client.catalog client.store path (not-false (is_target client.catalog client.store path) h),
   λ h. ap not (so_write client.catalog client.store path h),
 )
 

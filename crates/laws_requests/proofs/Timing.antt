@@ -3,6 +3,7 @@ use Rattle.std.proofs.Common.{◌≡◌, Bool, true, false, not, ◌==◌, [], �
 use Rattle.std.proofs.Common.{ap, ◌∙◌}
 use Rattle.std.specs.Option.{is_some}
 use Rattle.std.proofs.lemmas.Bool.{ne_eqb}
+use Rattle.std.proofs.lemmas.Option.{same_Some}
 use Rattle.coap_codec.specs.Message.{Message}
 use Rattle.object_defs.specs.Lines.{first_line}
 use Rattle.object_defs.specs.Path.{object_in}
@@ -22,7 +23,6 @@ use Rattle.device_requests.specs.Refusals.{lacks_target}
 use Rattle.device_requests.specs.Request.{outcome_of, purpose_of}
 use Rattle.laws_requests.specs.Untimely.{IsUntimely, StatesDecide, StatesPrecedeLimits}
 use Rattle.laws_requests.specs.Untimely.IsUntimely.{asks_for_update, replaces, updates_partially}
-use Rattle.laws_requests.proofs.Asking.{told}
 
 not_taken : (client : Client) (event : FirmwareEvent) (o : Option FirmwareEvent) → o ≡ Some event
     → firmware_after client.store event ≡ None → is_refused_now client.store o ≡ true
@@ -40,15 +40,15 @@ turned : (a b c d e f g h : Bool) (format done code : Code) → g ≡ true
     → first_line ((a, Unauthorized) ∷ (b, NotFound) ∷ (c, Unauthorized) ∷ (d, MethodNotAllowed) ∷ (e, format)
     ∷ (f, BadRequest) ∷ (g, MethodNotAllowed) ∷ (h, InternalServerError) ∷ (true, done) ∷ []) ≡ Some code
     → IsAmong code (Unauthorized ∷ NotFound ∷ MethodNotAllowed ∷ format ∷ BadRequest ∷ [])
-turned true b c d e f g h format done code late is = inl (told Unauthorized code is)
-turned false true c d e f g h format done code late is = inr (inl (told NotFound code is))
-turned false false true d e f g h format done code late is = inl (told Unauthorized code is)
-turned false false false true e f g h format done code late is = inr (inr (inl (told MethodNotAllowed code is)))
-turned false false false false true f g h format done code late is = inr (inr (inr (inl (told format code is))))
+turned true b c d e f g h format done code late is = inl (same_Some Unauthorized code is)
+turned false true c d e f g h format done code late is = inr (inl (same_Some NotFound code is))
+turned false false true d e f g h format done code late is = inl (same_Some Unauthorized code is)
+turned false false false true e f g h format done code late is = inr (inr (inl (same_Some MethodNotAllowed code is)))
+turned false false false false true f g h format done code late is = inr (inr (inr (inl (same_Some format code is))))
 turned false false false false false true g h format done code late is =
-    inr (inr (inr (inr (inl (told BadRequest code is)))))
+    inr (inr (inr (inr (inl (same_Some BadRequest code is)))))
 turned false false false false false false true h format done code late is =
-    inr (inr (inl (told MethodNotAllowed code is)))
+    inr (inr (inl (same_Some MethodNotAllowed code is)))
 turned false false false false false false false h format done code late is = cc late
 
 -- and where no rule before it does
@@ -65,7 +65,7 @@ decided false false false false true f g h format done code p q r s t u late is 
 decided false false false false false true g h format done code p q r s t u late is = cc u
 decided false false false false false false false h format done code p q r s t u late is = cc late
 decided false false false false false false true h format done code p q r s t u late is =
-    sym (told MethodNotAllowed code is)
+    sym (same_Some MethodNotAllowed code is)
 
 pub states_precede : OneTable → StatesPrecedeLimits
 states_precede table client server m path operation asks untimely =

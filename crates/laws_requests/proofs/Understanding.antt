@@ -3,9 +3,11 @@ use Rattle.std.proofs.Common.{◌≡◌, ◌≢◌, ◌⊎◌, inl, inr, ℕ, �
 use Rattle.std.proofs.Common.{◌&&◌, ◌||◌, nat_le, nat_lt, List, [], ◌∷◌, ◌++◌, length}
 use Rattle.std.proofs.Common.{refl, sym, ap, subst, ◌∙◌, arith}
 use Rattle.std.specs.List.{count_by, list_any}
-use Rattle.std.proofs.lemmas.Bool.{le-leb}
+use Rattle.std.proofs.lemmas.Bool.{le-leb, eqb-true, and_parts, and_from, false_from_ne_true, both_ways, or_cases}
 use Rattle.std.proofs.lemmas.Bool.Decides.{nat_tests}
 use Rattle.std.proofs.lemmas.List.Sums.{sum_by-cons}
+use Rattle.std.proofs.lemmas.Bool.{or_left}
+use Rattle.lemmas.proofs.Numbers.{eqb_itself}
 use Rattle.coap_codec.specs.declared.option.Opt.{Opt}
 use Rattle.device_requests.specs.Laws.{IsAmong}
 use Rattle.device_requests.specs.Options.{has_known_form, has_unknown_critical}
@@ -16,21 +18,12 @@ use Rattle.laws_requests.specs.Understood.{IsRecognized, IsUnderstood}
 use Rattle.laws_requests.specs.Understood.{accept, content_format}
 use Rattle.laws_requests.specs.Understood.{observe}
 use Rattle.laws_requests.specs.Understood.{uri_host, uri_path, uri_port, uri_query}
-use Rattle.laws_requests.proofs.Among.{among_any, and_true, any_found, both, number_same, same_number}
-use Rattle.laws_requests.proofs.Giving.{never_true, not_both}
+use Rattle.laws_requests.proofs.Among.{among_any, any_found}
 
 -- ---- the table of recognized options
 
 pub at_most : (a b : ℕ) → nat_le a b ≡ true → a ≤ b
 at_most a b h = grind (arith, nat_tests)
-
-either : (a b : Bool) → (a || b) ≡ true → (a ≡ true) ⊎ (b ≡ true)
-either true b h = inl refl
-either false b h = inr h
-
-or_true : (a b : Bool) → a ≡ true → (a || b) ≡ true
-or_true true b h = refl
-or_true false b h = cc
 
 -- a line of the table applies
 abbrev fits : ℕ → ℕ → ℕ → ℕ → ℕ → Bool
@@ -43,12 +36,12 @@ record Fits (k least most n size : ℕ) : Type 0 where
 
 is_fit : (k least most n size : ℕ) → fits k least most n size ≡ true → Fits k least most n size
 is_fit k least most n size h =
-    let b = both (k == n) (nat_le least size && nat_le size most) h in
-    let c = both (nat_le least size) (nat_le size most) b.1 in
-    record { same = same_number k n b.0; low = at_most least size c.0; high = at_most size most c.1 }
+    let b = and_parts (k == n) (nat_le least size && nat_le size most) h in
+    let c = and_parts (nat_le least size) (nat_le size most) b.1 in
+    record { same = eqb-true k n b.0; low = at_most least size c.0; high = at_most size most c.1 }
 
 within : (least most size : ℕ) → least ≤ size → size ≤ most → (nat_le least size && nat_le size most) ≡ true
-within least most size h k = and_true (nat_le least size) (nat_le size most) (le-leb least size h) (le-leb size most k)
+within least most size h k = and_from (nat_le least size) (nat_le size most) (le-leb least size h) (le-leb size most k)
 
 abbrev form : ℕ → ℕ → Bool
 form n size = list_any (λ k. k.number == n && (nat_le k.least size && nat_le size k.most)) known_options
@@ -56,19 +49,19 @@ form n size = list_any (λ k. k.number == n && (nat_le k.least size && nat_le si
 form_means : (n size : ℕ) → form n size ≡ true → IsRecognized n size
 form_means n size h =
     let to = λ (k : ℕ) (is : k ≡ n) (r : IsRecognized k size). subst (λ (m : ℕ). IsRecognized m size) is r in
-    elim (either (fits 3 1 255 n size) _ h) [
+    elim (or_cases (fits 3 1 255 n size) _ h) [
       | inl f ↦ let g = is_fit 3 1 255 n size f in to 3 g.same (uri_host size g.low g.high)
-      | inr h ↦ elim (either (fits 6 0 3 n size) _ h) [
+      | inr h ↦ elim (or_cases (fits 6 0 3 n size) _ h) [
         | inl f ↦ let g = is_fit 6 0 3 n size f in to 6 g.same (observe size g.high)
-        | inr h ↦ elim (either (fits 7 0 2 n size) _ h) [
+        | inr h ↦ elim (or_cases (fits 7 0 2 n size) _ h) [
           | inl f ↦ let g = is_fit 7 0 2 n size f in to 7 g.same (uri_port size g.high)
-          | inr h ↦ elim (either (fits 11 0 255 n size) _ h) [
+          | inr h ↦ elim (or_cases (fits 11 0 255 n size) _ h) [
             | inl f ↦ let g = is_fit 11 0 255 n size f in to 11 g.same (uri_path size g.high)
-            | inr h ↦ elim (either (fits 12 0 2 n size) _ h) [
+            | inr h ↦ elim (or_cases (fits 12 0 2 n size) _ h) [
               | inl f ↦ let g = is_fit 12 0 2 n size f in to 12 g.same (content_format size g.high)
-              | inr h ↦ elim (either (fits 15 0 255 n size) _ h) [
+              | inr h ↦ elim (or_cases (fits 15 0 255 n size) _ h) [
                 | inl f ↦ let g = is_fit 15 0 255 n size f in to 15 g.same (uri_query size g.high)
-                | inr h ↦ elim (either (fits 17 0 2 n size) false h) [
+                | inr h ↦ elim (or_cases (fits 17 0 2 n size) false h) [
                   | inl f ↦ let g = is_fit 17 0 2 n size f in to 17 g.same (accept size g.high)
                   | inr h ↦ cc
                 ]
@@ -83,13 +76,13 @@ from_zero : (most size : ℕ) → size ≤ most → (nat_le 0 size && nat_le siz
 from_zero most size h = within 0 most size (omega arith) h
 
 means_form : (n size : ℕ) → IsRecognized n size → form n size ≡ true
-means_form n size (uri_host _ l h) = or_true _ _ (within 1 255 size l h)
-means_form n size (observe _ h) = or_true _ _ (from_zero 3 size h)
-means_form n size (uri_port _ h) = or_true _ _ (from_zero 2 size h)
-means_form n size (uri_path _ h) = or_true _ _ (from_zero 255 size h)
-means_form n size (content_format _ h) = or_true _ _ (from_zero 2 size h)
-means_form n size (uri_query _ h) = or_true _ _ (from_zero 255 size h)
-means_form n size (accept _ h) = or_true _ _ (from_zero 2 size h)
+means_form n size (uri_host _ l h) = or_left _ _ (within 1 255 size l h)
+means_form n size (observe _ h) = or_left _ _ (from_zero 3 size h)
+means_form n size (uri_port _ h) = or_left _ _ (from_zero 2 size h)
+means_form n size (uri_path _ h) = or_left _ _ (from_zero 255 size h)
+means_form n size (content_format _ h) = or_left _ _ (from_zero 2 size h)
+means_form n size (uri_query _ h) = or_left _ _ (from_zero 255 size h)
+means_form n size (accept _ h) = or_left _ _ (from_zero 2 size h)
 
 -- ---- options before and after
 
@@ -115,7 +108,7 @@ some_counted n [] h = absurd (omega arith)
 some_counted n (o ∷ os) h =
     elim (o.number == n) as (λ b. (o.number == n) ≡ b → 0 < cond b 1 0 + count n os
     → (p : Opt) × IsAmong p (o ∷ os) × (p.number ≡ n)) [
-      | true ↦ λ is k. (o, inl refl, same_number o.number n is)
+      | true ↦ λ is k. (o, inl refl, eqb-true o.number n is)
       | false ↦ λ is k.
           let l : 0 < count n os = omega arith in
           let r = some_counted n os l in (r.0, inr r.1, r.2)
@@ -148,7 +141,7 @@ twice n (o ∷ os) h =
             number = r.2;
             first = o;
             first_before = inl refl;
-            first_number = same_number o.number n is;
+            first_number = eqb-true o.number n is;
           }
       | false ↦ λ is k.
           let l : 1 < count n os = omega arith in
@@ -168,7 +161,7 @@ twice n (o ∷ os) h =
 counted_among : (n : ℕ) (os : List Opt) (o : Opt) → IsAmong o os → o.number ≡ n → 0 < count n os
 counted_among n [] o h is = absurd h
 counted_among n (p ∷ os) o (inl same) is =
-    let l : (p.number == n) ≡ true = ap (λ (k : ℕ). k == n) (ap (λ (x : Opt). x.number) same ∙ is) ∙ number_same n in
+    let l : (p.number == n) ≡ true = ap (λ (k : ℕ). k == n) (ap (λ (x : Opt). x.number) same ∙ is) ∙ eqb_itself n in
     let m : 0 < cond true 1 0 + count n os = omega arith in
     subst (λ (c : ℕ). 0 < c) (sym (count_more n p os))
     (subst (λ (b : Bool). 0 < cond b 1 0 + count n os) (sym l) m)
@@ -196,7 +189,7 @@ alone_before n os before after o h splits is p among same =
     let l : 0 < count n before = counted_among n before p among same in
     let m : count n before < count n (before ++ o ∷ after) = one_more n before after o is in
     let k : 1 < count n (before ++ o ∷ after) = omega arith in
-    not_both (repeats n os) h (ap (repeats n) splits ∙ more_than_one (count n (before ++ o ∷ after)) k)
+    both_ways (repeats n os) h (ap (repeats n) splits ∙ more_than_one (count n (before ++ o ∷ after)) k)
 
 -- ---- what must be understood
 
@@ -251,7 +244,7 @@ understood os h before after o splits odd =
     let test = λ (x : Opt). is_critical x && not (has_known_form x) in
     let critical : is_critical o ≡ true = ap (λ (k : ℕ). k == 1) odd in
     let off : test o ≡ false =
-    never_true (test o) (λ k. not_both (list_any test os) p.known (among_any test o os among k)) in
+    false_from_ne_true (test o) (λ k. both_ways (list_any test os) p.known (among_any test o os among k)) in
     let r = form_means o.number (length o.value) (known_then (is_critical o) (has_known_form o) off critical) in
     record {
       recognized = r;
@@ -271,21 +264,21 @@ AllUnderstood os =
 
 is_odd : (o : Opt) (b : Bool) → (is_critical o && b) ≡ true → (o.number % 2 ≡ 1) × (b ≡ true)
 is_odd o b h =
-    let k = both (is_critical o) b h in (same_number (o.number % 2) 1 k.0, k.1)
+    let k = and_parts (is_critical o) b h in (eqb-true (o.number % 2) 1 k.0, k.1)
 
 all_known : (os : List Opt) → AllUnderstood os → has_unknown_critical os ≡ false
 all_known os all =
     let test = λ (x : Opt). is_critical x && not (has_known_form x) in
-    never_true (list_any test os) (λ k.
+    false_from_ne_true (list_any test os) (λ k.
     let f = any_found test os k in
     let s = split_of f.0 os f.1 in
     let odd = is_odd f.0 (not (has_known_form f.0)) f.2 in
     let u = all s.0 s.1 f.0 s.2 odd.0 in
-    not_both (not (has_known_form f.0)) (ap not (means_form f.0.number (length f.0.value) u.recognized)) odd.1)
+    both_ways (not (has_known_form f.0)) (ap not (means_form f.0.number (length f.0.value) u.recognized)) odd.1)
 
 never_again : (os : List Opt) (n : ℕ) → AllUnderstood os → n % 2 ≡ 1 → n ≢ 11 → n ≢ 15 → repeats n os ≡ false
 never_again os n all odd path query =
-    never_true (repeats n os) (λ k.
+    false_from_ne_true (repeats n os) (λ k.
     let t = twice n os (is_more (count n os) k) in
     let u = all t.before t.after t.again t.splits (ap (λ (m : ℕ). m % 2) t.number ∙ odd) in
     elim u.once [

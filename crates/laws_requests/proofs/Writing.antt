@@ -4,6 +4,7 @@ use Rattle.std.proofs.Common.{refl, sym, ap, ◌∙◌}
 use Rattle.std.specs.Bool.{if◌then◌else◌}
 use Rattle.std.specs.Option.{is_some, option_and_then}
 use Rattle.std.proofs.lemmas.Bool.{ne_eqb}
+use Rattle.lemmas.proofs.Options.{some_if_denied}
 use Rattle.object_defs.specs.Catalog.{definition_of}
 use Rattle.object_defs.specs.Operations.{can_read}
 use Rattle.object_defs.specs.declared.definition.ResourceDef.{ResourceDef}
@@ -33,7 +34,7 @@ use Rattle.device_requests.specs.Write.{event_of, given_to_resource, left, mode_
 use Rattle.device_requests.specs.Write.{values_given}
 use Rattle.device_requests.specs.Write.{write_unless}
 use Rattle.laws_requests.specs.Writes.{InstancesAreWritten, ResourcesAreWritten}
-use Rattle.laws_requests.proofs.Asking.{chosen, fails, passes, there}
+use Rattle.laws_requests.proofs.Asking.{chosen, fails, passes}
 
 -- no rule refuses a Write that is answered Changed
 pub unrefused : (client : Client) (server : ℕ) (mode : Mode) (path : Path) (number : Option ℕ) (payload : List ℕ)
@@ -68,7 +69,7 @@ pub comes : (client : Client) (server : ℕ) (mode : Mode) (path : Path) (number
 comes client server mode path number payload h =
     let no_line = unrefused client server mode path number payload h in
     let all = fails (refusals_of client server path (to_write mode number payload)) no_line in
-    let f = there (format_at client.catalog path number) all.1.1.1.1.0 in
+    let f = some_if_denied (format_at client.catalog path number) all.1.1.1.1.0 in
     record {
       format = f.0;
       served = f.1;

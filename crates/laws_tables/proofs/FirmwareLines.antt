@@ -5,14 +5,10 @@ use Rattle.std.proofs.lemmas.Bool.{cond-false, lt-leb}
 use Rattle.std.specs.Prelude.{if◌then◌else◌, nat_le, option_map, MatchBool}
 use Rattle.std.specs.List.{AllByRecursion, list_any}
 use Rattle.std.specs.Option.{option_or}
-use Rattle.std.specs.FinMap as finite
-use Rattle.std.specs.Ordering.{eq_by_cmp}
 use Rattle.lwm2m_values.specs.declared.value.Value.{Value}
 use Rattle.lwm2m_values.specs.declared.value.Value.TheVariants as value
-use Rattle.object_defs.specs.declared.path.FullPath.{FullPath}
-use Rattle.object_defs.specs.Path.{path_cmp}
-use Rattle.object_defs.proofs.PathOrder.{path_total}
 use Rattle.instance_store.specs.Stored.{Stored, value_at, with_value}
+use Rattle.instance_store.proofs.SetValues.{value_after}
 use Rattle.device_firmware.specs.declared.event.FirmwareEvent.{FirmwareEvent}
 use Rattle.device_firmware.specs.declared.event.FirmwareEvent.TheVariants.{Cleared, Package, Uri, Update, Ended}
 use Rattle.device_firmware.specs.Firmware.{downloading_ended, event_of_package, event_of_uri, firmware_after}
@@ -27,16 +23,12 @@ use Rattle.laws_tables.specs.Firmware.{WritesAreEvents}
 
 -- ---- a store after an outcome
 
-behind : (s : Stored) (p q : FullPath) (v : Value)
-    → value_at (with_value s p v) q ≡ cond (eq_by_cmp path_cmp q p) (Some v) (value_at s q)
-behind s p q v = finite.get-insert path_total s.values p v q
-
 state_behind : (s : Stored) (o : _)
     → value_at (with_outcome s o) (firmware_path 3) ≡ Some (value.Whole (pos (state_number o.state)))
 state_behind s o =
     let state = value.Whole (pos (state_number o.state)) in
-    behind (with_value s (firmware_path 3) state) (firmware_path 5) (firmware_path 3) (value.Whole (pos o.code))
-    ∙ behind s (firmware_path 3) (firmware_path 3) state
+    value_after (with_value s (firmware_path 3) state) (firmware_path 5) (firmware_path 3) (value.Whole (pos o.code))
+    ∙ value_after s (firmware_path 3) (firmware_path 3) state
 
 uri_is : (old : Option Value) (uri : Option (List ℕ)) → uri_after old uri
     ≡ option_or (option_map value.Text uri) old

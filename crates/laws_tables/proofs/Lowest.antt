@@ -1,15 +1,16 @@
 -- The first of an object's instances, in ascending order, that passes a test is the lowest that does.
-use Rattle.std.proofs.Common.{◌≡◌, ℕ, ◌<◌, Bool, true, false, cond, ◌&&◌, List, [], ◌∷◌, map, Option, None, Some, refl}
+use Rattle.std.proofs.Common.{◌≡◌, ℕ, ◌<◌, Bool, true, false, cond, List, [], ◌∷◌, map, Option, None, Some, refl}
 use Rattle.std.proofs.Common.{sym, ap, subst, ◌∙◌, arith}
 use Rattle.std.proofs.Math.Dec.{T}
 use Rattle.std.specs.Option.{is_some}
 use Rattle.std.specs.List.{find as first_that}
-use Rattle.std.specs.Ordering.{nat_cmp, is_lt, eq_by_cmp}
+use Rattle.std.specs.Ordering.{nat_cmp, eq_by_cmp}
 use Rattle.std.specs.FinMap as map
 use Rattle.std.specs.FinMap.{find, is_sorted}
 use Rattle.std.specs.FinMap.Entries.{below_all}
 use Rattle.std.proofs.lemmas.Bool.{false≢true}
-use Rattle.std.proofs.lemmas.Bool.Decides.{nat_tests}
+use Rattle.lemmas.proofs.Tests.{T_first, T_second, true_from_T}
+use Rattle.lemmas.proofs.Numbers.{no_tie_below, same_from_tie, tie_itself, below_from_lt}
 use Rattle.object_defs.proofs.LookUps.{skipped}
 use Rattle.instance_store.specs.Stored.{Stored, has_instance, instances_of}
 use Rattle.instance_store.proofs.InstanceLaws.{under, keys_of-under, find-under, sorted-under, place}
@@ -26,38 +27,14 @@ record Lowest (test : ℕ → Bool) (ns : Numbers) (j : ℕ) : Type 0 where
   passes : test j ≡ true
   lowest : (k : ℕ) → k < j → Has ns k → test k ≡ false
 
-first : (a b : Bool) → T (a && b) → T a
-first true b p = tt
-first false b p = p
-
-second : (a b : Bool) → T (a && b) → T b
-second true b p = p
-second false b p = absurd p
-
-sure : (b : Bool) → T b → b ≡ true
-sure true p = refl
-sure false p = absurd p
-
-apart : (m n : ℕ) → m < n → eq_by_cmp nat_cmp m n ≡ false
-apart m n h = grind (arith, nat_tests)
-
-same : (m n : ℕ) → eq_by_cmp nat_cmp m n ≡ true → m ≡ n
-same m n h = grind (arith, nat_tests)
-
-itself : (n : ℕ) → eq_by_cmp nat_cmp n n ≡ true
-itself n = grind (arith, nat_tests)
-
-less : (n k : ℕ) → is_lt (nat_cmp n k) ≡ true → n < k
-less n k h = grind (arith, nat_tests)
-
 passed_by : (m : ℕ) (e : ℕ × Unit {0}) (es : Numbers) → m < e.0 → find nat_cmp m (e ∷ es) ≡ find nat_cmp m es
-passed_by m e es h = ap (λ b. cond b (Some e.1) (find nat_cmp m es)) (apart m e.0 h)
+passed_by m e es h = ap (λ b. cond b (Some e.1) (find nat_cmp m es)) (no_tie_below m e.0 h)
 
 absent_below : (n m : ℕ) (ns : Numbers) → T (below_all nat_cmp n ns) → m < n → find nat_cmp m ns ≡ None
 absent_below n m [] h l = refl
 absent_below n m (e ∷ es) h l =
-    let k : n < e.0 = less n e.0 (sure _ (first _ _ h)) in
-    passed_by m e es (omega arith) ∙ absent_below n m es (second _ _ h) l
+    let k : n < e.0 = below_from_lt n e.0 (true_from_T _ (T_first _ _ h)) in
+    passed_by m e es (omega arith) ∙ absent_below n m es (T_second _ _ h) l
 
 later : (b : Bool) (x : Unit {0}) (o : Option (Unit {0})) → is_some o ≡ true → is_some (cond b (Some x) o) ≡ true
 later true x o h = refl
@@ -66,7 +43,7 @@ later false x o h = h
 fails_at : (test : ℕ → Bool) (e : ℕ × Unit {0}) (es : Numbers) (k : ℕ) (b : Bool) → eq_by_cmp nat_cmp k e.0 ≡ b
     → test e.0 ≡ false → (Has es k → test k ≡ false) → is_some (cond b (Some e.1) (find nat_cmp k es)) ≡ true
     → test k ≡ false
-fails_at test e es k true h fails rest has = ap test (same k e.0 h) ∙ fails
+fails_at test e es k true h fails rest has = ap test (same_from_tie k e.0 h) ∙ fails
 fails_at test e es k false h fails rest has = rest has
 
 found_head : (test : ℕ → Bool) (e : ℕ × Unit {0}) (es : Numbers) (j : ℕ) (b : Bool) → test e.0 ≡ b
@@ -75,10 +52,10 @@ found_head : (test : ℕ → Bool) (e : ℕ × Unit {0}) (es : Numbers) (j : ℕ
 found_head test e es j true passes sorted h rest =
     let here : e.0 ≡ j = cc in
     subst (Lowest test (e ∷ es)) here (record {
-      there = ap (λ b. is_some (cond b (Some e.1) (find nat_cmp e.0 es))) (itself e.0);
+      there = ap (λ b. is_some (cond b (Some e.1) (find nat_cmp e.0 es))) (tie_itself e.0);
       passes = passes;
       lowest = λ k l has. absurd (false≢true (sym
-          (ap is_some (passed_by k e es l ∙ absent_below e.0 k es (first _ _ sorted) l)) ∙ has));
+          (ap is_some (passed_by k e es l ∙ absent_below e.0 k es (T_first _ _ sorted) l)) ∙ has));
     })
 found_head test e es j false fails sorted h rest =
     let low = rest h in
@@ -91,7 +68,7 @@ found_head test e es j false fails sorted h rest =
 found : (test : ℕ → Bool) (ns : Numbers) (j : ℕ) → T (is_sorted nat_cmp ns)
     → first_that test (map (λ x. x.0) ns) ≡ Some j → Lowest test ns j
 found test [] j sorted h = let f : ⊥ = cc in absurd f
-found test (e ∷ es) j sorted h = found_head test e es j (test e.0) refl sorted h (found test es j (second _ _ sorted))
+found test (e ∷ es) j sorted h = found_head test e es j (test e.0) refl sorted h (found test es j (T_second _ _ sorted))
 
 missed : (test : ℕ → Bool) (ns : Numbers) → first_that test (map (λ x. x.0) ns) ≡ None → (k : ℕ) → Has ns k
     → test k ≡ false

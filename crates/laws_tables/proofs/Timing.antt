@@ -4,6 +4,7 @@ use Rattle.std.proofs.Common.{None, Some, refl, sym, ap, ◌∙◌, arith, eq-eq
 use Rattle.std.proofs.lemmas.Bool.{cases_order, eqb-true, false≢true, lt-ltb, ltb-true}
 use Rattle.std.specs.Prelude.{nat_lt, option_and_then}
 use Rattle.std.specs.Option.{option_or, unwrap_or}
+use Rattle.lemmas.proofs.Options.{option_and_then_parts}
 use Rattle.lwm2m_values.specs.Value.{is_integer}
 use Rattle.lwm2m_values.specs.declared.value.Value.{Value}
 use Rattle.lwm2m_values.specs.declared.value.Value.TheVariants.{Text, Whole, Flag, Opaque, Moment, Link}
@@ -105,17 +106,13 @@ found stored server x None e is =
 
 -- ---- the default
 
-chained : {A B : Type 0} (f : A → Option B) (o : Option A) (y : B) → option_and_then f o ≡ Some y → (x : A)
-    × (o ≡ Some x) × (f x ≡ Some y)
-chained f (Some x) y e = (x, refl, e)
-chained f None y e = cc e
-
 by_server : (stored : Stored) (server resource n : ℕ) → default_period stored server resource ≡ Some n
     → SetByServer stored server resource n
 by_server stored server resource n h =
-    let p = chained (λ x. option_and_then seconds_in (number_in (value_at stored (server_path x resource))))
+    let p = option_and_then_parts (λ x.
+    option_and_then seconds_in (number_in (value_at stored (server_path x resource))))
     (account_of stored server) n h in
-    let q = chained seconds_in (number_in (value_at stored (server_path p.0 resource))) n p.2 in (
+    let q = option_and_then_parts seconds_in (number_in (value_at stored (server_path p.0 resource))) n p.2 in (
       p.0,
       account stored server p.0 p.1,
       (q.0, says stored p.0 resource q.0 (value_at stored (server_path p.0 resource)) refl q.1, seconds_said q.0 n q.2),
@@ -135,7 +132,8 @@ by_attribute : (client : Client) (server : ℕ) (path : Path) (name : Name) (n :
     → option_and_then seconds_in (effective client.attributes server path name) ≡ Some n
     → SetByAttribute client server path name n
 by_attribute client server path name n h =
-    let p = chained seconds_in (effective client.attributes server path name) n h in (p.0, p.1, seconds_said p.0 n p.2)
+    let p = option_and_then_parts seconds_in (effective client.attributes server path name) n h in
+    (p.0, p.1, seconds_said p.0 n p.2)
 
 attribute_sets : (client : Client) (server : ℕ) (path : Path) (name : Name) (n : ℕ)
     → SetByAttribute client server path name n
