@@ -6,6 +6,7 @@ use Rattle.std.specs.List.{AllByRecursion, Contains}
 use Rattle.std.specs.Str.{bytes_eq}
 use Rattle.std.proofs.lemmas.Bool.Decides.{nat_tests}
 use Rattle.std.proofs.lemmas.Slice.Eq.{bytes_eq-Decides}
+use Rattle.std.proofs.lemmas.Bool.{or_left, or_right, not-true, not_from_false}
 use Rattle.notifier.specs.Trigger.{differ, has_condition, is_above, is_below, is_due, is_triggered}
 use Rattle.notifier.specs.Trigger.{crosses_gt as crossed_gt, crosses_lt as crossed_lt, number_triggers}
 use Rattle.notifier.specs.Trigger.{steps_st as stepped_st}
@@ -41,14 +42,6 @@ one_of : (a b : Bool) (P : Type 0) → (a || b) ≡ true → (a ≡ true → P) 
 one_of true b P h l r = l refl
 one_of false b P h l r = r h
 
-either_left : (a b : Bool) → a ≡ true → (a || b) ≡ true
-either_left true b h = refl
-either_left false b h = cc
-
-either_right : (a b : Bool) → b ≡ true → (a || b) ≡ true
-either_right true b h = refl
-either_right false b h = h
-
 gt_passes : (gt lt st : Option ℤ) (old now : ℤ) → crossed_gt gt old now ≡ true → Passes gt lt st old now
 gt_passes None lt st old now h = cc
 gt_passes (Some z) lt st old now h = crosses_gt z refl (differ_true (is_above z old) (is_above z now) h)
@@ -70,25 +63,17 @@ passes gt lt st old now h =
 
 passing : (gt lt st : Option ℤ) (old now : ℤ) → Passes gt lt st old now → number_triggers gt lt st old now ≡ true
 passing gt lt st old now (crosses_gt z is h) =
-    either_left (crossed_gt gt old now) (crossed_lt lt old now || stepped_st st old now)
+    or_left (crossed_gt gt old now) (crossed_lt lt old now || stepped_st st old now)
     (ap (λ g. crossed_gt g old now) is ∙ true_differ (is_above z old) (is_above z now) h)
 passing gt lt st old now (crosses_lt z is h) =
-    either_right (crossed_gt gt old now) (crossed_lt lt old now || stepped_st st old now)
-    (either_left (crossed_lt lt old now) (stepped_st st old now)
+    or_right (crossed_gt gt old now) (crossed_lt lt old now || stepped_st st old now)
+    (or_left (crossed_lt lt old now) (stepped_st st old now)
     (ap (λ l. crossed_lt l old now) is ∙ true_differ (is_below z old) (is_below z now) h))
 passing gt lt st old now (steps_st z is h) =
-    either_right (crossed_gt gt old now) (crossed_lt lt old now || stepped_st st old now)
-    (either_right (crossed_lt lt old now) (stepped_st st old now) (ap (λ s. stepped_st s old now) is ∙ h))
+    or_right (crossed_gt gt old now) (crossed_lt lt old now || stepped_st st old now)
+    (or_right (crossed_lt lt old now) (stepped_st st old now) (ap (λ s. stepped_st s old now) is ∙ h))
 
 -- ---- triggers
-
-not_true : (b : Bool) → not b ≡ true → b ≡ false
-not_true true h = cc
-not_true false h = refl
-
-false_not : (b : Bool) → b ≡ false → not b ≡ true
-false_not true h = cc
-false_not false h = refl
 
 unlike : (p q : List ℕ) → bytes_eq p q ≡ false → q ≢ p
 unlike p q h e = let k : bytes_eq p q ≡ true = (bytes_eq-Decides p q).1 (sym e) in cc
@@ -110,11 +95,11 @@ by_trigger : (gt lt st a b : Option ℤ) (p q : List ℕ) (P : Type 0)
     → ((x y : ℤ) → a ≡ Some x → b ≡ Some y → has_condition gt lt st ≡ true → number_triggers gt lt st x y ≡ true → P)
     → (((x y : ℤ) → has_condition gt lt st ≡ true → a ≡ Some x → b ≡ Some y → ⊥) → bytes_eq p q ≡ false → P)
     → is_triggered gt lt st a b p q ≡ true → P
-by_trigger gt lt st None b p q P l r h = r (λ x y c e f. cc) (not_true (bytes_eq p q) h)
-by_trigger gt lt st (Some x) None p q P l r h = r (λ x y c e f. cc) (not_true (bytes_eq p q) h)
+by_trigger gt lt st None b p q P l r h = r (λ x y c e f. cc) (not-true (bytes_eq p q) h)
+by_trigger gt lt st (Some x) None p q P l r h = r (λ x y c e f. cc) (not-true (bytes_eq p q) h)
 by_trigger gt lt st (Some x) (Some y) p q P l r h =
     chosen (has_condition gt lt st) (number_triggers gt lt st x y) (not (bytes_eq p q)) P h
-    (λ c t. l x y refl refl c t) (λ c n. r (λ v w d e f. cc) (not_true (bytes_eq p q) n))
+    (λ c t. l x y refl refl c t) (λ c n. r (λ v w d e f. cc) (not-true (bytes_eq p q) n))
 
 trigger_of_numbers : (gt lt st a b : Option ℤ) (p q : List ℕ) (x y : ℤ) → a ≡ Some x → b ≡ Some y
     → has_condition gt lt st ≡ true → number_triggers gt lt st x y ≡ true → is_triggered gt lt st a b p q ≡ true
@@ -129,10 +114,10 @@ unless false n h k m = k
 trigger_of_payloads : (gt lt st a b : Option ℤ) (p q : List ℕ)
     → ((x y : ℤ) → has_condition gt lt st ≡ true → a ≡ Some x → b ≡ Some y → ⊥)
     → bytes_eq p q ≡ false → is_triggered gt lt st a b p q ≡ true
-trigger_of_payloads gt lt st None b p q h e = false_not (bytes_eq p q) e
-trigger_of_payloads gt lt st (Some x) None p q h e = false_not (bytes_eq p q) e
+trigger_of_payloads gt lt st None b p q h e = not_from_false (bytes_eq p q) e
+trigger_of_payloads gt lt st (Some x) None p q h e = not_from_false (bytes_eq p q) e
 trigger_of_payloads gt lt st (Some x) (Some y) p q h e =
-    unless (has_condition gt lt st) (not (bytes_eq p q)) (λ c. h x y c refl refl) (false_not (bytes_eq p q) e)
+    unless (has_condition gt lt st) (not (bytes_eq p q)) (λ c. h x y c refl refl) (not_from_false (bytes_eq p q) e)
     (number_triggers gt lt st x y)
 
 -- ---- what is due

@@ -1,24 +1,23 @@
 -- What an event changes of a device.
-use Rattle.std.proofs.Common.{◌≡◌, ◌≢◌, ℕ, ◌==◌, Bool, true, false, cond, not, ◌&&◌, List, [], ◌∷◌, Option, None, Some}
-use Rattle.std.proofs.Common.{Result, Ok, Err, refl, sym, ap, subst, ◌∙◌}
+use Rattle.std.proofs.Common.{◌≡◌, ◌≢◌, ℕ, ◌==◌, Bool, true, false, cond, not, List, [], ◌∷◌, Option, None, Some}
+use Rattle.std.proofs.Common.{Result, refl, sym, ap, subst, ◌∙◌}
 use Rattle.std.specs.Bool.{if◌then◌else◌}
-use Rattle.std.specs.FinMap as map
 use Rattle.std.specs.List.{filter}
-use Rattle.std.specs.Option.{is_some, option_map}
-use Rattle.std.specs.Ordering.{eq_by_cmp, is_eq}
+use Rattle.std.specs.Option.{option_map}
 use Rattle.std.specs.Cmp.{eq_by_cmp_equiv}
 use Rattle.std.specs.Str.{bytes_eq}
-use Rattle.std.specs.declared.cmp.Ordering.{Ordering}
-use Rattle.std.specs.declared.cmp.Ordering.TheVariants.{Less, Equal, Greater}
 use Rattle.std.proofs.lemmas.Bool.Decides.{Decides-eqb}
 use Rattle.std.proofs.lemmas.Slice.Eq.{bytes_eq-Decides}
+use Rattle.std.proofs.lemmas.Bool.{and_from}
+use Rattle.lemmas.proofs.Options.{some_from_test, none_from_test}
 use Rattle.coap_codec.specs.Message.{Message}
 use Rattle.lwm2m_values.specs.declared.value.Value.{Value}
-use Rattle.object_defs.specs.Path.{full_path, path_cmp}
+use Rattle.object_defs.specs.Path.{full_path}
 use Rattle.object_defs.specs.declared.path.FullPath.{FullPath}
 use Rattle.object_defs.specs.declared.path.Path.{Path}
-use Rattle.object_defs.proofs.PathOrder.{path_exact, path_total}
+use Rattle.object_defs.proofs.PathOrder.{path_total}
 use Rattle.instance_store.specs.Stored.{Stored, value_at, with_value}
+use Rattle.instance_store.proofs.SetValues.{value_after, value_elsewhere}
 use Rattle.notifier.specs.Observed.{cancelled, is_named, next_number, number_for, registered}
 use Rattle.notifier.specs.declared.observation.Observation.{Observation}
 use Rattle.device_firmware.specs.Firmware.{firmware_after, outcome_in, uri_of, with_outcome, with_uri}
@@ -27,12 +26,10 @@ use Rattle.device_template.specs.Values.{misses}
 use Rattle.device_requests.specs.Answer.{is_content}
 use Rattle.device_requests.specs.Client.{Client}
 use Rattle.device_requests.specs.Observe.{interest_for, interest_in, interest_of, is_read}
-use Rattle.device_requests.specs.Options.{path_of, segments_of}
 use Rattle.device_requests.specs.Order.{Asks}
-use Rattle.device_requests.specs.Request.{outcome_of, request_by, request_of, request_on, request_with}
+use Rattle.device_requests.specs.Request.{outcome_of, request_with}
 use Rattle.device_requests.specs.declared.answer.Answer.{Answer}
 use Rattle.device_requests.specs.declared.answer.Code.{Code}
-use Rattle.device_requests.specs.declared.answer.Code.TheVariants.{BadOption}
 use Rattle.device_requests.specs.declared.observe.Interest.{Interest}
 use Rattle.device_requests.specs.declared.observe.Interest.TheVariants.{Cancel, Register}
 use Rattle.device_requests.specs.declared.operation.Operation.{Operation}
@@ -43,6 +40,7 @@ use Rattle.device_requests.specs.declared.request.Request.{Request}
 use Rattle.laws_requests.specs.Done.{Changes, DoneIsChanged}
 use Rattle.laws_requests.specs.Taken.{IsTaken}
 use Rattle.laws_requests.proofs.Taking.{is_taken}
+use Rattle.laws_requests.proofs.Asking.{asked}
 use Rattle.device_machine.specs.Observing.{begun, entered, lacks_place, noted_by, unobserved}
 use Rattle.device_machine.specs.Reactions.{flat_after, on_firmware}
 use Rattle.device_machine.specs.State.{Kept, Machine, with_client}
@@ -55,13 +53,8 @@ use Rattle.laws_device.proofs.Served.{served}
 
 -- ---- the observations of other names
 
-both_true : (a b : Bool) → a ≡ true → b ≡ true → (a && b) ≡ true
-both_true true true h k = refl
-both_true true false h k = k
-both_true false b h k = h
-
 named_self : (o : Observation) → is_named o.server o.token o ≡ true
-named_self o = both_true (o.server == o.server) (bytes_eq o.token o.token) ((Decides-eqb o.server o.server).1 refl)
+named_self o = and_from (o.server == o.server) (bytes_eq o.token o.token) ((Decides-eqb o.server o.server).1 refl)
     ((bytes_eq-Decides o.token o.token).1 refl)
 
 filter_twice : {X : Type 0} (p : X → Bool) (xs : List X) → filter p (filter p xs) ≡ filter p xs
@@ -134,13 +127,6 @@ not_read Create h = refl
 not_read Execute h = refl
 not_read Delete h = refl
 
-asked : (m : Message) (path : Path) (operation : Operation) → Asks m path operation
-    → request_of m ≡ Ok (request_with m path operation)
-asked m path operation asks =
-    ap (λ (b : Bool). if b then Err BadOption else request_on m (path_of (segments_of m.options))) asks.understood
-    ∙ ap (λ (p : Option Path). request_on m p) asks.goes_to
-    ∙ ap (λ (o : Option Operation). request_by m path o) asks.means
-
 asks_nothing : (m : Message) (path : Path) (operation : Operation) → Asks m path operation → operation ≢ Read
     → interest_of m ≡ None
 asks_nothing m path operation asks h =
@@ -171,25 +157,9 @@ are_done law f server bytes m path operation fresh kind asks code =
 
 -- ---- a value
 
-is_equal : (r : Ordering) → is_eq r ≡ true → r ≡ Equal
-is_equal Less h = cc
-is_equal Equal h = refl
-is_equal Greater h = cc
-
-inserted : (s : Stored) (p q : FullPath) (v : Value)
-    → value_at (with_value s p v) q ≡ cond (eq_by_cmp path_cmp q p) (Some v) (value_at s q)
-inserted s p q v = map.get-insert path_total s.values p v q
-
 there : (s : Stored) (p : FullPath) (v : Value) → value_at (with_value s p v) p ≡ Some v
 there s p v =
-    inserted s p p v ∙ ap (λ (b : Bool). cond b (Some v) (value_at s p)) ((eq_by_cmp_equiv path_total).refl p)
-
-elsewhere : (s : Stored) (p q : FullPath) (v : Value) → q ≢ p → value_at (with_value s p v) q ≡ value_at s q
-elsewhere s p q v other =
-    elim (eq_by_cmp path_cmp q p) as (λ b. eq_by_cmp path_cmp q p ≡ b → value_at (with_value s p v) q ≡ value_at s q) [
-      | true ↦ λ h. absurd (other (path_exact q p (is_equal _ h)))
-      | false ↦ λ h. inserted s p q v ∙ ap (λ b. cond b (Some v) (value_at s q)) h
-    ] refl
+    value_after s p p v ∙ ap (λ (b : Bool). cond b (Some v) (value_at s p)) ((eq_by_cmp_equiv path_total).refl p)
 
 sets : (f : Machine) (path : Path) (value : Value) (place : Option FullPath) → full_path path ≡ place
     → misses f.kept.client.catalog f.kept.client.store place value ≡ false → SetsOne f path value
@@ -205,7 +175,7 @@ sets f path value (Some p) e h =
       place = p;
       names = e;
       set = ap (λ (t : Stored). value_at t p) now ∙ there s p value;
-      others = λ q other. ap (λ (t : Stored). value_at t q) now ∙ elsewhere s p q value other;
+      others = λ q other. ap (λ (t : Stored). value_at t q) now ∙ value_elsewhere s p q value other;
       rest = put_stores f path value fits;
     }
 
@@ -217,19 +187,11 @@ puts_miss f path value h = put_missed f path value h
 
 -- ---- the firmware
 
-some_of : {A : Type 0} (r : Option A) → is_some r ≡ true → (a : A) × (r ≡ Some a)
-some_of None h = cc
-some_of (Some a) h = (a, refl)
-
-none_of : {A : Type 0} (r : Option A) → is_some r ≡ false → r ≡ None
-none_of None h = refl
-none_of (Some a) h = cc
-
 pub ends_taken : EndsAreTaken
 ends_taken f code h =
     let s = f.kept.client.store in
     let t = with_uri s (uri_of (Ended code)) in
-    let o = some_of (outcome_in s (Ended code)) h in
+    let o = some_from_test (outcome_in s (Ended code)) h in
     let after : firmware_after s (Ended code) ≡ Some (with_outcome t o.0) = ap (option_map (with_outcome t)) o.1 in
     record {
       taken = subst (λ (u : Stored). IsTaken s (Ended code) u)
@@ -242,4 +204,4 @@ pub ends_miss : EndsMiss
 ends_miss f code h =
     let s = f.kept.client.store in
     end_missed f code
-    (ap (option_map (with_outcome (with_uri s (uri_of (Ended code))))) (none_of (outcome_in s (Ended code)) h))
+    (ap (option_map (with_outcome (with_uri s (uri_of (Ended code))))) (none_from_test (outcome_in s (Ended code)) h))

@@ -4,6 +4,8 @@ use Rattle.std.proofs.Common.{map, replicate, Option, None, Some, refl, sym, ap,
 use Rattle.std.specs.Bool.{if◌then◌else◌}
 use Rattle.std.specs.List.{AllByRecursion, list_any}
 use Rattle.std.specs.Option.{is_some}
+use Rattle.std.proofs.Math.Bool.{and-false}
+use Rattle.lemmas.proofs.Lists.{each_filtered}
 use Rattle.coap_codec.specs.Message.{Message, spelling}
 use Rattle.coap_codec.specs.Reading.{reading_of}
 use Rattle.coap_codec.specs.declared.kind.Kind.TheVariants.{Con, Non}
@@ -39,7 +41,7 @@ use Rattle.laws_device.specs.Confirming.{TicksSendNons, UnansweredIsSentFiveTime
 use Rattle.laws_device.specs.Receiving.{Arrival}
 use Rattle.laws_device.specs.Receiving.Arrival.{ignored, rejected, empty_ack, empty_reset, repeated, fresh}
 use Rattle.laws_device.proofs.Arrived.{arrival_of, reaction_on, reacts}
-use Rattle.laws_device.proofs.Each.{acknowledged_each, filtered, noted_each}
+use Rattle.laws_device.proofs.Each.{acknowledged_each, noted_each}
 use Rattle.laws_device.proofs.Notify.{keeps_notify}
 use Rattle.laws_device.proofs.Sent.{not_resend, only_evaluated}
 
@@ -131,7 +133,7 @@ stays_on f server (empty_ack mid) h =
 stays_on f server (empty_reset mid) h =
     record {
       notify = h.notify;
-      closed = filtered IsClosed (λ o. not (was_sent server mid o)) f.kept.observations h.closed;
+      closed = each_filtered IsClosed (λ o. not (was_sent server mid o)) f.kept.observations h.closed;
     }
 stays_on f server (repeated m r) h = h
 stays_on f server (fresh m) h =
@@ -175,16 +177,12 @@ stays_with_nons f (Put path value) h =
 stays_with_nons f (Firmware code) h = firmware_stays f (firmware_after f.kept.client.store (Ended code)) h
 stays_with_nons f (Tick n) h = record { notify = h.notify; closed = (in_tick f n h).left }
 
-and_false : (b : Bool) → (b && false) ≡ false
-and_false true = refl
-and_false false = refl
-
 none_awaits : (server mid : ℕ) (os : List Observation) → AllByRecursion IsClosed os
     → list_any (is_awaited server mid) os ≡ false
 none_awaits server mid [] h = refl
 none_awaits server mid (o ∷ os) h =
     ap (λ t. (server == o.server && (is_some t && o.mid == mid)) || list_any (is_awaited server mid) os) h.0
-    ∙ ap (λ b. b || list_any (is_awaited server mid) os) (and_false (server == o.server))
+    ∙ ap (λ b. b || list_any (is_awaited server mid) os) (and-false (server == o.server))
     ∙ none_awaits server mid os h.1
 
 pub nons_ignore_acks : NonsIgnoreAcks

@@ -3,6 +3,7 @@ use Rattle.std.proofs.Common.{◌≡◌, ℕ, zero, suc, ◌+◌, ◌%◌, ◌<�
 use Rattle.std.proofs.Common.{refl, sym, ap, subst, ◌∙◌, arith}
 use Rattle.std.specs.List.{AllByRecursion}
 use Rattle.std.proofs.lemmas.List.{append-nil, append_assoc}
+use Rattle.std.proofs.lemmas.Option.{same_Some}
 use Rattle.device_machine.specs.declared.event.Event.{Event}
 use Rattle.device_machine.specs.declared.output.Output.{Output}
 use Rattle.device_machine.specs.Reactions.{flat_after, outputs_of}
@@ -18,9 +19,6 @@ pub count_both : (xs ys : List ℕ) (a b c : ℕ) → CountOn a xs b → CountOn
 count_both [] ys a b c h k = subst (λ n. CountOn n ys c) h k
 count_both (x ∷ xs) ys a b c h k = (h.0, count_both xs ys (id_after a) b c h.1 k)
 
-the_one : {X : Type 0} (x y : X) → Some x ≡ Some y → x ≡ y
-the_one x y h = cc
-
 first_counted : (next x mid : ℕ) → next < 65536 → x ≡ next → x ≡ mid → mid ≡ (next + 0) % 65536
 first_counted next x mid h is same = omega (arith, h, is, same)
 
@@ -34,7 +32,7 @@ id_within n = omega arith
 pub counted : (mids : List ℕ) (next last : ℕ) → CountOn next mids last → next < 65536 → (k mid : ℕ)
     → slice_get mids k ≡ Some mid → mid ≡ (next + k) % 65536
 counted [] next last h within k mid is = cc
-counted (x ∷ mids) next last h within zero mid is = first_counted next x mid within h.0 (the_one x mid is)
+counted (x ∷ mids) next last h within zero mid is = first_counted next x mid within h.0 (same_Some x mid is)
 counted (x ∷ mids) next last h within (suc k) mid is =
     next_counted next k mid (counted mids (id_after next) last h.1 (id_within next) k mid is)
 

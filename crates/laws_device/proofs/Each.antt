@@ -1,7 +1,8 @@
 -- What holds of each observation holds of those that an arrival leaves.
-use Rattle.std.proofs.Common.{ℕ, Bool, true, false, not, cond, List, [], ◌∷◌, Option, None, Some}
+use Rattle.std.proofs.Common.{ℕ, Bool, true, false, not, List, [], ◌∷◌, Option, None, Some}
 use Rattle.std.specs.Bool.{if◌then◌else◌}
-use Rattle.std.specs.List.{AllByRecursion, filter}
+use Rattle.std.specs.List.{AllByRecursion}
+use Rattle.lemmas.proofs.Lists.{each_filtered}
 use Rattle.coap_codec.specs.Message.{Message}
 use Rattle.object_defs.specs.declared.path.Path.{Path}
 use Rattle.notifier.specs.Observed.{as_closed, cancelled, is_awaited, is_named, next_number, number_for, registered}
@@ -13,15 +14,6 @@ use Rattle.device_requests.specs.declared.observe.Interest.{Interest}
 use Rattle.device_requests.specs.declared.observe.Interest.TheVariants.{Register, Cancel}
 use Rattle.device_machine.specs.Observing.{begun, entered, lacks_place, noted_by, unobserved}
 use Rattle.device_machine.specs.State.{Kept}
-
-pub filtered : {X : Type 0} (P : X → Type 0) (p : X → Bool) (xs : List X) → AllByRecursion P xs
-    → AllByRecursion P (filter p xs)
-filtered P p [] h = tt
-filtered P p (x ∷ xs) h =
-    elim (p x) as (λ b. AllByRecursion P (cond b (x ∷ filter p xs) (filter p xs))) [
-      | true ↦ (h.0, filtered P p xs h.1)
-      | false ↦ filtered P p xs h.1
-    ]
 
 -- an observation with another number is so too
 abbrev pub IsOfAnyNumber : (Observation → Type 0) → Type 0
@@ -53,14 +45,14 @@ pub noted_each : (P : Observation → Type 0) (kept : Kept) (server : ℕ) (m : 
     → AllByRecursion P kept.observations → AllByRecursion P (noted_by kept server m answer interest).left
 noted_each P kept server m answer None any new h = h
 noted_each P kept server m answer (Some Cancel) any new h =
-    filtered P (λ o. not (is_named server m.token o)) kept.observations h
+    each_filtered P (λ o. not (is_named server m.token o)) kept.observations h
 noted_each P kept server m answer (Some (Register path accept)) any new h =
     elim (is_content answer) as (λ b. AllByRecursion P
     (if b then entered kept.observations (begun kept server m path accept answer.payload)
     else unobserved (cancelled kept.observations server m.token)).left) [
       | true ↦ entered_each P kept.observations (begun kept server m path accept answer.payload) any h
           (new path accept)
-      | false ↦ filtered P (λ o. not (is_named server m.token o)) kept.observations h
+      | false ↦ each_filtered P (λ o. not (is_named server m.token o)) kept.observations h
     ]
 
 closed_or_not : (P : Observation → Type 0) (b : Bool) (o : Observation) → ((p : Observation) → P p → P (as_closed p))

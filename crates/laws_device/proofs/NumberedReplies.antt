@@ -4,6 +4,8 @@ use Rattle.std.proofs.Common.{◌↔◌, length, Option, None, Some, Err, option
 use Rattle.std.specs.Bool.{if◌then◌else◌}
 use Rattle.std.specs.List.{AllByRecursion, Contains}
 use Rattle.std.proofs.lemmas.List.Elements.{Contains-append_right}
+use Rattle.std.proofs.lemmas.Option.{none-some}
+use Rattle.lemmas.proofs.Lists.{each_filtered}
 use Rattle.coap_codec.specs.Message.{Message, Spells, kind_number, options_bytes, payload_bytes, spelling}
 use Rattle.coap_codec.specs.declared.kind.Kind.{Kind}
 use Rattle.coap_codec.specs.declared.kind.Kind.TheVariants.{Con, Non, Ack, Rst}
@@ -13,7 +15,6 @@ use Rattle.object_defs.specs.declared.path.Path.{Path}
 use Rattle.instance_store.specs.Stored.{Stored}
 use Rattle.lwm2m_values.specs.declared.value.Value.{Value}
 use Rattle.notifier.specs.Observed.{was_sent}
-use Rattle.notifier.specs.declared.observation.Timer.{Timer}
 use Rattle.device_firmware.specs.Firmware.{firmware_after}
 use Rattle.device_firmware.specs.declared.event.FirmwareEvent.TheVariants.{Ended}
 use Rattle.device_template.specs.Values.{misses, with_value_at}
@@ -49,7 +50,7 @@ use Rattle.laws_device.specs.Serving.{IsServed, Replies}
 use Rattle.laws_device.specs.Serving.Replies.{acknowledges as by_ack, answers as by_non, rejects as by_none}
 use Rattle.laws_device.proofs.Arrived.{arrival_is, arrival_of, method_tested, reaction_on, reacts}
 use Rattle.laws_device.proofs.Counted.{Given, given_both, given_free, given_none, given_own}
-use Rattle.laws_device.proofs.Each.{acknowledged_each, filtered, noted_each}
+use Rattle.laws_device.proofs.Each.{acknowledged_each, noted_each}
 use Rattle.laws_device.proofs.NumberedTicks.{all_still, tick_numbers}
 use Rattle.laws_device.proofs.Received.{observed}
 use Rattle.laws_device.proofs.Repeated.{no_repeat_found}
@@ -187,9 +188,6 @@ ack_for_con kind h =
 non_for_non : (kind : Kind) → kind ≡ Non → (replies_non kind ≡ true) ↔ (Non ≡ Non)
 non_for_non kind h = (λ e. refl, λ e. ap replies_non h)
 
-no_timer : (t : Timer) → None ≡ Some t → ⊥
-no_timer t h = cc
-
 asks_none : (m : Message) → has_unrecognized_critical m.options ≡ true → interest_of m ≡ None
 asks_none m u =
     ap (λ b. interest_for (if b then Err BadOption else request_on m (path_of (segments_of m.options)))) u
@@ -219,7 +217,7 @@ noted_sent before f k server m number answer reply next rest (by_ack con) same h
       token = refl;
       mid = sym (ap (reply_mid k.next_id m) con);
       non = ack_for_con m.kind con;
-      open_is = λ timer e. absurd (no_timer timer e);
+      open_is = λ timer e. absurd (none-some timer e);
     }) h
 noted_sent before f k server m number answer reply next rest (by_non non u) same h =
     let r = response Non f.kept.next_id m.token number answer in
@@ -239,7 +237,7 @@ noted_sent before f k server m number answer reply next rest (by_non non u) same
       token = refl;
       mid = sym (ap (reply_mid k.next_id m) non ∙ same);
       non = non_for_non m.kind non;
-      open_is = λ timer e. absurd (no_timer timer e);
+      open_is = λ timer e. absurd (none-some timer e);
     }) h
 noted_sent before f k server m number answer reply next rest (by_none non u) same h =
     subst (λ (i : Option Interest). AllByRecursion (WasSent (before ++ ([] ++ rest)))
@@ -298,7 +296,7 @@ on_arrival before f server bytes arrival h is (acknowledges m s k n) =
             token = w.token;
             mid = w.mid;
             non = w.non;
-            open_is = λ timer e. absurd (no_timer timer e);
+            open_is = λ timer e. absurd (none-some timer e);
           }) h.observations;
       replies = h.replies;
     }) refl)
@@ -307,7 +305,8 @@ on_arrival before f server bytes arrival h is (acknowledges_otherwise m s k n) =
 on_arrival before f server bytes arrival h is (resets m s k n) =
     subst (Numbers (Recv server bytes) before f) (sym is)
     (nothing (Recv server bytes) before f (reaction_on f server (empty_reset m.mid)).flat (record {
-      observations = filtered (WasSent before) (λ o. not (was_sent server m.mid o)) f.kept.observations h.observations;
+      observations = each_filtered (WasSent before) (λ o. not (was_sent server m.mid o)) f.kept.observations
+          h.observations;
       replies = h.replies;
     }) refl)
 on_arrival before f server bytes arrival h is (resets_otherwise m s k n) =

@@ -6,6 +6,7 @@ use Rattle.std.specs.List.{AllByRecursion}
 use Rattle.std.specs.Option.{option_to_list}
 use Rattle.std.proofs.lemmas.List.{append_assoc, map-append}
 use Rattle.std.proofs.lemmas.List.Elements.{Contains-append_left, Contains-append_right}
+use Rattle.std.proofs.lemmas.Option.{none-some, same_Some}
 use Rattle.coap_codec.specs.Message.{Message, spelling}
 use Rattle.coap_codec.specs.declared.kind.Kind.TheVariants.{Con, Non}
 use Rattle.notifier.specs.Observed.{next_number}
@@ -65,18 +66,12 @@ non_when : (non : Bool) (timer : Timer)
 non_when true timer = (λ h. refl, λ h. refl)
 non_when false timer = (λ h. cc, λ h. absurd (con_not_non h))
 
-the_timer : (a b : Timer) → Some a ≡ Some b → a ≡ b
-the_timer a b h = cc
-
-no_timer : (t : Timer) → None ≡ Some t → ⊥
-no_timer t h = cc
-
 open_when : (non : Bool) (bytes : List ℕ) (first : ℕ) (timer : Timer)
     → (if non then None else Some (record { bytes = bytes; first = first })) ≡ Some timer
     → ((if non then Non else Con) ≡ Con) × (timer.bytes ≡ bytes)
-open_when true bytes first timer h = absurd (no_timer timer h)
+open_when true bytes first timer h = absurd (none-some timer h)
 open_when false bytes first timer h =
-    (refl, sym (ap (λ (t : Timer). t.bytes) (the_timer (record { bytes = bytes; first = first }) timer h)))
+    (refl, sym (ap (λ (t : Timer). t.bytes) (same_Some (record { bytes = bytes; first = first }) timer h)))
 
 told_sent : (before : List Output) (client : Client) (clock next_id : ℕ) (o : Observation) (answer : Answer)
     → WasSent (before ++ send_of (next_notification client next_id o answer) ∷ []) (told client clock next_id o answer)

@@ -1,6 +1,6 @@
 -- Ticks in which nothing is due, and the second in which the quiet of a device ends.
 use Rattle.std.proofs.Common.{◌≡◌, ◌≢◌, ℕ, zero, suc, ◌+◌, ◌-◌, ◌<◌, ◌≤◌, ◌∙◌, Bool, true, false, List, [], ◌∷◌}
-use Rattle.std.proofs.Common.{◌++◌, length, map, refl, sym, ap, subst, arith}
+use Rattle.std.proofs.Common.{length, map, refl, sym, ap, subst, arith}
 use Rattle.std.proofs.Math.Logic.{◌⊎◌, inl, inr}
 use Rattle.std.proofs.Math.Nat.{eq-or-lt_of_le}
 use Rattle.notifier.specs.Due.{IsFirstDue, is_one_due}
@@ -10,9 +10,8 @@ use Rattle.device_notifications.specs.Laws.{StayInOrder}
 use Rattle.device_notifications.specs.Laws.StayInOrder.{none, stays, goes, expires}
 use Rattle.device_notifications.specs.Outlooks.{outlooks_of}
 use Rattle.device_notifications.specs.Second.{Sweep, and_then, quiet, second, seconds}
-use Rattle.device_notifications.proofs.Resting.{first_due, first_sending, jumps, loud_second}
-use Rattle.device_notifications.proofs.Resting.{quiet_second, quiet_seconds, rests_by_second}
-use Rattle.device_notifications.proofs.Turns.{keeps_order}
+use Rattle.device_notifications.proofs.Resting.{first_due, first_sending, jumps, loud_second, none_left, none_right}
+use Rattle.device_notifications.proofs.Resting.{quiet_second, quiet_seconds, rests_by_second, no_more_left}
 use Rattle.device_machine.specs.Reactions.{send_of, sweep_in}
 use Rattle.device_machine.specs.State.{Machine}
 use Rattle.laws_device.specs.Ticking.{DueEndsQuiet, EndsQuiet, IsQuiet, QuietEndsWhenDue, QuietNeverEnds}
@@ -25,14 +24,6 @@ at_rest f n rest =
 
 -- ---- seconds that send nothing and remove nothing
 
-none_left : {X : Type 0} (xs ys : List X) → xs ++ ys ≡ [] → xs ≡ []
-none_left [] ys h = refl
-none_left (x ∷ xs) ys h = cc
-
-none_right : {X : Type 0} (xs ys : List X) → xs ++ ys ≡ [] → ys ≡ []
-none_right [] ys h = h
-none_right (x ∷ xs) ys h = cc
-
 none_mapped : {X Y : Type 0} (f : X → Y) (xs : List X) → map f xs ≡ [] → xs ≡ []
 none_mapped f [] h = refl
 none_mapped f (x ∷ xs) h = cc
@@ -44,17 +35,12 @@ no_more client clock _ _ (stays o p os ps is h) = let rest = no_more client cloc
 no_more client clock _ _ (goes o os ps is gone h) = let rest = no_more client clock os ps h in omega (arith, rest)
 no_more client clock _ _ (expires o os ps is h) = let rest = no_more client clock os ps h in omega (arith, rest)
 
-few_after : (client : Client) (clock next_id : ℕ) (os : List Observation)
-    → length (second client clock next_id os).left ≤ length os
-few_after client clock next_id os =
-    no_more client clock os (second client clock next_id os).left (keeps_order client clock next_id os)
-
 few_later : (client : Client) (clock n next_id : ℕ) (os : List Observation)
     → length (seconds client clock n next_id os).left ≤ length os
 few_later client clock zero next_id os = omega arith
 few_later client clock (suc n) next_id os =
     let t = second client (clock + 1) next_id os in
-    let first = few_after client (clock + 1) next_id os in
+    let first = no_more_left client (clock + 1) next_id os in
     let later = few_later client (clock + 1) n t.next_id t.left in
     omega (arith, first, later)
 

@@ -4,6 +4,7 @@ use Rattle.std.proofs.Common.{List, [], ◌∷◌, ◌++◌, cond, None, Some}
 use Rattle.std.proofs.Common.{refl, sym, ap, ◌∙◌, eq-eqb}
 use Rattle.std.specs.List.{AllByRecursion, find}
 use Rattle.std.proofs.lemmas.Bool.{eqb-true, lt-ltb, ltb-true}
+use Rattle.lemmas.proofs.Lists.{each_weaker}
 use Rattle.coap_codec.specs.Message.{Message, kind_number}
 use Rattle.coap_codec.specs.Reading.{kind_of}
 use Rattle.coap_codec.specs.declared.kind.Kind.{Kind}
@@ -68,11 +69,6 @@ finds p (y ∷ before) after x h k =
 pub finds_none : {X : Type 0} (p : X → Bool) (xs : List X) → AllByRecursion (λ y. p y ≡ false) xs → find p xs ≡ None
 finds_none p [] h = refl
 finds_none p (y ∷ xs) h = ap (λ b. cond b (Some y) (find p xs)) h.0 ∙ finds_none p xs h.1
-
-pub each : {X : Type 0} (P Q : X → Type 0) (xs : List X) → ((x : X) → P x → Q x) → AllByRecursion P xs
-    → AllByRecursion Q xs
-each P Q [] h all = tt
-each P Q (x ∷ xs) h all = (h x all.0, each P Q xs h all.1)
 
 -- ---- which recorded requests are repeated
 
@@ -145,8 +141,8 @@ oldest f server m r h =
       after = is.after;
       parts = is.parts;
       repeats = passed f server m r is.passes;
-      no_older = each (λ q. repeats_it f server m q ≡ false) (IsNotRepeated f server m) is.before
-          (not_passed f server m) is.fail;
+      no_older = each_weaker (λ q. repeats_it f server m q ≡ false) (IsNotRepeated f server m)
+          (not_passed f server m) is.before is.fail;
     }
 
 pub oldest_found : (f : Machine) (server : ℕ) (m : Message) (r : Recorded) → IsOldest f server m r
@@ -154,17 +150,18 @@ pub oldest_found : (f : Machine) (server : ℕ) (m : Message) (r : Recorded) →
 oldest_found f server m r h =
     ap (λ rs. find (repeats_it f server m) rs) h.parts
     ∙ finds (repeats_it f server m) h.before h.after r
-    (each (IsNotRepeated f server m) (λ q. repeats_it f server m q ≡ false) h.before (fails_it f server m) h.no_older)
+    (each_weaker (IsNotRepeated f server m) (λ q. repeats_it f server m q ≡ false) (fails_it f server m) h.before
+    h.no_older)
     (passes_it f server m r h.repeats)
 
 pub none_repeated : (f : Machine) (server : ℕ) (m : Message) → repeat_of f server m ≡ None
     → AllByRecursion (IsNotRepeated f server m) f.recorded
 none_repeated f server m h =
-    each (λ q. repeats_it f server m q ≡ false) (IsNotRepeated f server m) f.recorded (not_passed f server m)
+    each_weaker (λ q. repeats_it f server m q ≡ false) (IsNotRepeated f server m) (not_passed f server m) f.recorded
     (none_found (repeats_it f server m) f.recorded h)
 
 pub no_repeat_found : (f : Machine) (server : ℕ) (m : Message) → AllByRecursion (IsNotRepeated f server m) f.recorded
     → repeat_of f server m ≡ None
 no_repeat_found f server m h =
     finds_none (repeats_it f server m) f.recorded
-    (each (IsNotRepeated f server m) (λ q. repeats_it f server m q ≡ false) f.recorded (fails_it f server m) h)
+    (each_weaker (IsNotRepeated f server m) (λ q. repeats_it f server m q ≡ false) (fails_it f server m) f.recorded h)

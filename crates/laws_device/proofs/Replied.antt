@@ -5,6 +5,8 @@ use Rattle.std.proofs.Common.{Result, Ok, Err, option_map, slice_index, refl, sy
 use Rattle.std.specs.Bool.{if◌then◌else◌}
 use Rattle.std.specs.List.{AllByRecursion, find}
 use Rattle.std.proofs.lemmas.Bool.Decides.{nat_tests}
+use Rattle.std.proofs.lemmas.Option.{none-some}
+use Rattle.lemmas.proofs.Lists.{each_filtered}
 use Rattle.coap_codec.specs.Message.{IsOptionList, IsWellFormed, Message, spelling}
 use Rattle.coap_codec.specs.declared.kind.Kind.{Kind}
 use Rattle.coap_codec.specs.declared.kind.Kind.TheVariants.{Con, Non, Ack, Rst}
@@ -44,11 +46,11 @@ use Rattle.device_machine.specs.declared.recorded.Recorded.{Recorded}
 use Rattle.laws_device.specs.Messages.{Arrives, DatagramsAreMessages, HasMessages, HasReply, IsReply}
 use Rattle.laws_device.specs.Serving.{IsServed, Replies}
 use Rattle.laws_device.specs.Serving.Replies.{acknowledges, answers, rejects}
-use Rattle.laws_device.proofs.Each.{acknowledged_each, filtered, noted_each}
+use Rattle.laws_device.proofs.Each.{acknowledged_each, noted_each}
 use Rattle.laws_device.proofs.Received.{observed}
 use Rattle.laws_device.proofs.Served.{first, served}
 use Rattle.laws_device.specs.Messages.{IsMessage, IsSound, SendsMessage}
-use Rattle.laws_device.proofs.Spelled.{Keeps, format_follows, id_fits, none_is, numbered, spelled, ticks}
+use Rattle.laws_device.proofs.Spelled.{Keeps, format_follows, id_fits, numbered, spelled, ticks}
 
 -- ---- what arrives
 
@@ -102,7 +104,7 @@ observed_fits : (k : Kept) (server : ℕ) (m : Message) (answer : Answer) (inter
     → AllByRecursion HasMessages (noted_by k server m answer interest).left
 observed_fits k server m answer interest h t =
     noted_each HasMessages k server m answer interest (λ o n f. record { token = f.token; open_is = f.open_is })
-    (λ path accept. record { token = t; open_is = λ timer e. absurd (none_is timer e) }) h
+    (λ path accept. record { token = t; open_is = λ timer e. absurd (none-some timer e) }) h
 
 reply_fits : (f : Machine) (m : Message) (number : Option ℕ) (answer : Answer) (reply : Option Message) (next : ℕ)
     → f.kept.next_id < 65536 → IsWellFormed m → IsShort answer.location → Replies f m number answer reply next
@@ -206,7 +208,7 @@ message_fits f server bytes m Ack h good s a reading k =
       sound = record {
         next_id = h.next_id;
         observations = acknowledged_each HasMessages f.kept.observations server m.mid
-            (λ o k. record { token = k.token; open_is = λ timer e. absurd (none_is timer e) }) h.observations;
+            (λ o k. record { token = k.token; open_is = λ timer e. absurd (none-some timer e) }) h.observations;
         replies = h.replies;
       };
     }) (silent f h)
@@ -216,7 +218,8 @@ message_fits f server bytes m Rst h good s a reading k =
       sent = tt;
       sound = record {
         next_id = h.next_id;
-        observations = filtered HasMessages (λ o. not (was_sent server m.mid o)) f.kept.observations h.observations;
+        observations = each_filtered HasMessages (λ o. not (was_sent server m.mid o)) f.kept.observations
+            h.observations;
         replies = h.replies;
       };
     }) (silent f h)

@@ -1,9 +1,10 @@
 -- What is caused is sent, and what is open is sent again, in its second.
-use Rattle.std.proofs.Common.{◌≡◌, ℕ, zero, suc, ◌+◌, ◌<◌, Bool, true, false, List, [], ◌∷◌, ◌++◌, None, refl, sym}
+use Rattle.std.proofs.Common.{◌≡◌, ℕ, zero, suc, ◌+◌, ◌<◌, true, List, [], ◌∷◌, ◌++◌, None, refl, sym}
 use Rattle.std.proofs.Common.{ap, subst, ◌∙◌, arith}
 use Rattle.std.specs.List.{Contains}
 use Rattle.std.specs.Option.{option_to_list}
 use Rattle.std.proofs.lemmas.List.Elements.{Contains-append_left, Contains-append_right}
+use Rattle.lemmas.proofs.Tests.{never_both}
 use Rattle.notifier.specs.Resending.{turn_at, turn_with}
 use Rattle.notifier.specs.declared.observation.Observation.{Observation}
 use Rattle.notifier.specs.declared.turn.Turn.{Turn}
@@ -18,9 +19,6 @@ use Rattle.laws_device.specs.Notifying.{SecondsSendCaused}
 use Rattle.laws_device.proofs.Causes.{due_of}
 
 -- ---- what one observation sends
-
-differs : (b : Bool) → b ≡ true → b ≡ false → ⊥
-differs b h k = cc
 
 not_wait : Evaluate ≡ Wait → ⊥
 not_wait h = cc
@@ -46,8 +44,8 @@ told_by client clock next_id o h =
       first_of _ [],
       record { mid = next_id; evaluated = is; message = refl; content = content; waited = h.waited },
     ))
-    (λ is content rests. absurd (differs _ due_now rests))
-    (λ is no_content. absurd (differs _ h.content no_content))
+    (λ is content rests. absurd (never_both _ due_now rests))
+    (λ is no_content. absurd (never_both _ h.content no_content))
     (λ is. absurd (not_wait (only_evaluated o clock Wait h.closed is)))
     (λ is. absurd (not_resend (only_evaluated o clock Resend h.closed is)))
     (λ is. absurd (not_expire (only_evaluated o clock Expire h.closed is)))

@@ -1,9 +1,8 @@
 -- What a request leaves, answered or refused.
 use Rattle.std.proofs.Common.{◌≡◌, ℕ, Bool, true, false, ◌⊎◌, inl, inr, List, [], ◌∷◌, ◌++◌, Option, None}
-use Rattle.std.proofs.Common.{Some, option_map, is_some, Ok, refl, sym, ap, subst, ◌∙◌}
+use Rattle.std.proofs.Common.{Some, option_map, is_some, refl, sym, ap, subst, ◌∙◌}
 use Rattle.std.specs.Bool.{if◌then◌else◌}
 use Rattle.coap_codec.specs.Message.{Message, spelling}
-use Rattle.coap_codec.specs.Reading.{reading_of}
 use Rattle.coap_codec.specs.declared.kind.Kind.{Kind}
 use Rattle.coap_codec.specs.declared.kind.Kind.TheVariants.{Con, Non, Ack, Rst}
 use Rattle.object_defs.specs.Lines.{first_line}
@@ -11,8 +10,9 @@ use Rattle.object_defs.specs.declared.path.Path.{Path}
 use Rattle.notifier.specs.Observed.{cancelled, number_for, registered}
 use Rattle.notifier.specs.declared.observation.Observation.{Observation}
 use Rattle.device_requests.specs.Answer.{Outcome, code_byte, is_content, is_content_code}
-use Rattle.device_requests.specs.Client.{has_account}
 use Rattle.std.proofs.lemmas.List.{append-nil}
+use Rattle.std.proofs.lemmas.Option.{same_Some}
+use Rattle.lemmas.proofs.Tests.{never_both}
 use Rattle.device_requests.specs.Laws.{is_refusal, lines_on, request_lines}
 use Rattle.device_requests.specs.Observe.{interest_of}
 use Rattle.device_requests.specs.Options.{has_unrecognized_critical, path_of, segments_of}
@@ -35,6 +35,8 @@ use Rattle.device_machine.specs.Reactions.{Reaction, is_request, record_of, repe
 use Rattle.device_machine.specs.State.{Kept, Machine, with_client, with_observations}
 use Rattle.device_machine.specs.declared.event.Event.TheVariants.{Recv}
 use Rattle.device_machine.specs.declared.recorded.Recorded.{Recorded}
+use Rattle.device_machine.proofs.Repeating.{client_after, reached}
+use Rattle.device_machine.proofs.Refusing.{observations_after}
 use Rattle.laws_device.specs.Serving.{ConfirmableRefusals, IsRefused, IsServed, NonConfirmableRefusals}
 use Rattle.laws_device.specs.Serving.{NonConfirmableRejects, Observes, Replies, RequestsAreServed, bare_reply, id_after}
 use Rattle.laws_device.specs.Serving.Observes.{asks_nothing, cancels, finds_no_place, is_refused, registers}
@@ -42,27 +44,12 @@ use Rattle.laws_device.specs.Serving.Replies.{acknowledges, answers, rejects}
 
 -- ---- what is kept
 
-kept_client : (k : Kept) (kind : Kind) (reply : Option Message) → (kept_after k kind reply).client ≡ k.client
-kept_client k Con reply = refl
-kept_client k Non None = refl
-kept_client k Non (Some reply) = refl
-kept_client k Ack reply = refl
-kept_client k Rst reply = refl
-
 kept_clock : (k : Kept) (kind : Kind) (reply : Option Message) → (kept_after k kind reply).clock ≡ k.clock
 kept_clock k Con reply = refl
 kept_clock k Non None = refl
 kept_clock k Non (Some reply) = refl
 kept_clock k Ack reply = refl
 kept_clock k Rst reply = refl
-
-kept_observations : (k : Kept) (kind : Kind) (reply : Option Message)
-    → (kept_after k kind reply).observations ≡ k.observations
-kept_observations k Con reply = refl
-kept_observations k Non None = refl
-kept_observations k Non (Some reply) = refl
-kept_observations k Ack reply = refl
-kept_observations k Rst reply = refl
 
 -- ---- a fresh request is answered
 
@@ -75,10 +62,6 @@ asked f server m o Ack (inl h) r e = cc
 asked f server m o Ack (inr h) r e = cc
 asked f server m o Rst (inl h) r e = cc
 asked f server m o Rst (inr h) r e = cc
-
-reached : (f : Machine) (server : ℕ) (bytes : List ℕ) (m : Message) → has_account f.kept.client server ≡ true
-    → reading_of bytes ≡ Ok m → reaction_to f (Recv server bytes) ≡ on_message f server m m.kind
-reached f server bytes m a r = rw (a, r) refl
 
 pub first : (f : Machine) (server : ℕ) (bytes : List ℕ) (m : Message) → IsFresh f server bytes m
     → (m.kind ≡ Con) ⊎ (m.kind ≡ Non)
@@ -162,9 +145,9 @@ serves f server m outcome h =
       sent = refl;
       recorded = refl;
       observes = subst (λ os. Observes before server m outcome.answer told.number os)
-          (sym (kept_observations k m.kind reply))
+          (sym (observations_after k m.kind reply))
           (observes_by before server m outcome.answer (interest_of m) refl);
-      client = kept_client k m.kind reply;
+      client = client_after k m.kind reply;
       clock = kept_clock k m.kind reply;
     }
 
@@ -200,9 +183,6 @@ not_content NotAcceptable h = refl
 not_content UnsupportedContentFormat h = refl
 not_content InternalServerError h = refl
 
-differs : (b : Bool) → b ≡ true → b ≡ false → ⊥
-differs b h k = cc
-
 other_kind : (kind : Kind) → kind ≡ Con → kind ≡ Non → ⊥
 other_kind kind h k = cc
 
@@ -213,7 +193,7 @@ unnumbered k server m answer number left h (asks_nothing i) = refl
 unnumbered k server m answer number left h (cancels i) = refl
 unnumbered k server m answer number left h (is_refused path accept i c) = refl
 unnumbered k server m answer number left h (finds_no_place path accept i c l) = refl
-unnumbered k server m answer number left h (registers path accept i c l) = absurd (differs (is_content answer) c h)
+unnumbered k server m answer number left h (registers path accept i c l) = absurd (never_both (is_content answer) c h)
 
 left_by : (k : Kept) (server : ℕ) (m : Message) (interest : Option Interest) → interest_of m ≡ interest
     → (if is_some interest then cancelled k.observations server m.token else k.observations)
@@ -229,8 +209,8 @@ left_then k server m answer number left h (cancels i) = left_by k server m (Some
 left_then k server m answer number left h (is_refused path accept i c) =
     left_by k server m (Some (Register path accept)) i
 left_then k server m answer number left h (finds_no_place path accept i c l) =
-    absurd (differs (is_content answer) c h)
-left_then k server m answer number left h (registers path accept i c l) = absurd (differs (is_content answer) c h)
+    absurd (never_both (is_content answer) c h)
+left_then k server m answer number left h (registers path accept i c l) = absurd (never_both (is_content answer) c h)
 
 -- the reply of a refusal
 bare_is : (kind : Kind) (mid : ℕ) (token : List ℕ) (number : Option ℕ) (answer : Answer) (code : Code)
@@ -244,9 +224,6 @@ bare_is kind mid token number answer code n c l f p = λ j. record {
   options = answer_options (n j) (l j) (f j);
   payload = p j;
 }
-
-same_code : (a b : Code) → Some a ≡ Some b → a ≡ b
-same_code a b h = cc
 
 -- what a request leaves that is refused, where its reply and the next message ID then are these
 refused : (f : Machine) (server : ℕ) (bytes : List ℕ) (m : Message) (reply : Option Message) (next_id : ℕ)
@@ -281,19 +258,20 @@ non_answer : (f : Machine) (m : Message) (number : Option ℕ) (answer : Answer)
     → (reply ≡ Some (response Non f.kept.next_id m.token number answer)) × (next ≡ id_after f.kept.next_id)
 non_answer f m number answer reply next k u (acknowledges c) = absurd (other_kind m.kind c k)
 non_answer f m number answer reply next k u (answers n h) = (refl, refl)
-non_answer f m number answer reply next k u (rejects n h) = absurd (differs (has_unrecognized_critical m.options) h u)
+non_answer f m number answer reply next k u (rejects n h) =
+    absurd (never_both (has_unrecognized_critical m.options) h u)
 
 non_none : (f : Machine) (m : Message) (number : Option ℕ) (answer : Answer) (reply : Option Message) (next : ℕ)
     → m.kind ≡ Non → has_unrecognized_critical m.options ≡ true → Replies f m number answer reply next
     → (reply ≡ None) × (next ≡ f.kept.next_id)
 non_none f m number answer reply next k u (acknowledges c) = absurd (other_kind m.kind c k)
-non_none f m number answer reply next k u (answers n h) = absurd (differs (has_unrecognized_critical m.options) u h)
+non_none f m number answer reply next k u (answers n h) = absurd (never_both (has_unrecognized_critical m.options) u h)
 non_none f m number answer reply next k u (rejects n h) = (refl, refl)
 
 said : (f : Machine) (server : ℕ) (m : Message) (code : Code)
     → first_line (request_lines f.kept.client server m) ≡ Some code
     → (outcome_of f.kept.client server m).answer.code ≡ code
-said f server m code h = same_code _ code (sym (says f.kept.client server m) ∙ h)
+said f server m code h = same_Some _ code (sym (says f.kept.client server m) ∙ h)
 
 bare_said : (f : Machine) (server : ℕ) (bytes : List ℕ) (m : Message) (code : Code) (kind : Kind) (mid : ℕ)
     (s : IsServed f server bytes m)

@@ -8,6 +8,7 @@ use Rattle.std.specs.Str.{bytes_eq}
 use Rattle.std.proofs.lemmas.Bool.Decides.{nat_tests}
 use Rattle.std.proofs.lemmas.Int.{ints}
 use Rattle.std.proofs.lemmas.Slice.Eq.{bytes_eq-Decides}
+use Rattle.lemmas.proofs.Tests.{never_both}
 use Rattle.notifier.specs.Trigger.{crosses_gt, crosses_lt, differ, has_condition, is_above, is_below, is_due}
 use Rattle.notifier.specs.Trigger.{is_triggered, number_triggers, steps_st}
 use Rattle.notifier.specs.declared.attribute.Name.TheVariants as name
@@ -83,16 +84,13 @@ rests client clock o h =
     (number_at client o.path) (present client o).payload h.st_above_0)
     ∙ not_due (age_of clock o) (pmin_of client o.server o.path)
 
-differs : (b : Bool) → b ≡ true → b ≡ false → ⊥
-differs b h k = cc
-
 quiet_turn : (client : Client) (clock next_id : ℕ) (o : Observation) → IsSettled client o
     → turn_of client clock next_id o ≡ quiet next_id (o ∷ [])
 quiet_turn client clock next_id o h =
     by_all client clock next_id o (λ t. t ≡ quiet next_id (o ∷ []))
-    (λ is content due. absurd (differs _ due (rests client clock o h)))
+    (λ is content due. absurd (never_both _ due (rests client clock o h)))
     (λ is content rest. refl)
-    (λ is no_content. absurd (differs _ h.content no_content))
+    (λ is no_content. absurd (never_both _ h.content no_content))
     (λ is. refl)
     (λ is. absurd (not_resend (only_evaluated o clock Resend h.closed is)))
     (λ is. absurd (not_expire (only_evaluated o clock Expire h.closed is)))

@@ -4,6 +4,7 @@ use Rattle.std.proofs.Common.{List, [], ◌∷◌, ◌++◌, length, map, Option
 use Rattle.std.proofs.Common.{option_map, refl, subst, arith}
 use Rattle.std.specs.Bool.{if◌then◌else◌}
 use Rattle.std.specs.List.{AllByRecursion}
+use Rattle.std.proofs.lemmas.Option.{same_Some, none-some}
 use Rattle.coap_codec.specs.Message.{IsOptionList, IsWellFormed, Message, spelling}
 use Rattle.coap_codec.specs.Number.{shortest}
 use Rattle.coap_codec.specs.Options.{number_option}
@@ -132,23 +133,17 @@ record Fits (t : Sweep) : Type 0 where
   left : AllByRecursion HasMessages t.left
   next_id : t.next_id < 65536
 
-some_of : {X : Type 0} (x y : X) → Some x ≡ Some y → x ≡ y
-some_of x y h = cc
-
-pub none_is : {X : Type 0} (x : X) → None ≡ Some x → ⊥
-none_is x h = cc
-
 -- a Confirmable notification is sent again with the bytes of a message
 timer_fits : (none : Bool) (bytes : List ℕ) (first : ℕ) (timer : Timer) → IsMessage bytes
     → (if none then None else Some (record { bytes = bytes; first = first })) ≡ Some timer → IsMessage timer.bytes
-timer_fits true bytes first timer h e = absurd (none_is timer e)
+timer_fits true bytes first timer h e = absurd (none-some timer e)
 timer_fits false bytes first timer h e =
-    subst (λ (t : Timer). IsMessage t.bytes) (some_of (record { bytes = bytes; first = first }) timer e) h
+    subst (λ (t : Timer). IsMessage t.bytes) (same_Some (record { bytes = bytes; first = first }) timer e) h
 
 open_fits : (o : Observation) (timer : Option Timer) (d : Datagram)
     → ((t : Timer) → timer ≡ Some t → IsMessage t.bytes) → option_map (resent o) timer ≡ Some d → HasMessage d
-open_fits o None d h e = absurd (none_is d e)
-open_fits o (Some t) d h e = subst HasMessage (some_of (resent o t) d e) (h t refl)
+open_fits o None d h e = absurd (none-some d e)
+open_fits o (Some t) d h e = subst HasMessage (same_Some (resent o t) d e) (h t refl)
 
 told_fits : (client : Client) (clock next_id : ℕ) (o : Observation) (answer : Answer) → HasMessages o
     → next_id < 65536 → HasMessages (told client clock next_id o answer)
