@@ -1,9 +1,10 @@
 -- What the text of a run shows.
-use Rattle.std.proofs.Common.{◌≡◌, ℕ, zero, suc, ◌+◌, List, [], ◌∷◌, ◌++◌, take, drop, None, Some, slice_get, refl, sym}
+use Rattle.std.proofs.Common.{◌≡◌, ℕ, suc, ◌+◌, List, [], ◌∷◌, ◌++◌, take, drop, Some, slice_get, refl, sym}
 use Rattle.std.proofs.Common.{ap, subst, ◌∙◌, arith}
 use Rattle.std.specs.List.{sum_by}
 use Rattle.std.proofs.lemmas.List.{take-append-drop}
 use Rattle.std.proofs.lemmas.List.Sums.{sum_by-cons}
+use Rattle.lemmas.proofs.Lists.{take_next}
 use Rattle.device_template.specs.Template.{Template}
 use Rattle.device_machine.specs.State.{Machine}
 use Rattle.device_machine.specs.declared.event.Event.TheVariants.{Recv, Put, Firmware, Tick}
@@ -17,11 +18,6 @@ use Rattle.fleet_core.proofs.Clock.{recv_clock, put_clock, firmware_clock}
 use Rattle.fleet_core.proofs.Posts.{run_left, run_last}
 use Rattle.trace_text.specs.Seconds.{second_at, step_seconds}
 
-take_suc : {X : Type 0} (xs : List X) (i : ℕ) (x : X) → slice_get xs i ≡ Some x → take (suc i) xs ≡ take i xs ++ x ∷ []
-take_suc [] i x h = let e : None ≡ Some x = h in absurd cc
-take_suc (y ∷ ys) zero x h = let e : Some y ≡ Some x = h in let f : y ≡ x = cc in ap (λ z. z ∷ []) f
-take_suc (y ∷ ys) (suc i) x h = ap (λ l. y ∷ l) (take_suc ys i x h)
-
 -- an entry of a run follows those before it
 pub follows : (s : Scenario) (es : List Entry) (n : ℕ) (e : Entry) → IsRun s es → slice_get es n ≡ Some e
     → Fits s (take n es) e
@@ -29,7 +25,7 @@ follows s es n e run at =
     let whole : take (suc n) es ++ drop (suc n) es ≡ es = take-append-drop (suc n) es in
     let front : IsRun s (take (suc n) es) =
     run_left s (take (suc n) es) (drop (suc n) es) (subst (IsRun s) (sym whole) run) in
-    run_last s (take n es) e (subst (IsRun s) (take_suc es n e at) front)
+    run_last s (take n es) e (subst (IsRun s) (take_next es n e at) front)
 
 -- a step sets the clock on by its seconds
 step_clock : (f : Machine) (step : Step) → (step_after f step).kept.clock ≡ f.kept.clock + step_seconds step
