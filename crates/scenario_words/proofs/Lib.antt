@@ -7,4 +7,5 @@ pub mod HexLaws
 pub mod Pairs
 pub mod WordLaws
 pub mod PathLaws
+pub mod Above
 pub mod ValueLaws

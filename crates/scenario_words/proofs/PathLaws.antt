@@ -100,7 +100,7 @@ parts_read ((b ∷ bs) ∷ ws) p e = cc
 no_digit : (c d : ℕ) → is_ascii_digit c ≡ false → is_ascii_digit d ≡ true → d ≢ c
 no_digit c d other digit e = absurd (false≢true (sym other ∙ sym (ap is_ascii_digit e) ∙ digit))
 
-other_byte : (c b : ℕ) (bs : List ℕ) → b ≢ c → parts c (b ∷ bs) ≡ onto_first b (parts c bs)
+pub other_byte : (c b : ℕ) (bs : List ℕ) → b ≢ c → parts c (b ∷ bs) ≡ onto_first b (parts c bs)
 other_byte c b bs e = ap (λ t. cond t ([] ∷ parts c bs) (onto_first b (parts c bs))) (ne_eqb b c e)
 
 apart : (c : ℕ) (ds rest : List ℕ) → is_ascii_digit c ≡ false → list_all is_ascii_digit ds ≡ true
@@ -167,7 +167,7 @@ numbers_again (Instance o i) h = rw (half_from o h.0, half_from i h.1) refl
 numbers_again (Resource o i r) h = rw (half_from o h.0, half_from i h.1, half_from r h.2) refl
 numbers_again (Part o i r p) h = rw (half_from o h.0, half_from i h.1, half_from r h.2, half_from p h.3) refl
 
-path_again : (p : Path) → IsPath p → path_of (path_text p) ≡ Ok p
+pub path_again : (p : Path) → IsPath p → path_of (path_text p) ≡ Ok p
 path_again p h =
     ap path_of_parts (path_parts p h) ∙ ap (λ t. cond t (path_of_numbers (number_words p)) (Err Token))
     (are_numbers p h) ∙ numbers_again p h

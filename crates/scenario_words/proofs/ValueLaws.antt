@@ -1,15 +1,13 @@
 -- A value that is written is read again, and so are its two words.
-use Rattle.std.proofs.Common.{◌≡◌, ℕ, ◌/◌, ◌%◌, ◌<◌, ◌^◌, not, ℤ, pos, negsuc, suc, inl, inr, Bool, true, false, cond}
+use Rattle.std.proofs.Common.{◌≡◌, ℕ, ◌/◌, ◌%◌, ◌<◌, not, ℤ, pos, negsuc, suc, inl, inr, Bool, true, false, cond}
 use Rattle.std.proofs.Common.{eqb, ltb, List, [], ◌∷◌, ◌++◌, length, Result, Ok, Err, refl, ap, ◌∙◌, arith}
 use Rattle.std.proofs.Common.{append_assoc, length-append, FitsSigned, w64}
 use Rattle.std.specs.Prelude.{IfOk}
 use Rattle.std.specs.List.{list_all, onto_first, flat_map}
-use Rattle.std.specs.Char.{is_ascii_digit}
 use Rattle.std.specs.Fmt.{decimal, signed_decimal}
-use Rattle.std.proofs.lemmas.Bool.{and_parts, and_from, cases_Bool, ne_eqb, ltb-true, not_from_false, not-true}
+use Rattle.std.proofs.lemmas.Bool.{and_parts, and_from, cases_Bool, not_from_false, not-true}
 use Rattle.std.proofs.lemmas.Bool.Decides.{nat_tests}
 use Rattle.std.proofs.lemmas.List.Folds.{list_all-append}
-use Rattle.std.proofs.lemmas.Fmt.{decimal_nonempty}
 use Rattle.lwm2m_values.specs.declared.kind.ValueKind.{ValueKind}
 use Rattle.lwm2m_values.specs.declared.kind.ValueKind.TheVariants as kind
 use Rattle.lwm2m_values.specs.declared.value.Value.{Value}
@@ -22,11 +20,11 @@ use Rattle.scenario_words.specs.HexWord.{digit_of, hex_byte, hex_word}
 use Rattle.scenario_words.specs.Quoted.{is_plain, escaped, quoted_word}
 use Rattle.scenario_words.specs.PathWord.{link_word}
 use Rattle.scenario_words.specs.ValueWords.{kind_word, kind_named, value_of, value_at, IsValue, value_word, spelled}
-use Rattle.scenario_words.proofs.Digits.{natural_digits}
-use Rattle.scenario_words.proofs.NumberLaws.{is_natural-decimal, integer_of-law}
+use Rattle.scenario_words.proofs.NumberLaws.{integer_of-law}
 use Rattle.scenario_words.proofs.Pairs.{hex_law, hex_written, quoted_law, quoted_written, plain_no_quote}
 use Rattle.scenario_words.proofs.PathLaws.{link_again}
-use Rattle.scenario_words.proofs.WordLaws.{words_again, plain_byte, gap_byte}
+use Rattle.scenario_words.proofs.WordLaws.{words_again}
+use Rattle.scenario_words.proofs.Above.{plain_word, decimal_above, decimal_word, bytes_word}
 
 value_again : (v : Value) → IsValue v → value_of (kind_of v) (value_word v) ≡ Ok v
 value_again (value.Text t) h =
@@ -41,7 +39,7 @@ value_again (value.Moment z) h =
     ap (λ r. r >>= (λ x. Ok (value.Moment x))) ((integer_of-law z (signed_decimal z)).1 (refl, h))
 value_again (value.Link o i) h = ap (λ r. r >>= (λ p. Ok (value.Link p.0 p.1))) (link_again o i h.0 h.1)
 
-kind_again : (k : ValueKind) → kind_named (kind_word k) ≡ Ok k
+pub kind_again : (k : ValueKind) → kind_named (kind_word k) ≡ Ok k
 kind_again kind.Text = refl
 kind_again kind.Whole = refl
 kind_again kind.Flag = refl
@@ -60,55 +58,10 @@ value_at_again v ws h =
 
 -- words that hold no space, no quote and no `#`
 
-abbrev above : List ℕ → Bool
-above w = list_all (λ b. ltb 35 b) w
-
-plain_end : (w : List ℕ) → above w ≡ true → scan plain (w ++ 32 ∷ []) ≡ w ∷ []
-plain_end [] h = refl
-plain_end (b ∷ w) h =
-    let both = and_parts (ltb 35 b) (above w) h in
-    let large : 35 < b = ltb-true 35 b both.0 in
-    plain_byte b (w ++ 32 ∷ []) (λ e. omega arith) ∙ ap (onto_first b) (plain_end w both.1)
-
-plain_word : (w : List ℕ) → 0 < length w → above w ≡ true → IsWord w
-plain_word [] some h = absurd (omega arith)
-plain_word (b ∷ w) some h =
-    let both = and_parts (ltb 35 b) (above w) h in
-    let large : 35 < b = ltb-true 35 b both.0 in
-    gap_byte b (w ++ 32 ∷ []) (λ e. omega arith) (λ e. omega arith)
-    ∙ ap (λ t. onto_first b (scan (cond t quoted plain) (w ++ 32 ∷ []))) (ne_eqb b 34 (λ e. omega arith))
-    ∙ ap (onto_first b) (plain_end w both.1)
-
-digit_above : (d : ℕ) → is_ascii_digit d ≡ true → ltb 35 d ≡ true
-digit_above d h = grind (arith, nat_tests)
-
-digits_above : (ds : List ℕ) → list_all is_ascii_digit ds ≡ true → above ds ≡ true
-digits_above [] h = refl
-digits_above (d ∷ ds) h =
-    let both = and_parts (is_ascii_digit d) (list_all is_ascii_digit ds) h in
-    and_from _ _ (digit_above d both.0) (digits_above ds both.1)
-
-decimal_above : (n : ℕ) → n < 2 ^ 64 → above (decimal n) ≡ true
-decimal_above n h = digits_above (decimal n) (natural_digits (decimal n) (is_natural-decimal n h))
-
-decimal_word : (n : ℕ) → n < 2 ^ 64 → IsWord (decimal n)
-decimal_word n h = plain_word (decimal n) (decimal_nonempty n h) (decimal_above n h)
-
 integer_word : (z : ℤ) → FitsSigned w64 z → IsWord (signed_decimal z)
 integer_word (pos n) h = decimal_word n (omega (arith, h.sfits))
 integer_word (negsuc n) h =
     plain_word (45 ∷ decimal (suc n)) (omega arith) (and_from _ _ refl (decimal_above (suc n) (omega (arith, h.sfits))))
-
-hex_digit_above : (v : ℕ) → ltb 35 (digit_of v) ≡ true
-hex_digit_above v = grind (arith, nat_tests)
-
-hex_above : (bs : List ℕ) → above (flat_map hex_byte bs) ≡ true
-hex_above [] = refl
-hex_above (b ∷ bs) = and_from _ _ (hex_digit_above (b / 16)) (and_from _ _ (hex_digit_above (b % 16)) (hex_above bs))
-
-bytes_word : (bs : List ℕ) → IsWord (hex_word bs)
-bytes_word [] = refl
-bytes_word (b ∷ bs) = plain_word (flat_map hex_byte (b ∷ bs)) (omega arith) (hex_above (b ∷ bs))
 
 links_word : (o i : ℕ) → o < 65536 → i < 65536 → IsWord (link_word o i)
 links_word o i h k =

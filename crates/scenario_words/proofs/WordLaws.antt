@@ -24,16 +24,16 @@ scan_some plain (b ∷ bs) h e = chosen_some (eqb b 32) b [] (scan gap bs) (scan
 scan_some quoted [] h e = cc
 scan_some quoted (b ∷ bs) h e = onto_some b (scan (cond (eqb b 34) plain quoted) bs) e
 
-plain_space : (b : ℕ) (bs : List ℕ) → b ≡ 32 → scan plain (b ∷ bs) ≡ [] ∷ scan gap bs
+pub plain_space : (b : ℕ) (bs : List ℕ) → b ≡ 32 → scan plain (b ∷ bs) ≡ [] ∷ scan gap bs
 plain_space b bs e = ap (λ t. cond t ([] ∷ scan gap bs) (onto_first b (scan plain bs))) (eq-eqb b 32 e)
 
 pub plain_byte : (b : ℕ) (bs : List ℕ) → b ≢ 32 → scan plain (b ∷ bs) ≡ onto_first b (scan plain bs)
 plain_byte b bs e = ap (λ t. cond t ([] ∷ scan gap bs) (onto_first b (scan plain bs))) (ne_eqb b 32 e)
 
-quoted_quote : (b : ℕ) (bs : List ℕ) → b ≡ 34 → scan quoted (b ∷ bs) ≡ onto_first b (scan plain bs)
+pub quoted_quote : (b : ℕ) (bs : List ℕ) → b ≡ 34 → scan quoted (b ∷ bs) ≡ onto_first b (scan plain bs)
 quoted_quote b bs e = ap (λ t. onto_first b (scan (cond t plain quoted) bs)) (eq-eqb b 34 e)
 
-quoted_byte : (b : ℕ) (bs : List ℕ) → b ≢ 34 → scan quoted (b ∷ bs) ≡ onto_first b (scan quoted bs)
+pub quoted_byte : (b : ℕ) (bs : List ℕ) → b ≢ 34 → scan quoted (b ∷ bs) ≡ onto_first b (scan quoted bs)
 quoted_byte b bs e = ap (λ t. onto_first b (scan (cond t plain quoted) bs)) (ne_eqb b 34 e)
 
 -- what ends a word: tail is read as an empty rest of it, and these words
@@ -63,12 +63,12 @@ quoted_then (b ∷ w) tail ws t e = elim (cases_eq b 34) [
       quoted_byte b (w ++ tail) other ∙ ap (onto_first b) (quoted_then w tail ws t rest)
 ]
 
-gap_space : (b : ℕ) (bs : List ℕ) → b ≡ 32 → scan gap (b ∷ bs) ≡ scan gap bs
+pub gap_space : (b : ℕ) (bs : List ℕ) → b ≡ 32 → scan gap (b ∷ bs) ≡ scan gap bs
 gap_space b bs e =
     ap (λ t. cond t (scan gap bs) (cond (eqb b 35) [] (onto_first b (scan (cond (eqb b 34) quoted plain) bs))))
     (eq-eqb b 32 e)
 
-gap_comment : (b : ℕ) (bs : List ℕ) → b ≢ 32 → b ≡ 35 → scan gap (b ∷ bs) ≡ []
+pub gap_comment : (b : ℕ) (bs : List ℕ) → b ≢ 32 → b ≡ 35 → scan gap (b ∷ bs) ≡ []
 gap_comment b bs s e =
     ap (λ t. cond t (scan gap bs) (cond (eqb b 35) [] (onto_first b (scan (cond (eqb b 34) quoted plain) bs))))
     (ne_eqb b 32 s)
@@ -136,7 +136,7 @@ split_some (b ∷ bs) e = chosen_some (eqb b 10) b [] (lines bs) (lines bs) e
 line_end : (b : ℕ) (bs : List ℕ) → b ≡ 10 → lines (b ∷ bs) ≡ [] ∷ lines bs
 line_end b bs e = ap (λ t. cond t ([] ∷ lines bs) (onto_first b (lines bs))) (eq-eqb b 10 e)
 
-line_byte : (b : ℕ) (bs : List ℕ) → b ≢ 10 → lines (b ∷ bs) ≡ onto_first b (lines bs)
+pub line_byte : (b : ℕ) (bs : List ℕ) → b ≢ 10 → lines (b ∷ bs) ≡ onto_first b (lines bs)
 line_byte b bs e = ap (λ t. cond t ([] ∷ lines bs) (onto_first b (lines bs))) (ne_eqb b 10 e)
 
 line_then : (l rest : List ℕ) → IsLine l → lines (l ++ 10 ∷ rest) ≡ l ∷ lines rest
