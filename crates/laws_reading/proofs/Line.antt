@@ -1,35 +1,16 @@
 -- A line is cut into the words that it has.
-use Rattle.std.proofs.Common.{◌≡◌, ◌≢◌, ◌⊎◌, ℕ, cond, eqb, List, [], ◌∷◌, ◌++◌, refl, sym}
+use Rattle.std.proofs.Common.{◌≡◌, ◌≢◌, ◌⊎◌, ℕ, cond, List, [], ◌∷◌, ◌++◌, refl, sym}
 use Rattle.std.proofs.Common.{ap, subst, ◌∙◌}
 use Rattle.std.proofs.Common.{append_assoc, append-nil, inl, inr}
 use Rattle.std.specs.List.{onto_first}
 use Rattle.std.proofs.lemmas.Bool.{cases_eq, eq-eqb, ne_eqb}
 use Rattle.scenario_words.specs.Words.{gap, plain, quoted, scan, words}
-use Rattle.scenario_words.proofs.WordLaws.{plain_byte, gap_byte}
+use Rattle.scenario_words.proofs.WordLaws.{plain_byte, gap_byte, plain_space, quoted_quote, quoted_byte, gap_space}
+use Rattle.scenario_words.proofs.WordLaws.{gap_comment}
 use Rattle.laws_reading.specs.Line.{AreSpaces, IsWithout, IsComment, IsBare, IsInQuotes, IsUnclosed, AreWords}
 use Rattle.laws_reading.specs.Line.{LinesHaveWords}
 
 -- a byte at a time
-
-plain_space : (b : ℕ) (bs : List ℕ) → b ≡ 32 → scan plain (b ∷ bs) ≡ [] ∷ scan gap bs
-plain_space b bs e = ap (λ t. cond t ([] ∷ scan gap bs) (onto_first b (scan plain bs))) (eq-eqb b 32 e)
-
-quoted_quote : (b : ℕ) (bs : List ℕ) → b ≡ 34 → scan quoted (b ∷ bs) ≡ onto_first b (scan plain bs)
-quoted_quote b bs e = ap (λ t. onto_first b (scan (cond t plain quoted) bs)) (eq-eqb b 34 e)
-
-quoted_byte : (b : ℕ) (bs : List ℕ) → b ≢ 34 → scan quoted (b ∷ bs) ≡ onto_first b (scan quoted bs)
-quoted_byte b bs e = ap (λ t. onto_first b (scan (cond t plain quoted) bs)) (ne_eqb b 34 e)
-
-gap_space : (b : ℕ) (bs : List ℕ) → b ≡ 32 → scan gap (b ∷ bs) ≡ scan gap bs
-gap_space b bs e =
-    ap (λ t. cond t (scan gap bs) (cond (eqb b 35) [] (onto_first b (scan (cond (eqb b 34) quoted plain) bs))))
-    (eq-eqb b 32 e)
-
-gap_comment : (b : ℕ) (bs : List ℕ) → b ≢ 32 → b ≡ 35 → scan gap (b ∷ bs) ≡ []
-gap_comment b bs s e =
-    ap (λ t. cond t (scan gap bs) (cond (eqb b 35) [] (onto_first b (scan (cond (eqb b 34) quoted plain) bs))))
-    (ne_eqb b 32 s)
-    ∙ ap (λ t. cond t [] (onto_first b (scan (cond (eqb b 34) quoted plain) bs))) (eq-eqb b 35 e)
 
 gap_quote : (b : ℕ) (bs : List ℕ) → b ≢ 32 → b ≢ 35 → b ≡ 34 → scan gap (b ∷ bs) ≡ onto_first b (scan quoted bs)
 gap_quote b bs s c q = gap_byte b bs s c ∙ ap (λ t. onto_first b (scan (cond t quoted plain) bs)) (eq-eqb b 34 q)

@@ -17,7 +17,7 @@ use Rattle.scenario_words.specs.Number.{number_of}
 use Rattle.scenario_words.specs.PathWord.{IsPath, path_of}
 use Rattle.scenario_words.specs.Reading.{◌>>=◌, ended, word_by}
 use Rattle.scenario_words.proofs.Pairs.{hex_law}
-use Rattle.scenario_words.proofs.PathLaws.{bind_ok, path_law}
+use Rattle.scenario_words.proofs.PathLaws.{bind_ok, path_law, path_again}
 use Rattle.scenario_mnemonics.specs.declared.action.Action.{Action}
 use Rattle.scenario_mnemonics.specs.declared.action.Action.TheVariants as act
 use Rattle.scenario_mnemonics.specs.declared.format.Format.{Format}
@@ -37,10 +37,12 @@ use Rattle.scenario_mnemonics.specs.MnemonicWords.{keyword_of}
 use Rattle.scenario_mnemonics.specs.MnemonicWords.{keyword_word, mnemonic_at, payload_at, queries_at, said}
 use Rattle.scenario_mnemonics.specs.MnemonicWords.{short_token, token_at, type_of, type_word, verb_of, verb_word}
 use Rattle.scenario_mnemonics.specs.Queries.{are_queries, is_query}
+use Rattle.scenario_mnemonics.proofs.Spelling.{type_again, format_again}
 use Rattle.scenario_statements.specs.Spelling.{IsWithin}
+use Rattle.scenario_statements.proofs.Again.{number_again}
 use Rattle.laws_reading.specs.Statements.{AreAsked, AreDetails, IsAsked, IsQueryWord}
-use Rattle.laws_reading.proofs.ReadWords.{by_name, ended_read, is_some_word, is_word, last_taken, number_again}
-use Rattle.laws_reading.proofs.ReadWords.{number_read, ok_of, path_again, taken}
+use Rattle.laws_reading.proofs.ReadWords.{by_name, ended_read, is_some_word, is_word, last_taken}
+use Rattle.laws_reading.proofs.ReadWords.{number_read, ok_of, taken}
 use Rattle.laws_reading.proofs.Refused.{each_said, each_tested}
 use Rattle.laws_reading.proofs.WrongNames.{graphic_said, graphic_tested}
 
@@ -80,22 +82,12 @@ type_read w t =
     by_name w (codes "con") _ _ (Ok t) (w ≡ type_word t) (is_word type_word w Con t)
     (by_name w (codes "non") _ _ (Ok t) (w ≡ type_word t) (is_word type_word w Non t) (λ h. cc))
 
-pub type_again : (t : RequestType) → type_of (type_word t) ≡ Ok t
-type_again Con = refl
-type_again Non = refl
-
 pub format_read : (w : List ℕ) (f : Format) → format_of w ≡ Ok f → w ≡ format_word f
 format_read w f =
     by_name w (codes "any") _ _ (Ok f) (w ≡ format_word f) (is_word format_word w format.Any f)
     (by_name w (codes "text") _ _ (Ok f) (w ≡ format_word f) (is_word format_word w format.Text f)
     (by_name w (codes "opaque") _ _ (Ok f) (w ≡ format_word f) (is_word format_word w format.Opaque f)
     (by_name w (codes "tlv") _ _ (Ok f) (w ≡ format_word f) (is_word format_word w format.Tlv f) (λ h. cc))))
-
-pub format_again : (f : Format) → format_of (format_word f) ≡ Ok f
-format_again format.Any = refl
-format_again format.Text = refl
-format_again format.Opaque = refl
-format_again format.Tlv = refl
 
 -- ---- tokens
 

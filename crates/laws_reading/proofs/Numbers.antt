@@ -13,8 +13,10 @@ use Rattle.std.specs.Str.Parse.{AllDigits, digits_value}
 use Rattle.std.proofs.Math.Seq.{split_at}
 use Rattle.std.proofs.lemmas.List.Quantifiers.{position-Some}
 use Rattle.std.proofs.lemmas.Str.Parse.{digit_from_value}
+use Rattle.std.proofs.lemmas.Option.{cond_some}
+use Rattle.std.proofs.lemmas.Bool.{and_parts, and_from}
+use Rattle.lemmas.proofs.Options.{option_and_then_parts, option_map_parts}
 use Rattle.object_defs.proofs.Digits.{digit_value-digit}
-use Rattle.lwm2m_values.proofs.Choices.{both, both_back, mapped}
 use Rattle.lwm2m_values.specs.Value.{IsDecimal}
 use Rattle.notifier.specs.declared.attribute.Name.{Name}
 use Rattle.notifier.specs.declared.attribute.Name.TheVariants.{Pmin, Pmax, Gt, Lt, St}
@@ -25,36 +27,32 @@ use Rattle.laws_reading.specs.Queries.{IsThousandths, IsSignedThousandths, SaysN
 -- digits
 
 in_range : (c : ℕ) → is_digit c ≡ true → IsInRange 48 57 c
-in_range c h = let p = both (nat_le 48 c) (nat_le c 57) h in (leb-true 48 c p.0, leb-true c 57 p.1)
+in_range c h = let p = and_parts (nat_le 48 c) (nat_le c 57) h in (leb-true 48 c p.0, leb-true c 57 p.1)
 
 from_digit : (c : ℕ) → IsInRange 48 57 c → digit_value c < 10
 from_digit c h = let same = digit_value-digit c h in omega (arith, h, same)
 
 to_digit : (c : ℕ) → IsInRange 48 57 c → is_digit c ≡ true
-to_digit c h = both_back (nat_le 48 c) (nat_le c 57) (le-leb 48 c h.0) (le-leb c 57 h.1)
+to_digit c h = and_from (nat_le 48 c) (nat_le c 57) (le-leb 48 c h.0) (le-leb c 57 h.1)
 
 digits_from : (t : List ℕ) → list_all is_digit t ≡ true → AllDigits 10 t
 digits_from [] h = tt
 digits_from (c ∷ cs) h =
-    let p = both (is_digit c) (list_all is_digit cs) h in (from_digit c (in_range c p.0), digits_from cs p.1)
+    let p = and_parts (is_digit c) (list_all is_digit cs) h in (from_digit c (in_range c p.0), digits_from cs p.1)
 
 digits_to : (t : List ℕ) → AllDigits 10 t → list_all is_digit t ≡ true
 digits_to [] h = refl
 digits_to (c ∷ cs) h =
-    both_back (is_digit c) (list_all is_digit cs) (to_digit c (digit_from_value c h.0)) (digits_to cs h.1)
+    and_from (is_digit c) (list_all is_digit cs) (to_digit c (digit_from_value c h.0)) (digits_to cs h.1)
 
 decimal_from : (t : List ℕ) → are_digits t ≡ true → IsDecimal (digits_value 10 t) t
 decimal_from t h =
-    let p = both (nat_lt 0 (length t)) (list_all is_digit t) h in
+    let p = and_parts (nat_lt 0 (length t)) (list_all is_digit t) h in
     ((ltb-true 0 (length t) p.0, digits_from t p.1), refl)
 
 decimal_to : (n : ℕ) (t : List ℕ) → IsDecimal n t → are_digits t ≡ true
 decimal_to n t h =
-    both_back (nat_lt 0 (length t)) (list_all is_digit t) (lt-ltb 0 (length t) h.0.0) (digits_to t h.0.1)
-
-if_so : {T : Type 0} (b : Bool) (x y : T) → cond b (Some x) None ≡ Some y → (b ≡ true) × (x ≡ y)
-if_so true x y h = (refl, cc)
-if_so false x y h = cc h
+    and_from (nat_lt 0 (length t)) (list_all is_digit t) (lt-ltb 0 (length t) h.0.0) (digits_to t h.0.1)
 
 so_if : {T : Type 0} (b : Bool) (x y : T) → b ≡ true → x ≡ y → cond b (Some x) None ≡ Some y
 so_if true x y h e = ap Some e
@@ -62,19 +60,19 @@ so_if false x y h e = cc h
 
 few_from : (most n : ℕ) (t : List ℕ) → digits_of most t ≡ Some n → IsDecimal n t × (length t ≤ most)
 few_from most n t h =
-    let p = if_so (are_digits t && nat_le (length t) most) (digits_value 10 t) n h in
-    let q = both (are_digits t) (nat_le (length t) most) p.0 in
+    let p = cond_some (are_digits t && nat_le (length t) most) (digits_value 10 t) n h in
+    let q = and_parts (are_digits t) (nat_le (length t) most) p.0 in
     (subst (λ m. IsDecimal m t) p.1 (decimal_from t q.0), leb-true (length t) most q.1)
 
 few_to : (most n : ℕ) (t : List ℕ) → IsDecimal n t → length t ≤ most → digits_of most t ≡ Some n
 few_to most n t h short =
     so_if (are_digits t && nat_le (length t) most) (digits_value 10 t) n
-    (both_back (are_digits t) (nat_le (length t) most) (decimal_to n t h) (le-leb (length t) most short)) h.1
+    (and_from (are_digits t) (nat_le (length t) most) (decimal_to n t h) (le-leb (length t) most short)) h.1
 
 seconds_from : (n : ℕ) (t : List ℕ) → seconds_of t ≡ Some n → IsDecimal n t × (n < 2147483648)
 seconds_from n t h =
-    let p = if_so (are_digits t && nat_lt (digits_value 10 t) 2147483648) (digits_value 10 t) n h in
-    let q = both (are_digits t) (nat_lt (digits_value 10 t) 2147483648) p.0 in (
+    let p = cond_some (are_digits t && nat_lt (digits_value 10 t) 2147483648) (digits_value 10 t) n h in
+    let q = and_parts (are_digits t) (nat_lt (digits_value 10 t) 2147483648) p.0 in (
       subst (λ m. IsDecimal m t) p.1 (decimal_from t q.0),
       subst (λ m. m < 2147483648) p.1 (ltb-true (digits_value 10 t) 2147483648 q.1),
     )
@@ -82,7 +80,7 @@ seconds_from n t h =
 seconds_to : (n : ℕ) (t : List ℕ) → IsDecimal n t → n < 2147483648 → seconds_of t ≡ Some n
 seconds_to n t h small =
     so_if (are_digits t && nat_lt (digits_value 10 t) 2147483648) (digits_value 10 t) n
-    (both_back (are_digits t) (nat_lt (digits_value 10 t) 2147483648) (decimal_to n t h)
+    (and_from (are_digits t) (nat_lt (digits_value 10 t) 2147483648) (decimal_to n t h)
     (lt-ltb (digits_value 10 t) 2147483648 (subst (λ m. m < 2147483648) (sym h.1) small))) h.1
 
 -- a text at the first of one character
@@ -141,29 +139,24 @@ no_sign k (c ∷ cs) small h =
 
 -- thousandths
 
-chained : {A B : Type 0} (f : A → Option B) (o : Option A) (y : B) → option_and_then f o ≡ Some y → (x : A)
-    × (o ≡ Some x) × (f x ≡ Some y)
-chained f (Some x) y e = (x, refl, e)
-chained f None y e = cc e
-
 part_from : (m : ℕ) (t : List ℕ) → fraction_of t ≡ Some m → (f : ℕ) × IsDecimal f t × (length t ≤ 3)
     × (f * 10 ^ (3 - length t) ≡ m)
 part_from m t h =
-    let p = mapped (λ n. n * 10 ^ (3 - length t)) (digits_of 3 t) m h in
+    let p = option_map_parts (λ n. n * 10 ^ (3 - length t)) (digits_of 3 t) m h in
     let q = few_from 3 p.0 t p.1 in
     (p.0, q.0, q.1, p.2)
 
 unsigned_by : (n : ℕ) (t : List ℕ) (r : Option ℕ) → position (λ c. c == 46) t ≡ r → unsigned_from t r ≡ Some n
     → IsThousandths n t
 unsigned_by n t None e h =
-    let p = mapped (λ m. m * 1000) (digits_of 15 t) n h in
+    let p = option_map_parts (λ m. m * 1000) (digits_of 15 t) n h in
     let q = few_from 15 p.0 t p.1 in
     inl (p.0, q.0, q.1, sym p.2)
 unsigned_by n t (Some i) e h =
-    let p = chained (λ m. option_map (λ f. m * 1000 + f) (fraction_of (drop (i + 1) t))) (digits_of 15 (take i t)) n h
-    in
+    let p = option_and_then_parts (λ m. option_map (λ f. m * 1000 + f) (fraction_of (drop (i + 1) t)))
+    (digits_of 15 (take i t)) n h in
     let q = few_from 15 p.0 (take i t) p.1 in
-    let r = mapped (λ f. p.0 * 1000 + f) (fraction_of (drop (i + 1) t)) n p.2 in
+    let r = option_map_parts (λ f. p.0 * 1000 + f) (fraction_of (drop (i + 1) t)) n p.2 in
     let s = part_from r.0 (drop (i + 1) t) r.1 in
     inr (
       p.0,
@@ -216,7 +209,7 @@ signed_by : (z : ℤ) (t : List ℕ) (b : Bool) → (slice_index t 0 == 45) ≡ 
     → cond b (option_map (λ n. neg_ℤ (pos n)) (unsigned_of (drop 1 t))) (option_map pos (unsigned_of t)) ≡ Some z
     → IsSignedThousandths z t
 signed_by z t true e h =
-    let p = mapped (λ n. neg_ℤ (pos n)) (unsigned_of (drop 1 t)) z h in
+    let p = option_map_parts (λ n. neg_ℤ (pos n)) (unsigned_of (drop 1 t)) z h in
     inr (
       p.0,
       drop 1 t,
@@ -225,7 +218,7 @@ signed_by z t true e h =
       sym p.2,
     )
 signed_by z t false e h =
-    let p = mapped pos (unsigned_of t) z h in
+    let p = option_map_parts pos (unsigned_of t) z h in
     inl (p.0, unsigned_by p.0 t (position (λ c. c == 46) t) refl p.1, sym p.2)
 
 plain_back : (n : ℕ) (t : List ℕ) → IsThousandths n t → thousandths_of t ≡ Some (pos n)
@@ -241,7 +234,7 @@ signed_back z t (inr p) =
 -- above 0
 
 above_from : (n : ℕ) (z : ℤ) → above_zero (pos n) ≡ Some z → (0 < n) × (z ≡ pos n)
-above_from n z h = let p = if_so (nat_lt 0 n) (pos n) z h in (ltb-true 0 n p.0, sym p.1)
+above_from n z h = let p = cond_some (nat_lt 0 n) (pos n) z h in (ltb-true 0 n p.0, sym p.1)
 
 never_below : (n : ℕ) (z : ℤ) → above_zero (neg_ℤ (pos n)) ≡ Some z → ⊥
 never_below zero z h = cc h
@@ -262,13 +255,13 @@ signed_from z t h = signed_by z t (slice_index t 0 == 45) refl h
 
 pub said_number : (n : Name) (t : List ℕ) (z : ℤ) → attribute_number n t ≡ Some z → SaysNumber n t z
 said_number Pmin t z h =
-    let p = mapped pos (seconds_of t) z h in let q = seconds_from p.0 t p.1 in (p.0, q.0, q.1, sym p.2)
+    let p = option_map_parts pos (seconds_of t) z h in let q = seconds_from p.0 t p.1 in (p.0, q.0, q.1, sym p.2)
 said_number Pmax t z h =
-    let p = mapped pos (seconds_of t) z h in let q = seconds_from p.0 t p.1 in (p.0, q.0, q.1, sym p.2)
+    let p = option_map_parts pos (seconds_of t) z h in let q = seconds_from p.0 t p.1 in (p.0, q.0, q.1, sym p.2)
 said_number Gt t z h = signed_from z t h
 said_number Lt t z h = signed_from z t h
 said_number St t z h =
-    let p = chained above_zero (thousandths_of t) z h in step_by p.0 z t (signed_from p.0 t p.1) p.2
+    let p = option_and_then_parts above_zero (thousandths_of t) z h in step_by p.0 z t (signed_from p.0 t p.1) p.2
 
 pub number_said : (n : Name) (t : List ℕ) (z : ℤ) → SaysNumber n t z → attribute_number n t ≡ Some z
 number_said Pmin t z p = ap (option_map pos) (seconds_to p.0 t p.1 p.2) ∙ ap Some (sym p.3)

@@ -14,18 +14,17 @@ use Rattle.lwm2m_values.specs.declared.kind.ValueKind.{ValueKind}
 use Rattle.lwm2m_values.specs.declared.kind.ValueKind.TheVariants as kind
 use Rattle.object_defs.specs.declared.definition.Ops.{Ops}
 use Rattle.object_defs.specs.declared.definition.Ops.TheVariants.{R, W, RW, E}
-use Rattle.object_defs.specs.declared.path.Path.{Path}
-use Rattle.object_defs.specs.Path.{path_text}
 use Rattle.scenario_words.specs.declared.cause.Cause.{Cause}
 use Rattle.scenario_words.specs.Reading.{◌>>=◌, word_by, ended}
 use Rattle.scenario_words.specs.Number.{number_of, integer_of}
 use Rattle.scenario_words.specs.HexWord.{bytes_of}
 use Rattle.scenario_words.specs.Quoted.{text_of}
-use Rattle.scenario_words.specs.PathWord.{IsPath, path_of, link_of}
+use Rattle.scenario_words.specs.PathWord.{link_of}
 use Rattle.scenario_words.specs.ValueWords.{kind_named, kind_word, value_of, value_at}
 use Rattle.scenario_words.proofs.NumberLaws.{number_of-law, integer_of-law}
 use Rattle.scenario_words.proofs.Pairs.{hex_law, quoted_law}
-use Rattle.scenario_words.proofs.PathLaws.{bind_ok, path_law, link_law}
+use Rattle.scenario_words.proofs.PathLaws.{bind_ok, link_law}
+use Rattle.scenario_words.proofs.ValueLaws.{kind_again}
 use Rattle.scenario_statements.specs.Grammar.{named, ops_named, one_of, only_number}
 use Rattle.scenario_statements.specs.Spelling.{IsWithin, ops_word}
 use Rattle.laws_reading.specs.Statements.{IsValueWord, multiple_word, mandatory_word}
@@ -91,9 +90,6 @@ pub number_read : (low high n : ℕ) (w : List ℕ) → high < 2 ^ 64 → number
     → (w ≡ decimal n) × IsWithin low high n
 number_read low high n w small h = let l = (number_of-law low high n w small).0 h in (l.0, (l.1, l.2))
 
-pub number_again : (low high n : ℕ) → high < 2 ^ 64 → IsWithin low high n → number_of low high (decimal n) ≡ Ok n
-number_again low high n h k = (number_of-law low high n (decimal n) h).1 (refl, k.0, k.1)
-
 pub only_read : (low high n : ℕ) (ws : List (List ℕ)) → high < 2 ^ 64 → only_number low high ws ≡ Ok n
     → (ws ≡ decimal n ∷ []) × IsWithin low high n
 only_read low high n ws small h =
@@ -110,12 +106,6 @@ ops_read w o =
     (by_name w (codes "w") _ _ (Ok o) (w ≡ ops_word o) (is_word ops_word w W o)
     (by_name w (codes "rw") _ _ (Ok o) (w ≡ ops_word o) (is_word ops_word w RW o)
     (by_name w (codes "e") _ _ (Ok o) (w ≡ ops_word o) (is_word ops_word w E o) (λ h. cc))))
-
-pub ops_again : (o : Ops) → ops_named (ops_word o) ≡ Ok o
-ops_again R = refl
-ops_again W = refl
-ops_again RW = refl
-ops_again E = refl
 
 pub multiple_read : (w : List ℕ) (b : Bool) → one_of (codes "multiple") (codes "single") w ≡ Ok b → w ≡ multiple_word b
 multiple_read w b =
@@ -148,14 +138,6 @@ kind_read w k =
     (by_name w (codes "opaque") _ _ (Ok k) (w ≡ kind_word k) (is_word kind_word w kind.Opaque k)
     (by_name w (codes "time") _ _ (Ok k) (w ≡ kind_word k) (is_word kind_word w kind.Moment k)
     (by_name w (codes "link") _ _ (Ok k) (w ≡ kind_word k) (is_word kind_word w kind.Link k) (λ h. cc))))))
-
-pub kind_again : (k : ValueKind) → kind_named (kind_word k) ≡ Ok k
-kind_again kind.Text = refl
-kind_again kind.Whole = refl
-kind_again kind.Flag = refl
-kind_again kind.Opaque = refl
-kind_again kind.Moment = refl
-kind_again kind.Link = refl
 
 -- ---- values
 
@@ -221,6 +203,3 @@ pub value_at_again : (v : Value) (w : List ℕ) (ws : List (List ℕ)) → IsVal
 value_at_again v w ws h =
     ap (λ r. (r >>= with_words (w ∷ ws)) >>= (λ k. word_by (value_of k.0) k.1)) (kind_again (kind_of v))
     ∙ ap (λ r. r >>= with_words ws) (value_again v w h)
-
-pub path_again : (p : Path) → IsPath p → path_of (path_text p) ≡ Ok p
-path_again p h = (path_law (path_text p) p).1 (refl, h)

@@ -10,7 +10,7 @@ use Rattle.std.specs.Map.{lookup}
 use Rattle.std.specs.List.{list_any, AllByRecursion}
 use Rattle.std.specs.Option.{option_map_or}
 use Rattle.std.proofs.lemmas.Slice.Eq.{bytes_eq-Decides}
-use Rattle.lwm2m_values.proofs.Choices.{mapped}
+use Rattle.lemmas.proofs.Options.{option_map_parts}
 use Rattle.notifier.specs.declared.attribute.Name.{Name}
 use Rattle.notifier.specs.declared.attribute.Name.TheVariants.{Pmin, Pmax, Gt, Lt, St}
 use Rattle.notifier.specs.declared.attribute.Change.{Change}
@@ -122,7 +122,7 @@ target_from n q z h e = by z (parted n q h) e
     by None (inl p) e = p.0
     by (Some x) (inl p) e = let k : Some None ≡ Some (Some x) = sym (ap (target_of n) p.1) ∙ e in cc k
     by z (inr p) e =
-        let m = mapped Some (attribute_number n p.0) z (sym (ap (target_of n) p.2) ∙ e) in
+        let m = option_map_parts Some (attribute_number n p.0) z (sym (ap (target_of n) p.2) ∙ e) in
         subst (SaysTarget n q) m.2 (p.0, p.1, said_number n p.0 m.0 m.1)
 
 target_to : (n : Name) (q : List ℕ) (z : Option ℤ) → SaysTarget n q z → target_of n (number_part q) ≡ Some z

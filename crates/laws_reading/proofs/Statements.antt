@@ -15,13 +15,11 @@ use Rattle.scenario_words.specs.HexWord.{bytes_of}
 use Rattle.scenario_words.specs.PathWord.{path_of}
 use Rattle.scenario_words.specs.ValueWords.{kind_named, value_at}
 use Rattle.scenario_words.proofs.Pairs.{hex_law}
-use Rattle.scenario_words.proofs.PathLaws.{bind_ok, path_law}
-use Rattle.scenario_mnemonics.specs.declared.verb.Verb.TheVariants as verb
+use Rattle.scenario_words.proofs.PathLaws.{bind_ok, path_law, path_again}
+use Rattle.scenario_words.proofs.ValueLaws.{kind_again}
 use Rattle.scenario_mnemonics.specs.declared.verb.Keyword.{Keyword}
-use Rattle.scenario_mnemonics.specs.declared.verb.Keyword.TheVariants as keyword
-use Rattle.scenario_mnemonics.specs.declared.mnemonic.Mnemonic.{Mnemonic}
 use Rattle.scenario_mnemonics.specs.MnemonicWords.{keyword_named}
-use Rattle.scenario_mnemonics.specs.MnemonicWords.{keyword_of, keyword_word}
+use Rattle.scenario_mnemonics.specs.MnemonicWords.{keyword_of}
 use Rattle.scenario_mnemonics.specs.MnemonicWords.{mnemonic_at}
 use Rattle.scenario_statements.specs.declared.statement.Statement.{Statement}
 use Rattle.scenario_statements.specs.declared.statement.Statement.TheVariants as says
@@ -29,20 +27,19 @@ use Rattle.scenario_statements.specs.Grammar.{named, ops_named, one_of, only_num
 use Rattle.scenario_statements.specs.Grammar.{instance, recv, need, request, of_device, statement_by, some}
 use Rattle.scenario_statements.specs.Grammar.{statement_of}
 use Rattle.scenario_statements.specs.Spelling.{IsWithin}
+use Rattle.scenario_statements.proofs.Again.{number_again, ops_again, only_again, number_stated}
+use Rattle.scenario_statements.proofs.Requests.{by_keyword, requested}
 use Rattle.laws_reading.specs.Statements.{AreValueWords}
 use Rattle.laws_reading.specs.Statements.{IsSaidBy}
 use Rattle.laws_reading.specs.Statements.{StatementsAreSaid}
-use Rattle.laws_reading.proofs.ReadWords.{by_name, ended_read, with_words}
-use Rattle.laws_reading.proofs.ReadWords.{con_read, taken, number_read, number_again, only_read, ops_read}
-use Rattle.laws_reading.proofs.ReadWords.{ops_again, multiple_read, multiple_again, mandatory_read, mandatory_again}
-use Rattle.laws_reading.proofs.ReadWords.{kind_read, kind_again}
-use Rattle.laws_reading.proofs.ReadWords.{value_at_read, value_at_again, path_again}
+use Rattle.laws_reading.proofs.ReadWords.{by_name, ended_read}
+use Rattle.laws_reading.proofs.ReadWords.{con_read, taken, number_read, only_read, ops_read}
+use Rattle.laws_reading.proofs.ReadWords.{multiple_read, multiple_again, mandatory_read, mandatory_again}
+use Rattle.laws_reading.proofs.ReadWords.{kind_read}
+use Rattle.laws_reading.proofs.ReadWords.{value_at_read, value_at_again}
 use Rattle.laws_reading.proofs.Mnemonics.{keyword_read, mnemonic_again, mnemonic_said}
 
 -- ---- mnemonics
-
-abbrev requested : ℕ × Mnemonic → Result Statement Cause
-requested m = Ok (says.Request m.0 m.1)
 
 request_by : (w : List ℕ) (ws : List (List ℕ)) (y : Statement) (o : Option Keyword) → keyword_named w ≡ o
     → request o w ws ≡ Ok y → IsSaidBy y (w ∷ ws)
@@ -51,21 +48,6 @@ request_by w ws y (Some k) e h =
     let b = bind_ok (mnemonic_at k ws) requested y h in
     let is : says.Request b.0.0 b.0.1 ≡ y = cc (b.2) in
     subst (λ s. IsSaidBy s (w ∷ ws)) is (mnemonic_said w k ws b.0.0 b.0.1 (keyword_read w k e) b.1)
-
--- after the keyword of a mnemonic stand the words of one
-by_keyword : (k : Keyword) (ws : List (List ℕ))
-    → statement_of (keyword_word k ∷ ws) ≡ some (mnemonic_at k ws >>= requested)
-by_keyword (keyword.Request verb.Read) ws = refl
-by_keyword (keyword.Request verb.Observe) ws = refl
-by_keyword (keyword.Request verb.Cancel) ws = refl
-by_keyword (keyword.Request verb.Discover) ws = refl
-by_keyword (keyword.Request verb.Delete) ws = refl
-by_keyword (keyword.Request verb.Write) ws = refl
-by_keyword (keyword.Request verb.Update) ws = refl
-by_keyword (keyword.Request verb.Create) ws = refl
-by_keyword (keyword.Request verb.Attr) ws = refl
-by_keyword (keyword.Request verb.Exec) ws = refl
-by_keyword keyword.Reset ws = refl
 
 -- ---- what was read is said
 
@@ -252,27 +234,19 @@ said (w ∷ ws) y h = by_read w ws y (some_read (statement_by w ws) y h)
 
 -- ---- what is said is read
 
-abbrev alone : ℕ × List (List ℕ) → Result ℕ Cause
-alone x = ended x.1 >>= (λ e. Ok x.0)
-
-only_again : (low high n : ℕ) → high < 2 ^ 64 → IsWithin low high n → only_number low high (decimal n ∷ []) ≡ Ok n
-only_again low high n h k = ap (λ r. (r >>= with_words []) >>= alone) (number_again low high n h k)
-
-counted : (f : ℕ → Statement) (r : Result ℕ Cause) (n : ℕ) → r ≡ Ok n → some (r >>= (λ m. Ok (f m))) ≡ Ok (Some (f n))
-counted f r n e = ap (λ x. some (x >>= (λ m. Ok (f m)))) e
-
 read : (y : Statement) (ws : List (List ℕ)) → IsSaidBy y ws → statement_of ws ≡ Ok (Some y)
 read says.Scenario ws h = ap statement_of h
 read says.Class ws h = ap statement_of h
 read (says.Notify n) ws h =
     ap statement_of h.0
-    ∙ counted (λ m. says.Notify m) (only_number 2 3 (decimal n ∷ [])) n (only_again 2 3 n (omega arith) h.1)
+    ∙ number_stated (λ m. says.Notify m) (only_number 2 3 (decimal n ∷ [])) n (only_again 2 3 n (omega arith) h.1)
 read (says.Account s) ws h =
     ap statement_of h.0
-    ∙ counted (λ m. says.Account m) (only_number 1 65534 (decimal s ∷ [])) s (only_again 1 65534 s (omega arith) h.1)
+    ∙ number_stated (λ m. says.Account m) (only_number 1 65534 (decimal s ∷ [])) s
+    (only_again 1 65534 s (omega arith) h.1)
 read (says.Object o) ws h =
     ap statement_of h.0
-    ∙ counted (λ m. says.Object m) (only_number 10241 32768 (decimal o ∷ [])) o
+    ∙ number_stated (λ m. says.Object m) (only_number 10241 32768 (decimal o ∷ [])) o
     (only_again 10241 32768 o (omega arith) h.1)
 read (says.Def d) ws h =
     ap statement_of h.0
@@ -293,7 +267,7 @@ read (says.Value p v) ws h =
     ap statement_of h.1 ∙ rw (path_again p h.2, value_at_again v h.0 [] h.3) refl
 read (says.Device c) ws h =
     ap statement_of h.0
-    ∙ counted (λ m. says.Device m) (only_number 0 65535 (decimal c ∷ [])) c
+    ∙ number_stated (λ m. says.Device m) (only_number 0 65535 (decimal c ∷ [])) c
     (only_again 0 65535 c (omega arith) (omega arith, h.1))
 read (says.Recv s b) ws h =
     ap statement_of h.1 ∙ rw (number_again 1 65534 s (omega arith) h.2, (hex_law h.0 b).1 h.3) refl
@@ -302,16 +276,16 @@ read (says.Request s m) ws h =
     ∙ ap (λ r. some (r >>= requested)) (mnemonic_again s m h.0 h.2)
 read (says.Tick n) ws h =
     ap statement_of h.0
-    ∙ counted (λ m. says.Tick m) (only_number 1 86400 (decimal n ∷ [])) n (only_again 1 86400 n (omega arith) h.1)
+    ∙ number_stated (λ m. says.Tick m) (only_number 1 86400 (decimal n ∷ [])) n (only_again 1 86400 n (omega arith) h.1)
 read (says.Put p v) ws h =
     ap statement_of h.1 ∙ rw (path_again p h.2, value_at_again v h.0 [] h.3) refl
 read (says.Firmware n) ws h =
     ap statement_of h.0
-    ∙ counted (λ m. says.Firmware m) (only_number 0 9 (decimal n ∷ [])) n
+    ∙ number_stated (λ m. says.Firmware m) (only_number 0 9 (decimal n ∷ [])) n
     (only_again 0 9 n (omega arith) (omega arith, h.1))
 read (says.Post g) ws h =
     ap statement_of h.0
-    ∙ counted (λ m. says.Post m) (only_number 0 255 (decimal g ∷ [])) g
+    ∙ number_stated (λ m. says.Post m) (only_number 0 255 (decimal g ∷ [])) g
     (only_again 0 255 g (omega arith) (omega arith, h.1))
 read (says.Need g n) ws h =
     ap statement_of h.0

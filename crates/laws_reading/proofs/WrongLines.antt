@@ -13,6 +13,7 @@ use Rattle.scenario_words.specs.Number.{number_of}
 use Rattle.scenario_words.specs.PathWord.{path_of}
 use Rattle.scenario_words.specs.Reading.{◌>>=◌, ended, word_by}
 use Rattle.scenario_words.specs.ValueWords.{kind_named, kind_word, value_at, value_of}
+use Rattle.scenario_words.proofs.ValueLaws.{kind_again}
 use Rattle.scenario_statements.specs.declared.statement.Statement.{Statement}
 use Rattle.scenario_statements.specs.declared.statement.Statement.TheVariants as says
 use Rattle.scenario_statements.specs.Grammar.{definition, instance as read_instance, named, need as read_need}
@@ -24,7 +25,7 @@ use Rattle.laws_reading.specs.WrongStatements.{places_after}
 use Rattle.laws_reading.specs.WrongStatements.Place.{number, con_name, operations, multiple, mandatory, kind_name}
 use Rattle.laws_reading.specs.WrongStatements.Place.{path, bytes, value}
 use Rattle.laws_reading.specs.WrongStatements.Leading.{notify, def, instance, recv, need}
-use Rattle.laws_reading.proofs.ReadWords.{kind_again, kind_read}
+use Rattle.laws_reading.proofs.ReadWords.{kind_read}
 use Rattle.laws_reading.proofs.WrongNames.{kinds_named}
 use Rattle.laws_reading.proofs.WrongPlaces.{Refuses, here_or_later, none_missing, placed, all_placed, made_of}
 use Rattle.laws_reading.proofs.WrongPlaces.{number_fills, con_fills, operations_fill, multiple_fills, mandatory_fills}

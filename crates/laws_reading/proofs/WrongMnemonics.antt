@@ -29,6 +29,7 @@ use Rattle.scenario_mnemonics.specs.MnemonicWords.{action_at, content_at, format
 use Rattle.scenario_mnemonics.specs.MnemonicWords.{mnemonic_at, payload_at, queries_at}
 use Rattle.scenario_mnemonics.specs.MnemonicWords.{said, short_token, token_at, type_of, type_word}
 use Rattle.scenario_mnemonics.specs.Queries.{are_queries, is_query}
+use Rattle.scenario_mnemonics.proofs.Spelling.{type_again, format_again}
 use Rattle.laws_reading.specs.Statements.{IsQueryWord}
 use Rattle.laws_reading.specs.WrongStatements.{AreWrong, AreWrongAfter, AreWrongAsDetails, AreWrongAsQueries}
 use Rattle.laws_reading.specs.WrongStatements.{IsTooMany}
@@ -38,9 +39,9 @@ use Rattle.laws_reading.specs.WrongStatements.Place.{number, path, bytes}
 use Rattle.laws_reading.specs.WrongStatements.Place.{format_name, token, type_name}
 use Rattle.laws_reading.specs.WrongWords.{IsFormed}
 use Rattle.laws_reading.proofs.Refused.{bind_err, each_said, each_tested, is_wrong, refused, same_cause}
-use Rattle.laws_reading.proofs.Mnemonics.{acted, format_again, format_read, headed}
+use Rattle.laws_reading.proofs.Mnemonics.{acted, format_read, headed}
 use Rattle.laws_reading.proofs.Mnemonics.{query_said, query_tested, read_token, token_again, token_read, token_word}
-use Rattle.laws_reading.proofs.Mnemonics.{type_again, type_read}
+use Rattle.laws_reading.proofs.Mnemonics.{type_read}
 use Rattle.laws_reading.proofs.WrongNames.{by_names, named_or, no_name}
 use Rattle.laws_reading.proofs.WrongNumbers.{bytes_err, token_alone}
 use Rattle.laws_reading.proofs.WrongPlaces.{Fills, Refuses, taken, none_missing, placed, all_placed, made_of}

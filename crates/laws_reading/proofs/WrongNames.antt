@@ -15,14 +15,16 @@ use Rattle.scenario_words.specs.declared.cause.Cause.TheVariants.{Token, Unknown
 use Rattle.scenario_words.specs.Quoted.{IsQuoted, text_of}
 use Rattle.scenario_words.specs.ValueWords.{is_formed, kind_named, kind_word, name_fault}
 use Rattle.scenario_words.proofs.Pairs.{quoted_law}
+use Rattle.scenario_words.proofs.ValueLaws.{kind_again}
 use Rattle.scenario_statements.specs.Grammar.{named, one_of, ops_named}
 use Rattle.scenario_statements.specs.Spelling.{IsWithin, ops_word}
+use Rattle.scenario_statements.proofs.Again.{ops_again}
 use Rattle.laws_reading.specs.Statements.{mandatory_word, multiple_word}
 use Rattle.laws_reading.specs.WrongWords.{ConIsNamed, IsFormed, KindsAreNamed, MandatoryIsNamed}
 use Rattle.laws_reading.specs.WrongWords.{MultipleIsNamed, OperationsAreNamed}
 use Rattle.laws_reading.proofs.Refused.{Reads, each_said, each_tested, refused, same_cause, is_wrong}
-use Rattle.laws_reading.proofs.ReadWords.{con_read, kind_again, kind_read, mandatory_again, mandatory_read}
-use Rattle.laws_reading.proofs.ReadWords.{multiple_again, multiple_read, ops_again, ops_read}
+use Rattle.laws_reading.proofs.ReadWords.{con_read, kind_read, mandatory_again, mandatory_read}
+use Rattle.laws_reading.proofs.ReadWords.{multiple_again, multiple_read, ops_read}
 
 -- ---- the form of a word
 

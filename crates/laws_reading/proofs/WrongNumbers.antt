@@ -1,7 +1,7 @@
 -- Words that stand where a number, a path, a link, bytes or a text have to stand.
 use Rattle.std.proofs.Common.{◌≡◌, ◌≢◌, ◌⊎◌, ℕ, ◌<◌, ◌≤◌, ◌^◌, ◌==◌, nat_le, nat_lt, ℤ, Bool, true, false, ◌&&◌}
 use Rattle.std.proofs.Common.{◌||◌, cond, List, [], ◌∷◌, ◌++◌, length, slice_index, Option, None, Some, Result, Ok, Err}
-use Rattle.std.proofs.Common.{inl, inr, refl, sym, ap, subst, ◌∙◌, arith, eq-eqb, eqb-true, ne_eqb, lt-ltb, ltb-true}
+use Rattle.std.proofs.Common.{inl, inr, refl, sym, ap, subst, ◌∙◌, arith, eq-eqb, eqb-true, lt-ltb, ltb-true}
 use Rattle.std.proofs.Common.{w64, FitsSigned}
 use Rattle.std.specs.Prelude.{codes}
 use Rattle.std.specs.Char.{is_ascii_digit}
@@ -28,7 +28,7 @@ use Rattle.scenario_words.specs.Words.{parts}
 use Rattle.scenario_words.proofs.Digits.{minus_number, plain_number}
 use Rattle.scenario_words.proofs.NumberLaws.{integer_of-law, is_number-natural, number_of-law}
 use Rattle.scenario_words.proofs.Pairs.{hex_law, quoted_law}
-use Rattle.scenario_words.proofs.PathLaws.{link_law, path_law}
+use Rattle.scenario_words.proofs.PathLaws.{link_law, path_law, other_byte}
 use Rattle.scenario_statements.specs.Spelling.{IsWithin}
 use Rattle.laws_reading.specs.WrongWords.{BytesAreHex, IntegersFit, IsNatural, IsNumber, IsPair, IsSlashed}
 use Rattle.laws_reading.specs.WrongWords.{LinksArePairs, NumbersAreWithin, PathsAreSlashed, TextsAreQuoted}
@@ -159,9 +159,6 @@ integers_fit w cause =
 
 abbrev IsWithout : ℕ → List ℕ → Type 0
 IsWithout c w = AllByRecursion (λ b. b ≢ c) w
-
-other_byte : (c b : ℕ) (bs : List ℕ) → b ≢ c → parts c (b ∷ bs) ≡ onto_first b (parts c bs)
-other_byte c b bs e = ap (λ t. cond t ([] ∷ parts c bs) (onto_first b (parts c bs))) (ne_eqb b c e)
 
 cut_after : (c : ℕ) (w rest : List ℕ) → IsWithout c w → parts c (w ++ c ∷ rest) ≡ w ∷ parts c rest
 cut_after c [] rest h = ap (λ t. cond t ([] ∷ parts c rest) (onto_first c (parts c rest))) (eq-eqb c c refl)

@@ -20,8 +20,10 @@ use Rattle.scenario_words.specs.Reading.{◌>>=◌, ended, word_by}
 use Rattle.scenario_words.specs.ValueWords.{kind_named, value_of}
 use Rattle.scenario_words.proofs.PathLaws.{path_law}
 use Rattle.scenario_words.proofs.Pairs.{hex_law}
+use Rattle.scenario_words.proofs.ValueLaws.{kind_again}
 use Rattle.scenario_statements.specs.Grammar.{named, one_of, ops_named}
 use Rattle.scenario_statements.specs.Spelling.{IsWithin}
+use Rattle.scenario_statements.proofs.Again.{number_again, ops_again}
 use Rattle.laws_reading.specs.Statements.{IsValueWord}
 use Rattle.laws_reading.specs.WrongStatements.{AreWrong}
 use Rattle.laws_reading.specs.WrongStatements.{HasValueForm, IsTooMany}
@@ -31,9 +33,9 @@ use Rattle.laws_reading.specs.WrongStatements.Place.{number, con_name, operation
 use Rattle.laws_reading.specs.WrongStatements.Place.{path, bytes, value}
 use Rattle.laws_reading.specs.WrongWords.{IsWrong}
 use Rattle.laws_reading.proofs.Refused.{refused, same_cause}
-use Rattle.laws_reading.proofs.ReadWords.{con_read, flag_read, kind_again, kind_read, mandatory_again}
-use Rattle.laws_reading.proofs.ReadWords.{mandatory_read, multiple_again, multiple_read, number_again, number_read}
-use Rattle.laws_reading.proofs.ReadWords.{ops_again, ops_read, value_again, value_read}
+use Rattle.laws_reading.proofs.ReadWords.{con_read, flag_read, kind_read, mandatory_again}
+use Rattle.laws_reading.proofs.ReadWords.{mandatory_read, multiple_again, multiple_read, number_read}
+use Rattle.laws_reading.proofs.ReadWords.{ops_read, value_again, value_read}
 use Rattle.laws_reading.proofs.WrongNames.{con_named, kinds_named, mandatory_named, multiple_named}
 use Rattle.laws_reading.proofs.WrongNames.{operations_named}
 use Rattle.laws_reading.proofs.WrongNumbers.{bytes_hex, integers_fit, links_paired, numbers_within, paths_slashed}

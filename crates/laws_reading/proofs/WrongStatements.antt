@@ -14,6 +14,7 @@ use Rattle.scenario_mnemonics.specs.declared.verb.Verb.TheVariants as verb
 use Rattle.scenario_mnemonics.specs.declared.verb.Keyword.{Keyword}
 use Rattle.scenario_mnemonics.specs.declared.verb.Keyword.TheVariants as keyword
 use Rattle.scenario_mnemonics.specs.MnemonicWords.{keyword_named, keyword_word, mnemonic_at}
+use Rattle.scenario_mnemonics.proofs.Spelling.{keyword_again}
 use Rattle.scenario_statements.specs.declared.statement.Statement.{Statement}
 use Rattle.scenario_statements.specs.declared.statement.Statement.TheVariants as says
 use Rattle.scenario_statements.specs.Grammar.{request, some}
@@ -62,19 +63,6 @@ by_other w name r s x P named other h = elim (cases_Bool (bytes_eq w name)) [
 led : (w : List ℕ) (ws : List (List ℕ)) (cause : Cause) (l : Leading) (r : Result Statement Cause)
     → r ≡ statement_by (leading_word l) ws → w ≡ leading_word l → r ≡ Err cause → IsRefused w ws cause
 led w ws cause l r is e h = after_leading l e ((leading_placed l ws cause).0 (sym is ∙ h))
-
-keyword_again : (k : Keyword) → keyword_named (keyword_word k) ≡ Some k
-keyword_again (keyword.Request verb.Read) = refl
-keyword_again (keyword.Request verb.Observe) = refl
-keyword_again (keyword.Request verb.Cancel) = refl
-keyword_again (keyword.Request verb.Discover) = refl
-keyword_again (keyword.Request verb.Delete) = refl
-keyword_again (keyword.Request verb.Write) = refl
-keyword_again (keyword.Request verb.Update) = refl
-keyword_again (keyword.Request verb.Create) = refl
-keyword_again (keyword.Request verb.Attr) = refl
-keyword_again (keyword.Request verb.Exec) = refl
-keyword_again keyword.Reset = refl
 
 -- the first word is none of these
 record IsOther (w : List ℕ) : Type 0 where

@@ -1,27 +1,24 @@
 -- The words of a mnemonic that is written are read again, and each is one word.
-use Rattle.std.proofs.Common.{◌≡◌, ℕ, ◌/◌, ◌%◌, ◌<◌, ◌≤◌, ◌^◌, not, Bool, true, false, cond, eqb, ltb, List, [], ◌∷◌}
+use Rattle.std.proofs.Common.{◌≡◌, ℕ, ◌<◌, ◌≤◌, ◌^◌, not, Bool, true, false, cond, eqb, ltb, List, [], ◌∷◌}
 use Rattle.std.proofs.Common.{◌++◌, length, Some, Ok, Err, refl, ap, sym, ◌∙◌, arith, append-nil}
-use Rattle.std.specs.List.{list_all, onto_first, flat_map, join_with_byte, AllByRecursion}
-use Rattle.std.specs.Char.{is_ascii_digit, is_ascii_graphic}
+use Rattle.std.specs.List.{list_all, onto_first, join_with_byte, AllByRecursion}
+use Rattle.std.specs.Char.{is_ascii_graphic}
 use Rattle.std.specs.Fmt.{decimal}
 use Rattle.std.specs.Int.Digits.{AllBelowBase}
-use Rattle.std.proofs.lemmas.Bool.{and_parts, and_from, ltb-true, lt-ltb, le-leb, ne_eqb, eq-eqb}
+use Rattle.std.proofs.lemmas.Bool.{and_parts, and_from, ltb-true, le-leb, ne_eqb, eq-eqb}
 use Rattle.std.proofs.lemmas.Bool.Decides.{nat_tests}
-use Rattle.std.proofs.lemmas.List.Folds.{list_all-append}
-use Rattle.std.proofs.lemmas.Fmt.{decimal_nonempty}
 use Rattle.object_defs.specs.declared.path.Path.{Path}
-use Rattle.object_defs.specs.declared.path.Path.TheVariants.{Object, Instance, Resource, Part}
 use Rattle.scenario_words.specs.declared.cause.Cause.TheVariants as cause
 use Rattle.scenario_words.specs.Words.{plain, quoted, scan, words, IsWord}
 use Rattle.scenario_words.specs.Number.{number_of}
-use Rattle.scenario_words.specs.HexWord.{digit_of, hex_byte, hex_word, bytes_of}
-use Rattle.scenario_words.specs.PathWord.{path_of, IsPath}
+use Rattle.scenario_words.specs.HexWord.{hex_word, bytes_of}
+use Rattle.scenario_words.specs.PathWord.{IsPath}
 use Rattle.object_defs.specs.Path.{path_text}
-use Rattle.scenario_words.proofs.Digits.{natural_digits}
-use Rattle.scenario_words.proofs.NumberLaws.{is_natural-decimal, number_of-law}
+use Rattle.scenario_words.proofs.NumberLaws.{number_of-law}
 use Rattle.scenario_words.proofs.Pairs.{hex_law, hex_written}
-use Rattle.scenario_words.proofs.PathLaws.{path_law}
+use Rattle.scenario_words.proofs.PathLaws.{path_again}
 use Rattle.scenario_words.proofs.WordLaws.{words_again, plain_byte, gap_byte}
+use Rattle.scenario_words.proofs.Above.{plain_word, decimal_word, bytes_word, path_above, path_some}
 use Rattle.scenario_mnemonics.specs.declared.request_type.RequestType.{RequestType}
 use Rattle.scenario_mnemonics.specs.declared.request_type.RequestType.TheVariants.{Con, Non}
 use Rattle.scenario_mnemonics.specs.declared.format.Format.{Format}
@@ -46,11 +43,11 @@ use Rattle.scenario_mnemonics.specs.MnemonicWords.{mnemonic_at, details, behind_
 number_again : (low high n : ℕ) → high < 2 ^ 64 → low ≤ n → n ≤ high → number_of low high (decimal n) ≡ Ok n
 number_again low high n h l g = (number_of-law low high n (decimal n) h).1 (refl, l, g)
 
-type_again : (k : RequestType) → type_of (type_word k) ≡ Ok k
+pub type_again : (k : RequestType) → type_of (type_word k) ≡ Ok k
 type_again Con = refl
 type_again Non = refl
 
-format_again : (f : Format) → format_of (format_word f) ≡ Ok f
+pub format_again : (f : Format) → format_of (format_word f) ≡ Ok f
 format_again format.Any = refl
 format_again format.Text = refl
 format_again format.Opaque = refl
@@ -65,9 +62,6 @@ short_again t short = ap (λ b. cond b (Ok t) (Err cause.Token)) (le-leb (length
 token_again : (t : List ℕ) (ws : List (List ℕ)) → AllBelowBase 256 t → length t ≤ 8
     → token_at (hex_word t ∷ ws) ≡ Ok (t, ws)
 token_again t ws h short = rw (bytes_again t h, short_again t short) refl
-
-path_again : (p : Path) → IsPath p → path_of (path_text p) ≡ Ok p
-path_again p h = (path_law (path_text p) p).1 (refl, h)
 
 head_again : (server mid : ℕ) (k : RequestType) (t : List ℕ) (p : Path) (ws : List (List ℕ)) → 1 ≤ server
     → server ≤ 65534 → mid < 65536 → AllBelowBase 256 t → length t ≤ 8 → IsPath p
@@ -161,71 +155,8 @@ solid_word b w large quote comment h =
     ∙ ap (λ t. onto_first b (scan (cond t quoted plain) (w ++ 32 ∷ []))) (ne_eqb b 34 quote)
     ∙ ap (onto_first b) (plain_end w h)
 
--- words whose first byte is above 35
-abbrev high : List ℕ → Bool
-high w = list_all (λ b. ltb 35 b) w
-
-high_solid : (w : List ℕ) → high w ≡ true → solid w ≡ true
-high_solid [] h = refl
-high_solid (b ∷ w) h =
-    let both = and_parts (ltb 35 b) (high w) h in
-    let large : 35 < b = ltb-true 35 b both.0 in
-    and_from _ _ (lt-ltb 32 b (omega arith)) (high_solid w both.1)
-
-high_word : (w : List ℕ) → 0 < length w → high w ≡ true → IsWord w
-high_word [] some h = absurd (omega arith)
-high_word (b ∷ w) some h =
-    let both = and_parts (ltb 35 b) (high w) h in
-    let large : 35 < b = ltb-true 35 b both.0 in
-    solid_word b w (omega arith) (λ e. omega arith) (λ e. omega arith) (high_solid w both.1)
-
-digit_high : (d : ℕ) → is_ascii_digit d ≡ true → ltb 35 d ≡ true
-digit_high d h = grind (arith, nat_tests)
-
-digits_high : (ds : List ℕ) → list_all is_ascii_digit ds ≡ true → high ds ≡ true
-digits_high [] h = refl
-digits_high (d ∷ ds) h =
-    let both = and_parts (is_ascii_digit d) (list_all is_ascii_digit ds) h in
-    and_from _ _ (digit_high d both.0) (digits_high ds both.1)
-
-decimal_high : (n : ℕ) → n < 65536 → high (decimal n) ≡ true
-decimal_high n h = digits_high (decimal n) (natural_digits (decimal n) (is_natural-decimal n (omega (arith, h))))
-
-decimal_word : (n : ℕ) → n < 65536 → IsWord (decimal n)
-decimal_word n h = high_word (decimal n) (decimal_nonempty n (omega (arith, h))) (decimal_high n h)
-
-hex_digit_high : (v : ℕ) → ltb 35 (digit_of v) ≡ true
-hex_digit_high v = grind (arith, nat_tests)
-
-hex_high : (bs : List ℕ) → high (flat_map hex_byte bs) ≡ true
-hex_high [] = refl
-hex_high (b ∷ bs) = and_from _ _ (hex_digit_high (b / 16)) (and_from _ _ (hex_digit_high (b % 16)) (hex_high bs))
-
-bytes_word : (bs : List ℕ) → IsWord (hex_word bs)
-bytes_word [] = refl
-bytes_word (b ∷ bs) = high_word (flat_map hex_byte (b ∷ bs)) (omega arith) (hex_high (b ∷ bs))
-
-slashed : (n : ℕ) (w : List ℕ) → n < 65536 → high w ≡ true → high (47 ∷ (decimal n ++ w)) ≡ true
-slashed n w h rest =
-    and_from _ _ refl (list_all-append (λ b. ltb 35 b) (decimal n) w ∙ and_from _ _ (decimal_high n h) rest)
-
-slashed_last : (n : ℕ) → n < 65536 → high (47 ∷ decimal n) ≡ true
-slashed_last n h = and_from _ _ refl (decimal_high n h)
-
-path_high : (p : Path) → IsPath p → high (path_text p) ≡ true
-path_high (Object o) h = slashed_last o h
-path_high (Instance o i) h = slashed o _ h.0 (slashed_last i h.1)
-path_high (Resource o i r) h = slashed o _ h.0 (slashed i _ h.1 (slashed_last r h.2))
-path_high (Part o i r n) h = slashed o _ h.0 (slashed i _ h.1 (slashed r _ h.2 (slashed_last n h.3)))
-
-path_some : (p : Path) → 0 < length (path_text p)
-path_some (Object o) = omega arith
-path_some (Instance o i) = omega arith
-path_some (Resource o i r) = omega arith
-path_some (Part o i r n) = omega arith
-
 paths_word : (p : Path) → IsPath p → IsWord (path_text p)
-paths_word p h = high_word (path_text p) (path_some p) (path_high p h)
+paths_word p h = plain_word (path_text p) (path_some p) (path_above p h)
 
 types_word : (k : RequestType) → IsWord (type_word k)
 types_word Con = refl
@@ -296,14 +227,14 @@ all_words server (mnemonic.Request r) small h = (
     (
       types_word r.kind,
       (
-        decimal_word r.mid h.mid,
+        decimal_word r.mid (omega (arith, h.mid)),
         (bytes_word r.token, (paths_word r.path h.path, details_words r.action h.queries)),
       ),
     ),
   ),
 )
 all_words server (mnemonic.Reset mid) small h =
-    (refl, (decimal_word server (omega (arith, small)), (decimal_word mid h, tt)))
+    (refl, (decimal_word server (omega (arith, small)), (decimal_word mid (omega (arith, h)), tt)))
 
 pub line_again : (server : ℕ) (m : Mnemonic) → server ≤ 65534 → IsGood m
     → words (join_with_byte 32 (spelled server m)) ≡ spelled server m

@@ -7,8 +7,6 @@ use Rattle.std.specs.Fmt.{decimal}
 use Rattle.std.proofs.lemmas.Bool.{and_from}
 use Rattle.lwm2m_values.specs.Value.{kind_of}
 use Rattle.lwm2m_values.specs.declared.value.Value.{Value}
-use Rattle.lwm2m_values.specs.declared.kind.ValueKind.{ValueKind}
-use Rattle.lwm2m_values.specs.declared.kind.ValueKind.TheVariants as kind
 use Rattle.object_defs.specs.declared.definition.Ops.{Ops}
 use Rattle.object_defs.specs.declared.definition.Ops.TheVariants.{R, W, RW, E}
 use Rattle.object_defs.specs.declared.definition.ResourceDef.{ResourceDef}
@@ -18,13 +16,13 @@ use Rattle.scenario_words.specs.Words.{words, IsLine}
 use Rattle.scenario_words.specs.Reading.{◌>>=◌, word_by, ended}
 use Rattle.scenario_words.specs.Number.{number_of}
 use Rattle.scenario_words.specs.HexWord.{hex_word}
-use Rattle.scenario_words.specs.PathWord.{IsPath, path_of}
+use Rattle.scenario_words.specs.PathWord.{IsPath}
 use Rattle.object_defs.specs.Path.{path_text}
-use Rattle.scenario_words.specs.ValueWords.{IsValue, kind_named, kind_word, value_word}
+use Rattle.scenario_words.specs.ValueWords.{IsValue, kind_word, value_word}
 use Rattle.scenario_words.proofs.NumberLaws.{number_of-law}
 use Rattle.scenario_words.proofs.Pairs.{hex_law, hex_written}
-use Rattle.scenario_words.proofs.PathLaws.{path_law}
-use Rattle.scenario_words.proofs.ValueLaws.{value_at_again, value_words}
+use Rattle.scenario_words.proofs.PathLaws.{path_again}
+use Rattle.scenario_words.proofs.ValueLaws.{value_at_again, value_words, kind_again}
 use Rattle.scenario_mnemonics.proofs.Spelling.{line_again}
 use Rattle.scenario_statements.specs.declared.statement.Statement.{Statement}
 use Rattle.scenario_statements.specs.declared.statement.Statement.TheVariants as says
@@ -35,7 +33,7 @@ use Rattle.scenario_statements.proofs.Plain.{spaced_shown, decimal_bare, hex_bar
 use Rattle.scenario_statements.proofs.Plain.{shown_line}
 use Rattle.scenario_statements.proofs.Requests.{request_again, request_shown}
 
-number_again : (low high n : ℕ) → high < 2 ^ 64 → IsWithin low high n → number_of low high (decimal n) ≡ Ok n
+pub number_again : (low high n : ℕ) → high < 2 ^ 64 → IsWithin low high n → number_of low high (decimal n) ≡ Ok n
 number_again low high n h k = (number_of-law low high n (decimal n) h).1 (refl, k.0, k.1)
 
 abbrev with_words : {A : Type 0} → List (List ℕ) → A → Result (A × List (List ℕ)) Cause
@@ -49,15 +47,16 @@ at_head read w ws x e = ap (λ r. r >>= with_words ws) e
 abbrev alone : ℕ × List (List ℕ) → Result ℕ Cause
 alone x = ended x.1 >>= (λ e. Ok x.0)
 
-only_again : (low high n : ℕ) → high < 2 ^ 64 → IsWithin low high n → only_number low high (decimal n ∷ []) ≡ Ok n
+pub only_again : (low high n : ℕ) → high < 2 ^ 64 → IsWithin low high n → only_number low high (decimal n ∷ []) ≡ Ok n
 only_again low high n h k =
     ap (λ r. r >>= alone) (at_head (number_of low high) (decimal n) [] n (number_again low high n h k))
 
 -- a statement of one number
-numbered : (f : ℕ → Statement) (r : Result ℕ Cause) (n : ℕ) → r ≡ Ok n → some (r >>= (λ m. Ok (f m))) ≡ Ok (Some (f n))
-numbered f r n e = ap (λ x. some (x >>= (λ m. Ok (f m)))) e
+pub number_stated : (f : ℕ → Statement) (r : Result ℕ Cause) (n : ℕ) → r ≡ Ok n
+    → some (r >>= (λ m. Ok (f m))) ≡ Ok (Some (f n))
+number_stated f r n e = ap (λ x. some (x >>= (λ m. Ok (f m)))) e
 
-ops_again : (o : Ops) → ops_named (ops_word o) ≡ Ok o
+pub ops_again : (o : Ops) → ops_named (ops_word o) ≡ Ok o
 ops_again R = refl
 ops_again W = refl
 ops_again RW = refl
@@ -73,17 +72,6 @@ mandatory_again : (b : Bool)
 mandatory_again true = refl
 mandatory_again false = refl
 
-kind_again : (k : ValueKind) → kind_named (kind_word k) ≡ Ok k
-kind_again kind.Text = refl
-kind_again kind.Whole = refl
-kind_again kind.Flag = refl
-kind_again kind.Opaque = refl
-kind_again kind.Moment = refl
-kind_again kind.Link = refl
-
-path_again : (p : Path) → IsPath p → path_of (path_text p) ≡ Ok p
-path_again p h = (path_law (path_text p) p).1 (refl, h)
-
 definition_again : (d : ResourceDef) → d.id < 65536 → statement_of (spelled (says.Def d)) ≡ Ok (Some (says.Def d))
 definition_again d h =
     rw (
@@ -98,11 +86,11 @@ pub statement_again : (s : Statement) → IsSayable s → statement_of (spelled 
 statement_again says.Scenario h = refl
 statement_again says.Class h = refl
 statement_again (says.Notify n) h =
-    numbered (λ m. says.Notify m) (only_number 2 3 (decimal n ∷ [])) n (only_again 2 3 n (omega arith) h)
+    number_stated (λ m. says.Notify m) (only_number 2 3 (decimal n ∷ [])) n (only_again 2 3 n (omega arith) h)
 statement_again (says.Account s) h =
-    numbered (λ m. says.Account m) (only_number 1 65534 (decimal s ∷ [])) s (only_again 1 65534 s (omega arith) h)
+    number_stated (λ m. says.Account m) (only_number 1 65534 (decimal s ∷ [])) s (only_again 1 65534 s (omega arith) h)
 statement_again (says.Object o) h =
-    numbered (λ m. says.Object m) (only_number 10241 32768 (decimal o ∷ [])) o
+    number_stated (λ m. says.Object m) (only_number 10241 32768 (decimal o ∷ [])) o
     (only_again 10241 32768 o (omega arith) h)
 statement_again (says.Def d) h = definition_again d h
 statement_again (says.Instance p) h =
@@ -112,19 +100,19 @@ statement_again (says.Instance p) h =
     ) refl
 statement_again (says.Value p v) h = rw (path_again p h.0, value_at_again v [] h.1) refl
 statement_again (says.Device c) h =
-    numbered (λ m. says.Device m) (only_number 0 65535 (decimal c ∷ [])) c
+    number_stated (λ m. says.Device m) (only_number 0 65535 (decimal c ∷ [])) c
     (only_again 0 65535 c (omega arith) (omega arith, omega arith))
 statement_again (says.Recv s b) h =
     rw (number_again 1 65534 s (omega arith) h.0, (hex_law (hex_word b) b).1 (hex_written b h.1)) refl
 statement_again (says.Request s m) h = request_again s m h.0 h.1
 statement_again (says.Tick n) h =
-    numbered (λ m. says.Tick m) (only_number 1 86400 (decimal n ∷ [])) n (only_again 1 86400 n (omega arith) h)
+    number_stated (λ m. says.Tick m) (only_number 1 86400 (decimal n ∷ [])) n (only_again 1 86400 n (omega arith) h)
 statement_again (says.Put p v) h = rw (path_again p h.0, value_at_again v [] h.1) refl
 statement_again (says.Firmware n) h =
-    numbered (λ m. says.Firmware m) (only_number 0 9 (decimal n ∷ [])) n
+    number_stated (λ m. says.Firmware m) (only_number 0 9 (decimal n ∷ [])) n
     (only_again 0 9 n (omega arith) (omega arith, h))
 statement_again (says.Post g) h =
-    numbered (λ m. says.Post m) (only_number 0 255 (decimal g ∷ [])) g
+    number_stated (λ m. says.Post m) (only_number 0 255 (decimal g ∷ [])) g
     (only_again 0 255 g (omega arith) (omega arith, omega arith))
 statement_again (says.Need g n) h =
     rw (number_again 0 255 g (omega arith) (omega arith, omega arith), number_again 1 1000000 n (omega arith) h.1) refl

@@ -1,31 +1,26 @@
 -- Words of bytes above `#`, which stand between spaces as they are; and bytes that stand in one line.
-use Rattle.std.proofs.Common.{◌≡◌, ◌≢◌, ℕ, ◌/◌, ◌%◌, ◌<◌, ◌^◌, inl, inr, ◌&&◌, Bool, true, false, cond, ltb, List, []}
+use Rattle.std.proofs.Common.{◌≡◌, ℕ, ◌/◌, ◌%◌, ◌<◌, ◌^◌, inl, inr, ◌&&◌, Bool, true, false, cond, ltb, List, []}
 use Rattle.std.proofs.Common.{◌∷◌, ◌++◌, length, refl, ap, ◌∙◌, arith, pos, negsuc, suc}
 use Rattle.std.specs.List.{list_all, onto_first, flat_map, join_with_byte}
-use Rattle.std.specs.Char.{is_ascii_digit}
 use Rattle.std.specs.Fmt.{decimal}
 use Rattle.std.proofs.lemmas.Bool.{and_parts, and_from, cases_Bool, ne_eqb, ltb-true, lt-ltb}
 use Rattle.std.proofs.lemmas.Bool.Decides.{nat_tests}
 use Rattle.std.proofs.lemmas.List.Folds.{list_all-append}
 use Rattle.std.proofs.lemmas.Fmt.{decimal_nonempty}
 use Rattle.object_defs.specs.declared.path.Path.{Path}
-use Rattle.object_defs.specs.declared.path.Path.TheVariants.{Object, Instance, Resource, Part}
 use Rattle.lwm2m_values.specs.declared.value.Value.{Value}
 use Rattle.lwm2m_values.specs.declared.value.Value.TheVariants as value
 use Rattle.lwm2m_values.specs.declared.kind.ValueKind.{ValueKind}
 use Rattle.lwm2m_values.specs.declared.kind.ValueKind.TheVariants as kind
-use Rattle.scenario_words.specs.Words.{gap, plain, quoted, scan, words, lines, IsLine}
+use Rattle.scenario_words.specs.Words.{gap, plain, quoted, scan, words, IsLine}
 use Rattle.scenario_words.specs.HexWord.{digit_of, hex_byte, hex_word}
 use Rattle.scenario_words.specs.Quoted.{is_plain, escaped, quoted_word}
 use Rattle.scenario_words.specs.PathWord.{IsPath, link_word}
 use Rattle.object_defs.specs.Path.{path_text}
 use Rattle.scenario_words.specs.ValueWords.{kind_word, value_word, IsValue}
-use Rattle.scenario_words.proofs.Digits.{natural_digits}
-use Rattle.scenario_words.proofs.NumberLaws.{is_natural-decimal}
-use Rattle.scenario_words.proofs.WordLaws.{plain_byte, gap_byte}
-
-abbrev pub above : List ℕ → Bool
-above w = list_all (λ b. ltb 35 b) w
+use Rattle.scenario_words.proofs.WordLaws.{plain_byte, gap_byte, line_byte}
+use Rattle.scenario_words.proofs.Above.{above, decimal_above, half_above, hex_digit_above, hex_above, joined_above}
+use Rattle.scenario_words.proofs.Above.{path_above, path_some}
 
 -- some bytes, each above `#`
 abbrev pub is_bare : List ℕ → Bool
@@ -82,67 +77,20 @@ bare_words (w ∷ v ∷ ws) h =
 
 -- ---- which words are bare
 
-digit_above : (d : ℕ) → is_ascii_digit d ≡ true → ltb 35 d ≡ true
-digit_above d h = grind (arith, nat_tests)
-
-digits_above : (ds : List ℕ) → list_all is_ascii_digit ds ≡ true → above ds ≡ true
-digits_above [] h = refl
-digits_above (d ∷ ds) h =
-    let both = and_parts (is_ascii_digit d) (list_all is_ascii_digit ds) h in
-    and_from _ _ (digit_above d both.0) (digits_above ds both.1)
-
-decimal_above : (n : ℕ) → n < 2 ^ 64 → above (decimal n) ≡ true
-decimal_above n h = digits_above (decimal n) (natural_digits (decimal n) (is_natural-decimal n h))
-
 bare_from : (w : List ℕ) → 0 < length w → above w ≡ true → is_bare w ≡ true
 bare_from w some h = and_from _ _ (lt-ltb 0 (length w) some) h
 
 pub decimal_bare : (n : ℕ) → n < 2 ^ 64 → is_bare (decimal n) ≡ true
 decimal_bare n h = bare_from (decimal n) (decimal_nonempty n h) (decimal_above n h)
 
-hex_digit_above : (v : ℕ) → ltb 35 (digit_of v) ≡ true
-hex_digit_above v = grind (arith, nat_tests)
-
-hex_above : (bs : List ℕ) → above (flat_map hex_byte bs) ≡ true
-hex_above [] = refl
-hex_above (b ∷ bs) = and_from _ _ (hex_digit_above (b / 16)) (and_from _ _ (hex_digit_above (b % 16)) (hex_above bs))
-
 pub hex_bare : (bs : List ℕ) → is_bare (hex_word bs) ≡ true
 hex_bare [] = refl
 hex_bare (b ∷ bs) = bare_from (flat_map hex_byte (b ∷ bs)) (omega arith) (hex_above (b ∷ bs))
-
-joined_above : (c : ℕ) (v w : List ℕ) → ltb 35 c ≡ true → above v ≡ true → above w ≡ true → above (v ++ c ∷ w) ≡ true
-joined_above c v w k h m = list_all-append (λ b. ltb 35 b) v (c ∷ w) ∙ and_from _ _ h (and_from _ _ k m)
-
-half_above : (n : ℕ) → n < 65536 → above (decimal n) ≡ true
-half_above n h = decimal_above n (omega arith)
-
-path_above : (p : Path) → IsPath p → above (path_text p) ≡ true
-path_above (Object o) h = and_from _ _ refl (half_above o h)
-path_above (Instance o i) h =
-    and_from _ _ refl (joined_above 47 (decimal o) (decimal i) refl (half_above o h.0) (half_above i h.1))
-path_above (Resource o i r) h =
-    and_from _ _ refl (joined_above 47 (decimal o) (decimal i ++ 47 ∷ decimal r) refl (half_above o h.0)
-    (joined_above 47 (decimal i) (decimal r) refl (half_above i h.1) (half_above r h.2)))
-path_above (Part o i r p) h =
-    and_from _ _ refl (joined_above 47 (decimal o) (decimal i ++ 47 ∷ (decimal r ++ 47 ∷ decimal p)) refl
-    (half_above o h.0)
-    (joined_above 47 (decimal i) (decimal r ++ 47 ∷ decimal p) refl (half_above i h.1)
-    (joined_above 47 (decimal r) (decimal p) refl (half_above r h.2) (half_above p h.3))))
-
-path_some : (p : Path) → 0 < length (path_text p)
-path_some (Object o) = omega arith
-path_some (Instance o i) = omega arith
-path_some (Resource o i r) = omega arith
-path_some (Part o i r p) = omega arith
 
 pub path_bare : (p : Path) → IsPath p → is_bare (path_text p) ≡ true
 path_bare p h = bare_from (path_text p) (path_some p) (path_above p h)
 
 -- ---- bytes of one line
-
-line_byte : (b : ℕ) (bs : List ℕ) → b ≢ 10 → lines (b ∷ bs) ≡ onto_first b (lines bs)
-line_byte b bs e = ap (λ t. cond t ([] ∷ lines bs) (onto_first b (lines bs))) (ne_eqb b 10 e)
 
 pub shown_line : (bs : List ℕ) → is_shown bs ≡ true → IsLine bs
 shown_line [] h = refl

@@ -32,11 +32,11 @@ use Rattle.scenario_statements.specs.Grammar.{some, statement_of}
 use Rattle.scenario_statements.specs.Spelling.{IsWithin}
 use Rattle.scenario_statements.proofs.Plain.{is_shown, bare_shown, spaced_shown, decimal_bare, hex_bare, path_bare}
 
-abbrev requested : ℕ × Mnemonic → Result Statement Cause
+abbrev pub requested : ℕ × Mnemonic → Result Statement Cause
 requested m = Ok (says.Request m.0 m.1)
 
 -- after the keyword of a mnemonic stand the words of one
-by_keyword : (k : Keyword) (ws : List (List ℕ))
+pub by_keyword : (k : Keyword) (ws : List (List ℕ))
     → statement_of (keyword_word k ∷ ws) ≡ some (mnemonic_at k ws >>= requested)
 by_keyword (keyword.Request verb.Read) ws = refl
 by_keyword (keyword.Request verb.Observe) ws = refl
