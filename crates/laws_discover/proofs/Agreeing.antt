@@ -6,7 +6,7 @@ use Rattle.std.specs.Cmp.{eq_by_cmp_equiv, Equal-is}
 use Rattle.std.specs.FinMap as map
 use Rattle.std.specs.Option.{option_and_then}
 use Rattle.std.specs.Ordering.{eq_by_cmp}
-use Rattle.std.proofs.lemmas.Bool.{false≢true, false_from_ne_true}
+use Rattle.std.proofs.lemmas.Bool.{false≢true, false_from_ne_true, and_from}
 use Rattle.coap_codec.specs.Message.{Message}
 use Rattle.object_defs.specs.Numbers.{access_control_object}
 use Rattle.object_defs.specs.declared.path.Path.{Path}
@@ -70,9 +70,6 @@ they_agree m server path h =
       apart = apart_by (assigned m server path Gt) (assigned m server path Lt) (assigned m server path St) h;
     }
 
-both_true : (a b : Bool) → a ≡ true → b ≡ true → (a && b) ≡ true
-both_true a b h k = rw (h, k) refl
-
 test_by : (g l s : Option ℤ) → ((lt gt : ℤ) → l ≡ Some lt → g ≡ Some gt → int_lt lt gt ≡ true)
     → ((lt gt st : ℤ) → l ≡ Some lt → g ≡ Some gt → s ≡ Some st → int_lt (lt +ℤ (pos 2 *ℤ st)) gt ≡ true)
     → agree g l s ≡ true
@@ -80,7 +77,7 @@ test_by None l s h k = refl
 test_by (Some gt) None s h k = refl
 test_by (Some gt) (Some lt) None h k = h lt gt refl refl
 test_by (Some gt) (Some lt) (Some st) h k =
-    both_true (int_lt lt gt) (int_lt (lt +ℤ (pos 2 *ℤ st)) gt) (h lt gt refl refl) (k lt gt st refl refl refl)
+    and_from (int_lt lt gt) (int_lt (lt +ℤ (pos 2 *ℤ st)) gt) (h lt gt refl refl) (k lt gt st refl refl refl)
 
 pub they_pass : (m : Numbers) (server : ℕ) (path : Path) → NumbersAgree m server path
     → is_consistent m server path ≡ true

@@ -1,5 +1,5 @@
 -- The paths of a Discover's links ascend.
-use Rattle.std.proofs.Common.{◌≡◌, ◌≢◌, ℕ, ◌<◌, Bool, true, false, cond, ◌&&◌, ◌==◌, List, [], ◌∷◌, map}
+use Rattle.std.proofs.Common.{◌≡◌, ◌≢◌, ℕ, ◌<◌, true, false, cond, ◌==◌, List, [], ◌∷◌, map, ap}
 use Rattle.std.proofs.Common.{Some, inl, inr, refl, sym, subst, arith}
 use Rattle.std.proofs.Math.Dec.{T}
 use Rattle.std.specs.FinMap as map
@@ -7,11 +7,13 @@ use Rattle.std.specs.FinMap.{is_sorted}
 use Rattle.std.specs.FinMap.Entries.{below_all}
 use Rattle.std.specs.List.{AllByRecursion}
 use Rattle.std.specs.List.Sorted.{IsStrictlyIncreasing, IsStrictlySortedBy}
-use Rattle.std.specs.Ordering.{is_lt, nat_cmp}
+use Rattle.std.specs.Ordering.{nat_cmp, is_lt}
 use Rattle.std.specs.declared.cmp.Ordering.TheVariants.{Less}
-use Rattle.std.proofs.lemmas.Bool.Decides.{nat_tests}
 use Rattle.std.proofs.lemmas.List.Elements.{recursion_from_All}
 use Rattle.std.proofs.lemmas.Map.Keys.{sorted_from_strictly_increasing}
+use Rattle.lemmas.proofs.Tests.{T_first, T_second, true_from_T}
+use Rattle.lemmas.proofs.Numbers.{below_from_lt}
+use Rattle.lemmas.proofs.Lists.{each_weaker, each_filtered}
 use Rattle.object_defs.specs.declared.definition.ObjectDef.{ObjectDef}
 use Rattle.object_defs.specs.declared.definition.ResourceDef.{ResourceDef}
 use Rattle.object_defs.specs.declared.path.Path.{Path}
@@ -22,36 +24,21 @@ use Rattle.instance_store.specs.Stored.{Stored, instances_of}
 use Rattle.instance_store.proofs.InstanceLaws.{keys_of-under, sorted-under, under}
 use Rattle.device_requests.specs.Discover.{instance_paths, linked, resources_below}
 use Rattle.device_requests.specs.Targets.{defined, exists, resources_as}
-use Rattle.laws_discover.proofs.Lists.{all_each, all_filtered, all_flat, all_mapped, all_weaker, Ordered}
+use Rattle.laws_discover.proofs.Lists.{all_each, all_flat, all_mapped, Ordered}
 use Rattle.laws_discover.proofs.Lists.{ordered_filtered, ordered_flat, ordered_mapped, ordered_unmapped}
 use Rattle.laws_discover.proofs.Lists.{ordered_weaker, pairs}
 use Rattle.laws_discover.specs.Order.{AreBefore, ComesBefore, LinksAscend, LinksDiffer, path_numbers}
 
 -- the numbers of an object's instances ascend
 
-first : (a b : Bool) → T (a && b) → T a
-first true b p = tt
-first false b p = p
-
-second : (a b : Bool) → T (a && b) → T b
-second true b p = p
-second false b p = absurd p
-
-sure : (b : Bool) → T b → b ≡ true
-sure true p = refl
-sure false p = absurd p
-
-less : (m n : ℕ) → is_lt (nat_cmp m n) ≡ true → m < n
-less m n h = grind (arith, nat_tests)
-
 below : (n : ℕ) (es : List (ℕ × Unit {0})) → T (below_all nat_cmp n es)
     → AllByRecursion (λ m. n < m) (map (λ e. e.0) es)
 below n [] h = tt
-below n (e ∷ es) h = (less n e.0 (sure _ (first _ _ h)), below n es (second _ _ h))
+below n (e ∷ es) h = (below_from_lt n e.0 (true_from_T _ (T_first _ _ h)), below n es (T_second _ _ h))
 
 rising : (es : List (ℕ × Unit {0})) → T (is_sorted nat_cmp es) → Ordered (λ m n. m < n) (map (λ e. e.0) es)
 rising [] h = tt
-rising (e ∷ es) h = (below e.0 es (first _ _ h), rising es (second _ _ h))
+rising (e ∷ es) h = (below e.0 es (T_first _ _ h), rising es (T_second _ _ h))
 
 instances_rise : (stored : Stored) (o : ℕ) → Ordered (λ m n. m < n) (instances_of stored o)
 instances_rise stored o =
@@ -61,13 +48,13 @@ instances_rise stored o =
 
 -- the numbers of an object's resources ascend
 
-less_than : (m n : ℕ) → nat_cmp m n ≡ Less → m < n
-less_than m n h = grind (arith, nat_tests)
-
 by_sorted : (ns : List ℕ) → IsStrictlySortedBy nat_cmp ns → Ordered (λ m n. m < n) ns
 unfolding IsStrictlySortedBy
 by_sorted [] h = tt
-by_sorted (n ∷ ns) h = (all_weaker (λ m. nat_cmp n m ≡ Less) (λ m. n < m) (less_than n) ns h.0, by_sorted ns h.1)
+by_sorted (n ∷ ns) h = (
+  each_weaker (λ m. nat_cmp n m ≡ Less) (λ m. n < m) (λ m less. below_from_lt n m (ap is_lt less)) ns h.0,
+  by_sorted ns h.1,
+)
 
 defined_has : (P : List ResourceDef → Type 0) → P [] → (o : ℕ) (catalog : List ObjectDef)
     → AllByRecursion (λ d. P d.resources) catalog → P (defined catalog o)
@@ -107,7 +94,7 @@ below_rise catalog stored o i h =
 below_are : (P : Path → Type 0) (catalog : List ObjectDef) (stored : Stored) (o i : ℕ)
     → ((r : ℕ) → P (Resource o i r)) → AllByRecursion P (resources_below catalog stored o i)
 below_are P catalog stored o i each =
-    all_filtered P (exists catalog stored) _
+    each_filtered P (exists catalog stored) _
     (all_mapped P (λ d. Resource o i d.id) (defined catalog o) (all_each _ (λ d. each d.id) (defined catalog o)))
 
 instance_rises : (catalog : List ObjectDef) (stored : Stored) (o i : ℕ) → IsInOrder catalog
@@ -137,7 +124,7 @@ links_rise : (catalog : List ObjectDef) (stored : Stored) (path : Path) → IsIn
     → Ordered ComesBefore (linked catalog stored path)
 links_rise catalog stored (Object o) h = (
   all_flat (ComesBefore (Object o)) (instance_paths catalog stored o) (instances_of stored o)
-      (λ i. all_weaker (LiesIn o i) (ComesBefore (Object o)) (under_object o i)
+      (λ i. each_weaker (LiesIn o i) (ComesBefore (Object o)) (under_object o i)
       (instance_paths catalog stored o i) (instance_lies catalog stored o i)),
   ordered_flat (λ m n. m < n) ComesBefore (LiesIn o) (instance_paths catalog stored o)
       (λ i. instance_rises catalog stored o i h) (instance_lies catalog stored o) (in_order o)

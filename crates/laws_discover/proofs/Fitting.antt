@@ -4,7 +4,7 @@ use Rattle.std.proofs.Common.{inl, inr, length, option_map, refl, sym, subst, eq
 use Rattle.std.specs.Bool.{if◌then◌else◌}
 use Rattle.std.specs.List.{AllByRecursion}
 use Rattle.std.specs.Option.{is_some, option_and_then}
-use Rattle.lwm2m_values.proofs.Choices.{both}
+use Rattle.std.proofs.lemmas.Bool.{and_parts}
 use Rattle.object_defs.specs.declared.definition.ResourceDef.{ResourceDef}
 use Rattle.object_defs.specs.declared.path.Path.{Path}
 use Rattle.object_defs.specs.declared.path.Path.TheVariants.{Instance, Object, Part, Resource}
@@ -86,11 +86,12 @@ path_fits : (client : Client) → IsWithinTypes client → (path : Path) → IsP
 path_fits client within path is (Object o) lies there = object_fits path o is lies
 path_fits client within path is (Instance o i) lies there =
     within.instances (place_of o i)
-    (both (is_some (object_of client.catalog o)) (has_instance client.store (place_of o i)) there).1
+    (and_parts (is_some (object_of client.catalog o)) (has_instance client.store (place_of o i)) there).1
 path_fits client within path is (Resource o i r) lies there =
     let definition = definition_of client.catalog o r in
     let parts =
-    both (has_instance client.store (place_of o i)) (exists_as client.store (resource_place o i r) definition) there in
+    and_parts (has_instance client.store (place_of o i))
+    (exists_as client.store (resource_place o i r) definition) there in
     let numbers = within.instances (place_of o i) parts.0 in
     let found = defined_as client.store (resource_place o i r) definition parts.1 in
     (numbers.0, numbers.1, within.resources o r found.0 found.1)

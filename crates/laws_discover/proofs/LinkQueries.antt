@@ -1,6 +1,7 @@
 -- The attributes that a link shows are queries that set just these.
 use Rattle.std.proofs.Common.{◌≡◌, ◌≢◌, ℤ, true, List, [], ◌∷◌, ◌++◌, map, Option, None, Some, refl}
 use Rattle.std.specs.List.{AllByRecursion, flat_map}
+use Rattle.lemmas.proofs.Lists.{each_appended}
 use Rattle.notifier.specs.declared.attribute.Change.{Change}
 use Rattle.notifier.specs.declared.attribute.Level.{Level}
 use Rattle.notifier.specs.declared.attribute.Name.{Name}
@@ -13,7 +14,7 @@ use Rattle.laws_discover.specs.Links.{attribute_parameter, attribute_names}
 use Rattle.laws_discover.specs.Links.{attribute_parameters, ParametersAreQueries, query_of}
 use Rattle.laws_discover.specs.Links.{settings, settings_shown}
 use Rattle.laws_discover.specs.Printed.{IsAttributeNumber, setting}
-use Rattle.laws_discover.proofs.Lists.{all_joined, Ordered}
+use Rattle.laws_discover.proofs.Lists.{Ordered}
 use Rattle.laws_discover.proofs.Queries.{printed_says}
 use Rattle.laws_discover.proofs.ShownNumbers.{shown_valid}
 
@@ -21,7 +22,7 @@ still_new : (before : List Change) (n : Name) (z : ℤ) (ns : List Name) → All
     → AllByRecursion (λ m. n ≢ m) ns → AllByRecursion (λ m. IsNew m (before ++ setting n z ∷ [])) ns
 still_new before n z [] new other = tt
 still_new before n z (m ∷ ns) new other = (
-  all_joined (λ (d : Change). d.name ≢ m) before (setting n z ∷ []) new.0 (other.0, tt),
+  each_appended (λ (d : Change). d.name ≢ m) before (setting n z ∷ []) new.0 (other.0, tt),
   still_new before n z ns new.1 other.1,
 )
 

@@ -5,10 +5,9 @@ use Rattle.std.specs.Fmt.{decimal}
 use Rattle.std.specs.Int.{IsInRange}
 use Rattle.std.specs.List.{list_all}
 use Rattle.std.specs.Str.Parse.{AllDigits}
-use Rattle.std.proofs.lemmas.Bool.{false≢true}
+use Rattle.std.proofs.lemmas.Bool.{false≢true, and_parts, and_from}
 use Rattle.std.proofs.lemmas.Fmt.{decimal_is_IsNumeral}
 use Rattle.std.proofs.lemmas.Str.Parse.{digit_from_value}
-use Rattle.lwm2m_values.proofs.Choices.{both, both_back}
 use Rattle.object_defs.specs.declared.path.Path.{Path}
 use Rattle.object_defs.specs.declared.path.Path.TheVariants.{Object, Instance, Resource, Part}
 use Rattle.object_defs.specs.Path.{path_text}
@@ -29,15 +28,16 @@ unfolding BeginsOutside
 one_cut test [] b [] d p q s r e = (refl, e)
 one_cut test [] b (y ∷ c) d p q s r e =
     let stop : test y ≡ false = subst (BeginsOutside test) e s in
-    absurd (false≢true (sym stop ∙ (both (test y) (list_all test c) q).0))
+    absurd (false≢true (sym stop ∙ (and_parts (test y) (list_all test c) q).0))
 one_cut test (x ∷ a) b [] d p q s r e =
     let stop : test x ≡ false = subst (BeginsOutside test) (sym e) r in
-    absurd (false≢true (sym stop ∙ (both (test x) (list_all test a) p).0))
+    absurd (false≢true (sym stop ∙ (and_parts (test x) (list_all test a) p).0))
 one_cut test (x ∷ a) b (y ∷ c) d p q s r e =
     let head : x ≡ y = cc in
     let tail : a ++ b ≡ c ++ d = cc in
     let rest =
-    one_cut test a b c d (both (test x) (list_all test a) p).1 (both (test y) (list_all test c) q).1 s r tail in
+    one_cut test a b c d (and_parts (test x) (list_all test a) p).1 (and_parts (test y) (list_all test c) q).1 s r tail
+    in
     ((λ i. head i ∷ rest.0 i), rest.1)
 
 -- texts all of whose characters pass a test
@@ -46,20 +46,20 @@ pub joined_passes : (test : ℕ → Bool) (a b : List ℕ) → list_all test a �
     → list_all test (a ++ b) ≡ true
 joined_passes test [] b p q = q
 joined_passes test (x ∷ a) b p q =
-    let h = both (test x) (list_all test a) p in both_back (test x) _ h.0 (joined_passes test a b h.1 q)
+    let h = and_parts (test x) (list_all test a) p in and_from (test x) _ h.0 (joined_passes test a b h.1 q)
 
 pub weaker_passes : (test other : ℕ → Bool) → ((c : ℕ) → test c ≡ true → other c ≡ true) → (t : List ℕ)
     → list_all test t ≡ true → list_all other t ≡ true
 weaker_passes test other weaker [] h = refl
 weaker_passes test other weaker (c ∷ t) h =
-    let p = both (test c) (list_all test t) h in
-    both_back (other c) (list_all other t) (weaker c p.0) (weaker_passes test other weaker t p.1)
+    let p = and_parts (test c) (list_all test t) h in
+    and_from (other c) (list_all other t) (weaker c p.0) (weaker_passes test other weaker t p.1)
 
 pub digits_pass : (test : ℕ → Bool) → ((c : ℕ) → IsInRange 48 57 c → test c ≡ true) → (t : List ℕ) → AllDigits 10 t
     → list_all test t ≡ true
 digits_pass test digits [] h = refl
 digits_pass test digits (c ∷ t) h =
-    both_back (test c) (list_all test t) (digits c (digit_from_value c h.0)) (digits_pass test digits t h.1)
+    and_from (test c) (list_all test t) (digits c (digit_from_value c h.0)) (digits_pass test digits t h.1)
 
 decimal_passes : (test : ℕ → Bool) → ((c : ℕ) → IsInRange 48 57 c → test c ≡ true) → (n : ℕ) → n < 65536
     → list_all test (decimal n) ≡ true
@@ -67,7 +67,7 @@ decimal_passes test digits n small =
     digits_pass test digits (decimal n) (decimal_is_IsNumeral n (omega arith)).0.1
 
 slashed : (test : ℕ → Bool) → test 47 ≡ true → (t : List ℕ) → list_all test t ≡ true → list_all test (47 ∷ t) ≡ true
-slashed test slash t h = both_back (test 47) (list_all test t) slash h
+slashed test slash t h = and_from (test 47) (list_all test t) slash h
 
 path_passes : (test : ℕ → Bool) → ((c : ℕ) → IsInRange 48 57 c → test c ≡ true) → test 47 ≡ true → (p : Path)
     → IsPath p → list_all test (path_text p) ≡ true

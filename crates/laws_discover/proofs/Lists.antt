@@ -3,22 +3,13 @@ use Rattle.std.proofs.Common.{Bool, true, false, cond, List, [], ◌∷◌, ◌+
 use Rattle.std.specs.List.{AllByRecursion, AllPairs, filter, flat_map}
 use Rattle.std.proofs.lemmas.List.Elements.{All-from_recursion}
 use Rattle.std.proofs.lemmas.List.Kept.{AllPairs-cons}
+use Rattle.lemmas.proofs.Lists.{each_weaker, each_appended, each_filtered}
 
 -- what holds of each element of a list that is made of others
 
 pub all_each : {X : Type 0} (P : X → Type 0) → ((x : X) → P x) → (xs : List X) → AllByRecursion P xs
 all_each P each [] = tt
 all_each P each (x ∷ xs) = (each x, all_each P each xs)
-
-pub all_weaker : {X : Type 0} (P Q : X → Type 0) → ((x : X) → P x → Q x) → (xs : List X) → AllByRecursion P xs
-    → AllByRecursion Q xs
-all_weaker P Q weaker [] h = tt
-all_weaker P Q weaker (x ∷ xs) h = (weaker x h.0, all_weaker P Q weaker xs h.1)
-
-pub all_joined : {X : Type 0} (P : X → Type 0) (xs ys : List X) → AllByRecursion P xs → AllByRecursion P ys
-    → AllByRecursion P (xs ++ ys)
-all_joined P [] ys h k = k
-all_joined P (x ∷ xs) ys h k = (h.0, all_joined P xs ys h.1 k)
 
 pub all_mapped : {W X : Type 0} (P : X → Type 0) (f : W → X) (ws : List W) → AllByRecursion (λ w. P (f w)) ws
     → AllByRecursion P (map f ws)
@@ -30,19 +21,10 @@ all_unmapped : {W X : Type 0} (P : X → Type 0) (f : W → X) (ws : List W) →
 all_unmapped P f [] h = tt
 all_unmapped P f (w ∷ ws) h = (h.0, all_unmapped P f ws h.1)
 
-pub all_filtered : {X : Type 0} (P : X → Type 0) (test : X → Bool) (xs : List X) → AllByRecursion P xs
-    → AllByRecursion P (filter test xs)
-all_filtered P test [] h = tt
-all_filtered P test (x ∷ xs) h =
-    elim (test x) as (λ b. AllByRecursion P (cond b (x ∷ filter test xs) (filter test xs))) [
-      | true ↦ (h.0, all_filtered P test xs h.1)
-      | false ↦ all_filtered P test xs h.1
-    ]
-
 pub all_flat : {W X : Type 0} (P : X → Type 0) (f : W → List X) (ws : List W) → ((w : W) → AllByRecursion P (f w))
     → AllByRecursion P (flat_map f ws)
 all_flat P f [] each = tt
-all_flat P f (w ∷ ws) each = all_joined P (f w) (flat_map f ws) (each w) (all_flat P f ws each)
+all_flat P f (w ∷ ws) each = each_appended P (f w) (flat_map f ws) (each w) (all_flat P f ws each)
 
 -- lists in which each element is so related to all later ones
 
@@ -58,7 +40,7 @@ pub ordered_weaker : {X : Type 0} (R S : X → X → Type 0) → ((x y : X) → 
     → Ordered S xs
 ordered_weaker R S weaker [] h = tt
 ordered_weaker R S weaker (x ∷ xs) h =
-    (all_weaker (R x) (S x) (weaker x) xs h.0, ordered_weaker R S weaker xs h.1)
+    (each_weaker (R x) (S x) (weaker x) xs h.0, ordered_weaker R S weaker xs h.1)
 
 pub ordered_mapped : {W X : Type 0} (R : X → X → Type 0) (f : W → X) (ws : List W) → Ordered (λ v w. R (f v) (f w)) ws
     → Ordered R (map f ws)
@@ -75,7 +57,7 @@ pub ordered_filtered : {X : Type 0} (R : X → X → Type 0) (test : X → Bool)
 ordered_filtered R test [] h = tt
 ordered_filtered R test (x ∷ xs) h =
     elim (test x) as (λ b. Ordered R (cond b (x ∷ filter test xs) (filter test xs))) [
-      | true ↦ (all_filtered (R x) test xs h.0, ordered_filtered R test xs h.1)
+      | true ↦ (each_filtered (R x) test xs h.0, ordered_filtered R test xs h.1)
       | false ↦ ordered_filtered R test xs h.1
     ]
 
@@ -83,7 +65,7 @@ ordered_joined : {X : Type 0} (R : X → X → Type 0) (xs ys : List X) → Orde
     → AllByRecursion (λ x. AllByRecursion (R x) ys) xs → Ordered R (xs ++ ys)
 ordered_joined R [] ys h k across = k
 ordered_joined R (x ∷ xs) ys h k across =
-    (all_joined (R x) xs ys h.0 across.0, ordered_joined R xs ys h.1 k across.1)
+    (each_appended (R x) xs ys h.0 across.0, ordered_joined R xs ys h.1 k across.1)
 
 -- lists one after another, where those of related elements are related
 pub ordered_flat : {W X : Type 0} (S : W → W → Type 0) (R : X → X → Type 0) (P : W → X → Type 0) (f : W → List X)
@@ -93,10 +75,10 @@ pub ordered_flat : {W X : Type 0} (S : W → W → Type 0) (R : X → X → Type
 ordered_flat S R P f each inside step [] h = tt
 ordered_flat {W} {X} S R P f each inside step (v ∷ ws) h =
     ordered_joined R (f v) (flat_map f ws) (each v) (ordered_flat S R P f each inside step ws h.1)
-    (all_weaker (P v) (λ x. AllByRecursion (R x) (flat_map f ws)) (λ x p. later x p ws h.0) (f v) (inside v))
+    (each_weaker (P v) (λ x. AllByRecursion (R x) (flat_map f ws)) (λ x p. later x p ws h.0) (f v) (inside v))
   where
     later : (x : X) → P v x → (us : List W) → AllByRecursion (S v) us → AllByRecursion (R x) (flat_map f us)
     later x p [] s = tt
     later x p (u ∷ us) s =
-        all_joined (R x) (f u) (flat_map f us)
-        (all_weaker (P u) (R x) (λ y q. step v u x y s.0 p q) (f u) (inside u)) (later x p us s.1)
+        each_appended (R x) (f u) (flat_map f us)
+        (each_weaker (P u) (R x) (λ y q. step v u x y s.0 p q) (f u) (inside u)) (later x p us s.1)

@@ -9,6 +9,9 @@ use Rattle.std.specs.Option.{is_some, option_or}
 use Rattle.std.specs.Set.{is_member}
 use Rattle.std.proofs.lemmas.Bool.Decides.{nat_tests}
 use Rattle.std.proofs.lemmas.Map.Made.{length-le_from_is_member}
+use Rattle.std.proofs.lemmas.Bool.{eqb-true}
+use Rattle.lemmas.proofs.Numbers.{eqb_itself}
+use Rattle.lemmas.proofs.Options.{some_from_test}
 use Rattle.object_defs.specs.Catalog.{definition_of}
 use Rattle.object_defs.specs.Path.{part_of}
 use Rattle.object_defs.specs.declared.definition.ResourceDef.{ResourceDef}
@@ -66,30 +69,20 @@ among_names f x St h =
 
 -- ---- how many parts
 
-same_number : (a b : ℕ) → (a == b) ≡ true → a ≡ b
-same_number a b h = grind (arith, nat_tests)
-
-number_same : (a : ℕ) → (a == a) ≡ true
-number_same a = grind (arith, nat_tests)
-
 member_among : (ns : List ℕ) (n : ℕ) → is_member ◌==◌ ns n ≡ true → IsAmong n ns
 member_among [] n h = cc
 member_among (m ∷ ns) n h =
     elim (n == m) as (λ b. (n == m) ≡ b → (b || is_member ◌==◌ ns n) ≡ true → IsAmong n (m ∷ ns)) [
-      | true ↦ λ is k. inl (sym (same_number n m is))
+      | true ↦ λ is k. inl (sym (eqb-true n m is))
       | false ↦ λ is k. inr (member_among ns n k)
     ] refl h
 
 among_member : (ns : List ℕ) (n : ℕ) → IsAmong n ns → is_member ◌==◌ ns n ≡ true
 among_member [] n h = absurd h
 among_member (m ∷ ns) n (inl is) =
-    ap (λ (b : Bool). b || is_member ◌==◌ ns n) (ap (λ (k : ℕ). n == k) is ∙ number_same n)
+    ap (λ (b : Bool). b || is_member ◌==◌ ns n) (ap (λ (k : ℕ). n == k) is ∙ eqb_itself n)
 among_member (m ∷ ns) n (inr h) =
     elim (n == m) as (λ b. (b || is_member ◌==◌ ns n) ≡ true) [ true ↦ refl | false ↦ among_member ns n h ]
-
-there : {X : Type 0} (o : Option X) → is_some o ≡ true → (x : X) × (o ≡ Some x)
-there None h = cc
-there (Some x) h = (x, refl)
 
 -- the numbers of the parts that a resource holds
 holds_numbers : (stored : Stored) (p : ResourcePath) → HoldsNumbers stored p (parts_of stored p)
@@ -97,7 +90,7 @@ holds_numbers stored p =
     record {
       once = held_distinct stored p;
       each = λ n. (
-        λ h. there (value_at stored (part_of p n))
+        λ h. some_from_test (value_at stored (part_of p n))
             (sym (held_at stored p n) ∙ among_member (parts_of stored p) n h),
         λ h. member_among (parts_of stored p) n (held_at stored p n ∙ ap is_some h.1),
       );
