@@ -5,6 +5,8 @@ use Rattle.std.specs.List.{list_all, list_any, flat_map}
 use Rattle.std.specs.Str.{is_utf8}
 use Rattle.std.specs.Fmt.{digits, digits_onto, digit_glyph, decimal}
 use Rattle.std.proofs.lemmas.List.Folds.{list_all-append}
+use Rattle.std.proofs.lemmas.Bool.{and_from}
+use Rattle.lemmas.proofs.Tests.{and_first, and_second}
 use Rattle.coap_codec.specs.Message.{Message}
 use Rattle.coap_codec.specs.declared.option.Opt.{Opt}
 use Rattle.coap_codec.specs.declared.kind.Kind.{Kind}
@@ -25,12 +27,8 @@ use Rattle.message_words.specs.Text.{fault_reason, no_message}
 abbrev pub clean : List ℕ → Bool
 clean text = list_all (λ b. nat_le 32 b) text
 
--- both tests pass
-pub both : (a b : Bool) → a ≡ true → b ≡ true → (a && b) ≡ true
-both a b p q = rw (p, q) refl
-
 pub joined : (xs ys : List ℕ) → clean xs ≡ true → clean ys ≡ true → clean (xs ++ ys) ≡ true
-joined xs ys h k = list_all-append (λ b. nat_le 32 b) xs ys ∙ both _ _ h k
+joined xs ys h k = list_all-append (λ b. nat_le 32 b) xs ys ∙ and_from _ _ h k
 
 pub chosen : (v : Bool) (xs ys : List ℕ) → clean xs ≡ true → clean ys ≡ true → clean (cond v xs ys) ≡ true
 chosen true xs ys h k = h
@@ -44,7 +42,7 @@ pub digits_line : (k base : ℕ) (upper : Bool) (n : ℕ) (acc : List ℕ) → c
     → clean (digits_onto k base upper n acc) ≡ true
 digits_line zero base upper n acc h = h
 digits_line (suc k) base upper n acc h =
-    let more : clean (digit_glyph upper (n % base) ∷ acc) ≡ true = both _ _ (glyph upper (n % base)) h in
+    let more : clean (digit_glyph upper (n % base) ∷ acc) ≡ true = and_from _ _ (glyph upper (n % base)) h in
     chosen (n / base == 0) _ _ more (digits_line k base upper (n / base) _ more)
 
 pub decimal_line : (n : ℕ) → clean (decimal n) ≡ true
@@ -56,19 +54,11 @@ hex_digit v = grind arith
 
 pub hex_line : (bs : List ℕ) → clean (flat_map hex_byte bs) ≡ true
 hex_line [] = refl
-hex_line (b ∷ bs) = both _ _ (hex_digit (b / 16)) (both _ _ (hex_digit (b % 16)) (hex_line bs))
+hex_line (b ∷ bs) = and_from _ _ (hex_digit (b / 16)) (and_from _ _ (hex_digit (b % 16)) (hex_line bs))
 
 pub hex_word_line : (bs : List ℕ) → clean (hex_word bs) ≡ true
 hex_word_line [] = refl
 hex_word_line (b ∷ bs) = hex_line (b ∷ bs)
-
-pub first_of : (a b : Bool) → (a && b) ≡ true → a ≡ true
-first_of true b h = refl
-first_of false b h = h
-
-pub second_of : (a b : Bool) → (a && b) ≡ true → b ≡ true
-second_of true b h = h
-second_of false b h = cc
 
 pub either_way : (a b c : Bool) → (a ≡ true → c ≡ true) → (b ≡ true → c ≡ true) → (a || b) ≡ true → c ≡ true
 either_way true b c f g h = f refl
@@ -85,8 +75,8 @@ chosen_as false xs ys h k = k
 
 pub escaped_line : (b : ℕ) → clean (escaped b) ≡ true
 escaped_line b =
-    chosen_as (is_plain b) _ _ (λ h. both _ _ (first_of _ _ (first_of _ _ h)) refl)
-    (both _ _ (hex_digit (b / 16)) (both _ _ (hex_digit (b % 16)) refl))
+    chosen_as (is_plain b) _ _ (λ h. and_from _ _ (and_first _ _ (and_first _ _ h)) refl)
+    (and_from _ _ (hex_digit (b / 16)) (and_from _ _ (hex_digit (b % 16)) refl))
 
 pub quoted_line : (t : List ℕ) → clean (quoted_word t) ≡ true
 quoted_line t = joined (flat_map escaped t) (34 ∷ []) (flat_line escaped escaped_line t) refl
@@ -94,11 +84,11 @@ quoted_line t = joined (flat_map escaped t) (34 ∷ []) (flat_line escaped escap
 pub any_line : (cs : List ℕ) (b : ℕ) → clean cs ≡ true → list_any (λ c. c == b) cs ≡ true → nat_le 32 b ≡ true
 any_line [] b h k = cc
 any_line (c ∷ cs) b h k =
-    let here : nat_le 32 c ≡ true = first_of _ _ h in
-    either_way (c == b) _ _ (λ e. grind (arith, e, here)) (λ e. any_line cs b (second_of _ _ h) e) k
+    let here : nat_le 32 c ≡ true = and_first _ _ h in
+    either_way (c == b) _ _ (λ e. grind (arith, e, here)) (λ e. any_line cs b (and_second _ _ h) e) k
 
 pub range_line : (low high b : ℕ) → nat_le 32 low ≡ true → (nat_le low b && nat_le b high) ≡ true → nat_le 32 b ≡ true
-range_line low high b h k = let from : nat_le low b ≡ true = first_of _ _ k in grind (arith, from, h)
+range_line low high b h k = let from : nat_le low b ≡ true = and_first _ _ k in grind (arith, from, h)
 
 pub unescaped_line : (b : ℕ) → is_unescaped b ≡ true → nat_le 32 b ≡ true
 unescaped_line b h =
@@ -108,7 +98,7 @@ unescaped_line b h =
 
 pub uri_byte_line : (b : ℕ) → clean (uri_byte b) ≡ true
 uri_byte_line b =
-    chosen_as (is_unescaped b) _ _ (λ h. both _ _ (unescaped_line b h) refl) (hex_word_line (b ∷ []))
+    chosen_as (is_unescaped b) _ _ (λ h. and_from _ _ (unescaped_line b h) refl) (hex_word_line (b ∷ []))
 
 -- each name of a table is clean
 abbrev pub clean_names : List (ℕ × List ℕ) → Bool
@@ -119,14 +109,14 @@ pub named : (rows : List (ℕ × List ℕ)) → clean_names rows ≡ true → (n
 named [] h n = refl
 named (row ∷ rows) h n =
     elim (n == row.0) as (λ v. clean (behind_space (cond v (Some row.1) (name_in rows n))) ≡ true)
-    [ true ↦ first_of _ _ h | false ↦ named rows (second_of _ _ h) n ]
+    [ true ↦ and_first _ _ h | false ↦ named rows (and_second _ _ h) n ]
 
 pub numbered : (rows : List (ℕ × List ℕ)) → clean_names rows ≡ true → (n m : ℕ)
     → clean (name_or_number (name_in rows n) m) ≡ true
 numbered [] h n m = decimal_line m
 numbered (row ∷ rows) h n m =
     elim (n == row.0) as (λ v. clean (name_or_number (cond v (Some row.1) (name_in rows n)) m) ≡ true)
-    [ true ↦ first_of _ _ h | false ↦ numbered rows (second_of _ _ h) n m ]
+    [ true ↦ and_first _ _ h | false ↦ numbered rows (and_second _ _ h) n m ]
 
 -- a text that is clean; the type shows which
 pub record IsClean (text : List ℕ) : Type 0 where
