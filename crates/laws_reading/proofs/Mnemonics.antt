@@ -6,7 +6,8 @@ use Rattle.std.specs.Bool.{if◌then◌else◌}
 use Rattle.std.specs.Char.{is_ascii_graphic}
 use Rattle.std.specs.Fmt.{decimal}
 use Rattle.std.specs.List.{AllByRecursion, list_all}
-use Rattle.std.specs.Prelude.{codes}
+use Rattle.std.specs.Prelude.{find, ok_or}
+use Rattle.std.specs.Str.{bytes_eq}
 use Rattle.std.proofs.lemmas.Bool.{and_from, and_parts}
 use Rattle.object_defs.specs.declared.path.Path.{Path}
 use Rattle.object_defs.specs.Path.{path_text}
@@ -16,6 +17,7 @@ use Rattle.scenario_words.specs.HexWord.{IsHex, bytes_of}
 use Rattle.scenario_words.specs.Number.{number_of}
 use Rattle.scenario_words.specs.PathWord.{IsPath, path_of}
 use Rattle.scenario_words.specs.Reading.{◌>>=◌, ended, word_by}
+use Rattle.scenario_words.specs.ValueWords.{name_fault}
 use Rattle.scenario_words.proofs.Pairs.{hex_law}
 use Rattle.scenario_words.proofs.PathLaws.{bind_ok, path_law, path_again}
 use Rattle.scenario_mnemonics.specs.declared.action.Action.{Action}
@@ -31,63 +33,44 @@ use Rattle.scenario_mnemonics.specs.declared.verb.Keyword.{Keyword}
 use Rattle.scenario_mnemonics.specs.declared.verb.Keyword.TheVariants as keyword
 use Rattle.scenario_mnemonics.specs.declared.verb.Verb.{Verb}
 use Rattle.scenario_mnemonics.specs.declared.verb.Verb.TheVariants as verb
-use Rattle.scenario_mnemonics.specs.MnemonicWords.{action_at, bare_named, bringing_named, content_at, format_at}
-use Rattle.scenario_mnemonics.specs.MnemonicWords.{format_of, format_word, head_at, keyword_chosen, keyword_named}
-use Rattle.scenario_mnemonics.specs.MnemonicWords.{keyword_of}
-use Rattle.scenario_mnemonics.specs.MnemonicWords.{keyword_word, mnemonic_at, payload_at, queries_at, said}
-use Rattle.scenario_mnemonics.specs.MnemonicWords.{short_token, token_at, type_of, type_word, verb_of, verb_word}
+use Rattle.scenario_mnemonics.specs.Messages.{asks}
+use Rattle.scenario_mnemonics.specs.MnemonicWords.{action_at, content_at, format_of, format_word, formats, head_at}
+use Rattle.scenario_mnemonics.specs.MnemonicWords.{keyword_named, keyword_of, keyword_word, keywords, last_by}
+use Rattle.scenario_mnemonics.specs.MnemonicWords.{mnemonic_at, queries_at, said, short_token, token_at, type_of}
+use Rattle.scenario_mnemonics.specs.MnemonicWords.{type_word}
 use Rattle.scenario_mnemonics.specs.Queries.{are_queries, is_query}
 use Rattle.scenario_mnemonics.proofs.Spelling.{type_again, format_again}
 use Rattle.scenario_statements.specs.Spelling.{IsWithin}
 use Rattle.scenario_statements.proofs.Again.{number_again}
 use Rattle.laws_reading.specs.Statements.{AreAsked, AreDetails, IsAsked, IsQueryWord}
-use Rattle.laws_reading.proofs.ReadWords.{by_name, ended_read, is_some_word, is_word, last_taken}
-use Rattle.laws_reading.proofs.ReadWords.{number_read, ok_of, taken}
+use Rattle.laws_reading.proofs.ReadWords.{by_name, ended_read, is_some_word, last_taken, number_read, ok_of, taken}
 use Rattle.laws_reading.proofs.Refused.{each_said, each_tested}
 use Rattle.laws_reading.proofs.WrongNames.{graphic_said, graphic_tested}
 
 -- ---- keywords
 
-bare_read : (w : List ℕ) (v : Verb) → bare_named w ≡ Some v → w ≡ verb_word v
-bare_read w v =
-    by_name w (codes "read") _ _ (Some v) (w ≡ verb_word v) (is_some_word verb_word w verb.Read v)
-    (by_name w (codes "observe") _ _ (Some v) (w ≡ verb_word v) (is_some_word verb_word w verb.Observe v)
-    (by_name w (codes "cancel") _ _ (Some v) (w ≡ verb_word v) (is_some_word verb_word w verb.Cancel v)
-    (by_name w (codes "discover") _ _ (Some v) (w ≡ verb_word v) (is_some_word verb_word w verb.Discover v)
-    (by_name w (codes "delete") _ _ (Some v) (w ≡ verb_word v) (is_some_word verb_word w verb.Delete v) (λ h. cc)))))
-
-bringing_read : (w : List ℕ) (v : Verb) → bringing_named w ≡ Some v → w ≡ verb_word v
-bringing_read w v =
-    by_name w (codes "write") _ _ (Some v) (w ≡ verb_word v) (is_some_word verb_word w verb.Write v)
-    (by_name w (codes "update") _ _ (Some v) (w ≡ verb_word v) (is_some_word verb_word w verb.Update v)
-    (by_name w (codes "create") _ _ (Some v) (w ≡ verb_word v) (is_some_word verb_word w verb.Create v)
-    (by_name w (codes "attr") _ _ (Some v) (w ≡ verb_word v) (is_some_word verb_word w verb.Attr v)
-    (by_name w (codes "exec") _ _ (Some v) (w ≡ verb_word v) (is_some_word verb_word w verb.Exec v) (λ h. cc)))))
-
-chosen_read : (w : List ℕ) (k : Keyword) (a b : Option Verb) → bare_named w ≡ a → bringing_named w ≡ b
-    → keyword_chosen w a b ≡ Some k → w ≡ keyword_word k
-chosen_read w k (Some v) b e f h = is_some_word keyword_word w (keyword.Request v) k (bare_read w v e) h
-chosen_read w k None (Some v) e f h = is_some_word keyword_word w (keyword.Request v) k (bringing_read w v f) h
-chosen_read w k None None e f h =
-    by_name w (codes "reset") _ _ (Some k) (w ≡ keyword_word k) (is_some_word keyword_word w keyword.Reset k)
-    (λ h. cc) h
+-- what is found by its word has this word
+pub found_read : {A : Type 0} (word : A → List ℕ) (w : List ℕ) (x : A) (all : List A)
+    → find (λ y. bytes_eq w (word y)) all ≡ Some x → w ≡ word x
+found_read word w x [] h = cc
+found_read word w x (y ∷ all) h =
+    by_name w (word y) (Some y) (find (λ z. bytes_eq w (word z)) all) (Some x) (w ≡ word x) (is_some_word word w y x)
+    (found_read word w x all) h
 
 pub keyword_read : (w : List ℕ) (k : Keyword) → keyword_named w ≡ Some k → w ≡ keyword_word k
-keyword_read w k h = chosen_read w k (bare_named w) (bringing_named w) refl refl h
+keyword_read w k h = found_read keyword_word w k keywords h
 
 -- ---- names
 
+ok_found : {A : Type 0} (o : Option A) (e : Cause) (x : A) → ok_or o e ≡ Ok x → o ≡ Some x
+ok_found None e x h = cc
+ok_found (Some y) e x h = cc
+
 pub type_read : (w : List ℕ) (t : RequestType) → type_of w ≡ Ok t → w ≡ type_word t
-type_read w t =
-    by_name w (codes "con") _ _ (Ok t) (w ≡ type_word t) (is_word type_word w Con t)
-    (by_name w (codes "non") _ _ (Ok t) (w ≡ type_word t) (is_word type_word w Non t) (λ h. cc))
+type_read w t h = found_read type_word w t (Con ∷ Non ∷ []) (ok_found _ (name_fault w) t h)
 
 pub format_read : (w : List ℕ) (f : Format) → format_of w ≡ Ok f → w ≡ format_word f
-format_read w f =
-    by_name w (codes "any") _ _ (Ok f) (w ≡ format_word f) (is_word format_word w format.Any f)
-    (by_name w (codes "text") _ _ (Ok f) (w ≡ format_word f) (is_word format_word w format.Text f)
-    (by_name w (codes "opaque") _ _ (Ok f) (w ≡ format_word f) (is_word format_word w format.Opaque f)
-    (by_name w (codes "tlv") _ _ (Ok f) (w ≡ format_word f) (is_word format_word w format.Tlv f) (λ h. cc))))
+format_read w f h = found_read format_word w f formats (ok_found _ (name_fault w) f h)
 
 -- ---- tokens
 
@@ -189,14 +172,15 @@ queries_again (q ∷ qs) h all =
 
 -- ---- the words after the path
 
-format_alone : (ws : List (List ℕ)) (f : Format) → format_at ws ≡ Ok f → ws ≡ format_word f ∷ []
+format_alone : (ws : List (List ℕ)) (f : Format) → last_by format_of ws ≡ Ok f → ws ≡ format_word f ∷ []
 format_alone ws f h =
     let t = taken format_of ws (λ x. ended x.1 >>= (λ e. Ok x.0)) f h in
     let end = ended_read t.others t.value f t.rest in
     let n = format_read t.word t.value t.first in
     t.all ∙ ap (λ o. t.word ∷ o) end.0 ∙ ap (λ v. v ∷ []) (n ∙ ap format_word end.1)
 
-payload_alone : (ws : List (List ℕ)) (b : List ℕ) → payload_at ws ≡ Ok b → (w : List ℕ) × (ws ≡ w ∷ []) × IsHex w b
+payload_alone : (ws : List (List ℕ)) (b : List ℕ) → last_by bytes_of ws ≡ Ok b
+    → (w : List ℕ) × (ws ≡ w ∷ []) × IsHex w b
 payload_alone ws b h =
     let t = taken bytes_of ws (λ x. ended x.1 >>= (λ e. Ok x.0)) b h in
     let end = ended_read t.others t.value b t.rest in
@@ -205,8 +189,8 @@ payload_alone ws b h =
 content_alone : (ws : List (List ℕ)) (c : Format × List ℕ) → content_at ws ≡ Ok c
     → (w : List ℕ) × (ws ≡ format_word c.0 ∷ w ∷ []) × IsHex w c.1
 content_alone ws c h =
-    let t = taken format_of ws (λ f. payload_at f.1 >>= (λ b. Ok (f.0, b))) c h in
-    let b = bind_ok (payload_at t.others) (λ b. Ok (t.value, b)) c t.rest in
+    let t = taken format_of ws (λ f. last_by bytes_of f.1 >>= (λ b. Ok (f.0, b))) c h in
+    let b = bind_ok (last_by bytes_of t.others) (λ b. Ok (t.value, b)) c t.rest in
     let found : Format × List ℕ = (t.value, b.0) in
     let same : found ≡ c = cc (b.2) in
     let p = payload_alone t.others b.0 b.1 in
@@ -215,19 +199,19 @@ content_alone ws c h =
     (p.0, t.all ∙ ap (λ o. t.word ∷ o) p.1 ∙ ap (λ v. v ∷ p.0 ∷ []) n, p.2)
 
 abbrev IsDetailed : Verb → List (List ℕ) → Action → Type 0
-IsDetailed v ws a = (verb_of a ≡ v) × AreDetails a ws
+IsDetailed v ws a = ((asks a).verb ≡ v) × AreDetails a ws
 
 details_said : (v : Verb) (ws : List (List ℕ)) (a : Action) → action_at v ws ≡ Ok a → IsDetailed v ws a
 details_said verb.Read ws a h =
-    let b = bind_ok (format_at ws) (λ f. Ok (act.Read f)) a h in
+    let b = bind_ok (last_by format_of ws) (λ f. Ok (act.Read f)) a h in
     let same : act.Read b.0 ≡ a = cc (b.2) in
     subst (IsDetailed verb.Read ws) same (refl, format_alone ws b.0 b.1)
 details_said verb.Observe ws a h =
-    let b = bind_ok (format_at ws) (λ f. Ok (act.Observe f)) a h in
+    let b = bind_ok (last_by format_of ws) (λ f. Ok (act.Observe f)) a h in
     let same : act.Observe b.0 ≡ a = cc (b.2) in
     subst (IsDetailed verb.Observe ws) same (refl, format_alone ws b.0 b.1)
 details_said verb.Cancel ws a h =
-    let b = bind_ok (format_at ws) (λ f. Ok (act.Cancel f)) a h in
+    let b = bind_ok (last_by format_of ws) (λ f. Ok (act.Cancel f)) a h in
     let same : act.Cancel b.0 ≡ a = cc (b.2) in
     subst (IsDetailed verb.Cancel ws) same (refl, format_alone ws b.0 b.1)
 details_said verb.Discover ws a h =
@@ -251,11 +235,11 @@ details_said verb.Attr ws a h =
     let same : act.Attr b.0 ≡ a = cc (b.2) in
     subst (IsDetailed verb.Attr ws) same (refl, queries_read ws b.0 b.1)
 details_said verb.Exec ws a h =
-    let b = bind_ok (payload_at ws) (λ x. Ok (act.Exec x)) a h in
+    let b = bind_ok (last_by bytes_of ws) (λ x. Ok (act.Exec x)) a h in
     let same : act.Exec b.0 ≡ a = cc (b.2) in
     subst (IsDetailed verb.Exec ws) same (refl, payload_alone ws b.0 b.1)
 
-details_again : (a : Action) (ws : List (List ℕ)) → AreDetails a ws → action_at (verb_of a) ws ≡ Ok a
+details_again : (a : Action) (ws : List (List ℕ)) → AreDetails a ws → action_at (asks a).verb ws ≡ Ok a
 details_again (act.Read f) ws h = ap (action_at verb.Read) h ∙ rw (format_again f) refl
 details_again (act.Observe f) ws h = ap (action_at verb.Observe) h ∙ rw (format_again f) refl
 details_again (act.Cancel f) ws h = ap (action_at verb.Cancel) h ∙ rw (format_again f) refl
@@ -366,7 +350,7 @@ mnemonic_said w k ws server m e h =
 pub mnemonic_again : (server : ℕ) (m : Mnemonic) (ws : List (List ℕ)) → AreAsked server m ws
     → mnemonic_at (keyword_of m) ws ≡ Ok (server, m)
 mnemonic_again server (mnemonic.Request r) ws h =
-    let v = verb_of r.action in
+    let v = (asks r.action).verb in
     let head = headed server r.kind r.mid r.token r.path in
     ap (λ x. head_at x >>= acted v) h.2
     ∙ ap (λ x. x >>= acted v) (head_again server r.kind r.mid h.0 r.token r.path h.1 h.3 h.4 h.5 h.6 h.7)

@@ -4,7 +4,7 @@ use Rattle.std.proofs.Common.{Result, Ok, Err, inl, inr, refl, sym, ap, ◌∙�
 use Rattle.std.proofs.Common.{nat_le, nat_lt, length}
 use Rattle.std.proofs.Common.{lt-ltb}
 use Rattle.std.specs.Bool.{if◌then◌else◌}
-use Rattle.std.specs.Prelude.{codes}
+use Rattle.std.specs.Prelude.{Option, None, Some, ok_or}
 use Rattle.std.specs.List.{AllByRecursion, list_all}
 use Rattle.std.proofs.lemmas.Bool.{and_from, and_parts}
 use Rattle.scenario_words.specs.declared.cause.Cause.{Cause}
@@ -25,8 +25,8 @@ use Rattle.scenario_mnemonics.specs.declared.format.Format.TheVariants as format
 use Rattle.scenario_mnemonics.specs.declared.action.Action.TheVariants as act
 use Rattle.scenario_mnemonics.specs.declared.head.Head.{Head}
 use Rattle.scenario_mnemonics.specs.declared.mnemonic.Mnemonic.TheVariants as mnemonic
-use Rattle.scenario_mnemonics.specs.MnemonicWords.{action_at, content_at, format_at, format_of, format_word}
-use Rattle.scenario_mnemonics.specs.MnemonicWords.{mnemonic_at, payload_at, queries_at}
+use Rattle.scenario_mnemonics.specs.MnemonicWords.{action_at, content_at, format_of, format_word, last_by}
+use Rattle.scenario_mnemonics.specs.MnemonicWords.{mnemonic_at, queries_at}
 use Rattle.scenario_mnemonics.specs.MnemonicWords.{said, short_token, token_at, type_of, type_word}
 use Rattle.scenario_mnemonics.specs.Queries.{are_queries, is_query}
 use Rattle.scenario_mnemonics.proofs.Spelling.{type_again, format_again}
@@ -42,7 +42,7 @@ use Rattle.laws_reading.proofs.Refused.{bind_err, each_said, each_tested, is_wro
 use Rattle.laws_reading.proofs.Mnemonics.{acted, format_read, headed}
 use Rattle.laws_reading.proofs.Mnemonics.{query_said, query_tested, read_token, token_again, token_read, token_word}
 use Rattle.laws_reading.proofs.Mnemonics.{type_read}
-use Rattle.laws_reading.proofs.WrongNames.{by_names, named_or, no_name}
+use Rattle.laws_reading.proofs.WrongNames.{by_names}
 use Rattle.laws_reading.proofs.WrongNumbers.{bytes_err, token_alone}
 use Rattle.laws_reading.proofs.WrongPlaces.{Fills, Refuses, taken, none_missing, placed, all_placed, made_of}
 use Rattle.laws_reading.proofs.WrongPlaces.{number_fills, path_fills, form_enough, chained, bytes_fill}
@@ -50,8 +50,12 @@ use Rattle.laws_reading.proofs.WrongLines.{joined, same_reading}
 
 -- ---- mnemonics
 
+none_found : {A : Type 0} (o : Option A) (f e : Cause) → ok_or o f ≡ Err e → e ≡ f
+none_found None f e h = cc
+none_found (Some x) f e h = cc
+
 pub type_fault : (w : List ℕ) (e : Cause) → type_of w ≡ Err e → e ≡ name_fault w
-type_fault w e = named_or w (codes "con") Con _ e (named_or w (codes "non") Non _ e (no_name w e))
+type_fault w e h = none_found _ (name_fault w) e h
 
 pub type_formed : (t : RequestType) → is_formed (type_word t) ≡ true
 type_formed Con = refl
@@ -69,9 +73,7 @@ type_fills =
     }
 
 pub format_fault : (w : List ℕ) (e : Cause) → format_of w ≡ Err e → e ≡ name_fault w
-format_fault w e =
-    named_or w (codes "any") format.Any _ e (named_or w (codes "text") format.Text _ e
-    (named_or w (codes "opaque") format.Opaque _ e (named_or w (codes "tlv") format.Tlv _ e (no_name w e))))
+format_fault w e h = none_found _ (name_fault w) e h
 
 pub format_formed : (f : Format) → is_formed (format_word f) ≡ true
 format_formed format.Any = refl
@@ -124,18 +126,18 @@ pub made : {A B : Type 0} (r : List (List ℕ) → Result A Cause) (W : List (Li
     → Refuses r W → Refuses (λ ws. r ws >>= (λ x. Ok (g x))) W
 made r W g so ws cause = made_of (r ws) g cause (W ws cause) (so ws cause)
 
-pub format_placed : Refuses format_at (AreWrong (format_name ∷ []) IsTooMany)
+pub format_placed : Refuses (last_by format_of) (AreWrong (format_name ∷ []) IsTooMany)
 format_placed =
     placed format_of format_name [] IsTooMany (λ f. ended f.1 >>= (λ e. Ok f.0)) format_fills (λ f. all_placed f)
 
-pub payload_placed : Refuses payload_at (AreWrong (bytes ∷ []) IsTooMany)
+pub payload_placed : Refuses (last_by bytes_of) (AreWrong (bytes ∷ []) IsTooMany)
 payload_placed =
     placed bytes_of bytes [] IsTooMany (λ b. ended b.1 >>= (λ e. Ok b.0)) bytes_fill (λ b. all_placed b)
 
 pub content_placed : Refuses content_at (AreWrong (format_name ∷ bytes ∷ []) IsTooMany)
 content_placed =
-    placed format_of format_name (bytes ∷ []) IsTooMany (λ f. payload_at f.1 >>= (λ b. Ok (f.0, b))) format_fills
-    (λ f. made payload_at (AreWrong (bytes ∷ []) IsTooMany) (λ b. (f, b)) payload_placed)
+    placed format_of format_name (bytes ∷ []) IsTooMany (λ f. last_by bytes_of f.1 >>= (λ b. Ok (f.0, b))) format_fills
+    (λ f. made (last_by bytes_of) (AreWrong (bytes ∷ []) IsTooMany) (λ b. (f, b)) payload_placed)
 
 -- ---- queries
 
@@ -157,10 +159,12 @@ queries_placed (w ∷ ws) cause =
     (lt-ltb 0 (length (w ∷ ws)) (omega arith)) (each_tested is_query IsQueryWord query_tested (w ∷ ws) h))
 
 pub details_placed : (v : Verb) → Refuses (action_at v) (AreWrongAsDetails v)
-details_placed verb.Read = made format_at (AreWrong (format_name ∷ []) IsTooMany) (λ f. act.Read f) format_placed
+details_placed verb.Read =
+    made (last_by format_of) (AreWrong (format_name ∷ []) IsTooMany) (λ f. act.Read f) format_placed
 details_placed verb.Observe =
-    made format_at (AreWrong (format_name ∷ []) IsTooMany) (λ f. act.Observe f) format_placed
-details_placed verb.Cancel = made format_at (AreWrong (format_name ∷ []) IsTooMany) (λ f. act.Cancel f) format_placed
+    made (last_by format_of) (AreWrong (format_name ∷ []) IsTooMany) (λ f. act.Observe f) format_placed
+details_placed verb.Cancel =
+    made (last_by format_of) (AreWrong (format_name ∷ []) IsTooMany) (λ f. act.Cancel f) format_placed
 details_placed verb.Discover = all_placed act.Discover
 details_placed verb.Delete = all_placed act.Delete
 details_placed verb.Write =
@@ -170,7 +174,7 @@ details_placed verb.Update =
 details_placed verb.Create =
     made content_at (AreWrong (format_name ∷ bytes ∷ []) IsTooMany) (λ c. act.Create c.0 c.1) content_placed
 details_placed verb.Attr = made queries_at AreWrongAsQueries (λ qs. act.Attr qs) queries_placed
-details_placed verb.Exec = made payload_at (AreWrong (bytes ∷ []) IsTooMany) (λ b. act.Exec b) payload_placed
+details_placed verb.Exec = made (last_by bytes_of) (AreWrong (bytes ∷ []) IsTooMany) (λ b. act.Exec b) payload_placed
 
 pub token_placed : (v : Verb) (s : ℕ) (k : RequestType) (m : ℕ)
     → Refuses (λ ws. (token_at ws >>= (λ t. word_by path_of t.1 >>= (λ p. Ok (headed s k m t.0 p.0, p.1)))) >>= acted v)

@@ -22,7 +22,7 @@ use Rattle.scenario_mnemonics.specs.Denoting.{mnemonic_of}
 use Rattle.scenario_mnemonics.specs.Messages.{datagram_of, fits_mnemonic, IsGood}
 use Rattle.scenario_mnemonics.specs.declared.mnemonic.Mnemonic.{Mnemonic}
 use Rattle.scenario_mnemonics.specs.declared.mnemonic.Mnemonic.TheVariants as mnemonic
-use Rattle.scenario_mnemonics.proofs.Fitting.{denotes}
+use Rattle.scenario_mnemonics.proofs.Candidates.{denotes}
 use Rattle.scenario_statements.specs.declared.statement.Statement.TheVariants as says
 use Rattle.scenario_asm.specs.Canonical.{of_datagram, of_row, of_step}
 use Rattle.scenario_asm.proofs.Numbers.{bytes_all}

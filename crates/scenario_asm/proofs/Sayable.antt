@@ -18,7 +18,7 @@ use Rattle.scenario_image.specs.Scenario.{Row, Scenario, HasShortNumbers, IsGood
 use Rattle.scenario_words.specs.PathWord.{IsPath}
 use Rattle.scenario_mnemonics.specs.declared.mnemonic.Mnemonic.{Mnemonic}
 use Rattle.scenario_mnemonics.specs.Denoting.{mnemonic_of}
-use Rattle.scenario_mnemonics.proofs.Fitting.{denotes}
+use Rattle.scenario_mnemonics.proofs.Candidates.{denotes}
 use Rattle.scenario_statements.specs.Spelling.{IsWithin, IsSayable}
 use Rattle.scenario_asm.specs.Canonical.{of_class, of_datagram, of_step, of_row, statements}
 use Rattle.scenario_asm.specs.Reading.{IsScenario}

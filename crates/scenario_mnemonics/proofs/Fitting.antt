@@ -21,10 +21,11 @@ use Rattle.scenario_mnemonics.specs.declared.action.Action.TheVariants as act
 use Rattle.scenario_mnemonics.specs.declared.mnemonic.Mnemonic.{Mnemonic}
 use Rattle.scenario_mnemonics.specs.declared.mnemonic.Mnemonic.TheVariants as mnemonic
 use Rattle.scenario_mnemonics.specs.Queries.{are_queries}
-use Rattle.scenario_mnemonics.specs.Messages.{fits, payload_of, datagram_of, has_words, IsGood}
-use Rattle.scenario_mnemonics.specs.Denoting.{values, type_from, format_from, path_from, is_discover, get_from}
-use Rattle.scenario_mnemonics.specs.Denoting.{post_from, put_from, action_from, token_from, request_from, mnemonic_from}
-use Rattle.scenario_mnemonics.specs.Denoting.{mnemonic_read, own, mnemonic_of}
+use Rattle.scenario_mnemonics.specs.Messages.{asks, fits, datagram_of, has_words, IsGood}
+use Rattle.scenario_mnemonics.specs.Denoting.{values}
+use Rattle.scenario_mnemonics.specs.Inside.{type_from, format_from, path_from, is_discover, get_from, post_from}
+use Rattle.scenario_mnemonics.specs.Inside.{put_from, action_from, token_from, request_from, mnemonic_from}
+use Rattle.scenario_mnemonics.specs.Inside.{mnemonic_read, own, mnemonic_found}
 use Rattle.scenario_mnemonics.proofs.Denoted.{datagram_again}
 
 mapped : {A B : Type 0} (P : B → Type 0) (f : A → B) (o : Option A) → ((x : A) → P (f x)) → IfSome (option_map f o) P
@@ -73,7 +74,7 @@ path_small (a ∷ b ∷ c ∷ d ∷ e ∷ more) = tt
 record Fits (p : Path) (payload : List ℕ) (a : Action) : Type 0 where
   pub fit : fits a p ≡ true
   pub words : has_words a ≡ true
-  pub bytes : AllBelowBase 256 payload → AllBelowBase 256 (payload_of a)
+  pub bytes : AllBelowBase 256 payload → AllBelowBase 256 (asks a).payload
 
 get_fits : (os vs : List (List ℕ)) (p : Path) (b : List ℕ) → IfSome (get_from os vs) (Fits p b)
 get_fits [] vs p b =
@@ -138,19 +139,19 @@ message_good : (m : Message) → m.mid < 65536 → AllBelowBase 256 m.token → 
     → IfSome (mnemonic_from m) IsGood
 message_good m mid token payload = chosen IsGood (eqb m.code 0) _ _ (λ h. mid) (request_good m mid token payload)
 
-below : (bs : List ℕ) → All (λ b. b < 256) bs → AllBelowBase 256 bs
+pub below : (bs : List ℕ) → All (λ b. b < 256) bs → AllBelowBase 256 bs
 below [] h = tt
 below (b ∷ bs) h = (All-head (λ x. x < 256) b bs h, below bs (All-tail (λ x. x < 256) b bs h))
 
-first_below : (xs ys : List ℕ) → AllBelowBase 256 (xs ++ ys) → AllBelowBase 256 xs
+pub first_below : (xs ys : List ℕ) → AllBelowBase 256 (xs ++ ys) → AllBelowBase 256 xs
 first_below [] ys h = tt
 first_below (x ∷ xs) ys h = (h.0, first_below xs ys h.1)
 
-last_below : (xs ys : List ℕ) → AllBelowBase 256 (xs ++ ys) → AllBelowBase 256 ys
+pub last_below : (xs ys : List ℕ) → AllBelowBase 256 (xs ++ ys) → AllBelowBase 256 ys
 last_below [] ys h = h
 last_below (x ∷ xs) ys h = last_below xs ys h.1
 
-payload_below : (b : List ℕ) → AllBelowBase 256 (payload_bytes b) → AllBelowBase 256 b
+pub payload_below : (b : List ℕ) → AllBelowBase 256 (payload_bytes b) → AllBelowBase 256 b
 payload_below [] h = tt
 payload_below (b ∷ bs) h = h.1
 
@@ -170,14 +171,14 @@ own_good bytes k good =
     (λ e. (good, (bytes_eq-Decides (datagram_of k) bytes).0 e)) tt
 
 -- a datagram has this mnemonic exactly where it is the good mnemonic's own
-pub denotes : (bytes : List ℕ) (m : Mnemonic) → All (λ b. b < 256) bytes → (mnemonic_of bytes ≡ Some m)
+pub found_denotes : (bytes : List ℕ) (m : Mnemonic) → All (λ b. b < 256) bytes → (mnemonic_found bytes ≡ Some m)
     ↔ (IsGood m × (datagram_of m ≡ bytes))
-denotes bytes m h = (
+found_denotes bytes m h = (
   (λ e.
-      there (λ k. IsGood k × (datagram_of k ≡ bytes)) (mnemonic_of bytes) m
+      there (λ k. IsGood k × (datagram_of k ≡ bytes)) (mnemonic_found bytes) m
       (behind (λ k. IsGood k × (datagram_of k ≡ bytes)) (own bytes) (mnemonic_read (reading_of bytes))
       (λ k found. own_good bytes k (there IsGood (mnemonic_read (reading_of bytes)) k
       (read_good bytes (reading_of bytes) h refl) found)))
       e),
-  (λ g. sym (ap mnemonic_of g.1) ∙ datagram_again m g.0),
+  (λ g. sym (ap mnemonic_found g.1) ∙ datagram_again m g.0),
 )

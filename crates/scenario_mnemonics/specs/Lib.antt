@@ -1,4 +1,5 @@
 pub mod Queries
 pub mod Messages
-pub mod Denoting
 pub mod MnemonicWords
+pub mod Denoting
+pub mod Inside

@@ -1,5 +1,5 @@
 -- The message that a mnemonic is: each has the options that it needs, in the order of their numbers, and no other.
-use Rattle.std.specs.Prelude.{◌≡◌, ℕ, ◌<◌, ◌≤◌, Bool, true, false, List, [], ◌∷◌, ◌++◌, length, map}
+use Rattle.std.specs.Prelude.{◌≡◌, ℕ, ◌<◌, ◌≤◌, ◌==◌, Bool, true, List, [], ◌∷◌, ◌++◌, length, map}
 use Rattle.std.specs.Fmt.{decimal}
 use Rattle.std.specs.Int.Digits.{AllBelowBase}
 use Rattle.coap_codec.specs.declared.kind.Kind.{Kind}
@@ -16,56 +16,14 @@ use Rattle.scenario_mnemonics.specs.declared.request_type.RequestType.{RequestTy
 use Rattle.scenario_mnemonics.specs.declared.request_type.RequestType.TheVariants.{Con, Non}
 use Rattle.scenario_mnemonics.specs.declared.format.Format.{Format}
 use Rattle.scenario_mnemonics.specs.declared.format.Format.TheVariants as format
+use Rattle.scenario_mnemonics.specs.declared.verb.Verb.{Verb}
+use Rattle.scenario_mnemonics.specs.declared.verb.Verb.TheVariants as verb
 use Rattle.scenario_mnemonics.specs.declared.action.Action.{Action}
 use Rattle.scenario_mnemonics.specs.declared.action.Action.TheVariants as act
 use Rattle.scenario_mnemonics.specs.declared.mnemonic.Request.{Request}
 use Rattle.scenario_mnemonics.specs.declared.mnemonic.Mnemonic.{Mnemonic}
 use Rattle.scenario_mnemonics.specs.declared.mnemonic.Mnemonic.TheVariants as mnemonic
 use Rattle.scenario_mnemonics.specs.Queries.{are_queries}
-
--- the path has as many numbers as the action needs
-abbrev pub fits : Action → Path → Bool
-fits (act.Read f) p = true
-fits (act.Observe f) p = true
-fits (act.Cancel f) p = true
-fits act.Discover p = true
-fits act.Delete p = true
-fits (act.Write f b) p = true
-fits (act.Update f b) (Object o) = false
-fits (act.Update f b) (Instance o i) = true
-fits (act.Update f b) (Resource o i r) = false
-fits (act.Update f b) (Part o i r n) = false
-fits (act.Create f b) (Object o) = true
-fits (act.Create f b) (Instance o i) = false
-fits (act.Create f b) (Resource o i r) = false
-fits (act.Create f b) (Part o i r n) = false
-fits (act.Attr qs) p = true
-fits (act.Exec b) (Object o) = false
-fits (act.Exec b) (Instance o i) = false
-fits (act.Exec b) (Resource o i r) = true
-fits (act.Exec b) (Part o i r n) = false
-
-abbrev pub fits_mnemonic : Mnemonic → Bool
-fits_mnemonic (mnemonic.Request r) = fits r.action r.path
-fits_mnemonic (mnemonic.Reset mid) = true
-
--- the type (RFC 7252 section 3)
-abbrev pub kind_of : RequestType → Kind
-kind_of Con = kind.Con
-kind_of Non = kind.Non
-
--- GET, POST, PUT, DELETE (RFC 7252 section 12.1.1)
-abbrev pub code_of : Action → ℕ
-code_of (act.Read f) = 1
-code_of (act.Observe f) = 1
-code_of (act.Cancel f) = 1
-code_of act.Discover = 1
-code_of act.Delete = 4
-code_of (act.Write f b) = 3
-code_of (act.Update f b) = 2
-code_of (act.Create f b) = 2
-code_of (act.Attr qs) = 3
-code_of (act.Exec b) = 2
 
 -- options of one number
 abbrev pub options_with : ℕ → List (List ℕ) → List Opt
@@ -78,19 +36,6 @@ format_values format.Text = shortest 0 ∷ []
 format_values format.Opaque = shortest 42 ∷ []
 format_values format.Tlv = shortest 11542 ∷ []
 
--- Observe: 0 registers, 1 deregisters (RFC 7641 section 2)
-abbrev pub observe_values : Action → List (List ℕ)
-observe_values (act.Read f) = []
-observe_values (act.Observe f) = shortest 0 ∷ []
-observe_values (act.Cancel f) = shortest 1 ∷ []
-observe_values act.Discover = []
-observe_values act.Delete = []
-observe_values (act.Write f b) = []
-observe_values (act.Update f b) = []
-observe_values (act.Create f b) = []
-observe_values (act.Attr qs) = []
-observe_values (act.Exec b) = []
-
 -- Uri-Path: each number in decimal
 abbrev pub segments : Path → List (List ℕ)
 segments (Object o) = decimal o ∷ []
@@ -98,79 +43,70 @@ segments (Instance o i) = decimal o ∷ decimal i ∷ []
 segments (Resource o i r) = decimal o ∷ decimal i ∷ decimal r ∷ []
 segments (Part o i r n) = decimal o ∷ decimal i ∷ decimal r ∷ decimal n ∷ []
 
--- Content-Format: of what a Write or Create brings
-abbrev pub content_values : Action → List (List ℕ)
-content_values (act.Read f) = []
-content_values (act.Observe f) = []
-content_values (act.Cancel f) = []
-content_values act.Discover = []
-content_values act.Delete = []
-content_values (act.Write f b) = format_values f
-content_values (act.Update f b) = format_values f
-content_values (act.Create f b) = format_values f
-content_values (act.Attr qs) = []
-content_values (act.Exec b) = []
+-- what an action is called, and has in its message beside the path: the values of its options, by their names
+pub record Asks : Type 0 where
+  pub verb : Verb
+  pub code : ℕ
+  pub observe : List (List ℕ)
+  pub content : List (List ℕ)
+  pub queries : List (List ℕ)
+  pub accept : List (List ℕ)
+  pub payload : List ℕ
 
--- Uri-Query: one for each attribute
-abbrev pub query_values : Action → List (List ℕ)
-query_values (act.Read f) = []
-query_values (act.Observe f) = []
-query_values (act.Cancel f) = []
-query_values act.Discover = []
-query_values act.Delete = []
-query_values (act.Write f b) = []
-query_values (act.Update f b) = []
-query_values (act.Create f b) = []
-query_values (act.Attr qs) = qs
-query_values (act.Exec b) = []
+abbrev pub method : ℕ → Verb → Asks
+method code verb =
+    record { verb = verb; code = code; observe = []; content = []; queries = []; accept = []; payload = [] }
 
--- Accept: of what a Read or Observe asks for; 40 is the link format of a Discover
-abbrev pub accept_values : Action → List (List ℕ)
-accept_values (act.Read f) = format_values f
-accept_values (act.Observe f) = format_values f
-accept_values (act.Cancel f) = format_values f
-accept_values act.Discover = shortest 40 ∷ []
-accept_values act.Delete = []
-accept_values (act.Write f b) = []
-accept_values (act.Update f b) = []
-accept_values (act.Create f b) = []
-accept_values (act.Attr qs) = []
-accept_values (act.Exec b) = []
+-- each action's: GET is 1, POST 2, PUT 3, DELETE 4 (RFC 7252 section 12.1.1); an Observe of 0 registers, one of 1
+-- deregisters (RFC 7641 section 2); an Accept of 40 is the link format
+abbrev pub asks : Action → Asks
+asks (act.Read f) = record (method 1 verb.Read) { accept = format_values f }
+asks (act.Observe f) = record (method 1 verb.Observe) { observe = shortest 0 ∷ []; accept = format_values f }
+asks (act.Cancel f) = record (method 1 verb.Cancel) { observe = shortest 1 ∷ []; accept = format_values f }
+asks act.Discover = record (method 1 verb.Discover) { accept = shortest 40 ∷ [] }
+asks act.Delete = method 4 verb.Delete
+asks (act.Write f b) = record (method 3 verb.Write) { content = format_values f; payload = b }
+asks (act.Update f b) = record (method 2 verb.Update) { content = format_values f; payload = b }
+asks (act.Create f b) = record (method 2 verb.Create) { content = format_values f; payload = b }
+asks (act.Attr qs) = record (method 3 verb.Attr) { queries = qs }
+asks (act.Exec b) = record (method 2 verb.Exec) { payload = b }
 
-abbrev pub payload_of : Action → List ℕ
-payload_of (act.Read f) = []
-payload_of (act.Observe f) = []
-payload_of (act.Cancel f) = []
-payload_of act.Discover = []
-payload_of act.Delete = []
-payload_of (act.Write f b) = b
-payload_of (act.Update f b) = b
-payload_of (act.Create f b) = b
-payload_of (act.Attr qs) = []
-payload_of (act.Exec b) = b
+-- the path has as many numbers as the action needs
+abbrev pub fits : Action → Path → Bool
+fits (act.Create f b) p = length (segments p) == 1
+fits (act.Update f b) p = length (segments p) == 2
+fits (act.Exec b) p = length (segments p) == 3
+fits a p = true
+
+abbrev pub fits_mnemonic : Mnemonic → Bool
+fits_mnemonic (mnemonic.Request r) = fits r.action r.path
+fits_mnemonic (mnemonic.Reset mid) = true
 
 -- Observe 6, Uri-Path 11, Content-Format 12, Uri-Query 15, Accept 17 (RFC 7252 section 12.2, RFC 7641 section 2)
 abbrev pub options_of : Path → Action → List Opt
 options_of p a =
-    options_with observe_option (observe_values a)
+    options_with observe_option (asks a).observe
     ++ (options_with uri_path_option (segments p)
-    ++ (options_with content_format_option (content_values a)
-    ++ (options_with uri_query_option (query_values a) ++ options_with accept_option (accept_values a))))
+    ++ (options_with content_format_option (asks a).content
+    ++ (options_with uri_query_option (asks a).queries ++ options_with accept_option (asks a).accept)))
+
+-- the type (RFC 7252 section 3)
+abbrev pub kind_of : RequestType → Kind
+kind_of Con = kind.Con
+kind_of Non = kind.Non
 
 -- the message of a mnemonic
 abbrev pub message_of : Mnemonic → Message
-message_of (mnemonic.Request r) =
-    record {
-      kind = kind_of r.kind;
-      code = code_of r.action;
-      mid = r.mid;
-      token = r.token;
-      options =
-          options_of r.path r.action;
-      payload = payload_of r.action;
-    }
 message_of (mnemonic.Reset mid) =
     record { kind = kind.Rst; code = 0; mid = mid; token = []; options = []; payload = [] }
+message_of (mnemonic.Request r) = record {
+  kind = kind_of r.kind;
+  code = (asks r.action).code;
+  mid = r.mid;
+  token = r.token;
+  options = options_of r.path r.action;
+  payload = (asks r.action).payload;
+}
 
 -- the datagram of a mnemonic
 abbrev pub datagram_of : Mnemonic → List ℕ
@@ -178,16 +114,8 @@ datagram_of m = spelling (message_of m)
 
 -- queries, where there are some, that words can say
 abbrev pub has_words : Action → Bool
-has_words (act.Read f) = true
-has_words (act.Observe f) = true
-has_words (act.Cancel f) = true
-has_words act.Discover = true
-has_words act.Delete = true
-has_words (act.Write f b) = true
-has_words (act.Update f b) = true
-has_words (act.Create f b) = true
 has_words (act.Attr qs) = are_queries qs
-has_words (act.Exec b) = true
+has_words a = true
 
 -- a request that text can say, and that fits: a token of at most 8 bytes, numbers of 16 bits, bytes below 256
 pub record IsGoodRequest (r : Request) : Type 0 where
@@ -196,7 +124,7 @@ pub record IsGoodRequest (r : Request) : Type 0 where
   pub token_bytes : AllBelowBase 256 r.token
   pub path : IsPath r.path
   pub fits : fits r.action r.path ≡ true
-  pub payload : AllBelowBase 256 (payload_of r.action)
+  pub payload : AllBelowBase 256 (asks r.action).payload
   pub queries : has_words r.action ≡ true
 
 -- a mnemonic that text can say, and that fits

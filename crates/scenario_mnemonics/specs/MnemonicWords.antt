@@ -1,6 +1,6 @@
 -- The words of a mnemonic, read from the left and written.
-use Rattle.std.specs.Prelude.{ℕ, nat_le, List, [], ◌∷◌, length, Option, None, Some, Result, Ok, Err, codes}
-use Rattle.std.specs.Prelude.{if◌then◌else◌}
+use Rattle.std.specs.Prelude.{ℕ, nat_le, List, [], ◌∷◌, length, map, find, Option, Result, Ok, Err, codes}
+use Rattle.std.specs.Prelude.{if◌then◌else◌, ok_or}
 use Rattle.std.specs.Str.{bytes_eq}
 use Rattle.std.specs.List.{flat_map}
 use Rattle.std.specs.Fmt.{decimal}
@@ -25,6 +25,7 @@ use Rattle.scenario_mnemonics.specs.declared.action.Action.TheVariants as act
 use Rattle.scenario_mnemonics.specs.declared.mnemonic.Mnemonic.{Mnemonic}
 use Rattle.scenario_mnemonics.specs.declared.mnemonic.Mnemonic.TheVariants as mnemonic
 use Rattle.scenario_mnemonics.specs.declared.head.Head.{Head}
+use Rattle.scenario_mnemonics.specs.Messages.{asks}
 use Rattle.scenario_mnemonics.specs.Queries.{are_queries}
 
 -- the name of what is asked for
@@ -44,48 +45,16 @@ abbrev pub keyword_word : Keyword → List ℕ
 keyword_word (keyword.Request v) = verb_word v
 keyword_word keyword.Reset = codes "reset"
 
--- the names of requests that bring no payload and no queries
-abbrev pub bare_named : List ℕ → Option Verb
-bare_named w =
-    if bytes_eq w (codes "read") then Some verb.Read
-    else (if bytes_eq w (codes "observe") then Some verb.Observe
-    else (if bytes_eq w (codes "cancel") then Some verb.Cancel
-    else (if bytes_eq w (codes "discover") then Some verb.Discover
-    else (if bytes_eq w (codes "delete") then Some verb.Delete else None))))
-
--- the names of those that bring a payload or queries
-abbrev pub bringing_named : List ℕ → Option Verb
-bringing_named w =
-    if bytes_eq w (codes "write") then Some verb.Write
-    else (if bytes_eq w (codes "update") then Some verb.Update
-    else (if bytes_eq w (codes "create") then Some verb.Create
-    else (if bytes_eq w (codes "attr") then Some verb.Attr
-    else (if bytes_eq w (codes "exec") then Some verb.Exec else None))))
-
--- either, or `reset`
-abbrev pub keyword_chosen : List ℕ → Option Verb → Option Verb → Option Keyword
-keyword_chosen w (Some v) other = Some (keyword.Request v)
-keyword_chosen w None (Some v) = Some (keyword.Request v)
-keyword_chosen w None None = if bytes_eq w (codes "reset") then Some keyword.Reset else None
+abbrev pub keywords : List Keyword
+keywords = keyword.Reset ∷ map (λ v. keyword.Request v) (verb.Read ∷ verb.Observe ∷ verb.Cancel ∷ verb.Discover
+    ∷ verb.Delete ∷ verb.Write ∷ verb.Update ∷ verb.Create ∷ verb.Attr ∷ verb.Exec ∷ [])
 
 -- the keyword that a word is
 abbrev pub keyword_named : List ℕ → Option Keyword
-keyword_named w = keyword_chosen w (bare_named w) (bringing_named w)
-
-abbrev pub verb_of : Action → Verb
-verb_of (act.Read f) = verb.Read
-verb_of (act.Observe f) = verb.Observe
-verb_of (act.Cancel f) = verb.Cancel
-verb_of act.Discover = verb.Discover
-verb_of act.Delete = verb.Delete
-verb_of (act.Write f b) = verb.Write
-verb_of (act.Update f b) = verb.Update
-verb_of (act.Create f b) = verb.Create
-verb_of (act.Attr qs) = verb.Attr
-verb_of (act.Exec b) = verb.Exec
+keyword_named w = find (λ k. bytes_eq w (keyword_word k)) keywords
 
 abbrev pub keyword_of : Mnemonic → Keyword
-keyword_of (mnemonic.Request r) = keyword.Request (verb_of r.action)
+keyword_of (mnemonic.Request r) = keyword.Request (asks r.action).verb
 keyword_of (mnemonic.Reset mid) = keyword.Reset
 
 abbrev pub type_word : RequestType → List ℕ
@@ -94,8 +63,7 @@ type_word Non = codes "non"
 
 -- the type that a word names
 abbrev pub type_of : List ℕ → Result RequestType Cause
-type_of w = if bytes_eq w (codes "con") then Ok Con
-    else (if bytes_eq w (codes "non") then Ok Non else Err (name_fault w))
+type_of w = ok_or (find (λ k. bytes_eq w (type_word k)) (Con ∷ Non ∷ [])) (name_fault w)
 
 abbrev pub format_word : Format → List ℕ
 format_word format.Any = codes "any"
@@ -103,13 +71,16 @@ format_word format.Text = codes "text"
 format_word format.Opaque = codes "opaque"
 format_word format.Tlv = codes "tlv"
 
+abbrev pub formats : List Format
+formats = format.Any ∷ format.Text ∷ format.Opaque ∷ format.Tlv ∷ []
+
 -- the format that a word names
 abbrev pub format_of : List ℕ → Result Format Cause
-format_of w =
-    if bytes_eq w (codes "any") then Ok format.Any
-    else (if bytes_eq w (codes "text") then Ok format.Text
-    else (if bytes_eq w (codes "opaque") then Ok format.Opaque
-    else (if bytes_eq w (codes "tlv") then Ok format.Tlv else Err (name_fault w))))
+format_of w = ok_or (find (λ f. bytes_eq w (format_word f)) formats) (name_fault w)
+
+-- the last word, read by this reader of a word
+abbrev pub last_by : {A : Type 0} → (List ℕ → Result A Cause) → List (List ℕ) → Result A Cause
+last_by read ws = word_by read ws >>= (λ x. ended x.1 >>= (λ e. Ok x.0))
 
 -- at most 8 bytes
 abbrev pub short_token : List ℕ → Result (List ℕ) Cause
@@ -117,10 +88,7 @@ short_token bs = if nat_le (length bs) 8 then Ok bs else Err Token
 
 -- a token in hex, and the words after it
 abbrev pub token_at : List (List ℕ) → Result (List ℕ × List (List ℕ)) Cause
-token_at ws = do
-  b ← word_by bytes_of ws
-  t ← short_token b.0
-  Ok (t, b.1)
+token_at ws = word_by bytes_of ws >>= (λ b. short_token b.0 >>= (λ t. Ok (t, b.1)))
 
 -- what stands first in each request: its server, type, message ID, token and path
 abbrev pub head_at : List (List ℕ) → Result (Head × List (List ℕ)) Cause
@@ -132,26 +100,9 @@ head_at ws = do
   p ← word_by path_of t.1
   Ok (record { server = s.0; kind = k.0; mid = m.0; token = t.0; path = p.0 }, p.1)
 
--- a format and no more
-abbrev pub format_at : List (List ℕ) → Result Format Cause
-format_at ws = do
-  f ← word_by format_of ws
-  e ← ended f.1
-  Ok f.0
-
--- bytes in hex and no more
-abbrev pub payload_at : List (List ℕ) → Result (List ℕ) Cause
-payload_at ws = do
-  b ← word_by bytes_of ws
-  e ← ended b.1
-  Ok b.0
-
 -- a format, bytes in hex and no more
 abbrev pub content_at : List (List ℕ) → Result (Format × List ℕ) Cause
-content_at ws = do
-  f ← word_by format_of ws
-  b ← payload_at f.1
-  Ok (f.0, b)
+content_at ws = word_by format_of ws >>= (λ f. last_by bytes_of f.1 >>= (λ b. Ok (f.0, b)))
 
 abbrev pub formed_queries : List (List ℕ) → Result (List (List ℕ)) Cause
 formed_queries qs = if are_queries qs then Ok qs else Err Token
@@ -163,30 +114,25 @@ queries_at (w ∷ ws) = formed_queries (w ∷ ws)
 
 -- what stands after the path
 abbrev pub action_at : Verb → List (List ℕ) → Result Action Cause
-action_at verb.Read ws = format_at ws >>= (λ f. Ok (act.Read f))
-action_at verb.Observe ws = format_at ws >>= (λ f. Ok (act.Observe f))
-action_at verb.Cancel ws = format_at ws >>= (λ f. Ok (act.Cancel f))
+action_at verb.Read ws = last_by format_of ws >>= (λ f. Ok (act.Read f))
+action_at verb.Observe ws = last_by format_of ws >>= (λ f. Ok (act.Observe f))
+action_at verb.Cancel ws = last_by format_of ws >>= (λ f. Ok (act.Cancel f))
 action_at verb.Discover ws = ended ws >>= (λ e. Ok act.Discover)
 action_at verb.Delete ws = ended ws >>= (λ e. Ok act.Delete)
 action_at verb.Write ws = content_at ws >>= (λ c. Ok (act.Write c.0 c.1))
 action_at verb.Update ws = content_at ws >>= (λ c. Ok (act.Update c.0 c.1))
 action_at verb.Create ws = content_at ws >>= (λ c. Ok (act.Create c.0 c.1))
 action_at verb.Attr ws = queries_at ws >>= (λ qs. Ok (act.Attr qs))
-action_at verb.Exec ws = payload_at ws >>= (λ b. Ok (act.Exec b))
+action_at verb.Exec ws = last_by bytes_of ws >>= (λ b. Ok (act.Exec b))
 
 -- the server of a head, and its request
 abbrev pub said : Head → Action → ℕ × Mnemonic
-said h a = (
-  h.server,
-  mnemonic.Request (record { kind = h.kind; mid = h.mid; token = h.token; path = h.path; action = a }),
-)
+said h a =
+    (h.server, mnemonic.Request (record { kind = h.kind; mid = h.mid; token = h.token; path = h.path; action = a }))
 
 -- the words after a keyword: a server, and the mnemonic that it sends
 abbrev pub mnemonic_at : Keyword → List (List ℕ) → Result (ℕ × Mnemonic) Cause
-mnemonic_at (keyword.Request v) ws = do
-  h ← head_at ws
-  a ← action_at v h.1
-  Ok (said h.0 a)
+mnemonic_at (keyword.Request v) ws = head_at ws >>= (λ h. action_at v h.1 >>= (λ a. Ok (said h.0 a)))
 mnemonic_at keyword.Reset ws = do
   s ← word_by (number_of 1 65534) ws
   m ← word_by (number_of 0 65535) s.1

@@ -1,6 +1,5 @@
 ghost use Rattle.std.specs.Prelude.{◌≡◌};
-ghost use Rattle.scenario_mnemonics.specs.Messages.{fits};
-ghost use Rattle.scenario_mnemonics.specs.MnemonicWords.{verb_of};
+ghost use Rattle.scenario_mnemonics.specs.Messages.{asks, fits};
 
 use crate::format::Format;
 use crate::queries::Queries;
@@ -36,7 +35,7 @@ pub enum Action {
 impl Action {
     /// What its keyword says.
     pub fn verb(&self) -> Verb
-        ensures { result ≡ verb_of self.now }
+        ensures { result ≡ (asks self.now).verb }
     {
         match self {
             Action::Read(_) => Verb::Read,

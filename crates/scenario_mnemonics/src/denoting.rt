@@ -4,9 +4,10 @@ ghost use Rattle.std.specs.Prelude.{◌≡◌, ◌++◌, IfOk, OnOk};
 ghost use Rattle.std.specs.Str.{bytes_eq};
 ghost use Rattle.coap_codec.specs.Reading.{reading_of};
 ghost use Rattle.object_defs.specs.Decimal.{decimal_number};
-ghost use Rattle.scenario_mnemonics.specs.Denoting.{value_with, values, type_from, format_named, format_from};
-ghost use Rattle.scenario_mnemonics.specs.Denoting.{path_from, is_discover, get_from, post_from, put_from, action_from};
-ghost use Rattle.scenario_mnemonics.specs.Denoting.{request_from, mnemonic_from, mnemonic_read, own, mnemonic_of};
+ghost use Rattle.scenario_mnemonics.specs.Denoting.{values, mnemonic_of};
+ghost use Rattle.scenario_mnemonics.specs.Inside.{value_with, type_from, format_named, format_from, path_from};
+ghost use Rattle.scenario_mnemonics.specs.Inside.{is_discover, get_from, post_from, put_from, action_from};
+ghost use Rattle.scenario_mnemonics.specs.Inside.{request_from, mnemonic_from, own, mnemonic_found};
 
 use crate::action::Action;
 use crate::format::Format;
@@ -220,10 +221,9 @@ fn own(alloc: Global, datagram: &[u8], mnemonic: Mnemonic) -> Result<Option<Mnem
     }
 }
 
-/// The mnemonic of a datagram: the one whose encoding it is, of those that text can say and that fit; none where
-/// there is no such mnemonic. There is at most one.
-pub fn mnemonic_for(alloc: Global, datagram: &[u8]) -> Result<Option<Mnemonic>, AllocError>
-    ensures { IfOk result (λ m. m ≡ mnemonic_of datagram.now) }
+/// The mnemonic of a datagram: the one that its message would have, where the datagram is its own.
+fn found(alloc: Global, datagram: &[u8]) -> Result<Option<Mnemonic>, AllocError>
+    ensures { IfOk result (λ m. m ≡ mnemonic_found datagram.now) }
 {
     let message = match decode(alloc, datagram) {
         Ok(message) => message,
@@ -234,4 +234,12 @@ pub fn mnemonic_for(alloc: Global, datagram: &[u8]) -> Result<Option<Mnemonic>, 
         Some(mnemonic) => own(alloc, datagram, mnemonic),
         None => Ok(None),
     }
+}
+
+/// The mnemonic of a datagram: the one whose encoding it is, of those that text can say and that fit; none where
+/// there is no such mnemonic. There is at most one.
+pub fn mnemonic_for(alloc: Global, datagram: &[u8]) -> Result<Option<Mnemonic>, AllocError>
+    ensures { IfOk result (λ m. m ≡ mnemonic_of datagram.now) }
+{
+    found(alloc, datagram)
 }

@@ -7,8 +7,7 @@ ghost use Rattle.coap_codec.specs.OptionNumber.{uri_query_option};
 ghost use Rattle.coap_codec.specs.OptionNumber.{accept_option};
 ghost use Rattle.coap_codec.specs.Number.{shortest};
 ghost use Rattle.scenario_words.specs.PathWord.{IsPath};
-ghost use Rattle.scenario_mnemonics.specs.Messages.{options_with, format_values, observe_values, segments};
-ghost use Rattle.scenario_mnemonics.specs.Messages.{content_values, query_values, accept_values, options_of};
+ghost use Rattle.scenario_mnemonics.specs.Messages.{asks, options_with, format_values, segments, options_of};
 
 use crate::action::Action;
 use crate::format::Format;
@@ -65,7 +64,7 @@ fn put_format(
 }
 
 fn put_observe(alloc: Global, options: &mut Options, action: &Action) -> Result<(), AllocError>
-    ensures { OnOk result (options.new ≡ options.old ++ options_with observe_option (observe_values action.now)) }
+    ensures { OnOk result (options.new ≡ options.old ++ options_with observe_option (asks action.now).observe) }
 {
     match action {
         Action::Observe(_) => put_number(alloc, options, OBSERVE, 0),
@@ -99,7 +98,7 @@ fn put_path(alloc: Global, options: &mut Options, path: Path) -> Result<(), Allo
 }
 
 fn put_content(alloc: Global, options: &mut Options, action: &Action) -> Result<(), AllocError>
-    ensures { OnOk result (options.new ≡ options.old ++ options_with content_format_option (content_values action.now)) }
+    ensures { OnOk result (options.new ≡ options.old ++ options_with content_format_option (asks action.now).content) }
 {
     match action {
         Action::Write(format, _) | Action::Update(format, _) | Action::Create(format, _) => {
@@ -129,7 +128,7 @@ fn put_each(options: &mut Options, queries: &[Bytes]) -> Result<(), AllocError>
 }
 
 fn put_queries(options: &mut Options, action: &Action) -> Result<(), AllocError>
-    ensures { OnOk result (options.new ≡ options.old ++ options_with uri_query_option (query_values action.now)) }
+    ensures { OnOk result (options.new ≡ options.old ++ options_with uri_query_option (asks action.now).queries) }
 {
     match action {
         Action::Attr(queries) => put_each(options, queries.as_slice()),
@@ -138,7 +137,7 @@ fn put_queries(options: &mut Options, action: &Action) -> Result<(), AllocError>
 }
 
 fn put_accept(alloc: Global, options: &mut Options, action: &Action) -> Result<(), AllocError>
-    ensures { OnOk result (options.new ≡ options.old ++ options_with accept_option (accept_values action.now)) }
+    ensures { OnOk result (options.new ≡ options.old ++ options_with accept_option (asks action.now).accept) }
 {
     match action {
         Action::Read(format) | Action::Observe(format) | Action::Cancel(format) => {

@@ -2,9 +2,10 @@
 
 ghost use Rattle.std.specs.Prelude.{◌≡◌, IfOk};
 ghost use Rattle.scenario_words.specs.Words.{words};
+ghost use Rattle.scenario_words.specs.HexWord.{bytes_of};
 ghost use Rattle.scenario_words.specs.Reading.{Gives, Reads, word_by};
-ghost use Rattle.scenario_mnemonics.specs.MnemonicWords.{type_of, format_of, short_token, token_at, head_at, format_at};
-ghost use Rattle.scenario_mnemonics.specs.MnemonicWords.{payload_at, content_at, formed_queries, queries_at, action_at};
+ghost use Rattle.scenario_mnemonics.specs.MnemonicWords.{type_of, format_of, last_by, short_token, token_at, head_at};
+ghost use Rattle.scenario_mnemonics.specs.MnemonicWords.{content_at, formed_queries, queries_at, action_at};
 ghost use Rattle.scenario_mnemonics.specs.MnemonicWords.{mnemonic_at};
 
 use crate::action::Action;
@@ -104,7 +105,7 @@ fn head(alloc: Global, line: &[u8]) -> Result<(Head, &[u8]), Cause>
 
 /// A format and no more.
 fn format_alone(alloc: Global, line: &[u8]) -> Result<Format, Cause>
-    ensures { Gives (λ f. f) result (format_at (words line.now)) }
+    ensures { Gives (λ f. f) result (last_by format_of (words line.now)) }
 {
     let (format, line) = format(alloc, line)?;
     end(line)?;
@@ -113,7 +114,7 @@ fn format_alone(alloc: Global, line: &[u8]) -> Result<Format, Cause>
 
 /// Bytes in hex and no more.
 fn payload(alloc: Global, line: &[u8]) -> Result<Bytes, Cause>
-    ensures { Gives (λ b. b) result (payload_at (words line.now)) }
+    ensures { Gives (λ b. b) result (last_by bytes_of (words line.now)) }
 {
     let (bytes, line) = hex_bytes(alloc, line)?;
     end(line)?;

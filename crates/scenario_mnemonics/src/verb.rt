@@ -1,6 +1,5 @@
 ghost use Rattle.std.specs.Prelude.{◌≡◌};
-ghost use Rattle.scenario_mnemonics.specs.MnemonicWords.{verb_word, keyword_word, bare_named, bringing_named};
-ghost use Rattle.scenario_mnemonics.specs.MnemonicWords.{keyword_named};
+ghost use Rattle.scenario_mnemonics.specs.MnemonicWords.{verb_word, keyword_word, keyword_named};
 
 use scenario_words::is_name;
 
@@ -73,54 +72,30 @@ impl Keyword {
     pub fn named(word: &[u8]) -> Option<Keyword>
         ensures { result ≡ keyword_named word.now }
     {
-        if let Some(verb) = bare_named(word) {
-            return Some(Keyword::Request(verb));
-        }
-        if let Some(verb) = bringing_named(word) {
-            return Some(Keyword::Request(verb));
-        }
         if is_name(word, "reset") {
             Some(Keyword::Reset)
+        } else if is_name(word, "read") {
+            Some(Keyword::Request(Verb::Read))
+        } else if is_name(word, "observe") {
+            Some(Keyword::Request(Verb::Observe))
+        } else if is_name(word, "cancel") {
+            Some(Keyword::Request(Verb::Cancel))
+        } else if is_name(word, "discover") {
+            Some(Keyword::Request(Verb::Discover))
+        } else if is_name(word, "delete") {
+            Some(Keyword::Request(Verb::Delete))
+        } else if is_name(word, "write") {
+            Some(Keyword::Request(Verb::Write))
+        } else if is_name(word, "update") {
+            Some(Keyword::Request(Verb::Update))
+        } else if is_name(word, "create") {
+            Some(Keyword::Request(Verb::Create))
+        } else if is_name(word, "attr") {
+            Some(Keyword::Request(Verb::Attr))
+        } else if is_name(word, "exec") {
+            Some(Keyword::Request(Verb::Exec))
         } else {
             None
         }
-    }
-}
-
-/// A verb whose request brings no payload and no queries.
-fn bare_named(word: &[u8]) -> Option<Verb>
-    ensures { result ≡ bare_named word.now }
-{
-    if is_name(word, "read") {
-        Some(Verb::Read)
-    } else if is_name(word, "observe") {
-        Some(Verb::Observe)
-    } else if is_name(word, "cancel") {
-        Some(Verb::Cancel)
-    } else if is_name(word, "discover") {
-        Some(Verb::Discover)
-    } else if is_name(word, "delete") {
-        Some(Verb::Delete)
-    } else {
-        None
-    }
-}
-
-/// A verb whose request brings a payload or queries.
-fn bringing_named(word: &[u8]) -> Option<Verb>
-    ensures { result ≡ bringing_named word.now }
-{
-    if is_name(word, "write") {
-        Some(Verb::Write)
-    } else if is_name(word, "update") {
-        Some(Verb::Update)
-    } else if is_name(word, "create") {
-        Some(Verb::Create)
-    } else if is_name(word, "attr") {
-        Some(Verb::Attr)
-    } else if is_name(word, "exec") {
-        Some(Verb::Exec)
-    } else {
-        None
     }
 }

@@ -1,5 +1,5 @@
 use Rattle.scenario_mnemonics.proofs.Denoted.{one_mnemonic}
-use Rattle.scenario_mnemonics.proofs.Fitting.{denotes}
+use Rattle.scenario_mnemonics.proofs.Candidates.{denotes}
 use Rattle.scenario_mnemonics.proofs.laws.one_mnemonic.Goals as goal
 
 pub returns-clause-denotes : goal.returns-clause-denotes
