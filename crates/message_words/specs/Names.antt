@@ -14,65 +14,34 @@ type_name Rst = codes "RST"
 -- the methods, by the detail of their codes, of class 0 (RFC 7252 section 12.1.1, RFC 8132 section 4)
 abbrev pub methods : List (ℕ × List ℕ)
 methods =
-    (1, codes "GET")
-    ∷ (2, codes "POST")
-    ∷ (3, codes "PUT")
-    ∷ (4, codes "DELETE")
-    ∷ (5, codes "FETCH")
-    ∷ (6, codes "PATCH")
-    ∷ (7, codes "iPATCH")
-    ∷ []
+    (1, codes "GET") ∷ (2, codes "POST") ∷ (3, codes "PUT") ∷ (4, codes "DELETE") ∷ (5, codes "FETCH")
+    ∷ (6, codes "PATCH") ∷ (7, codes "iPATCH") ∷ []
 
 -- what succeeded: class 2 (RFC 7252 section 12.1.2, RFC 7959 section 6)
 abbrev pub successes : List (ℕ × List ℕ)
 successes =
-    (1, codes "Created")
-    ∷ (2, codes "Deleted")
-    ∷ (3, codes "Valid")
-    ∷ (4, codes "Changed")
-    ∷ (5, codes "Content")
-    ∷ (31, codes "Continue")
-    ∷ []
+    (1, codes "Created") ∷ (2, codes "Deleted") ∷ (3, codes "Valid") ∷ (4, codes "Changed") ∷ (5, codes "Content")
+    ∷ (31, codes "Continue") ∷ []
 
 -- the errors of clients: class 4 (RFC 7252 section 12.1.2, RFC 7959 section 6)
 abbrev pub client_errors : List (ℕ × List ℕ)
 client_errors =
-    (0, codes "Bad Request")
-    ∷ (1, codes "Unauthorized")
-    ∷ (2, codes "Bad Option")
-    ∷ (3, codes "Forbidden")
-    ∷ (4, codes "Not Found")
-    ∷ (5, codes "Method Not Allowed")
-    ∷ (6, codes "Not Acceptable")
-    ∷ (8, codes "Request Entity Incomplete")
-    ∷ (12, codes "Precondition Failed")
-    ∷ (13, codes "Request Entity Too Large")
-    ∷ (15, codes "Unsupported Content-Format")
-    ∷ []
+    (0, codes "Bad Request") ∷ (1, codes "Unauthorized") ∷ (2, codes "Bad Option") ∷ (3, codes "Forbidden")
+    ∷ (4, codes "Not Found") ∷ (5, codes "Method Not Allowed") ∷ (6, codes "Not Acceptable")
+    ∷ (8, codes "Request Entity Incomplete") ∷ (12, codes "Precondition Failed")
+    ∷ (13, codes "Request Entity Too Large") ∷ (15, codes "Unsupported Content-Format") ∷ []
 
 -- the errors of servers: class 5 (RFC 7252 section 12.1.2)
 abbrev pub server_errors : List (ℕ × List ℕ)
 server_errors =
-    (0, codes "Internal Server Error")
-    ∷ (1, codes "Not Implemented")
-    ∷ (2, codes "Bad Gateway")
-    ∷ (3, codes "Service Unavailable")
-    ∷ (4, codes "Gateway Timeout")
-    ∷ (5, codes "Proxying Not Supported")
-    ∷ []
+    (0, codes "Internal Server Error") ∷ (1, codes "Not Implemented") ∷ (2, codes "Bad Gateway")
+    ∷ (3, codes "Service Unavailable") ∷ (4, codes "Gateway Timeout") ∷ (5, codes "Proxying Not Supported") ∷ []
 
 -- Content-Formats (RFC 7252 section 12.3, and its registry)
 abbrev pub formats : List (ℕ × List ℕ)
 formats =
-    (0, codes "text/plain")
-    ∷ (40, codes "link-format")
-    ∷ (42, codes "octet-stream")
-    ∷ (60, codes "cbor")
-    ∷ (110, codes "senml+json")
-    ∷ (112, codes "senml+cbor")
-    ∷ (11542, codes "tlv")
-    ∷ (11543, codes "lwm2m+json")
-    ∷ []
+    (0, codes "text/plain") ∷ (40, codes "link-format") ∷ (42, codes "octet-stream") ∷ (60, codes "cbor")
+    ∷ (110, codes "senml+json") ∷ (112, codes "senml+cbor") ∷ (11542, codes "tlv") ∷ (11543, codes "lwm2m+json") ∷ []
 
 -- the name that a table has for a number
 abbrev pub name_in : List (ℕ × List ℕ) → ℕ → Option (List ℕ)

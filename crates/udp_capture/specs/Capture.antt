@@ -18,26 +18,20 @@ file_header =
     -- the mark of a file whose times have microseconds
     (w32, 0xA1B2C3D4)
     -- version 2.4
-    ∷ (w16, 2)
-    ∷ (w16, 4)
+    ∷ (w16, 2) ∷ (w16, 4)
     -- the zone of the times, and their accuracy
-    ∷ (w32, 0)
-    ∷ (w32, 0)
+    ∷ (w32, 0) ∷ (w32, 0)
     -- the snapshot length: how many bytes of a packet are kept at most
     ∷ (w32, 65535)
     -- the link type: raw IP, so that a packet begins with the header of IP
-    ∷ (w32, 101)
-    ∷ []
+    ∷ (w32, 101) ∷ []
 
 -- the header of a packet of this length, of which all bytes are kept
 unfoldable pub record_header : Envelope → ℕ → Header
 record_header envelope len =
-    (w32, envelope.seconds)
-    ∷ (w32, envelope.microseconds)
+    (w32, envelope.seconds) ∷ (w32, envelope.microseconds)
     -- how many bytes of the packet are kept, and how many it has
-    ∷ (w32, len)
-    ∷ (w32, len)
-    ∷ []
+    ∷ (w32, len) ∷ (w32, len) ∷ []
 
 -- a packet after its header
 abbrev pub packet_record : CapturedPacket → List ℕ

@@ -14,21 +14,15 @@ udp_length payload = 8 + length payload
 -- the header of a datagram of this length, with this checksum
 unfoldable pub udp_header : ℕ → ℕ → Endpoint → Endpoint → Header
 udp_header len check source destination =
-    (w16, source.port)
-    ∷ (w16, destination.port)
-    ∷ (w16, len)
-    ∷ (w16, check)
-    ∷ []
+    (w16, source.port) ∷ (w16, destination.port)
+    ∷ (w16, len) ∷ (w16, check) ∷ []
 
 -- what the checksum covers before the header: the addresses, a zero, the number of UDP as a protocol of IP, the length
 unfoldable pub pseudo_header : ℕ → Endpoint → Endpoint → Header
 pseudo_header len source destination =
     (w32, source.address)
     ∷ (w32, destination.address)
-    ∷ (w8, 0)
-    ∷ (w8, 17)
-    ∷ (w16, len)
-    ∷ []
+    ∷ (w8, 0) ∷ (w8, 17) ∷ (w16, len) ∷ []
 
 -- all that it covers: the pseudo header, the header with this checksum, and the payload
 abbrev pub udp_covered : ℕ → Endpoint → Endpoint → List ℕ → List ℕ
@@ -54,23 +48,14 @@ total_length payload = 20 + udp_length payload
 -- the header of a packet of this total length, with this checksum and no options (section 3.1)
 unfoldable pub ip_header : ℕ → ℕ → Endpoint → Endpoint → Header
 ip_header total check source destination =
-    -- version 4, and the length of the header in words of 32 bits, which is 5
-    (w8, 0x45)
-    -- type of service
-    ∷ (w8, 0)
-    ∷ (w16, total)
-    -- identification
-    ∷ (w16, 0)
-    -- flags, of which "don't fragment" alone is set, and fragment offset 0
-    ∷ (w16, 0x4000)
-    -- time to live
-    ∷ (w8, 64)
-    -- protocol: UDP
-    ∷ (w8, 17)
-    ∷ (w16, check)
+    -- version 4, and the length of the header in words of 32 bits, which is 5; type of service; total length
+    (w8, 0x45) ∷ (w8, 0) ∷ (w16, total)
+    -- identification; flags, of which "don't fragment" alone is set, and fragment offset 0
+    ∷ (w16, 0) ∷ (w16, 0x4000)
+    -- time to live; protocol: UDP; checksum
+    ∷ (w8, 64) ∷ (w8, 17) ∷ (w16, check)
     ∷ (w32, source.address)
-    ∷ (w32, destination.address)
-    ∷ []
+    ∷ (w32, destination.address) ∷ []
 
 -- the checksum of a header; where it is made, that in the header is 0
 abbrev pub ip_checksum : ℕ → Endpoint → Endpoint → ℕ
