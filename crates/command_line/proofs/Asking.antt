@@ -11,8 +11,9 @@ use Rattle.command_line.specs.declared.words.Job.TheVariants as jobs
 use Rattle.command_line.specs.declared.words.Live.{Live}
 use Rattle.command_line.specs.declared.words.Asked.{Asked}
 use Rattle.command_line.specs.declared.words.Asked.TheVariants as asked
-use Rattle.command_line.specs.Words.{AsksFor, AsksNothing, AsksToLive, IsReadAs, IsRefusedAs, LacksLive, LacksRun}
-use Rattle.command_line.specs.Words.{MayAskFor, bench_app, refusals}
+use Rattle.command_line.specs.Words.{AsksFor, AsksNothing, AsksToLive, IsReadAs, IsRefusedAs, MayAskFor}
+use Rattle.command_line.specs.Words.{bench_app, refusals}
+use Rattle.command_line.specs.Inside.{LacksLive, LacksRun}
 
 pub no_one : (rows : List Row) (job : Job) → first_of (codes "HEX") rows ≡ None → AsksFor (codes "one", rows) job → ⊥
 no_one rows (jobs.One hex) none asks = search rules

@@ -1,6 +1,6 @@
 -- The words of the command line: which `clap` takes, and what they then ask for.
 use Rattle.std.specs.Prelude.{◌≡◌, ◌≢◌, ◌↔◌, ◌⊎◌, ◌<◌, ◌^◌, ℕ, pos, Bool, true, false, IsTrue, List, [], ◌∷◌, Option}
-use Rattle.std.specs.Prelude.{None, Some, option_map, codes}
+use Rattle.std.specs.Prelude.{None, Some, fold, option_map, codes}
 use Rattle.std.specs.Str.Parse.{IsNumeral, digits_value, without_leading_plus}
 use Rattle.clap.specs.Words.{App, IsAmong, Row, Rule, Text as Word, fault_of, first_of, new_app, new_rule, one_of}
 use Rattle.clap.specs.Words.{subcommand_of, with_rule, with_subcommand}
@@ -30,94 +30,53 @@ needed_number name least most = record (needed name) { parser = Some (parsers.Si
 
 -- `--NAME N`, a number from 0 to `most`
 abbrev pub optional_number : Word → ℕ → Rule
-optional_number name most = record (new_rule name) {
-  long = Some name;
-  value_names = 1;
-  parser = Some (parsers.Signed (pos 0) (pos most));
-}
+optional_number name most =
+    record (new_rule name) { long = Some name; value_names = 1; parser = Some (parsers.Signed (pos 0) (pos most)) }
 
 -- `--NAME`
 abbrev pub flag : Word → Rule
 flag name = record (new_rule name) { long = Some name; action = Some SetTrue }
 
--- `one HEX`
-abbrev pub one_app : App
-one_app = with_rule (new_app (codes "one")) (needed (codes "HEX"))
-
--- `asm IN OUT`
-abbrev pub asm_app : App
-asm_app = with_rule (with_rule (new_app (codes "asm")) (needed (codes "IN"))) (needed (codes "OUT"))
-
--- `dis IN`
-abbrev pub dis_app : App
-dis_app = with_rule (new_app (codes "dis")) (needed (codes "IN"))
-
 -- the same; where it is not given, `default`
 abbrev pub number : Word → ℕ → Word → Rule
 number name most default = record (optional_number name most) { defaults = default ∷ [] }
-
--- `--workers N`
-abbrev pub workers : Rule
-workers = number (codes "workers") 65535 (codes "2")
-
--- `--batch N`
-abbrev pub batch : Rule
-batch = number (codes "batch") 4294967295 (codes "16")
-
--- `run IMAGE [--workers N] [--batch N] [--trace FILE]`
-abbrev pub run_app : App
-run_app =
-    with_rule (with_rule (with_rule (with_rule (new_app (codes "run")) (needed (codes "IMAGE"))) workers) batch)
-    (file (codes "trace"))
-
--- `check IMAGE TRACE`
-abbrev pub check_app : App
-check_app = with_rule (with_rule (new_app (codes "check")) (needed (codes "IMAGE"))) (needed (codes "TRACE"))
-
--- `IMAGE TRACE`
-abbrev pub with_trace : App → App
-with_trace a = with_rule (with_rule a (needed (codes "IMAGE"))) (needed (codes "TRACE"))
-
--- `[--from N] [--to N]`
-abbrev pub with_range : App → App
-with_range a =
-    with_rule (with_rule a (optional_number (codes "from") 4294967295)) (optional_number (codes "to") 4294967295)
-
--- `show IMAGE TRACE [--device N] [--from N] [--to N]`
-abbrev pub show_app : App
-show_app = with_range (with_rule (with_trace (new_app (codes "show"))) (optional_number (codes "device") 65535))
-
--- `pcap IMAGE TRACE OUT`
-abbrev pub pcap_app : App
-pcap_app = with_rule (with_trace (new_app (codes "pcap"))) (needed (codes "OUT"))
-
--- `debug IMAGE TRACE`
-abbrev pub debug_app : App
-debug_app = with_trace (new_app (codes "debug"))
-
--- `IMAGE DEVICE PORT`
-abbrev pub with_port : App → App
-with_port a =
-    with_rule (with_rule (with_rule a (needed (codes "IMAGE"))) (needed_number (codes "DEVICE") 0 65535))
-    (needed_number (codes "PORT") 0 65535)
-
--- `live IMAGE DEVICE PORT TURNS [--save FILE] [--show]`
-abbrev pub live_app : App
-live_app =
-    with_rule (with_rule (with_rule (with_port (new_app (codes "live"))) (needed_number (codes "TURNS") 1 100000))
-    (file (codes "save"))) (flag (codes "show"))
 
 -- a subcommand has to be there, and there is a version
 abbrev pub with_settings : App → App
 with_settings a = record a { top = record a.top { subcommand_required = true; has_version = true } }
 
+-- a command with these arguments
+abbrev pub command : Word → List Rule → App
+command name rules = fold with_rule (new_app name) rules
+
+abbrev pub commands : List App
+commands =
+    -- `one HEX`
+    command (codes "one") (needed (codes "HEX") ∷ [])
+    -- `asm IN OUT`
+    ∷ command (codes "asm") (needed (codes "IN") ∷ needed (codes "OUT") ∷ [])
+    -- `dis IN`
+    ∷ command (codes "dis") (needed (codes "IN") ∷ [])
+    -- `run IMAGE [--workers N] [--batch N] [--trace FILE]`
+    ∷ command (codes "run") (needed (codes "IMAGE") ∷ number (codes "workers") 65535 (codes "2")
+    ∷ number (codes "batch") 4294967295 (codes "16") ∷ file (codes "trace") ∷ [])
+    -- `check IMAGE TRACE`
+    ∷ command (codes "check") (needed (codes "IMAGE") ∷ needed (codes "TRACE") ∷ [])
+    -- `show IMAGE TRACE [--device N] [--from N] [--to N]`
+    ∷ command (codes "show") (needed (codes "IMAGE") ∷ needed (codes "TRACE") ∷ optional_number (codes "device") 65535
+    ∷ optional_number (codes "from") 4294967295 ∷ optional_number (codes "to") 4294967295 ∷ [])
+    -- `pcap IMAGE TRACE OUT`
+    ∷ command (codes "pcap") (needed (codes "IMAGE") ∷ needed (codes "TRACE") ∷ needed (codes "OUT") ∷ [])
+    -- `debug IMAGE TRACE`
+    ∷ command (codes "debug") (needed (codes "IMAGE") ∷ needed (codes "TRACE") ∷ [])
+    -- `live IMAGE DEVICE PORT TURNS [--save FILE] [--show]`
+    ∷ command (codes "live") (needed (codes "IMAGE") ∷ needed_number (codes "DEVICE") 0 65535
+    ∷ needed_number (codes "PORT") 0 65535 ∷ needed_number (codes "TURNS") 1 100000 ∷ file (codes "save")
+    ∷ flag (codes "show") ∷ []) ∷ []
+
 -- the program
 abbrev pub bench_app : App
-bench_app =
-    with_subcommand (with_subcommand (with_subcommand (with_subcommand (with_subcommand (with_subcommand
-    (with_subcommand (with_subcommand (with_subcommand (with_settings (new_app (codes "lwbench")))
-    one_app.top) asm_app.top) dis_app.top) run_app.top) check_app.top) show_app.top) pcap_app.top) debug_app.top)
-    live_app.top
+bench_app = fold (λ app c. with_subcommand app c.top) (with_settings (new_app (codes "lwbench"))) commands
 
 -- ---- what is asked for
 
@@ -147,56 +106,37 @@ IsFlag word is_given =
     (word ≡ Some (codes "true") → is_given ≡ true) × (word ≡ Some (codes "false") → is_given ≡ false)
     × (word ≡ None → is_given ≡ false)
 
--- a value that a run needs is not there
-abbrev pub LacksRun : List Row → Type 0
-LacksRun rows =
-    (first_of (codes "IMAGE") rows ≡ None)
-    ⊎ (IsNoNumber 16 (one_of (codes "workers") rows) ⊎ IsNoNumber 32 (one_of (codes "batch") rows))
-
--- a value that a device on the network needs is not there
-abbrev pub LacksLive : List Row → Type 0
-LacksLive rows =
-    (first_of (codes "IMAGE") rows ≡ None)
-    ⊎ (IsNoNumber 16 (one_of (codes "DEVICE") rows) ⊎ (IsNoNumber 16 (one_of (codes "PORT") rows)
-    ⊎ IsNoNumber 32 (one_of (codes "TURNS") rows)))
+-- of a subcommand with its values: the text that has this name
+abbrev pub IsText : Word × List Row → Word → Word → Type 0
+IsText found name text = first_of name found.1 ≡ Some text
 
 -- a subcommand with its values asks for this
 abbrev pub AsksFor : Word × List Row → Job → Type 0
-AsksFor found (jobs.One hex) = (found.0 ≡ codes "one") × (first_of (codes "HEX") found.1 ≡ Some hex.now)
+AsksFor found (jobs.One hex) = (found.0 ≡ codes "one") × IsText found (codes "HEX") hex.now
 AsksFor found (jobs.Asm input output) =
-    (found.0 ≡ codes "asm") × (first_of (codes "IN") found.1 ≡ Some input.now)
-    × (first_of (codes "OUT") found.1 ≡ Some output.now)
-AsksFor found (jobs.Dis input) = (found.0 ≡ codes "dis") × (first_of (codes "IN") found.1 ≡ Some input.now)
+    (found.0 ≡ codes "asm") × IsText found (codes "IN") input.now × IsText found (codes "OUT") output.now
+AsksFor found (jobs.Dis input) = (found.0 ≡ codes "dis") × IsText found (codes "IN") input.now
 AsksFor found (jobs.Run image workers batch trace) =
-    (found.0 ≡ codes "run")
-    × (first_of (codes "IMAGE") found.1 ≡ Some image.now)
-    × IsNumber 16 (one_of (codes "workers") found.1) workers
-    × IsNumber 32 (one_of (codes "batch") found.1) batch
+    (found.0 ≡ codes "run") × IsText found (codes "IMAGE") image.now
+    × IsNumber 16 (one_of (codes "workers") found.1) workers × IsNumber 32 (one_of (codes "batch") found.1) batch
     × (first_of (codes "trace") found.1 ≡ option_map (λ p. p.now) trace)
 AsksFor found (jobs.Check image trace) =
-    (found.0 ≡ codes "check") × (first_of (codes "IMAGE") found.1 ≡ Some image.now)
-    × (first_of (codes "TRACE") found.1 ≡ Some trace.now)
+    (found.0 ≡ codes "check") × IsText found (codes "IMAGE") image.now × IsText found (codes "TRACE") trace.now
 AsksFor found (jobs.Show image trace device from to) =
-    (found.0 ≡ codes "show")
-    × (first_of (codes "IMAGE") found.1 ≡ Some image.now)
-    × (first_of (codes "TRACE") found.1 ≡ Some trace.now)
+    (found.0 ≡ codes "show") × IsText found (codes "IMAGE") image.now × IsText found (codes "TRACE") trace.now
     × IsOptionalNumber 16 (one_of (codes "device") found.1) device
-    × IsOptionalNumber 32 (one_of (codes "from") found.1) from
-    × IsOptionalNumber 32 (one_of (codes "to") found.1) to
+    × IsOptionalNumber 32 (one_of (codes "from") found.1) from × IsOptionalNumber 32 (one_of (codes "to") found.1) to
 AsksFor found (jobs.Pcap image trace output) =
-    (found.0 ≡ codes "pcap") × (first_of (codes "IMAGE") found.1 ≡ Some image.now)
-    × (first_of (codes "TRACE") found.1 ≡ Some trace.now) × (first_of (codes "OUT") found.1 ≡ Some output.now)
+    (found.0 ≡ codes "pcap") × IsText found (codes "IMAGE") image.now × IsText found (codes "TRACE") trace.now
+    × IsText found (codes "OUT") output.now
 AsksFor found (jobs.Debug image trace) =
-    (found.0 ≡ codes "debug") × (first_of (codes "IMAGE") found.1 ≡ Some image.now)
-    × (first_of (codes "TRACE") found.1 ≡ Some trace.now)
+    (found.0 ≡ codes "debug") × IsText found (codes "IMAGE") image.now × IsText found (codes "TRACE") trace.now
 
 -- a subcommand with its values asks for this device on the network
 abbrev pub AsksToLive : Word × List Row → Live → Type 0
 AsksToLive found live =
-    (found.0 ≡ codes "live")
-    × (first_of (codes "IMAGE") found.1 ≡ Some live.image.now)
-    × IsNumber 16 (one_of (codes "DEVICE") found.1) live.device
-    × IsNumber 16 (one_of (codes "PORT") found.1) live.port
+    (found.0 ≡ codes "live") × IsText found (codes "IMAGE") live.image.now
+    × IsNumber 16 (one_of (codes "DEVICE") found.1) live.device × IsNumber 16 (one_of (codes "PORT") found.1) live.port
     × IsNumber 32 (one_of (codes "TURNS") found.1) live.turns
     × (first_of (codes "save") found.1 ≡ option_map (λ p. p.now) live.save)
     × IsFlag (one_of (codes "show") found.1) live.show

@@ -1,10 +1,9 @@
 //! The subcommands of the program and their arguments, as `clap` takes them.
 ghost use Rattle.std.specs.Prelude.{◌≡◌, codes, false, true, IfOk};
 ghost use Rattle.clap.specs.Words.{App, app_of, new_app, rule_of, with_rule, with_subcommand};
-ghost use Rattle.command_line.specs.Words.{asm_app, batch, bench_app, check_app, debug_app, dis_app, file, flag};
-ghost use Rattle.command_line.specs.Words.{live_app, needed, needed_number, one_app, optional_number, pcap_app};
-ghost use Rattle.command_line.specs.Words.{run_app, show_app, with_port, with_range, with_settings, with_trace};
-ghost use Rattle.command_line.specs.Words.{workers};
+ghost use Rattle.command_line.specs.Words.{file, flag, needed, needed_number, optional_number, with_settings};
+ghost use Rattle.command_line.specs.Inside.{asm_app, batch, check_app, debug_app, dis_app, live_app, one_app, pcap_app};
+ghost use Rattle.command_line.specs.Inside.{run_app, show_app, whole_app, with_port, with_range, with_trace, workers};
 
 use crate::help;
 use clap::{Arg, ArgAction, Command, value_parser};
@@ -12,7 +11,7 @@ use std::alloc::{AllocError, Global};
 
 /// The program, with all its subcommands.
 pub(crate) fn bench<'a>(alloc: Global) -> Result<Command<'a>, AllocError>
-    ensures { IfOk result (λ c. app_of c ≡ bench_app) }
+    ensures { IfOk result (λ c. app_of c ≡ whole_app) }
 {
     let texts = with_texts(alloc, top(alloc))?;
     let runs = with_runs(alloc, texts)?;

@@ -3,9 +3,8 @@ ghost use Rattle.std.specs.String.{string_bytes};
 ghost use Rattle.clap.specs.Words.{Row, Text as Word, first_of, found_of, kind_of, one_of, rows_of, subcommand_rows_of};
 ghost use Rattle.command_line.specs.declared.words.Asked.{Asked as AskedData};
 ghost use Rattle.command_line.specs.declared.words.Job.{Job as JobData};
-ghost use Rattle.command_line.specs.Words.{AsksFor, AsksToLive, IsFlag, IsOptionalNumber, IsReadAs, LacksLive};
-ghost use Rattle.command_line.specs.Words.{LacksRun};
-ghost use Rattle.command_line.specs.Words.{MayAskFor};
+ghost use Rattle.command_line.specs.Words.{AsksFor, AsksToLive, IsFlag, IsOptionalNumber, IsReadAs, MayAskFor};
+ghost use Rattle.command_line.specs.Inside.{LacksLive, LacksRun};
 
 use crate::subcommands::bench;
 use clap::error::ErrorKind;

@@ -1,6 +1,6 @@
 use Rattle.std.proofs.Common.{refl}
 use Rattle.clap.specs.Words.{app_of}
-use Rattle.command_line.specs.Words.{run_app, check_app, show_app}
+use Rattle.command_line.specs.Inside.{run_app, check_app, show_app}
 use Rattle.command_line.proofs.subcommands.with_runs.Goals as goal
 
 pub returns : goal.returns

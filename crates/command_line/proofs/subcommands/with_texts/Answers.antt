@@ -1,6 +1,6 @@
 use Rattle.std.proofs.Common.{refl}
 use Rattle.clap.specs.Words.{app_of}
-use Rattle.command_line.specs.Words.{one_app, asm_app, dis_app}
+use Rattle.command_line.specs.Inside.{one_app, asm_app, dis_app}
 use Rattle.command_line.proofs.subcommands.with_texts.Goals as goal
 
 pub returns : goal.returns

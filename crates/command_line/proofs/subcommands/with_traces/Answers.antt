@@ -1,6 +1,6 @@
 use Rattle.std.proofs.Common.{refl}
 use Rattle.clap.specs.Words.{app_of}
-use Rattle.command_line.specs.Words.{pcap_app, debug_app, live_app}
+use Rattle.command_line.specs.Inside.{pcap_app, debug_app, live_app}
 use Rattle.command_line.proofs.subcommands.with_traces.Goals as goal
 
 pub returns : goal.returns
