@@ -4,7 +4,7 @@ use Rattle.lwm2m_values.specs.declared.kind.ValueKind.{ValueKind}
 use Rattle.lwm2m_values.specs.declared.kind.ValueKind.TheVariants as kind
 use Rattle.object_defs.specs.declared.definition.ResourceDef.{ResourceDef}
 use Rattle.object_defs.specs.declared.path.Path.{Path}
-use Rattle.object_defs.specs.declared.path.Path.TheVariants.{Object, Instance, Resource, Part}
+use Rattle.object_defs.specs.declared.path.Path.TheVariants.{Resource, Part}
 use Rattle.lwm2m_payloads.specs.declared.format.Format.{Format}
 use Rattle.lwm2m_payloads.specs.declared.format.Format.TheVariants.{PlainText, OctetStream, Tlv}
 
@@ -34,30 +34,20 @@ part_as (Some d) = one d.kind
 
 -- a single resource and a part stand for one value
 abbrev pub extent_of : Path → Option ResourceDef → Extent
-extent_of (Object _) definition = many
-extent_of (Instance _ _) definition = many
 extent_of (Resource _ _ _) definition = extent_as definition
 extent_of (Part _ _ _ _) definition = part_as definition
+extent_of _ definition = many
 
 -- without a number: application/octet-stream for one Opaque value, plain text for one other value, TLV for more
 abbrev pub default_format : Extent → Format
 default_format many = Tlv
 default_format (one kind.Opaque) = OctetStream
-default_format (one kind.Text) = PlainText
-default_format (one kind.Whole) = PlainText
-default_format (one kind.Flag) = PlainText
-default_format (one kind.Moment) = PlainText
-default_format (one kind.Link) = PlainText
+default_format (one _) = PlainText
 
 -- one Opaque value is served as application/octet-stream
 abbrev pub is_opaque : Extent → Bool
-is_opaque many = false
 is_opaque (one kind.Opaque) = true
-is_opaque (one kind.Text) = false
-is_opaque (one kind.Whole) = false
-is_opaque (one kind.Flag) = false
-is_opaque (one kind.Moment) = false
-is_opaque (one kind.Link) = false
+is_opaque _ = false
 
 -- one value is served as plain text
 abbrev pub is_one : Extent → Bool

@@ -29,9 +29,7 @@ with_part n value parts = None
 abbrev pub parts_given : ValueKind → Trees → Option PartList
 parts_given kind none = Some []
 parts_given kind (more (part n bytes) rest) = with_part n (value_of_bytes kind bytes) (parts_given kind rest)
-parts_given kind (more (instance i inner) rest) = None
-parts_given kind (more (multi r inner) rest) = None
-parts_given kind (more (single r bytes) rest) = None
+parts_given kind _ = None
 
 -- a mandatory resource is given one part at least
 abbrev pub some_parts : Bool → Option PartList → Option Given
@@ -44,8 +42,7 @@ some_parts mandatory (Some (p ∷ ps)) = Some (Parts (p ∷ ps))
 abbrev pub given_by : ResourceDef → Tree → Option Given
 given_by d (single r bytes) = if d.multiple then None else option_map Single (value_of_bytes d.kind bytes)
 given_by d (multi r inner) = if d.multiple then some_parts d.mandatory (parts_given d.kind inner) else None
-given_by d (part n bytes) = None
-given_by d (instance i inner) = None
+given_by d _ = None
 
 -- a Write gives to writable resources, a Create to all but the executable ones
 abbrev pub may_be_given : Purpose → Ops → Bool
@@ -96,9 +93,8 @@ given_if false given = None
 
 -- a record of the resource's number, alone
 abbrev pub lone_record : ResourceDef → Trees → Option Given
-lone_record d none = None
 lone_record d (more node none) = given_if (number_in node == d.id) (given_by d node)
-lone_record d (more node (more next nodes)) = None
+lone_record d _ = None
 
 -- what the payload of a Write gives to the resource of this definition
 abbrev pub resource_given : ResourceDef → Format → List ℕ → Option Given

@@ -37,10 +37,7 @@ shown_in stored resources place = filter (λ e. is_shown resources e.0) (values_
 abbrev pub before_part : ℕ → Tree → Trees → Trees
 before_part r p (more (multi q parts) nodes) =
     if q == r then more (multi r (more p parts)) nodes else more (multi r (more p none)) (more (multi q parts) nodes)
-before_part r p none = more (multi r (more p none)) none
-before_part r p (more (instance i inner) nodes) = more (multi r (more p none)) (more (instance i inner) nodes)
-before_part r p (more (part n bytes) nodes) = more (multi r (more p none)) (more (part n bytes) nodes)
-before_part r p (more (single q bytes) nodes) = more (multi r (more p none)) (more (single q bytes) nodes)
+before_part r p nodes = more (multi r (more p none)) nodes
 
 abbrev pub before_value : ℕ → Option ℕ → Value → Trees → Trees
 before_value r None value nodes = more (single r (bytes_of value)) nodes

@@ -16,12 +16,9 @@ step Nowhere c = Nowhere
 -- the arguments may end here
 abbrev pub is_end : Place → Bool
 is_end Start = true
-is_end Comma = false
 is_end Digit = true
-is_end Equals = false
-is_end Text = false
 is_end Quote = true
-is_end Nowhere = false
+is_end _ = false
 
 -- these bytes lead from a place to an end
 abbrev pub run : Place → List ℕ → Bool
