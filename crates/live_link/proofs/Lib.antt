@@ -5,3 +5,4 @@ pub mod Rows
 pub mod Sent
 pub mod Served
 pub mod Turned
+pub mod Known

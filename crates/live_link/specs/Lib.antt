@@ -5,3 +5,5 @@ pub mod Serving
 pub mod Memory
 pub mod Served
 pub mod Row
+pub mod Peers
+pub mod Asked

@@ -7,6 +7,7 @@ mod laws;
 mod machine_clock;
 mod memory;
 mod packet;
+mod peers;
 mod seconds;
 mod sending;
 mod serving;
