@@ -19,7 +19,7 @@ use Rattle.command_files.specs.Files.{Grows, Made}
 use Rattle.command_files.specs.Loading.{IsImageFault, IsScenarioAt}
 use Rattle.command_live.specs.Live.{line_of, HasNoRow, IsClassOf, IsConcluded, IsLiveDone, IsLiveFault, IsSaveFault}
 use Rattle.command_live.specs.Live.{IsSaved, IsSavedAt, IsShown, IsUnconcluded, IsUnfit, IsUnheld, IsUnsaved}
-use Rattle.command_live.specs.Live.{IsUnstarted}
+use Rattle.command_live.specs.Live.{IsUnstarted, Transition}
 use Rattle.command_files.specs.World.{FilesKnown, StreamFaults, Streams, World}
 use Rattle.command_files.specs.declared.fault.Fault.{Fault}
 use Rattle.command_files.specs.declared.fault.Fault.TheVariants as faults
@@ -56,13 +56,14 @@ untold class turns session before after read_before read_after served =
       deaf = served.deaf;
     }
 
-pub is_shown : (show : Bool) (before after : Option (List ℕ)) → show ≡ true → IsShown show before after
-is_shown true before after h = tt
-is_shown false before after h = let e : false ≡ true = h in absurd cc
+pub is_shown : (show : Bool) (output : Transition (Option (List ℕ))) → show ≡ true → IsShown show output
+is_shown true output h = tt
+is_shown false output h = let e : false ≡ true = h in absurd cc
 
-pub not_shown : (show : Bool) (before after : Option (List ℕ)) → after ≡ before → IsShown show before after
-not_shown true before after h = tt
-not_shown false before after h = h
+pub not_shown : (show : Bool) (output : Transition (Option (List ℕ))) → output.after ≡ output.before
+    → IsShown show output
+not_shown true output h = tt
+not_shown false output h = h
 
 -- no memory was left
 pub unheld_memory : (show : Bool) (fault : Fault) → fault ≡ faults.Memory → IsUnheld show fault
@@ -78,11 +79,11 @@ unheld_so show fault h k = subst (λ b. IsUnheld b fault) (sym h) k
 
 -- ---- its scenario
 
-pub saved_at : (before after : Option (List Made)) (path at bytes : List ℕ) (class : Template) (steps : List Step)
-    → at ≡ path → IsImageIn 2 bytes (one_row class steps) → Grows before after ((at, bytes) ∷ [])
-    → IsSavedAt before after path class steps
-saved_at before after path at bytes class steps same image grows =
-    (bytes, image, subst (λ p. Grows before after ((p, bytes) ∷ [])) same grows)
+pub saved_at : (made : Transition (Option (List Made))) (path at bytes : List ℕ) (class : Template)
+    (steps : List Step) → at ≡ path → IsImageIn 2 bytes (one_row class steps)
+    → Grows made.before made.after ((at, bytes) ∷ []) → IsSavedAt made path class steps
+saved_at made path at bytes class steps same image grows =
+    (bytes, image, subst (λ p. Grows made.before made.after ((p, bytes) ∷ [])) same grows)
 
 pub unfit_memory : (class : Template) (steps : List Step) (fault : Fault) → fault ≡ faults.Memory
     → IsUnfit class steps fault
@@ -107,7 +108,7 @@ not_made refuses path at class steps fault same h = inr (subst (λ p. IsWritingF
 
 pub concluded : (before after : World) (path : Option (List ℕ)) (class : Template) (session : LiveSession)
     → Appends before.streams.output after.streams.output (line_of session)
-    → IsSaved before.made after.made path class session.steps.items
+    → IsSaved (record { before = before.made; after = after.made }) path class session.steps.items
     → IsConcluded before after path class session
 concluded before after path class session printed saved = record { printed = printed; saved = saved }
 
@@ -130,7 +131,8 @@ live_done : (files : FilesKnown) (before between after : World) (asked : Live) (
     (session : LiveSession) → IsConcluded between after (option_map (λ p. p.now) asked.save) class session
     → IsScenarioAt files.holds asked.image.now s → IsClassOf s asked.device class
     → IsServed class asked.turns session None None None None → between.made ≡ before.made
-    → IsShown asked.show before.streams.output between.streams.output → IsLiveDone files before after asked
+    → IsShown asked.show (record { before = before.streams.output; after = between.streams.output })
+    → IsLiveDone files before after asked
 live_done files before between after asked s class session concluded found row served none shown =
     record {
       class = class;
@@ -148,7 +150,8 @@ pub live_done_if : (files : FilesKnown) (before between after : World) (asked : 
     → OnOk r (IsConcluded between after (option_map (λ p. p.now) asked.save) class session)
     → IsScenarioAt files.holds asked.image.now s → IsClassOf s asked.device class
     → IsServed class asked.turns session None None None None → between.made ≡ before.made
-    → IsShown asked.show before.streams.output between.streams.output → OnOk r (IsLiveDone files before after asked)
+    → IsShown asked.show (record { before = before.streams.output; after = between.streams.output })
+    → OnOk r (IsLiveDone files before after asked)
 live_done_if files before between after asked s class session (Ok status) concluded found row served none shown =
     live_done files before between after asked s class session concluded found row served none shown
 live_done_if files before between after asked s class session (Err e) concluded found row served none shown = tt
@@ -191,14 +194,16 @@ port_refused files streams before after asked s class fault found row h silent =
 pub session_cut : (files : FilesKnown) (faults : StreamFaults) (before after : Streams) (asked : Live)
     (s : Scenario) (class : Template) (fault : Fault) → IsScenarioAt files.holds asked.image.now s
     → IsClassOf s asked.device class → IsUnheld asked.show fault
-    → IsShown asked.show before.output after.output → IsLiveFault files faults before after asked fault
+    → IsShown asked.show (record { before = before.output; after = after.output })
+    → IsLiveFault files faults before after asked fault
 session_cut files faults before after asked s class fault found row why shown =
     inr (inl (record { scenario = s; found = found; class = class; row = row; why = why; shown = shown }))
 
 pub session_lost : (files : FilesKnown) (faults : StreamFaults) (before between after : Streams) (asked : Live)
     (s : Scenario) (class : Template) (session : LiveSession) (fault : Fault)
     → IsScenarioAt files.holds asked.image.now s → IsClassOf s asked.device class
-    → IsServed class asked.turns session None None None None → IsShown asked.show before.output between.output
+    → IsServed class asked.turns session None None None None
+    → IsShown asked.show (record { before = before.output; after = between.output })
     → IsUnconcluded files faults between after (option_map (λ p. p.now) asked.save) class session fault
     → IsLiveFault files faults before after asked fault
 session_lost files faults before between after asked s class session fault found row served shown why =
@@ -215,7 +220,8 @@ session_lost files faults before between after asked s class session fault found
 pub session_lost_if : (files : FilesKnown) (faults : StreamFaults) (before between after : Streams) (asked : Live)
     (s : Scenario) (class : Template) (session : LiveSession) (r : Result Status Refusal)
     → IsScenarioAt files.holds asked.image.now s → IsClassOf s asked.device class
-    → IsServed class asked.turns session None None None None → IsShown asked.show before.output between.output
+    → IsServed class asked.turns session None None None None
+    → IsShown asked.show (record { before = before.output; after = between.output })
     → IfErr r (λ e. IsUnconcluded files faults between after (option_map (λ p. p.now) asked.save) class session
     e.fault)
     → IfErr r (λ e. IsLiveFault files faults before after asked e.fault)

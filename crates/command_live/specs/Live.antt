@@ -24,6 +24,11 @@ use Rattle.command_files.specs.declared.fault.Fault.{Fault}
 use Rattle.command_files.specs.declared.fault.Fault.TheVariants as faults
 use Rattle.command_files.specs.declared.files.FileFault.{FileFault}
 
+-- what there was before a call, and what there is after it
+pub record Transition (A : Type 0) : Type 0 where
+  pub before : A
+  pub after : A
+
 -- ---- the session
 
 -- the class of a device's row
@@ -45,10 +50,10 @@ abbrev pub told_while : Option FileFault → Option Traffic → Option Traffic
 told_while None told = told
 told_while (Some fault) told = None
 
--- while a session went on, nothing was printed, unless its datagrams are shown
-abbrev pub IsShown : Bool → Option (List ℕ) → Option (List ℕ) → Type 0
-IsShown false before after = after ≡ before
-IsShown true before after = ⊤
+-- while a session went on, nothing was printed to standard output, unless its datagrams are shown
+abbrev pub IsShown : Bool → Transition (Option (List ℕ)) → Type 0
+IsShown false output = output.after ≡ output.before
+IsShown true output = ⊤
 
 -- ---- its line
 
@@ -75,14 +80,14 @@ line_of session = session_line session.end (length session.steps.items) (length 
 
 -- the image of the scenario that has one device of the class, with these steps, was made at the path, in version 2, and
 -- no other file
-abbrev pub IsSavedAt : Option (List Made) → Option (List Made) → List ℕ → Template → List Step → Type 0
-IsSavedAt before after path class steps =
-    (bytes : List ℕ) × IsImageIn 2 bytes (one_row class steps) × Grows before after ((path, bytes) ∷ [])
+abbrev pub IsSavedAt : Transition (Option (List Made)) → List ℕ → Template → List Step → Type 0
+IsSavedAt made path class steps =
+    (bytes : List ℕ) × IsImageIn 2 bytes (one_row class steps) × Grows made.before made.after ((path, bytes) ∷ [])
 
 -- the same where there is a path; else no file was made
-abbrev pub IsSaved : Option (List Made) → Option (List Made) → Option (List ℕ) → Template → List Step → Type 0
-IsSaved before after None class steps = after ≡ before
-IsSaved before after (Some path) class steps = IsSavedAt before after path class steps
+abbrev pub IsSaved : Transition (Option (List Made)) → Option (List ℕ) → Template → List Step → Type 0
+IsSaved made None class steps = made.after ≡ made.before
+IsSaved made (Some path) class steps = IsSavedAt made path class steps
 
 -- no memory was left for the image, or there is none: the first step that a scenario refuses is refused so
 abbrev pub IsUnfit : Template → List Step → Fault → Type 0
@@ -104,7 +109,7 @@ IsUnsaved refuses (Some path) class steps fault = IsSaveFault refuses path class
 pub record IsConcluded (before after : World) (path : Option (List ℕ)) (class : Template) (session : LiveSession)
     : Type 0 where
   pub printed : Appends before.streams.output after.streams.output (line_of session)
-  pub saved : IsSaved before.made after.made path class session.steps.items
+  pub saved : IsSaved (record { before = before.made; after = after.made }) path class session.steps.items
 
 -- the session's line was not printed; or it was, and then the steps were not saved
 abbrev pub IsUnconcluded : FilesKnown → StreamFaults → Streams → Streams → Option (List ℕ) → Template → LiveSession
@@ -124,7 +129,7 @@ pub record IsLiveDone (files : FilesKnown) (before after : World) (asked : Live)
   -- the files and the streams when the session had ended
   pub between : World
   pub none_made : between.made ≡ before.made
-  pub shown : IsShown asked.show before.streams.output between.streams.output
+  pub shown : IsShown asked.show (record { before = before.streams.output; after = between.streams.output })
   pub concluded : IsConcluded between after (option_map (λ p. p.now) asked.save) class session
 
 -- the device has no row; or it has one, and its port could not be had; or no memory was left
@@ -154,7 +159,7 @@ pub record IsSessionCut (files : FilesKnown) (before after : Streams) (asked : L
   pub class : Template
   pub row : IsClassOf scenario asked.device class
   pub why : IsUnheld asked.show fault
-  pub shown : IsShown asked.show before.output after.output
+  pub shown : IsShown asked.show (record { before = before.output; after = after.output })
 
 -- a session went on, and was not concluded
 pub record IsSessionLost (files : FilesKnown) (faults : StreamFaults) (before after : Streams) (asked : Live)
@@ -164,7 +169,7 @@ pub record IsSessionLost (files : FilesKnown) (faults : StreamFaults) (before af
   pub ran : IsLiveSession files asked class session
   -- the streams when the session had ended
   pub between : Streams
-  pub shown : IsShown asked.show before.output between.output
+  pub shown : IsShown asked.show (record { before = before.output; after = between.output })
   pub why :
       IsUnconcluded files faults between after (option_map (λ p. p.now) asked.save) class session fault
 

@@ -115,7 +115,7 @@ fn hold<'a, W: Wire + Drop, C: Seconds, O: Output>(
     output: &mut O,
 ) -> Result<LiveSession, Refusal<'a>>
     ensures served { IfOk result (λ session. IsServed class.now turns session None None None None) }
-    ensures shown { IsShown show (O.taken output.old) (O.taken output.new) }
+    ensures shown { IsShown show (record { before = O.taken output.old; after = O.taken output.new }) }
     ensures refused { IfErr result (λ r. IsUnheld show r.fault) }
 {
     if show {
@@ -238,8 +238,8 @@ fn save_session<'a, F: Files>(
     steps: Vec<Step>,
     files: &mut F,
 ) -> Result<(), Refusal<'a>>
-    ensures saved { OnOk result (IsSaved (F.made files.old) (F.made files.new) (option_map (λ p. p.now) save.entry)
-        class steps.items) }
+    ensures saved { OnOk result (IsSaved (record { before = F.made files.old; after = F.made files.new })
+        (option_map (λ p. p.now) save.entry) class steps.items) }
     ensures kept { OnErr result (F.made files.new ≡ F.made files.old) }
     ensures refused { IfErr result (λ r. IsUnsaved F.refuses (option_map (λ p. p.now) save.entry) class steps.items
         r.fault) }
@@ -259,7 +259,8 @@ fn save_at<'a, F: Files>(
     steps: Vec<Step>,
     files: &mut F,
 ) -> Result<(), Refusal<'a>>
-    ensures saved { OnOk result (IsSavedAt (F.made files.old) (F.made files.new) path.entry.now class steps.items) }
+    ensures saved { OnOk result (IsSavedAt (record { before = F.made files.old; after = F.made files.new })
+        path.entry.now class steps.items) }
     ensures kept { OnErr result (F.made files.new ≡ F.made files.old) }
     ensures refused { IfErr result (λ r. IsSaveFault F.refuses path.entry.now class steps.items r.fault) }
 {
