@@ -104,7 +104,7 @@ alike_quiet : (k : Kept) (xs ys : List Recorded) (o : List Output) → SameLivin
     → Alike (record { outputs = o; flat = flat_of k xs }) (record { outputs = o; flat = flat_of k ys })
 alike_quiet k xs ys o h = record { outputs = refl; living_then = ap (λ rs. flat_of k rs) h }
 
-repeat_same : (k : Kept) (xs ys : List Recorded) (server : ℕ) (m : Message) → SameLiving k.clock xs ys
+pub repeat_same : (k : Kept) (xs ys : List Recorded) (server : ℕ) (m : Message) → SameLiving k.clock xs ys
     → repeat_of (flat_of k xs) server m ≡ repeat_of (flat_of k ys) server m
 repeat_same k xs ys server m h =
     sym (find-filter (λ r. is_live k.clock r) (λ r. is_same server m r) xs)

@@ -1,15 +1,18 @@
 -- Which events may take memory, and what is left of a device where there is none.
 use Rattle.std.specs.Prelude.{◌≡◌, ◌≤◌, ◌⊎◌, ℕ, ◌+◌, ◌/◌, ◌%◌, ◌==◌, nat_le, Bool, true, false, not, ◌&&◌, ◌||◌}
 use Rattle.std.specs.Prelude.{List, [], ◌∷◌, length, drop, slice_index, Option, None, Some, is_none, is_some}
+use Rattle.std.specs.Prelude.{Result, Ok, Err}
 use Rattle.std.specs.Option.{option_or, option_to_list}
 use Rattle.coap_codec.specs.declared.fault.CoapFault.{CoapFault}
 use Rattle.coap_codec.specs.declared.kind.Kind.{Kind}
 use Rattle.coap_codec.specs.declared.kind.Kind.TheVariants.{Con, Non, Ack, Rst}
 use Rattle.coap_codec.specs.Fault.{header_fault, is_empty_message, place_fault, token_length}
 use Rattle.coap_codec.specs.Message.{Message}
+use Rattle.coap_codec.specs.Reading.{reading_of}
 use Rattle.device_firmware.specs.Firmware.{firmware_after, firmware_resource, is_ready}
 use Rattle.device_firmware.specs.declared.event.FirmwareEvent.TheVariants.{Ended}
-use Rattle.device_requests.specs.Client.{Client, has_account, with_stored}
+use Rattle.device_requests.specs.Client.{Client, has_account}
+use Rattle.device_requests.specs.Unfinished.{IsUnfinished}
 use Rattle.device_machine.specs.declared.event.Event.{Event}
 use Rattle.device_machine.specs.declared.event.Event.TheVariants.{Recv, Put, Firmware, Tick}
 use Rattle.device_machine.specs.declared.recorded.Recorded.{Recorded}
@@ -103,10 +106,21 @@ pub record KeepsRecords (old new : Machine) : Type 0 where
   pub next_id : new.kept.next_id ≡ old.kept.next_id
   pub recorded : new.recorded ≡ old.recorded
 
--- values may have changed, and nothing else of what is managed, and no observation
-pub record ChangesValuesAlone (old new : Kept) : Type 0 where
-  pub client : new.client ≡ with_stored old.client new.client.store
+-- nothing of what is managed has changed, and no observation
+pub record KeepsManaged (old new : Kept) : Type 0 where
+  pub client : new.client ≡ old.client
   pub observations : new.observations ≡ old.observations
+
+-- of what is managed has changed what a request that is no repeat leaves unfinished, and no observation
+pub record IsAnsweredInPart (f : Machine) (server : ℕ) (m : Message) (new : Kept) : Type 0 where
+  pub fresh : repeat_of f server m ≡ None
+  pub client : IsUnfinished f.kept.client server m new.client
+  pub observations : new.observations ≡ f.kept.observations
+
+-- so it is of bytes that are a message; others change nothing
+abbrev pub IsTakenInPart : Machine → ℕ → Result Message CoapFault → Kept → Type 0
+IsTakenInPart f server (Ok m) new = IsAnsweredInPart f server m new
+IsTakenInPart f server (Err fault) new = ⊥
 
 -- what is managed is this, and the observations are as before or these
 pub record IsManaged (old : Kept) (client : Client) (left : List Observation) (new : Kept) : Type 0 where
@@ -120,16 +134,18 @@ pub record HasPassed (old new : Kept) (count : ℕ) : Type 0 where
   pub within : passed ≤ count
   pub observations : new.observations ≡ (sweep_in old passed).left
 
--- a datagram is left off: some of the values that it asks for may be set, and nothing else is done; or all is done that
--- is managed, and its observation is noted or not
-abbrev pub LeavesOff : Kept → Kept → Kept → Type 0
-LeavesOff old after new =
-    ChangesValuesAlone old new ⊎ IsManaged old after.client after.observations new
+-- a datagram is left off: nothing is done; or what its request changes is done in part; or all is done that is managed,
+-- and its observation is noted or not
+abbrev pub LeavesOff : Machine → ℕ → Result Message CoapFault → Kept → Kept → Type 0
+LeavesOff f server reading after new =
+    KeepsManaged f.kept new
+    ⊎ (IsTakenInPart f server reading new ⊎ IsManaged f.kept after.client after.observations new)
 
--- what is left of a device where memory runs out in an event: of a datagram and of seconds a part is done, of all else
--- nothing or all of it
+-- what is left of a device where memory runs out in an event: of a datagram and of seconds a part may be done, of all
+-- else nothing is, or all of it
 abbrev pub IsLeftBy : Machine → Event → Kept → Type 0
-IsLeftBy f (Recv server bytes) new = LeavesOff f.kept (flat_after f (Recv server bytes)).kept new
+IsLeftBy f (Recv server bytes) new =
+    LeavesOff f server (reading_of bytes) (flat_after f (Recv server bytes)).kept new
 IsLeftBy f (Put path value) new = (new ≡ f.kept) ⊎ (new ≡ (flat_after f (Put path value)).kept)
 IsLeftBy f (Firmware code) new = (new ≡ f.kept) ⊎ (new ≡ (flat_after f (Firmware code)).kept)
 IsLeftBy f (Tick count) new = HasPassed f.kept new count

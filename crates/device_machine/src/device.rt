@@ -109,10 +109,12 @@ impl Device {
     /// start: that the device may forget those past their lifetime is proved.
     ///
     /// `Memory` leaves the device spent, and nothing else does; its clock, its next message ID and its recorded
-    /// requests are as before (`left`). Its attributes, values and observations are as before the event or as after it;
-    /// but after a tick the observations are as some of its seconds leave them, and after a datagram some values alone
-    /// may be others, or the observations alone as before (`part`). `Spent`: it was spent, or the tick would take its
-    /// clock past 2^63 - 1; nothing changes.
+    /// requests are as before (`left`). Its attributes, instances, values and observations are as before the event or as
+    /// after it; but after a tick the observations are as some of its seconds leave them, and after a datagram the
+    /// observations alone may be as before, or what its request changes may be done in part (`part`): of a Write that
+    /// gives several values some may be set, or those that they replace be gone, in the instance or the resource that it
+    /// writes to; and Reset Error Code may have removed the error codes. `Spent`: it was spent, or the tick would take
+    /// its clock past 2^63 - 1; nothing changes.
     ///
     /// No event ends a device for lack of memory that is (`may_lack_memory`): a datagram of a server without an account, of
     /// another version or of fewer than four bytes; an acknowledgement or a Reset, whatever follows the header; a NON

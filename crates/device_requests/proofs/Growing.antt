@@ -46,18 +46,26 @@ late_values client mode path (Some values) stored =
     late_turn client (event_of path (Some values))
     (exceeds (mode_at mode path) client.catalog client.store path (Some values)) stored
 
+-- of the rules of a Write, those of the target and of the server do not apply
+pub early_lines : (o t r w : Bool) (lines : List (Bool × Code)) → o ≡ false → t ≡ true → r ≡ true → w ≡ true
+    → first_line ((o, Unauthorized) ∷ (not t, NotFound) ∷ (not r, Unauthorized) ∷ (not w, MethodNotAllowed) ∷ lines)
+    ≡ first_line lines
+early_lines o t r w lines other target may can =
+    λ j. first_line
+    ((other j, Unauthorized) ∷ (not (target j), NotFound) ∷ (not (may j), Unauthorized) ∷ (
+      not (can j),
+      MethodNotAllowed,
+    )
+    ∷ lines)
+
 late_write : (o t r w f : Bool) (lines : List (Bool × Code)) → o ≡ false → t ≡ true → r ≡ true → w ≡ true → f ≡ true
     → first_line
     ((o, Unauthorized) ∷ (not t, NotFound) ∷ (not r, Unauthorized) ∷ (not w, MethodNotAllowed)
     ∷ (not f, UnsupportedContentFormat) ∷ lines)
     ≡ first_line lines
 late_write o t r w f lines other target may can served =
-    λ j. first_line
-    ((other j, Unauthorized) ∷ (not (target j), NotFound) ∷ (not (may j), Unauthorized) ∷ (
-      not (can j),
-      MethodNotAllowed,
-    )
-    ∷ (not (served j), UnsupportedContentFormat) ∷ lines)
+    early_lines o t r w ((not f, UnsupportedContentFormat) ∷ lines) other target may can
+    ∙ ap (λ b. first_line ((not b, UnsupportedContentFormat) ∷ lines)) served
 
 -- a Write whose target, server and format are not refused may take memory
 pub write_takes_memory : (client : Client) (server : ℕ) (mode : Mode) (path : Path) (number : Option ℕ)

@@ -15,3 +15,4 @@ mod ReadBack
 pub mod Reading
 pub mod Refusing
 pub mod Unchanged
+mod Unfinished

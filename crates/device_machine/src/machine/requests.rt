@@ -1,8 +1,9 @@
 //! What a device does with a datagram.
 
-ghost use Rattle.std.specs.Prelude.{◌≡◌, ◌<◌, None, true, false, is_some, IfOk, OnErr, OnOk};
+ghost use Rattle.std.specs.Prelude.{◌≡◌, ◌<◌, None, Ok, true, false, is_some, IfOk, OnErr, OnOk};
 ghost use Rattle.device_notifications.specs.Outlooks.{IsKnown};
 ghost use Rattle.coap_codec.specs.Fault.{is_empty_message};
+ghost use Rattle.coap_codec.specs.Reading.{reading_of};
 ghost use Rattle.device_machine.specs.declared.event.Event.TheVariants.{Recv};
 ghost use Rattle.device_machine.specs.Reactions.{Gives, claims_confirmable, is_request, on_fresh, on_message, on_noise};
 ghost use Rattle.device_machine.specs.Reactions.{on_outcome, on_request, reaction_to, repeat_of, reply_to};
@@ -146,7 +147,8 @@ impl Machine {
             (outcome_of self.old.flat.kept.client server message.now))) }
         ensures up_to_date { OnOk result (IsUpToDate self.new) }
         ensures left { OnErr result (KeepsRecords self.old.flat self.new.flat) }
-        ensures part { OnErr result (LeavesOff self.old.flat.kept (on_outcome self.old.flat server message.now
+        ensures part { OnErr result (LeavesOff self.old.flat server (Ok message.now)
+            (on_outcome self.old.flat server message.now
             (outcome_of self.old.flat.kept.client server message.now)).flat.kept self.new.flat.kept) }
     {
         let handled = self.client.answer(server, message)?;
@@ -169,7 +171,8 @@ impl Machine {
             ≡ true) }
         ensures up_to_date { OnOk result (IsUpToDate self.new) }
         ensures left { OnErr result (KeepsRecords self.old.flat self.new.flat) }
-        ensures part { OnErr result (LeavesOff self.old.flat.kept (on_request self.old.flat server message.now
+        ensures part { OnErr result (LeavesOff self.old.flat server (Ok message.now)
+            (on_request self.old.flat server message.now
             (repeat_of self.old.flat server message.now)).flat.kept self.new.flat.kept) }
     {
         match self.repeat_of(server, message) {
@@ -187,8 +190,8 @@ impl Machine {
             ≡ true) }
         ensures up_to_date { OnOk result (IsUpToDate self.new) }
         ensures left { OnErr result (KeepsRecords self.old.flat self.new.flat) }
-        ensures part { OnErr result (LeavesOff self.old.flat.kept (on_message self.old.flat server message.now
-            message.now.kind).flat.kept self.new.flat.kept) }
+        ensures part { OnErr result (LeavesOff self.old.flat server (Ok message.now)
+            (on_message self.old.flat server message.now message.now.kind).flat.kept self.new.flat.kept) }
     {
         match message.kind() {
             Kind::Con => {
@@ -230,8 +233,8 @@ impl Machine {
         ensures may_lack_memory { OnErr result (message_takes_memory self.old.flat server message message.kind ≡ true) }
         ensures up_to_date { OnOk result (IsUpToDate self.new) }
         ensures left { OnErr result (KeepsRecords self.old.flat self.new.flat) }
-        ensures part { OnErr result (LeavesOff self.old.flat.kept (on_message self.old.flat server message
-            message.kind).flat.kept self.new.flat.kept) }
+        ensures part { OnErr result (LeavesOff self.old.flat server (Ok message)
+            (on_message self.old.flat server message message.kind).flat.kept self.new.flat.kept) }
     {
         let outputs = self.take(server, &message)?;
         self.spare = message.into_spare();
@@ -263,7 +266,7 @@ impl Machine {
         ensures may_lack_memory { OnErr result (event_takes_memory self.old.flat.kept (Recv server bytes.now) ≡ true) }
         ensures up_to_date { OnOk result (IsUpToDate self.new) }
         ensures left { OnErr result (KeepsRecords self.old.flat self.new.flat) }
-        ensures part { OnErr result (LeavesOff self.old.flat.kept
+        ensures part { OnErr result (LeavesOff self.old.flat server (reading_of bytes.now)
             (reaction_to self.old.flat (Recv server bytes.now)).flat.kept self.new.flat.kept) }
     {
         if !self.client.has_account(server) {

@@ -1,5 +1,5 @@
 -- The device is as the answer and what is noted leave it, and replies with both.
-use Rattle.std.proofs.Common.{◌&&◌, ℕ, List, IfOk, find, inl, refl, ap, subst, sym, ◌∙◌}
+use Rattle.std.proofs.Common.{◌&&◌, ℕ, List, IfOk, Ok, find, inl, refl, ap, subst, sym, ◌∙◌}
 use Rattle.notifier.proofs.Answers.{on_error}
 use Rattle.notifier.specs.declared.observation.Observation.{Observation}
 use Rattle.device_requests.specs.Answer.{is_change}
@@ -69,7 +69,7 @@ returns-in_err-say_after-clause-part c =
     let new = kept_with c.answer.new.self c.say_after.new.observations.list clock next_id in
     on_error c.from_residual-in_err-say_after.result _
     (subst (λ (f : Machine).
-    LeavesOff f.kept (on_outcome f server m (outcome_of f.kept.client server m)).flat.kept new)
+    LeavesOff f server (Ok m) (on_outcome f server m (outcome_of f.kept.client server m)).flat.kept new)
     (ap (λ (h : Held). h.flat) c.self.view_is)
     (left_off (record {
       kept = kept_with c.self.inside.client c.self.inside.observations.list clock next_id;
