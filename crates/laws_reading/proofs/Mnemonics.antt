@@ -33,7 +33,7 @@ use Rattle.scenario_mnemonics.specs.declared.verb.Keyword.{Keyword}
 use Rattle.scenario_mnemonics.specs.declared.verb.Keyword.TheVariants as keyword
 use Rattle.scenario_mnemonics.specs.declared.verb.Verb.{Verb}
 use Rattle.scenario_mnemonics.specs.declared.verb.Verb.TheVariants as verb
-use Rattle.scenario_mnemonics.specs.Messages.{asks}
+use Rattle.scenario_mnemonics.specs.Messages.{fields_of}
 use Rattle.scenario_mnemonics.specs.MnemonicWords.{action_at, content_at, format_of, format_word, formats, head_at}
 use Rattle.scenario_mnemonics.specs.MnemonicWords.{keyword_named, keyword_of, keyword_word, keywords, last_by}
 use Rattle.scenario_mnemonics.specs.MnemonicWords.{mnemonic_at, queries_at, said, short_token, token_at, type_of}
@@ -199,7 +199,7 @@ content_alone ws c h =
     (p.0, t.all ∙ ap (λ o. t.word ∷ o) p.1 ∙ ap (λ v. v ∷ p.0 ∷ []) n, p.2)
 
 abbrev IsDetailed : Verb → List (List ℕ) → Action → Type 0
-IsDetailed v ws a = ((asks a).verb ≡ v) × AreDetails a ws
+IsDetailed v ws a = ((fields_of a).verb ≡ v) × AreDetails a ws
 
 details_said : (v : Verb) (ws : List (List ℕ)) (a : Action) → action_at v ws ≡ Ok a → IsDetailed v ws a
 details_said verb.Read ws a h =
@@ -239,7 +239,7 @@ details_said verb.Exec ws a h =
     let same : act.Exec b.0 ≡ a = cc (b.2) in
     subst (IsDetailed verb.Exec ws) same (refl, payload_alone ws b.0 b.1)
 
-details_again : (a : Action) (ws : List (List ℕ)) → AreDetails a ws → action_at (asks a).verb ws ≡ Ok a
+details_again : (a : Action) (ws : List (List ℕ)) → AreDetails a ws → action_at (fields_of a).verb ws ≡ Ok a
 details_again (act.Read f) ws h = ap (action_at verb.Read) h ∙ rw (format_again f) refl
 details_again (act.Observe f) ws h = ap (action_at verb.Observe) h ∙ rw (format_again f) refl
 details_again (act.Cancel f) ws h = ap (action_at verb.Cancel) h ∙ rw (format_again f) refl
@@ -350,7 +350,7 @@ mnemonic_said w k ws server m e h =
 pub mnemonic_again : (server : ℕ) (m : Mnemonic) (ws : List (List ℕ)) → AreAsked server m ws
     → mnemonic_at (keyword_of m) ws ≡ Ok (server, m)
 mnemonic_again server (mnemonic.Request r) ws h =
-    let v = (asks r.action).verb in
+    let v = (fields_of r.action).verb in
     let head = headed server r.kind r.mid r.token r.path in
     ap (λ x. head_at x >>= acted v) h.2
     ∙ ap (λ x. x >>= acted v) (head_again server r.kind r.mid h.0 r.token r.path h.1 h.3 h.4 h.5 h.6 h.7)

@@ -31,7 +31,7 @@ use Rattle.scenario_mnemonics.specs.declared.mnemonic.Request.{Request}
 use Rattle.scenario_mnemonics.specs.declared.mnemonic.Mnemonic.{Mnemonic}
 use Rattle.scenario_mnemonics.specs.declared.mnemonic.Mnemonic.TheVariants as mnemonic
 use Rattle.scenario_mnemonics.specs.Queries.{are_queries}
-use Rattle.scenario_mnemonics.specs.Messages.{asks, segments, fits_mnemonic, message_of, datagram_of, has_words, IsGood}
+use Rattle.scenario_mnemonics.specs.Messages.{fields_of, segments, fits_mnemonic, message_of, datagram_of, has_words, IsGood}
 use Rattle.scenario_mnemonics.specs.MnemonicWords.{formats}
 use Rattle.scenario_mnemonics.specs.Denoting.{values, actions, requests, candidates, is_own, mnemonic_of}
 use Rattle.scenario_mnemonics.specs.Inside.{mnemonic_found}
@@ -75,7 +75,7 @@ all_flat P Q f g (x ∷ xs) h = all_append Q (f x) (flat_map f xs) (g x h.0) (al
 
 -- words can say it, and its payload is bytes
 abbrev IsSound : Action → Type 0
-IsSound a = (has_words a ≡ true) × AllBelowBase 256 (asks a).payload
+IsSound a = (has_words a ≡ true) × AllBelowBase 256 (fields_of a).payload
 
 format_sound : (b : List ℕ) → AllBelowBase 256 b → (f : Format) → Unit {0} → AllByRecursion IsSound (with_format b f)
 format_sound b h f u =
@@ -227,7 +227,7 @@ of_queries qs b h =
     inr (inr (inr (has_left (with_queries qs) (flat_map (with_format b) formats) (act.Attr qs)
     (subst (λ t. Has (map (λ q. act.Attr q) (cond t (qs ∷ []) [])) (act.Attr qs)) (sym h) (inl refl)))))
 
-action_among : (a : Action) → has_words a ≡ true → Has (actions_by (asks a).queries (asks a).payload) a
+action_among : (a : Action) → has_words a ≡ true → Has (actions_by (fields_of a).queries (fields_of a).payload) a
 action_among (act.Read f) h = of_format [] [] f (act.Read f) (inl refl)
 action_among (act.Observe f) h = of_format [] [] f (act.Observe f) (inr (inl refl))
 action_among (act.Cancel f) h = of_format [] [] f (act.Cancel f) (inr (inr (inl refl)))

@@ -22,7 +22,7 @@ use Rattle.scenario_mnemonics.specs.declared.mnemonic.Request.{Request}
 use Rattle.scenario_mnemonics.specs.declared.mnemonic.Mnemonic.{Mnemonic}
 use Rattle.scenario_mnemonics.specs.declared.mnemonic.Mnemonic.TheVariants as mnemonic
 use Rattle.scenario_mnemonics.specs.Queries.{are_queries}
-use Rattle.scenario_mnemonics.specs.Messages.{asks, fits, kind_of, format_values, segments, options_of, message_of}
+use Rattle.scenario_mnemonics.specs.Messages.{fields_of, fits, kind_of, format_values, segments, options_of, message_of}
 use Rattle.scenario_mnemonics.specs.Messages.{datagram_of, has_words, IsGoodRequest, IsGood}
 use Rattle.scenario_mnemonics.specs.Denoting.{values}
 use Rattle.scenario_mnemonics.specs.Inside.{type_from, path_from, get_from, post_from, put_from, action_from}
@@ -45,13 +45,13 @@ read_again format.Text = refl
 read_again format.Opaque = refl
 read_again format.Tlv = refl
 
-observe_again : (f : Format) → get_from (asks (act.Observe f)).observe (format_values f) ≡ Some (act.Observe f)
+observe_again : (f : Format) → get_from (fields_of (act.Observe f)).observe (format_values f) ≡ Some (act.Observe f)
 observe_again format.Any = refl
 observe_again format.Text = refl
 observe_again format.Opaque = refl
 observe_again format.Tlv = refl
 
-cancel_again : (f : Format) → get_from (asks (act.Cancel f)).observe (format_values f) ≡ Some (act.Cancel f)
+cancel_again : (f : Format) → get_from (fields_of (act.Cancel f)).observe (format_values f) ≡ Some (act.Cancel f)
 cancel_again format.Any = refl
 cancel_again format.Text = refl
 cancel_again format.Opaque = refl
@@ -82,20 +82,21 @@ attr_again [] contents b h = cc
 attr_again (q ∷ qs) contents b h = ap (λ t. cond t (Some (act.Attr (q ∷ qs))) None) h
 
 get_found : (p : Path) (a : Action)
-    → get_from (values 6 (options_of p a)) (values 17 (options_of p a)) ≡ get_from (asks a).observe (asks a).accept
+    → get_from (values 6 (options_of p a)) (values 17 (options_of p a))
+    ≡ get_from (fields_of a).observe (fields_of a).accept
 get_found p a = ap (λ v. get_from v (values 17 (options_of p a))) (observe_found p a)
-    ∙ ap (get_from (asks a).observe) (accept_found p a)
+    ∙ ap (get_from (fields_of a).observe) (accept_found p a)
 
 post_found : (p : Path) (a : Action) (b : List ℕ)
-    → post_from p (values 12 (options_of p a)) b ≡ post_from p (asks a).content b
+    → post_from p (values 12 (options_of p a)) b ≡ post_from p (fields_of a).content b
 post_found p a b = ap (λ v. post_from p v b) (content_found p a)
 
 put_found : (p : Path) (a : Action) (b : List ℕ)
     → put_from (values 15 (options_of p a)) (values 12 (options_of p a)) b
-    ≡ put_from (asks a).queries (asks a).content b
+    ≡ put_from (fields_of a).queries (fields_of a).content b
 put_found p a b =
     ap (λ v. put_from v (values 12 (options_of p a)) b) (queries_found p a)
-    ∙ ap (λ v. put_from (asks a).queries v b) (content_found p a)
+    ∙ ap (λ v. put_from (fields_of a).queries v b) (content_found p a)
 
 action_again : (r : Request) (p : Path) (a : Action) → r.path ≡ p → r.action ≡ a → fits a p ≡ true → has_words a ≡ true
     → action_from (message_of (mnemonic.Request
@@ -149,7 +150,7 @@ request_again r h =
 message_again : (m : Mnemonic) → IsGood m → mnemonic_from (message_of m) ≡ Some m
 message_again (mnemonic.Request r) h =
     ap (λ t. cond t (Some (mnemonic.Reset r.mid)) (request_from (message_of (mnemonic.Request r))))
-    (ne_eqb (asks r.action).code 0 (code_some r.action))
+    (ne_eqb (fields_of r.action).code 0 (code_some r.action))
     ∙ request_again r h
 message_again (mnemonic.Reset mid) h = refl
 

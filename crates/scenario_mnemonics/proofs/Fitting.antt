@@ -21,7 +21,7 @@ use Rattle.scenario_mnemonics.specs.declared.action.Action.TheVariants as act
 use Rattle.scenario_mnemonics.specs.declared.mnemonic.Mnemonic.{Mnemonic}
 use Rattle.scenario_mnemonics.specs.declared.mnemonic.Mnemonic.TheVariants as mnemonic
 use Rattle.scenario_mnemonics.specs.Queries.{are_queries}
-use Rattle.scenario_mnemonics.specs.Messages.{asks, fits, datagram_of, has_words, IsGood}
+use Rattle.scenario_mnemonics.specs.Messages.{fields_of, fits, datagram_of, has_words, IsGood}
 use Rattle.scenario_mnemonics.specs.Denoting.{values}
 use Rattle.scenario_mnemonics.specs.Inside.{type_from, format_from, path_from, is_discover, get_from, post_from}
 use Rattle.scenario_mnemonics.specs.Inside.{put_from, action_from, token_from, request_from, mnemonic_from}
@@ -74,7 +74,7 @@ path_small (a ∷ b ∷ c ∷ d ∷ e ∷ more) = tt
 record Fits (p : Path) (payload : List ℕ) (a : Action) : Type 0 where
   pub fit : fits a p ≡ true
   pub words : has_words a ≡ true
-  pub bytes : AllBelowBase 256 payload → AllBelowBase 256 (asks a).payload
+  pub bytes : AllBelowBase 256 payload → AllBelowBase 256 (fields_of a).payload
 
 get_fits : (os vs : List (List ℕ)) (p : Path) (b : List ℕ) → IfSome (get_from os vs) (Fits p b)
 get_fits [] vs p b =

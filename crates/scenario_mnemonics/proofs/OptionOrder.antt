@@ -18,7 +18,7 @@ use Rattle.scenario_mnemonics.specs.declared.mnemonic.Request.{Request}
 use Rattle.scenario_mnemonics.specs.declared.mnemonic.Mnemonic.{Mnemonic}
 use Rattle.scenario_mnemonics.specs.declared.mnemonic.Mnemonic.TheVariants as mnemonic
 use Rattle.scenario_mnemonics.specs.Queries.{is_query}
-use Rattle.scenario_mnemonics.specs.Messages.{asks, options_with, format_values, segments, options_of, message_of}
+use Rattle.scenario_mnemonics.specs.Messages.{fields_of, options_with, format_values, segments, options_of, message_of}
 use Rattle.scenario_mnemonics.specs.Messages.{has_words, IsGood}
 
 abbrev Short : List ℕ → Type 0
@@ -58,7 +58,7 @@ short_format format.Text = (omega arith, tt)
 short_format format.Opaque = (omega arith, tt)
 short_format format.Tlv = (omega arith, tt)
 
-short_observe : (a : Action) → AllByRecursion Short (asks a).observe
+short_observe : (a : Action) → AllByRecursion Short (fields_of a).observe
 short_observe (act.Read f) = tt
 short_observe (act.Observe f) = (omega arith, tt)
 short_observe (act.Cancel f) = (omega arith, tt)
@@ -70,7 +70,7 @@ short_observe (act.Create f b) = tt
 short_observe (act.Attr qs) = tt
 short_observe (act.Exec b) = tt
 
-short_content : (a : Action) → AllByRecursion Short (asks a).content
+short_content : (a : Action) → AllByRecursion Short (fields_of a).content
 short_content (act.Read f) = tt
 short_content (act.Observe f) = tt
 short_content (act.Cancel f) = tt
@@ -82,7 +82,7 @@ short_content (act.Create f b) = short_format f
 short_content (act.Attr qs) = tt
 short_content (act.Exec b) = tt
 
-short_accept : (a : Action) → AllByRecursion Short (asks a).accept
+short_accept : (a : Action) → AllByRecursion Short (fields_of a).accept
 short_accept (act.Read f) = short_format f
 short_accept (act.Observe f) = short_format f
 short_accept (act.Cancel f) = short_format f
@@ -109,7 +109,7 @@ short_each [] h = tt
 short_each (q ∷ qs) h = let both =
     and_parts (is_query q) (list_all is_query qs) h in (short_query q both.0, short_each qs both.1)
 
-short_queries : (a : Action) → has_words a ≡ true → AllByRecursion Short (asks a).queries
+short_queries : (a : Action) → has_words a ≡ true → AllByRecursion Short (fields_of a).queries
 short_queries (act.Read f) h = tt
 short_queries (act.Observe f) h = tt
 short_queries (act.Cancel f) h = tt
@@ -123,13 +123,13 @@ short_queries (act.Exec b) h = tt
 
 pub options_good : (p : Path) (a : Action) → IsPath p → has_words a ≡ true → IsOptionList 0 (options_of p a)
 options_good p a path words =
-    list_then 0 6 (asks a).observe _ (omega arith) (omega arith) (short_observe a)
+    list_then 0 6 (fields_of a).observe _ (omega arith) (omega arith) (short_observe a)
     (list_then 6 11 (segments p) _ (omega arith) (omega arith) (short_segments p path)
-    (list_then 11 12 (asks a).content _ (omega arith) (omega arith) (short_content a)
-    (list_then 12 15 (asks a).queries _ (omega arith) (omega arith) (short_queries a words)
-    (list_alone 15 17 (asks a).accept (omega arith) (omega arith) (short_accept a)))))
+    (list_then 11 12 (fields_of a).content _ (omega arith) (omega arith) (short_content a)
+    (list_then 12 15 (fields_of a).queries _ (omega arith) (omega arith) (short_queries a words)
+    (list_alone 15 17 (fields_of a).accept (omega arith) (omega arith) (short_accept a)))))
 
-code_small : (a : Action) → (asks a).code < 256
+code_small : (a : Action) → (fields_of a).code < 256
 code_small (act.Read f) = omega arith
 code_small (act.Observe f) = omega arith
 code_small (act.Cancel f) = omega arith
@@ -141,7 +141,7 @@ code_small (act.Create f b) = omega arith
 code_small (act.Attr qs) = omega arith
 code_small (act.Exec b) = omega arith
 
-pub code_some : (a : Action) → (asks a).code ≡ 0 → ⊥
+pub code_some : (a : Action) → (fields_of a).code ≡ 0 → ⊥
 code_some (act.Read f) h = cc
 code_some (act.Observe f) h = cc
 code_some (act.Cancel f) h = cc

@@ -32,7 +32,7 @@ use Rattle.scenario_mnemonics.specs.declared.action.Action.TheVariants as act
 use Rattle.scenario_mnemonics.specs.declared.mnemonic.Mnemonic.{Mnemonic}
 use Rattle.scenario_mnemonics.specs.declared.mnemonic.Mnemonic.TheVariants as mnemonic
 use Rattle.scenario_mnemonics.specs.Queries.{is_query, are_queries}
-use Rattle.scenario_mnemonics.specs.Messages.{asks, has_words, IsGood}
+use Rattle.scenario_mnemonics.specs.Messages.{fields_of, has_words, IsGood}
 use Rattle.scenario_mnemonics.specs.MnemonicWords.{verb_word, keyword_word, keyword_named, keyword_of}
 use Rattle.scenario_mnemonics.specs.MnemonicWords.{type_word, type_of, format_word, format_of, short_token, token_at}
 use Rattle.scenario_mnemonics.specs.MnemonicWords.{head_at, last_by, content_at, queries_at, action_at}
@@ -90,8 +90,8 @@ queries_again : (qs : List (List ℕ)) → are_queries qs ≡ true → queries_a
 queries_again [] h = cc
 queries_again (q ∷ qs) h = ap (λ t. cond t (Ok (q ∷ qs)) (Err cause.Token)) h
 
-action_again : (a : Action) → has_words a ≡ true → AllBelowBase 256 (asks a).payload
-    → action_at (asks a).verb (details a) ≡ Ok a
+action_again : (a : Action) → has_words a ≡ true → AllBelowBase 256 (fields_of a).payload
+    → action_at (fields_of a).verb (details a) ≡ Ok a
 action_again (act.Read f) h b = rw (format_alone f) refl
 action_again (act.Observe f) h b = rw (format_alone f) refl
 action_again (act.Cancel f) h b = rw (format_alone f) refl
@@ -221,7 +221,7 @@ verbs_word verb.Exec = refl
 
 pub all_words : (server : ℕ) (m : Mnemonic) → server ≤ 65534 → IsGood m → AllByRecursion IsWord (spelled server m)
 all_words server (mnemonic.Request r) small h = (
-  verbs_word (asks r.action).verb,
+  verbs_word (fields_of r.action).verb,
   (
     decimal_word server (omega (arith, small)),
     (

@@ -44,7 +44,7 @@ segments (Resource o i r) = decimal o ∷ decimal i ∷ decimal r ∷ []
 segments (Part o i r n) = decimal o ∷ decimal i ∷ decimal r ∷ decimal n ∷ []
 
 -- what an action is called, and has in its message beside the path: the values of its options, by their names
-pub record Asks : Type 0 where
+pub record RequestFields : Type 0 where
   pub verb : Verb
   pub code : ℕ
   pub observe : List (List ℕ)
@@ -53,23 +53,23 @@ pub record Asks : Type 0 where
   pub accept : List (List ℕ)
   pub payload : List ℕ
 
-abbrev pub method : ℕ → Verb → Asks
+abbrev pub method : ℕ → Verb → RequestFields
 method code verb =
     record { verb = verb; code = code; observe = []; content = []; queries = []; accept = []; payload = [] }
 
 -- each action's: GET is 1, POST 2, PUT 3, DELETE 4 (RFC 7252 section 12.1.1); an Observe of 0 registers, one of 1
 -- deregisters (RFC 7641 section 2); an Accept of 40 is the link format
-abbrev pub asks : Action → Asks
-asks (act.Read f) = record (method 1 verb.Read) { accept = format_values f }
-asks (act.Observe f) = record (method 1 verb.Observe) { observe = shortest 0 ∷ []; accept = format_values f }
-asks (act.Cancel f) = record (method 1 verb.Cancel) { observe = shortest 1 ∷ []; accept = format_values f }
-asks act.Discover = record (method 1 verb.Discover) { accept = shortest 40 ∷ [] }
-asks act.Delete = method 4 verb.Delete
-asks (act.Write f b) = record (method 3 verb.Write) { content = format_values f; payload = b }
-asks (act.Update f b) = record (method 2 verb.Update) { content = format_values f; payload = b }
-asks (act.Create f b) = record (method 2 verb.Create) { content = format_values f; payload = b }
-asks (act.Attr qs) = record (method 3 verb.Attr) { queries = qs }
-asks (act.Exec b) = record (method 2 verb.Exec) { payload = b }
+abbrev pub fields_of : Action → RequestFields
+fields_of (act.Read f) = record (method 1 verb.Read) { accept = format_values f }
+fields_of (act.Observe f) = record (method 1 verb.Observe) { observe = shortest 0 ∷ []; accept = format_values f }
+fields_of (act.Cancel f) = record (method 1 verb.Cancel) { observe = shortest 1 ∷ []; accept = format_values f }
+fields_of act.Discover = record (method 1 verb.Discover) { accept = shortest 40 ∷ [] }
+fields_of act.Delete = method 4 verb.Delete
+fields_of (act.Write f b) = record (method 3 verb.Write) { content = format_values f; payload = b }
+fields_of (act.Update f b) = record (method 2 verb.Update) { content = format_values f; payload = b }
+fields_of (act.Create f b) = record (method 2 verb.Create) { content = format_values f; payload = b }
+fields_of (act.Attr qs) = record (method 3 verb.Attr) { queries = qs }
+fields_of (act.Exec b) = record (method 2 verb.Exec) { payload = b }
 
 -- the path has as many numbers as the action needs
 abbrev pub fits : Action → Path → Bool
@@ -85,10 +85,10 @@ fits_mnemonic (mnemonic.Reset mid) = true
 -- Observe 6, Uri-Path 11, Content-Format 12, Uri-Query 15, Accept 17 (RFC 7252 section 12.2, RFC 7641 section 2)
 abbrev pub options_of : Path → Action → List Opt
 options_of p a =
-    options_with observe_option (asks a).observe
+    options_with observe_option (fields_of a).observe
     ++ (options_with uri_path_option (segments p)
-    ++ (options_with content_format_option (asks a).content
-    ++ (options_with uri_query_option (asks a).queries ++ options_with accept_option (asks a).accept)))
+    ++ (options_with content_format_option (fields_of a).content
+    ++ (options_with uri_query_option (fields_of a).queries ++ options_with accept_option (fields_of a).accept)))
 
 -- the type (RFC 7252 section 3)
 abbrev pub kind_of : RequestType → Kind
@@ -101,11 +101,11 @@ message_of (mnemonic.Reset mid) =
     record { kind = kind.Rst; code = 0; mid = mid; token = []; options = []; payload = [] }
 message_of (mnemonic.Request r) = record {
   kind = kind_of r.kind;
-  code = (asks r.action).code;
+  code = (fields_of r.action).code;
   mid = r.mid;
   token = r.token;
   options = options_of r.path r.action;
-  payload = (asks r.action).payload;
+  payload = (fields_of r.action).payload;
 }
 
 -- the datagram of a mnemonic
@@ -124,7 +124,7 @@ pub record IsGoodRequest (r : Request) : Type 0 where
   pub token_bytes : AllBelowBase 256 r.token
   pub path : IsPath r.path
   pub fits : fits r.action r.path ≡ true
-  pub payload : AllBelowBase 256 (asks r.action).payload
+  pub payload : AllBelowBase 256 (fields_of r.action).payload
   pub queries : has_words r.action ≡ true
 
 -- a mnemonic that text can say, and that fits

@@ -25,7 +25,7 @@ use Rattle.scenario_mnemonics.specs.declared.action.Action.TheVariants as act
 use Rattle.scenario_mnemonics.specs.declared.mnemonic.Mnemonic.{Mnemonic}
 use Rattle.scenario_mnemonics.specs.declared.mnemonic.Mnemonic.TheVariants as mnemonic
 use Rattle.scenario_mnemonics.specs.declared.head.Head.{Head}
-use Rattle.scenario_mnemonics.specs.Messages.{asks}
+use Rattle.scenario_mnemonics.specs.Messages.{fields_of}
 use Rattle.scenario_mnemonics.specs.Queries.{are_queries}
 
 -- the name of what is asked for
@@ -54,7 +54,7 @@ abbrev pub keyword_named : List ℕ → Option Keyword
 keyword_named w = find (λ k. bytes_eq w (keyword_word k)) keywords
 
 abbrev pub keyword_of : Mnemonic → Keyword
-keyword_of (mnemonic.Request r) = keyword.Request (asks r.action).verb
+keyword_of (mnemonic.Request r) = keyword.Request (fields_of r.action).verb
 keyword_of (mnemonic.Reset mid) = keyword.Reset
 
 abbrev pub type_word : RequestType → List ℕ

@@ -1,5 +1,5 @@
 ghost use Rattle.std.specs.Prelude.{◌≡◌};
-ghost use Rattle.scenario_mnemonics.specs.Messages.{asks, fits};
+ghost use Rattle.scenario_mnemonics.specs.Messages.{fields_of, fits};
 
 use crate::format::Format;
 use crate::queries::Queries;
@@ -35,7 +35,7 @@ pub enum Action {
 impl Action {
     /// What its keyword says.
     pub fn verb(&self) -> Verb
-        ensures { result ≡ (asks self.now).verb }
+        ensures { result ≡ (fields_of self.now).verb }
     {
         match self {
             Action::Read(_) => Verb::Read,

@@ -1,6 +1,6 @@
 ghost use Rattle.std.specs.Prelude.{◌≡◌, [], true, IfOk};
 ghost use Rattle.coap_codec.specs.Message.{spelling};
-ghost use Rattle.scenario_mnemonics.specs.Messages.{asks, kind_of, message_of, datagram_of, has_words};
+ghost use Rattle.scenario_mnemonics.specs.Messages.{fields_of, kind_of, message_of, datagram_of, has_words};
 
 use crate::action::Action;
 use crate::mnemonic::{Mnemonic, Request};
@@ -21,7 +21,7 @@ fn kind_of(kind: RequestType) -> Kind
 
 /// The method (RFC 7252 section 12.1.1).
 fn code_of(action: &Action) -> u8
-    ensures { result ≡ (asks action.now).code }
+    ensures { result ≡ (fields_of action.now).code }
 {
     match action {
         Action::Read(_) | Action::Observe(_) | Action::Cancel(_) | Action::Discover => 1,
@@ -32,7 +32,7 @@ fn code_of(action: &Action) -> u8
 }
 
 fn payload_of(alloc: Global, action: &Action) -> Result<Bytes, AllocError>
-    ensures { IfOk result (λ b. b ≡ (asks action.now).payload) }
+    ensures { IfOk result (λ b. b ≡ (fields_of action.now).payload) }
 {
     match action {
         Action::Write(_, payload)

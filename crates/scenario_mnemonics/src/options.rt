@@ -7,7 +7,7 @@ ghost use Rattle.coap_codec.specs.OptionNumber.{uri_query_option};
 ghost use Rattle.coap_codec.specs.OptionNumber.{accept_option};
 ghost use Rattle.coap_codec.specs.Number.{shortest};
 ghost use Rattle.scenario_words.specs.PathWord.{IsPath};
-ghost use Rattle.scenario_mnemonics.specs.Messages.{asks, options_with, format_values, segments, options_of};
+ghost use Rattle.scenario_mnemonics.specs.Messages.{fields_of, options_with, format_values, segments, options_of};
 
 use crate::action::Action;
 use crate::format::Format;
@@ -64,7 +64,7 @@ fn put_format(
 }
 
 fn put_observe(alloc: Global, options: &mut Options, action: &Action) -> Result<(), AllocError>
-    ensures { OnOk result (options.new ≡ options.old ++ options_with observe_option (asks action.now).observe) }
+    ensures { OnOk result (options.new ≡ options.old ++ options_with observe_option (fields_of action.now).observe) }
 {
     match action {
         Action::Observe(_) => put_number(alloc, options, OBSERVE, 0),
@@ -98,7 +98,8 @@ fn put_path(alloc: Global, options: &mut Options, path: Path) -> Result<(), Allo
 }
 
 fn put_content(alloc: Global, options: &mut Options, action: &Action) -> Result<(), AllocError>
-    ensures { OnOk result (options.new ≡ options.old ++ options_with content_format_option (asks action.now).content) }
+    ensures { OnOk result (options.new ≡ options.old
+        ++ options_with content_format_option (fields_of action.now).content) }
 {
     match action {
         Action::Write(format, _) | Action::Update(format, _) | Action::Create(format, _) => {
@@ -128,7 +129,7 @@ fn put_each(options: &mut Options, queries: &[Bytes]) -> Result<(), AllocError>
 }
 
 fn put_queries(options: &mut Options, action: &Action) -> Result<(), AllocError>
-    ensures { OnOk result (options.new ≡ options.old ++ options_with uri_query_option (asks action.now).queries) }
+    ensures { OnOk result (options.new ≡ options.old ++ options_with uri_query_option (fields_of action.now).queries) }
 {
     match action {
         Action::Attr(queries) => put_each(options, queries.as_slice()),
@@ -137,7 +138,7 @@ fn put_queries(options: &mut Options, action: &Action) -> Result<(), AllocError>
 }
 
 fn put_accept(alloc: Global, options: &mut Options, action: &Action) -> Result<(), AllocError>
-    ensures { OnOk result (options.new ≡ options.old ++ options_with accept_option (asks action.now).accept) }
+    ensures { OnOk result (options.new ≡ options.old ++ options_with accept_option (fields_of action.now).accept) }
 {
     match action {
         Action::Read(format) | Action::Observe(format) | Action::Cancel(format) => {

@@ -22,7 +22,7 @@ use Rattle.scenario_mnemonics.specs.declared.action.Action.TheVariants as act
 use Rattle.scenario_mnemonics.specs.declared.mnemonic.Mnemonic.{Mnemonic}
 use Rattle.scenario_mnemonics.specs.declared.mnemonic.Mnemonic.TheVariants as mnemonic
 use Rattle.scenario_mnemonics.specs.Queries.{is_query}
-use Rattle.scenario_mnemonics.specs.Messages.{asks, has_words, IsGood}
+use Rattle.scenario_mnemonics.specs.Messages.{fields_of, has_words, IsGood}
 use Rattle.scenario_mnemonics.specs.MnemonicWords.{verb_word, keyword_word, keyword_of, type_word, format_word}
 use Rattle.scenario_mnemonics.specs.MnemonicWords.{mnemonic_at, details, behind_keyword, spelled as mnemonic_words}
 use Rattle.scenario_mnemonics.proofs.Spelling.{mnemonic_again}
@@ -121,7 +121,7 @@ details_shown (act.Exec b) h = and_from _ _ (bytes_shown b) refl
 
 words_shown : (s : ℕ) (m : Mnemonic) → s ≤ 65534 → IsGood m → list_all is_shown (mnemonic_words s m) ≡ true
 words_shown s (mnemonic.Request r) h good =
-    and_from _ _ (verb_shown (asks r.action).verb)
+    and_from _ _ (verb_shown (fields_of r.action).verb)
     (and_from _ _ (number_shown s (omega (arith, h))) (and_from _ _ (type_shown r.kind)
     (and_from _ _ (number_shown r.mid good.mid) (and_from _ _ (bytes_shown r.token)
     (and_from _ _ (bare_shown (path_text r.path) (path_bare r.path good.path))
