@@ -31,7 +31,8 @@ served_refuses client new mode path number payload format served k =
     values).answer.code ≡ false → new ≡ client) (sym served) k
 
 -- neither the target nor the server is refused
-pub write_refuses : (client new : Client) (server : ℕ) (mode : Mode) (path : Path) (number : Option ℕ) (payload : List ℕ)
+pub write_refuses : (client new : Client) (server : ℕ) (mode : Mode) (path : Path) (number : Option ℕ)
+    (payload : List ℕ)
     → (object_in path == 0) ≡ false → is_target client.catalog client.store path ≡ true
     → (rights_on client server path).write ≡ true → can_be_written client.catalog path ≡ true
     → (let values = new_values client path number payload in

@@ -160,195 +160,6 @@ fn put_attribute(
     Ok(())
 }
 
-/// An attribute of a server that a link shows.
-fn put_shown(
-    alloc: Global,
-    text: &mut Vec<u8>,
-    attributes: &Attributes,
-    server: u16,
-    inherits: bool,
-    path: Path,
-    name: Name,
-) -> Result<(), AllocError>
-    ensures { OnOk result (text.new.items ≡ text.old.items
-        ++ shown_attribute attributes.now server inherits path name) }
-{
-    let number = shown_number(attributes, server, inherits, path, name);
-    put_attribute(alloc, text, name, number)
-}
-
-/// The attributes of a server that a link shows, in the order of the names.
-fn put_attributes(
-    alloc: Global,
-    text: &mut Vec<u8>,
-    attributes: &Attributes,
-    server: u16,
-    inherits: bool,
-    path: Path,
-) -> Result<(), AllocError>
-    ensures { OnOk result (text.new.items ≡ text.old.items ++ attributes_text attributes.now server inherits path) }
-{
-    put_shown(alloc, text, attributes, server, inherits, path, Name::Pmin)?;
-    put_shown(alloc, text, attributes, server, inherits, path, Name::Pmax)?;
-    put_shown(alloc, text, attributes, server, inherits, path, Name::Gt)?;
-    put_shown(alloc, text, attributes, server, inherits, path, Name::Lt)?;
-    put_shown(alloc, text, attributes, server, inherits, path, Name::St)
-}
-
-/// What stands after the target of a link.
-fn put_behind(
-    alloc: Global,
-    text: &mut Vec<u8>,
-    client: &Client,
-    server: u16,
-    inherits: bool,
-    path: Path,
-) -> Result<(), AllocError>
-    ensures { OnOk result (text.new.items ≡ text.old.items ++ behind client.now server inherits path) }
-{
-    let count = dimension(client.catalog(), client.store(), path);
-    put_dimension(alloc, text, count)?;
-    put_attributes(alloc, text, client.attributes(), server, inherits, path)
-}
-
-/// A link, after what is there.
-fn put_link(
-    alloc: Global,
-    text: &mut Vec<u8>,
-    client: &Client,
-    server: u16,
-    inherits: bool,
-    path: Path,
-) -> Result<(), AllocError>
-    ensures { OnOk result (text.new.items ≡ text.old.items ++ link client.now server inherits path) }
-{
-    let target = path_text(alloc, path)?;
-    text.push(b'<')?;
-    text.extend_from_slice(target.as_bytes())?;
-    text.push(b'>')?;
-    put_behind(alloc, text, client, server, inherits, path)
-}
-
-/// A comma and a link, after what is there.
-fn put_next(
-    alloc: Global,
-    text: &mut Vec<u8>,
-    client: &Client,
-    server: u16,
-    path: Path,
-) -> Result<(), AllocError>
-    ensures { OnOk result (text.new.items ≡ text.old.items ++ 44 ∷ link client.now server false path) }
-{
-    text.push(b',')?;
-    put_link(alloc, text, client, server, false, path)
-}
-
-/// A comma and a link where the path exists.
-fn put_existing(
-    alloc: Global,
-    text: &mut Vec<u8>,
-    client: &Client,
-    server: u16,
-    path: Path,
-) -> Result<(), AllocError>
-    ensures { OnOk result (text.new.items ≡ text.old.items
-        ++ more_links client.now server (filter (exists client.now.catalog client.now.store) (path ∷ []))) }
-{
-    if exists(client.catalog(), client.store(), path) {
-        return put_next(alloc, text, client, server, path);
-    }
-    Ok(())
-}
-
-/// A comma and a link for each of these resources of an instance that exists.
-fn put_resources(
-    alloc: Global,
-    text: &mut Vec<u8>,
-    client: &Client,
-    server: u16,
-    place: InstancePath,
-    resources: &[ResourceDef],
-) -> Result<(), AllocError>
-    ensures { OnOk result (text.new.items ≡ text.old.items
-        ++ more_links client.now server
-        (existing client.now.catalog client.now.store place.object place.instance resources.now)) }
-{
-    for definition in resources {
-        let path = Path::Resource(place.object, place.instance, definition.id);
-        put_existing(alloc, text, client, server, path)?;
-    }
-    Ok(())
-}
-
-/// A comma and a link for an instance, and for each of its resources that exists.
-fn put_instance(
-    alloc: Global,
-    text: &mut Vec<u8>,
-    client: &Client,
-    server: u16,
-    place: InstancePath,
-) -> Result<(), AllocError>
-    ensures { OnOk result (text.new.items ≡ text.old.items
-        ++ more_links client.now server
-        (instance_paths client.now.catalog client.now.store place.object place.instance)) }
-{
-    let path = Path::Instance(place.object, place.instance);
-    put_next(alloc, text, client, server, path)?;
-    let resources = defined(client.catalog(), place.object);
-    put_resources(alloc, text, client, server, place, resources)
-}
-
-/// A comma and a link for each of these instances of an object, and for each of its resources.
-fn put_instances(
-    alloc: Global,
-    text: &mut Vec<u8>,
-    client: &Client,
-    server: u16,
-    object: u16,
-    instances: &[u16],
-) -> Result<(), AllocError>
-    ensures { OnOk result (text.new.items ≡ text.old.items
-        ++ more_links client.now server
-        (flat_map (instance_paths client.now.catalog client.now.store object) instances.now)) }
-{
-    for instance in instances {
-        let instance = *instance;
-        put_instance(
-            alloc,
-            text,
-            client,
-            server,
-            InstancePath { object, instance },
-        )?;
-    }
-    Ok(())
-}
-
-/// A comma and a link for each path below this one.
-fn put_below(
-    alloc: Global,
-    text: &mut Vec<u8>,
-    client: &Client,
-    server: u16,
-    path: Path,
-) -> Result<(), AllocError>
-    ensures { OnOk result (text.new.items ≡ text.old.items
-        ++ more_links client.now server (paths_below client.now.catalog client.now.store path)) }
-{
-    match path {
-        Path::Object(object) => {
-            let instances = client.store().instances(object);
-            put_instances(alloc, text, client, server, object, instances)
-        }
-        Path::Instance(object, instance) => {
-            let place = InstancePath { object, instance };
-            let resources = defined(client.catalog(), object);
-            put_resources(alloc, text, client, server, place, resources)
-        }
-        Path::Resource(_, _, _) | Path::Part(_, _, _, _) => Ok(()),
-    }
-}
-
 /// Whether the link of a Discover's target shows the periods that it inherits.
 fn inherits_at(path: Path) -> bool
     ensures { result ≡ inherits_at path }
@@ -359,14 +170,162 @@ fn inherits_at(path: Path) -> bool
     }
 }
 
-/// The links of a path and of what lies below it, joined by commas, for a server.
-fn links(alloc: Global, client: &Client, server: u16, path: Path) -> Result<Bytes, AllocError>
-    ensures { IfOk result (λ b. b ≡ links_text client.now server (linked client.now.catalog client.now.store path)) }
-{
-    let mut text = Vec::new(alloc);
-    put_link(alloc, &mut text, client, server, inherits_at(path), path)?;
-    put_below(alloc, &mut text, client, server, path)?;
-    Ok(Bytes::from_vec(text))
+/// The links of a Discover: those of what is managed, with the attributes of a server.
+#[derive(Drop)]
+struct Listing<'a> {
+    alloc: Global,
+    client: &'a Client,
+    server: u16,
+}
+
+impl<'a> Listing<'a> {
+    /// An attribute that a link shows.
+    fn put_shown(
+        &self,
+        text: &mut Vec<u8>,
+        inherits: bool,
+        path: Path,
+        name: Name,
+    ) -> Result<(), AllocError>
+        ensures { OnOk result (text.new.items ≡ text.old.items
+            ++ shown_attribute self.now.client.now.attributes self.now.server inherits path name) }
+    {
+        let number = shown_number(self.client.attributes(), self.server, inherits, path, name);
+        put_attribute(self.alloc, text, name, number)
+    }
+
+    /// The attributes that a link shows, in the order of the names.
+    fn put_attributes(
+        &self,
+        text: &mut Vec<u8>,
+        inherits: bool,
+        path: Path,
+    ) -> Result<(), AllocError>
+        ensures { OnOk result (text.new.items ≡ text.old.items
+            ++ attributes_text self.now.client.now.attributes self.now.server inherits path) }
+    {
+        self.put_shown(text, inherits, path, Name::Pmin)?;
+        self.put_shown(text, inherits, path, Name::Pmax)?;
+        self.put_shown(text, inherits, path, Name::Gt)?;
+        self.put_shown(text, inherits, path, Name::Lt)?;
+        self.put_shown(text, inherits, path, Name::St)
+    }
+
+    /// What stands after the target of a link.
+    fn put_behind(&self, text: &mut Vec<u8>, inherits: bool, path: Path) -> Result<(), AllocError>
+        ensures { OnOk result (text.new.items ≡ text.old.items
+            ++ behind self.now.client.now self.now.server inherits path) }
+    {
+        let count = dimension(self.client.catalog(), self.client.store(), path);
+        put_dimension(self.alloc, text, count)?;
+        self.put_attributes(text, inherits, path)
+    }
+
+    /// A link, after what is there.
+    fn put_link(&self, text: &mut Vec<u8>, inherits: bool, path: Path) -> Result<(), AllocError>
+        ensures { OnOk result (text.new.items ≡ text.old.items
+            ++ link self.now.client.now self.now.server inherits path) }
+    {
+        let target = path_text(self.alloc, path)?;
+        text.push(b'<')?;
+        text.extend_from_slice(target.as_bytes())?;
+        text.push(b'>')?;
+        self.put_behind(text, inherits, path)
+    }
+
+    /// A comma and a link, after what is there.
+    fn put_next(&self, text: &mut Vec<u8>, path: Path) -> Result<(), AllocError>
+        ensures { OnOk result (text.new.items ≡ text.old.items
+            ++ 44 ∷ link self.now.client.now self.now.server false path) }
+    {
+        text.push(b',')?;
+        self.put_link(text, false, path)
+    }
+
+    /// A comma and a link where the path exists.
+    fn put_existing(&self, text: &mut Vec<u8>, path: Path) -> Result<(), AllocError>
+        ensures { OnOk result (let client = self.now.client.now in text.new.items ≡ text.old.items
+            ++ more_links client self.now.server (filter (exists client.catalog client.store) (path ∷ []))) }
+    {
+        if exists(self.client.catalog(), self.client.store(), path) {
+            return self.put_next(text, path);
+        }
+        Ok(())
+    }
+
+    /// A comma and a link for each of these resources of an instance that exists.
+    fn put_resources(
+        &self,
+        text: &mut Vec<u8>,
+        place: InstancePath,
+        resources: &[ResourceDef],
+    ) -> Result<(), AllocError>
+        ensures { OnOk result (let client = self.now.client.now in text.new.items ≡ text.old.items
+            ++ more_links client self.now.server
+            (existing client.catalog client.store place.object place.instance resources.now)) }
+    {
+        for definition in resources {
+            let path = Path::Resource(place.object, place.instance, definition.id);
+            self.put_existing(text, path)?;
+        }
+        Ok(())
+    }
+
+    /// A comma and a link for an instance, and for each of its resources that exists.
+    fn put_instance(&self, text: &mut Vec<u8>, place: InstancePath) -> Result<(), AllocError>
+        ensures { OnOk result (let client = self.now.client.now in text.new.items ≡ text.old.items
+            ++ more_links client self.now.server
+            (instance_paths client.catalog client.store place.object place.instance)) }
+    {
+        self.put_next(text, Path::Instance(place.object, place.instance))?;
+        self.put_resources(text, place, defined(self.client.catalog(), place.object))
+    }
+
+    /// A comma and a link for each of these instances of an object, and for each of its resources.
+    fn put_instances(
+        &self,
+        text: &mut Vec<u8>,
+        object: u16,
+        instances: &[u16],
+    ) -> Result<(), AllocError>
+        ensures { OnOk result (let client = self.now.client.now in text.new.items ≡ text.old.items
+            ++ more_links client self.now.server
+            (flat_map (instance_paths client.catalog client.store object) instances.now)) }
+    {
+        for instance in instances {
+            let instance = *instance;
+            self.put_instance(text, InstancePath { object, instance })?;
+        }
+        Ok(())
+    }
+
+    /// A comma and a link for each path below this one.
+    fn put_below(&self, text: &mut Vec<u8>, path: Path) -> Result<(), AllocError>
+        ensures { OnOk result (let client = self.now.client.now in text.new.items ≡ text.old.items
+            ++ more_links client self.now.server (paths_below client.catalog client.store path)) }
+    {
+        match path {
+            Path::Object(object) => {
+                self.put_instances(text, object, self.client.store().instances(object))
+            }
+            Path::Instance(object, instance) => {
+                let resources = defined(self.client.catalog(), object);
+                self.put_resources(text, InstancePath { object, instance }, resources)
+            }
+            Path::Resource(_, _, _) | Path::Part(_, _, _, _) => Ok(()),
+        }
+    }
+
+    /// The links of a path and of what lies below it, joined by commas.
+    fn links(&self, path: Path) -> Result<Bytes, AllocError>
+        ensures { IfOk result (λ b. let client = self.now.client.now in
+            b ≡ links_text client self.now.server (linked client.catalog client.store path)) }
+    {
+        let mut text = Vec::new(self.alloc);
+        self.put_link(&mut text, inherits_at(path), path)?;
+        self.put_below(&mut text, path)?;
+        Ok(Bytes::from_vec(text))
+    }
 }
 
 impl Client {
@@ -381,7 +340,12 @@ impl Client {
         if !exists(&self.catalog, &self.store, path) {
             return Ok(Answer::bare(self.alloc, Code::NotFound));
         }
-        let payload = links(self.alloc, self, server, path)?;
+        let listing = Listing {
+            alloc: self.alloc,
+            client: self,
+            server,
+        };
+        let payload = listing.links(path)?;
         if payload.len() > LARGEST_PAYLOAD {
             return Ok(Answer::bare(self.alloc, Code::InternalServerError));
         }

@@ -4,17 +4,18 @@ use Rattle.object_defs.specs.declared.path.Path.TheVariants.{Resource}
 use Rattle.device_requests.specs.Discover.{existing, link, more_links}
 use Rattle.device_requests.specs.Targets.{exists}
 use Rattle.device_requests.proofs.Linking.{filtered_at}
-use Rattle.device_requests.proofs.discover.put_resources.Goals as goal
+use Rattle.device_requests.proofs.discover.Listing.put_resources.Goals as goal
 
 pub loop-definition-preserved : goal.loop-definition-preserved
 loop-definition-preserved c =
-    let client = c.args.client.now in
+    let client = c.args.self.now.client.now in
+    let server = c.args.self.now.server in
     let place = c.args.place in
-    ap (λ t. t ++ more_links client c.args.server
+    ap (λ t. t ++ more_links client server
     (existing client.catalog client.store place.object place.instance
     (drop (c.loop-definition.definition-index + 1) c.args.resources.now)))
     c.in_ok-put_existing.ensures
-    ∙ filtered_at c.loop-definition.text.items (λ p. 44 ∷ link client c.args.server false p)
+    ∙ filtered_at c.loop-definition.text.items (λ p. 44 ∷ link client server false p)
     (exists client.catalog client.store)
     (λ d. Resource place.object place.instance d.id) c.args.resources.now c.loop-definition.definition-index _
     c.loop-definition-test.true

@@ -2,11 +2,12 @@
 use Rattle.std.proofs.Common.{◌≡◌, ◌++◌, drop}
 use Rattle.std.specs.List.{flat_map}
 use Rattle.device_requests.specs.Discover.{instance_paths, more_links}
-use Rattle.device_requests.proofs.discover.put_instances.Given as goal
+use Rattle.device_requests.proofs.discover.Listing.put_instances.Given as goal
 
 abbrev pub invariant-loop-instance : goal.invariant-loop-instance
 invariant-loop-instance l =
-    l.text.items ++ more_links l.client l.server (flat_map (instance_paths l.client.catalog l.client.store l.object)
+    let client = l.self.client.now in
+    l.text.items ++ more_links client l.self.server (flat_map (instance_paths client.catalog client.store l.object)
     (drop l.instance-index l.instances))
-    ≡ l.fn.text.items ++ more_links l.client l.server
-    (flat_map (instance_paths l.client.catalog l.client.store l.object) l.instances)
+    ≡ l.fn.text.items ++ more_links client l.self.server
+    (flat_map (instance_paths client.catalog client.store l.object) l.instances)
