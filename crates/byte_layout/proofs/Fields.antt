@@ -104,6 +104,15 @@ number_exact w wide = record {
   within = λ bytes b h. rw h.1 (omega arith);
 }
 
+pub byte_exact : IsExact (number w8)
+byte_exact = number_exact w8 wide8
+
+pub short_exact : IsExact (number w16)
+short_exact = number_exact w16 wide16
+
+pub long_exact : IsExact (number w32)
+long_exact = number_exact w32 wide32
+
 -- a number that fits its width is good
 pub number_good : (w : Width) (n : ℕ) → n < 256 ^ byte_len w → (number w).Good n
 unfolding number
