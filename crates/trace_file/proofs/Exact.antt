@@ -7,7 +7,7 @@ use Rattle.std.proofs.lemmas.Bool.Decides.{nat_tests}
 use Rattle.byte_layout.specs.declared.fault.Break.TheVariants.{Magic, Version, BadField}
 use Rattle.byte_layout.specs.Layout.{Layout, number, judged, split, last, marked, sized}
 use Rattle.byte_layout.specs.Exact.{IsExact}
-use Rattle.byte_layout.proofs.Fields.{number_exact, wide8, wide16, wide32}
+use Rattle.byte_layout.proofs.Fields.{byte_exact, short_exact, long_exact}
 use Rattle.byte_layout.proofs.Layouts.{fits_exact, split_exact, last_exact, sized_exact, marked_exact}
 use Rattle.byte_layout.proofs.Lists.{counted_exact}
 use Rattle.device_machine.specs.declared.output.Output.{Output}
@@ -16,15 +16,6 @@ use Rattle.trace_file.specs.declared.entry.Entry.{Entry}
 use Rattle.trace_file.specs.Layout.{act_number, act_numbered, act, output_kind, server_in, bytes_in, act_in, acted}
 use Rattle.trace_file.specs.Layout.{datagram}
 use Rattle.trace_file.specs.Layout.{of_kind, output, output_list, entry_of, entry, entry_list, trace_file}
-
-byte_exact : IsExact (number w8)
-byte_exact = number_exact w8 wide8
-
-short_exact : IsExact (number w16)
-short_exact = number_exact w16 wide16
-
-long_exact : IsExact (number w32)
-long_exact = number_exact w32 wide32
 
 numbered : (n : ℕ) → n < 5 → act_number (act_numbered n) ≡ n
 numbered zero below = refl
