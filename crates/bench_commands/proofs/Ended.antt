@@ -38,7 +38,7 @@ aside_streams output = record { input = None; output = output; errors = None }
 pub answered_if : {E : Type 0}
     → (files : FilesKnown) (faults : StreamFaults) (before after : World) (between : Option (List ℕ))
     (words : List (List ℕ)) (asked : Asked) (answer : Answer) (delivered : Result Status E) → IsReadAs words asked
-    → IsAnswerTo files.holds asked answer.status (string_bytes answer.text) (files_of answer.file)
+    → IsAnswerTo files.holds asked answer
     → IsAside before.streams after.streams → between ≡ before.streams.output
     → IfOk delivered (λ status. status ≡ answer.status)
     → OnOk delivered (Grows before.made after.made (files_of answer.file))
@@ -172,7 +172,7 @@ unanswered files faults before after words asked fault read (inr cut) none =
 pub undelivered_if : (files : FilesKnown) (faults : StreamFaults) (before after : World) (between : Option (List ℕ))
     (words : List (List ℕ)) (asked : Asked) (answer : Answer) (delivered : Result Status Refusal)
     → IsReadAs words asked
-    → IsAnswerTo files.holds asked answer.status (string_bytes answer.text) (files_of answer.file)
+    → IsAnswerTo files.holds asked answer
     → IsAside before.streams after.streams → between ≡ before.streams.output
     → IfErr delivered (λ r. IsUndelivered files (aside_faults faults)
     (record { made = before.made; streams = aside_streams between })

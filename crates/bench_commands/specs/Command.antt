@@ -10,7 +10,7 @@ use Rattle.command_line.specs.declared.words.Job.TheVariants as jobs
 use Rattle.command_line.specs.declared.words.Live.{Live}
 use Rattle.command_files.specs.Answers.{IsUndelivered, files_of}
 use Rattle.command_debug.specs.Debugging.{IsDebugCutAt, IsDebuggedAt, IsDebugRefused}
-use Rattle.command_files.specs.Files.{Grows, Made, most_bytes}
+use Rattle.command_files.specs.Files.{Grows, most_bytes}
 use Rattle.command_files.specs.Input.{IsWithin, WhereKnown}
 use Rattle.command_scenarios.specs.Jobs.{IsAsmDone, IsDisDone, IsRunDone, IsRunRefused}
 use Rattle.command_files.specs.Verdicts.{IsCheckDone}
@@ -30,19 +30,22 @@ use Rattle.command_files.specs.declared.status.Status.TheVariants as ends
 
 -- ---- what words are answered with
 
--- what a job is answered with: how the program ends, what it prints, and the files that it makes
-abbrev pub IsDone : (List ℕ → List ℕ → Type 0) → Job → Status → List ℕ → List Made → Type 0
-IsDone holds (jobs.One hex) status text made = IsOneDone hex.now status text made
-IsDone holds (jobs.Asm input output) status text made = IsAsmDone holds input.now output.now status text made
-IsDone holds (jobs.Dis input) status text made = IsDisDone holds input.now status text made
-IsDone holds (jobs.Run image workers batch trace) status text made =
-    IsRunDone holds image.now workers batch (option_map (λ p. p.now) trace) status text made
-IsDone holds (jobs.Check image trace) status text made = IsCheckDone holds image.now trace.now status text made
-IsDone holds (jobs.Show image trace device from to) status text made =
-    IsShowDone holds image.now trace.now (record { device = device; from = from; to = to }) status text made
-IsDone holds (jobs.Pcap image trace output) status text made =
-    IsPcapDone holds image.now trace.now output.now status text made
-IsDone holds (jobs.Debug image trace) status text made = IsDebugRefused holds image.now trace.now status text made
+-- what a job is answered with
+abbrev pub IsDone : (List ℕ → List ℕ → Type 0) → Job → Answer → Type 0
+IsDone holds (jobs.One hex) answer = IsOneDone hex.now answer
+IsDone holds (jobs.Asm input output) answer = IsAsmDone holds (record { text = input.now; image = output.now }) answer
+IsDone holds (jobs.Dis input) answer = IsDisDone holds input.now answer
+IsDone holds (jobs.Run image workers batch trace) answer =
+    IsRunDone holds image.now (record { workers = workers; batch = batch }) (option_map (λ p. p.now) trace) answer
+IsDone holds (jobs.Check image trace) answer =
+    IsCheckDone holds (record { image = image.now; trace = trace.now }) answer
+IsDone holds (jobs.Show image trace device from to) answer =
+    IsShowDone holds (record { image = image.now; trace = trace.now })
+    (record { device = device; from = from; to = to }) answer
+IsDone holds (jobs.Pcap image trace output) answer =
+    IsPcapDone holds (record { image = image.now; trace = trace.now }) output.now answer
+IsDone holds (jobs.Debug image trace) answer =
+    IsDebugRefused holds (record { image = image.now; trace = trace.now }) answer
 
 -- a job is refused for this fault
 abbrev pub IsRefusedJob : (List ℕ → List ℕ → Type 0) → (List ℕ → Type 0) → Job → Fault → Type 0
@@ -50,20 +53,24 @@ IsRefusedJob holds fails (jobs.One hex) fault = IsOneFault hex.now fault
 IsRefusedJob holds fails (jobs.Asm input output) fault = IsTextFault holds fails input.now fault
 IsRefusedJob holds fails (jobs.Dis input) fault = IsImageFault holds fails input.now fault
 IsRefusedJob holds fails (jobs.Run image workers batch trace) fault =
-    IsRunRefused holds fails image.now workers batch fault
-IsRefusedJob holds fails (jobs.Check image trace) fault = IsCheckRefused holds fails image.now trace.now fault
+    IsRunRefused holds fails image.now (record { workers = workers; batch = batch }) fault
+IsRefusedJob holds fails (jobs.Check image trace) fault =
+    IsCheckRefused holds fails (record { image = image.now; trace = trace.now }) fault
 IsRefusedJob holds fails (jobs.Show image trace device from to) fault =
-    IsShowRefused holds fails image.now trace.now (record { device = device; from = from; to = to }) fault
+    IsShowRefused holds fails (record { image = image.now; trace = trace.now })
+    (record { device = device; from = from; to = to }) fault
 IsRefusedJob holds fails (jobs.Pcap image trace output) fault =
-    IsPcapRefused holds fails image.now trace.now fault
-IsRefusedJob holds fails (jobs.Debug image trace) fault = IsCheckRefused holds fails image.now trace.now fault
+    IsPcapRefused holds fails (record { image = image.now; trace = trace.now }) fault
+IsRefusedJob holds fails (jobs.Debug image trace) fault =
+    IsCheckRefused holds fails (record { image = image.now; trace = trace.now }) fault
 
 -- what words are answered with; a text on how to use the program is printed as it is
-abbrev pub IsAnswerTo : (List ℕ → List ℕ → Type 0) → Asked → Status → List ℕ → List Made → Type 0
-IsAnswerTo holds (asked.Job job) status text made = IsDone holds job status text made
-IsAnswerTo holds (asked.Live live) status text made = ⊥
-IsAnswerTo holds (asked.Text help is_mistake) status text made =
-    (status ≡ text_status is_mistake) × (text ≡ string_bytes help) × (made ≡ [])
+abbrev pub IsAnswerTo : (List ℕ → List ℕ → Type 0) → Asked → Answer → Type 0
+IsAnswerTo holds (asked.Job job) answer = IsDone holds job answer
+IsAnswerTo holds (asked.Live live) answer = ⊥
+IsAnswerTo holds (asked.Text help is_mistake) answer =
+    (answer.status ≡ text_status is_mistake) × (string_bytes answer.text ≡ string_bytes help)
+    × (files_of answer.file ≡ [])
 
 abbrev pub IsRefused : (List ℕ → List ℕ → Type 0) → (List ℕ → Type 0) → Asked → Fault → Type 0
 IsRefused holds fails (asked.Job job) fault = IsRefusedJob holds fails job fault
@@ -75,13 +82,13 @@ IsRefused holds fails (asked.Text help is_mistake) fault = ⊥
 -- a job is answered by a conversation, which came to its end
 abbrev pub IsDebuggedJob : (List ℕ → List ℕ → Type 0) → StreamFaults → Job → Streams → Streams → Type 0
 IsDebuggedJob holds faults (jobs.Debug image trace) before after =
-    IsDebuggedAt holds faults image.now trace.now before after
+    IsDebuggedAt holds faults (record { image = image.now; trace = trace.now }) before after
 IsDebuggedJob holds faults _ before after = ⊥
 
 -- a job is answered by a conversation, which this fault cut short
 abbrev pub IsCutJob : (List ℕ → List ℕ → Type 0) → StreamFaults → Job → Streams → Streams → Fault → Type 0
 IsCutJob holds faults (jobs.Debug image trace) before after fault =
-    IsDebugCutAt holds faults image.now trace.now before after fault
+    IsDebugCutAt holds faults (record { image = image.now; trace = trace.now }) before after fault
 IsCutJob holds faults _ before after fault = ⊥
 
 abbrev pub IsDebugged : (List ℕ → List ℕ → Type 0) → StreamFaults → Asked → Streams → Streams → Type 0
@@ -102,7 +109,7 @@ pub record IsAnswered (files : FilesKnown) (before after : World) (words : List 
     pub asked : Asked
     pub read : IsReadAs words asked
     pub answer : Answer
-    pub right : IsAnswerTo files.holds asked answer.status (string_bytes answer.text) (files_of answer.file)
+    pub right : IsAnswerTo files.holds asked answer
     pub made : Grows before.made after.made (files_of answer.file)
     pub printed : Appends before.streams.output after.streams.output (string_bytes answer.text)
     pub ended : status ≡ answer.status
@@ -119,7 +126,7 @@ pub record IsLost (files : FilesKnown) (faults : StreamFaults) (before after : W
   pub asked : Asked
   pub read : IsReadAs words asked
   pub answer : Answer
-  pub right : IsAnswerTo files.holds asked answer.status (string_bytes answer.text) (files_of answer.file)
+  pub right : IsAnswerTo files.holds asked answer
   pub undelivered : IsUndelivered files faults before after answer fault
 
 -- no memory was left for an answer, or there was a fault, and then nothing was made and nothing printed; or the answer

@@ -1,7 +1,6 @@
 //! One command: its words, its answer, and the status that the program ends with.
 ghost use Rattle.std.specs.Prelude.{◌⊎◌, IfErr, IfNone, IfOk, IfSome, map};
 ghost use Rattle.std.specs.String.{string_bytes};
-ghost use Rattle.command_files.specs.Answers.{files_of};
 ghost use Rattle.bench_commands.specs.Command.{Ends, IsCutJob, IsDebuggedJob, IsDone, IsFinished, IsRefusedJob};
 ghost use Rattle.bench_commands.specs.Command.{IsUnfinished};
 ghost use Rattle.command_files.specs.World.{IsIdle};
@@ -148,8 +147,7 @@ fn answer_to<'a, R: Threads + Wait + Sync, F: Files, I: Input, O: Output, E: Out
     output: &mut O,
     errors: &mut E,
 ) -> Result<Option<Answer<'a>>, Refusal<'a>>
-    ensures done { IfOk result (λ o. IfSome o (λ a.
-        IsDone (F.holds files.now) job.entry a.status (string_bytes a.text) (files_of a.file))) }
+    ensures done { IfOk result (λ o. IfSome o (IsDone (F.holds files.now) job.entry)) }
     ensures idle { IfOk result (λ o. IfSome o (λ _. IsIdle
         (record { input = I.rest input.old; output = O.taken output.old; errors = E.taken errors.old })
         (record { input = I.rest input.new; output = O.taken output.new; errors = E.taken errors.new }))) }

@@ -1,6 +1,7 @@
 -- A conversation, put together from its turns.
 use Rattle.std.proofs.Common.{ℕ, ◌≡◌, ◌+◌, ◌⊎◌, List, [], ◌∷◌, ◌++◌, length, Option, None, Some}
 use Rattle.std.proofs.Common.{refl, sym, ap, subst, arith, ◌∙◌, inl, inr, append_assoc, append-nil}
+use Rattle.std.specs.Io.KnownBytes.{Appends}
 use Rattle.std.proofs.KnownBytes.{Appends-nil, Appends-trans}
 use Rattle.debug_answers.specs.declared.command.Command.TheVariants.{Quit}
 use Rattle.debug_answers.specs.Saying.{IsLineOf}
@@ -53,13 +54,19 @@ more_answers old (first ∷ lines) between new text said more
       ap (λ t. t ++ more) split ∙ append_assoc now then more,
     )
 
-more_notes : (refuses : List ℕ → Type 0) (a b c : Option (List ℕ)) (lines : List (List ℕ)) (said : List ℕ)
-    (note : Option (List ℕ)) → AreNoted refuses a b lines → IsNote said note → IsNoted refuses b c note
-    → AreNoted refuses a c (lines ++ said ∷ [])
-more_notes refuses a b c [] said note same is noted =
-    (note, c, is, subst (λ x. IsNoted refuses x c note) same noted, refl)
-more_notes refuses a b c (first ∷ lines) said note (now, middle, is_now, got, then) is noted =
-    (now, middle, is_now, got, more_notes refuses middle b c lines said note then is noted)
+noted_after : (faults : StreamFaults) (a b c : Streams) (note : Option (List ℕ)) → b.errors ≡ a.errors
+    → IsNoted faults b c note → IsNoted faults a c note
+noted_after faults a b c None same silent = silent ∙ same
+noted_after faults a b c (Some note) same (inl printed) =
+    inl (subst (λ errors. Appends errors c.errors note) same printed)
+noted_after faults a b c (Some note) same (inr refused) = inr refused
+
+more_notes : (faults : StreamFaults) (a b c : Streams) (lines : List (List ℕ)) (said : List ℕ)
+    (note : Option (List ℕ)) → AreNoted faults a b lines → IsNote said note → IsNoted faults b c note
+    → AreNoted faults a c (lines ++ said ∷ [])
+more_notes faults a b c [] said note same is noted = (note, c, is, noted_after faults a b c note same noted, refl)
+more_notes faults a b c (first ∷ lines) said note (now, middle, is_now, got, then) is noted =
+    (now, middle, is_now, got, more_notes faults middle b c lines said note then is noted)
 
 more_read : (a b c : Option (List ℕ)) (lines : List (List ℕ)) (said : List ℕ) → WhereKnown (AreNextLines lines) a b
     → WhereKnown (IsNextLine said) b c → WhereKnown (AreNextLines (lines ++ said ∷ [])) a c
@@ -108,8 +115,7 @@ go_on faults a b c old between new left more so_far turn =
           turn.reply;
       printed = Appends-trans a.output b.output c.output so_far.text turn.text so_far.printed turn.printed;
       noted =
-          more_notes faults.errors_refuse a.errors b.errors c.errors so_far.lines turn.said turn.note so_far.noted
-          turn.is_note turn.noted;
+          more_notes faults a b c so_far.lines turn.said turn.note so_far.noted turn.is_note turn.noted;
     }
 
 pub spend : (faults : StreamFaults) (a : Option (List ℕ)) (b c : Streams) (old new : Session) (most left more : ℕ)

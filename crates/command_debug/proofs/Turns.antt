@@ -114,13 +114,26 @@ at_quit before after line said left is rest bare some fits asks silent =
     last (Some bytes) None next = absurd next
     last (Some bytes) (Some rest) next = inr (said, next, asks)
 
+-- what standard error got, and why it did not take something, where nothing is said of the other streams
+abbrev pub errors_of : Streams → Streams
+errors_of streams = record { input = None; output = None; errors = streams.errors }
+
+abbrev pub error_faults_of : StreamFaults → StreamFaults
+error_faults_of faults =
+    record { input_fails = ⊥; output_refuses = λ _. ⊥; errors_refuse = faults.errors_refuse }
+
+noted_on : (faults : StreamFaults) (before after : Streams) (note : Option (List ℕ))
+    → IsNoted (error_faults_of faults) (errors_of before) (errors_of after) note → IsNoted faults before after note
+noted_on faults before after None same = same
+noted_on faults before after (Some note) noted = noted
+
 -- a line was read and answered
 pub turn : (faults : StreamFaults) (before after : Streams) (old new : Session) (line said text : List ℕ)
     (note : Option (List ℕ)) (left more : ℕ)
     → IfSome before.input (λ bytes. line ≡ take_through 10 bytes) → DropsThrough before.input after.input 10
     → said ≡ strip_last 10 line → 0 < length line → length line ≤ left → more ≡ left - length line
     → (IsLineOf Quit said → ⊥) → IsReply old said new text → Appends before.output after.output text
-    → IsNote said note → IsNoted faults.errors_refuse before.errors after.errors note
+    → IsNote said note → IsNoted (error_faults_of faults) (errors_of before) (errors_of after) note
     → IsTurn faults before after old new left more
 turn faults before after old new line said text note left more is rest bare some fits same other reply printed is_note
     noted =
@@ -133,7 +146,7 @@ turn faults before after old new line said text note left more is rest bare some
       printed = printed;
       note = note;
       is_note = is_note;
-      noted = noted;
+      noted = noted_on faults before after note noted;
       fewer = omega (arith, some, fits, same);
       spent = spent_by before.input after.input line left more is rest fits same;
     }

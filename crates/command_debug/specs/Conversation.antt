@@ -46,16 +46,16 @@ AreAnswered old (said ∷ lines) new text =
     × IsReply old said between first × AreAnswered between lines new others × (text ≡ first ++ others)
 
 -- standard error got a note, if there is one, or did not take it
-abbrev pub IsNoted : (List ℕ → Type 0) → Option (List ℕ) → Option (List ℕ) → Option (List ℕ) → Type 0
-IsNoted refuses before after None = after ≡ before
-IsNoted refuses before after (Some note) = Appends before after note ⊎ refuses note
+abbrev pub IsNoted : StreamFaults → Streams → Streams → Option (List ℕ) → Type 0
+IsNoted faults before after None = after.errors ≡ before.errors
+IsNoted faults before after (Some note) = Appends before.errors after.errors note ⊎ faults.errors_refuse note
 
 -- the same of the notes on each of these lines in turn, and it got nothing else
-abbrev pub AreNoted : (List ℕ → Type 0) → Option (List ℕ) → Option (List ℕ) → List (List ℕ) → Type 0
-AreNoted refuses before after [] = after ≡ before
-AreNoted refuses before after (said ∷ lines) =
-    (note : Option (List ℕ)) × (between : Option (List ℕ)) × IsNote said note × IsNoted refuses before between note
-    × AreNoted refuses between after lines
+abbrev pub AreNoted : StreamFaults → Streams → Streams → List (List ℕ) → Type 0
+AreNoted faults before after [] = after.errors ≡ before.errors
+AreNoted faults before after (said ∷ lines) =
+    (note : Option (List ℕ)) × (between : Streams) × IsNote said note × IsNoted faults before between note
+    × AreNoted faults between after lines
 
 -- lines were read, and answered
 pub record IsExchange (faults : StreamFaults) (before after : Streams) (old new : Session) : Type 0 where
@@ -64,7 +64,7 @@ pub record IsExchange (faults : StreamFaults) (before after : Streams) (old new 
   pub text : List ℕ
   pub answered : AreAnswered old lines new text
   pub printed : Appends before.output after.output text
-  pub noted : AreNoted faults.errors_refuse before.errors after.errors lines
+  pub noted : AreNoted faults before after lines
 
 -- lines were read and answered to the end, which is within 64 MiB
 pub record IsConversation (faults : StreamFaults) (before after : Streams) (old : Session) : Type 0 where
@@ -123,7 +123,7 @@ pub record IsTurn (faults : StreamFaults) (before after : Streams) (old new : Se
   pub printed : Appends before.output after.output text
   pub note : Option (List ℕ)
   pub is_note : IsNote said note
-  pub noted : IsNoted faults.errors_refuse before.errors after.errors note
+  pub noted : IsNoted faults before after note
   pub fewer : more < left
   pub spent : WhereKnown (λ bytes rest. more + length bytes ≡ left + length rest) before.input after.input
 

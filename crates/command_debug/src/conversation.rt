@@ -1,6 +1,6 @@
 //! A conversation with the debugger: each line of an input is answered before the next one is read.
-ghost use Rattle.std.specs.Prelude.{◌≡◌, ◌≤◌, ◌⊎◌, IfErr, IfNone, IfOk, IfSome, OnErr, OnOk, option_map};
-ghost use Rattle.std.specs.Prelude.{vec_len};
+ghost use Rattle.std.specs.Prelude.{◌≡◌, ◌≤◌, ◌⊎◌, IfErr, IfNone, IfOk, IfSome, None, OnErr, OnOk};
+ghost use Rattle.std.specs.Prelude.{option_map, vec_len};
 ghost use Rattle.std.specs.Io.BufRead.{DropsThrough, strip_last, take_through};
 ghost use Rattle.std.specs.Io.KnownBytes.{Appends};
 ghost use Rattle.std.specs.String.{string_bytes};
@@ -125,9 +125,13 @@ fn say<'a, O: Output>(text: &str, output: &mut O) -> Result<(), Refusal<'a>>
     }
 }
 
-/// Prints a note for a person, if there is one. A stream that does not take it goes without.
+/// Prints a note for a person, if there is one. A stream that does not take it goes without. It has neither an input
+/// nor standard output, of which nothing is said.
 fn add_note<E: Output>(note: &Option<String>, errors: &mut E)
-    ensures { IsNoted E.refuses (E.taken errors.old) (E.taken errors.new)
+    ensures { IsNoted
+        (record { input_fails = ⊥; output_refuses = λ _. ⊥; errors_refuse = E.refuses })
+        (record { input = None; output = None; errors = E.taken errors.old })
+        (record { input = None; output = None; errors = E.taken errors.new })
         (option_map (λ text. string_bytes text) note.now) }
 {
     if let Some(text) = note {

@@ -1,6 +1,5 @@
 //! `debug IMAGE TRACE`: a conversation with a debugger over a run.
 ghost use Rattle.std.specs.Prelude.{◌≡◌, ◌⊎◌, [], IfErr, IfNone, IfOk, IfSome};
-ghost use Rattle.std.specs.String.{string_bytes};
 ghost use Rattle.fleet_core.specs.Run.{IsRun};
 ghost use Rattle.debugger.specs.Session.{opened};
 ghost use Rattle.command_files.specs.Answers.{files_of};
@@ -32,23 +31,24 @@ pub fn debug<'a, F: Files, I: Input, O: Output, E: Output>(
     output: &mut O,
     errors: &mut E,
 ) -> Result<Option<Answer<'a>>, Refusal<'a>>
-    ensures done { IfOk result (λ o. IfSome o (λ a. IsDebugRefused (F.holds files.now) image.entry.now trace.entry.now
-        a.status (string_bytes a.text) (files_of a.file))) }
+    ensures done { IfOk result (λ o. IfSome o (IsDebugRefused (F.holds files.now)
+        (record { image = image.entry.now; trace = trace.entry.now }))) }
     ensures idle { IfOk result (λ o. IfSome o (λ _. IsIdle
         (record { input = I.rest input.old; output = O.taken output.old; errors = E.taken errors.old })
         (record { input = I.rest input.new; output = O.taken output.new; errors = E.taken errors.new }))) }
-    ensures debugged { IfOk result (λ o. IfNone o (IsDebuggedAt (F.holds files.now)
+    ensures conversation { IfOk result (λ o. IfNone o (IsDebuggedAt (F.holds files.now)
         (record { input_fails = I.fails; output_refuses = O.refuses; errors_refuse = E.refuses })
-        image.entry.now trace.entry.now
+        (record { image = image.entry.now; trace = trace.entry.now })
         (record { input = I.rest input.old; output = O.taken output.old; errors = E.taken errors.old })
         (record { input = I.rest input.new; output = O.taken output.new; errors = E.taken errors.new }))) }
     ensures refused { IfErr result (λ r.
-        (IsCheckRefused (F.holds files.now) (F.fails files.now) image.entry.now trace.entry.now r.fault × IsIdle
+        (IsCheckRefused (F.holds files.now) (F.fails files.now)
+        (record { image = image.entry.now; trace = trace.entry.now }) r.fault × IsIdle
         (record { input = I.rest input.old; output = O.taken output.old; errors = E.taken errors.old })
         (record { input = I.rest input.new; output = O.taken output.new; errors = E.taken errors.new }))
         ⊎ IsDebugCutAt (F.holds files.now)
         (record { input_fails = I.fails; output_refuses = O.refuses; errors_refuse = E.refuses })
-        image.entry.now trace.entry.now
+        (record { image = image.entry.now; trace = trace.entry.now })
         (record { input = I.rest input.old; output = O.taken output.old; errors = E.taken errors.old })
         (record { input = I.rest input.new; output = O.taken output.new; errors = E.taken errors.new })
         r.fault) }
@@ -68,8 +68,7 @@ fn debug_run<'a, I: Input, O: Output, E: Output>(
     output: &mut O,
     errors: &mut E,
 ) -> Result<Option<Answer<'a>>, Refusal<'a>>
-    ensures told { IfOk result (λ o. IfSome o (λ a.
-        IsJudged scenario.now entries a.status (string_bytes a.text))) }
+    ensures verdict { IfOk result (λ o. IfSome o (IsJudged scenario.now entries)) }
     ensures no_run { IfOk result (λ o. IfSome o (λ a. a.status ≡ Status.NotRun)) }
     ensures made { IfOk result (λ o. IfSome o (λ a. files_of a.file ≡ [])) }
     ensures idle { IfOk result (λ o. IfSome o (λ _. IsIdle

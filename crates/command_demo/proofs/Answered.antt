@@ -2,22 +2,24 @@
 use Rattle.std.proofs.Common.{ℕ, ◌≡◌, ◌⊎◌, List, [], inl, inr}
 use Rattle.std.proofs.Common.{subst}
 use Rattle.std.specs.Result.{IsOkAnd}
+use Rattle.std.specs.String.{string_bytes}
 use Rattle.hex.specs.Hex.{decode_of}
 use Rattle.command_demo.specs.Demo.{demo_outputs}
 use Rattle.debug_answers.specs.Outputs.{output_lines}
-use Rattle.command_files.specs.Files.{Made}
+use Rattle.command_files.specs.Answers.{files_of}
 use Rattle.command_demo.specs.One.{IsOneDone}
 use Rattle.command_files.specs.declared.fault.Fault.{Fault}
-use Rattle.command_files.specs.declared.status.Status.{Status}
+use Rattle.command_files.specs.declared.answer.Answer.{Answer}
 use Rattle.command_files.specs.declared.status.Status.TheVariants.{Done}
 use Rattle.std.proofs.Common.{IsErr}
 use Rattle.std.proofs.Common.{sym}
 use Rattle.command_files.specs.declared.fault.Fault.TheVariants as faults
 use Rattle.command_demo.specs.One.{IsOneFault}
 
-pub one_done : (hex : List ℕ) (status : Status) (text : List ℕ) (made : List Made) → status ≡ Done → made ≡ []
-    → IsOkAnd (decode_of hex) (λ bytes. text ≡ output_lines (demo_outputs bytes)) → IsOneDone hex status text made
-one_done hex status text made ended none said = record { text_is = said; status_is = ended; made_is = none }
+pub one_done : (hex : List ℕ) (answer : Answer) → answer.status ≡ Done → files_of answer.file ≡ []
+    → IsOkAnd (decode_of hex) (λ bytes. string_bytes answer.text ≡ output_lines (demo_outputs bytes))
+    → IsOneDone hex answer
+one_done hex answer ended none said = record { text_is = said; status_is = ended; made_is = none }
 
 -- the demonstration device's faults
 pub no_hex : (hex : List ℕ) (f : Fault) → (f ≡ faults.Memory) ⊎ ((f ≡ faults.Hex) × IsErr (decode_of hex))

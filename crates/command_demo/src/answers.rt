@@ -1,6 +1,4 @@
 ghost use Rattle.std.specs.Prelude.{IfErr, IfOk};
-ghost use Rattle.std.specs.String.{string_bytes};
-ghost use Rattle.command_files.specs.Answers.{files_of};
 ghost use Rattle.command_demo.specs.One.{IsOneDone, IsOneFault};
 
 use crate::demo;
@@ -12,7 +10,7 @@ use std::alloc::Global;
 /// `nothing`.
 #[tactic(auto, using(crate::proofs::Answered::one_done, crate::proofs::Answered::no_hex, crate::proofs::Answered::one_memory))]
 pub fn one<'a>(alloc: Global, hex: &'a str) -> Result<Answer<'a>, Refusal<'a>>
-    ensures done { IfOk result (λ a. IsOneDone hex.entry.now a.status (string_bytes a.text) (files_of a.file)) }
+    ensures done { IfOk result (IsOneDone hex.entry.now) }
     ensures refused { IfErr result (λ r. IsOneFault hex.entry.now r.fault) }
 {
     match read_hex(alloc, hex) {

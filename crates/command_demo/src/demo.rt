@@ -73,7 +73,7 @@ fn add_values(alloc: Global, template: &mut Template, rows: &[(Path, Held)]) -> 
 
 /// The class of the demonstration device, or out of memory: it refuses none of its parts.
 pub fn template(alloc: Global) -> Result<Template, Fault>
-    ensures made { IfOk result (λ t. t ≡ demo_class) }
+    ensures class { IfOk result (λ t. t ≡ demo_class) }
     ensures refused { IfErr result (λ f. f ≡ Fault.Memory) }
 {
     let mut template = Template::new(alloc)?;
@@ -85,7 +85,7 @@ pub fn template(alloc: Global) -> Result<Template, Fault>
 
 /// What the demonstration device, just started, outputs if its server sends these bytes, or out of memory.
 pub fn answer(alloc: Global, bytes: Bytes) -> Result<Outputs, Fault>
-    ensures put_out { IfOk result (λ outputs. outputs ≡ demo_outputs bytes) }
+    ensures outputs { IfOk result (λ outputs. outputs ≡ demo_outputs bytes) }
     ensures refused { IfErr result (λ f. f ≡ Fault.Memory) }
 {
     let mut device = Device::start(&template(alloc)?)?;

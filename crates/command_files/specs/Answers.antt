@@ -14,7 +14,7 @@ use Rattle.command_files.specs.declared.files.FileFault.TheVariants as file
 -- the files that an answer makes: one or none
 abbrev pub files_of : Option NewFile → List Made
 files_of None = []
-files_of (Some f) = (f.path.now, f.bytes) ∷ []
+files_of (Some f) = (record { path = f.path.now; bytes = f.bytes }) ∷ []
 
 -- the fault of what was not written: a lack of memory is not its fault
 abbrev pub writing_fault : FileFault → Fault

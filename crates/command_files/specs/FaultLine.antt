@@ -9,7 +9,7 @@ use Rattle.device_template.specs.declared.fault.TemplateFault.{TemplateFault}
 use Rattle.device_template.specs.declared.fault.TemplateFault.TheVariants as template
 use Rattle.scenario_image.specs.declared.fault.ScenarioFault.{ScenarioFault}
 use Rattle.scenario_image.specs.declared.fault.ScenarioFault.TheVariants as session
-use Rattle.command_files.specs.Lines.{line}
+use Rattle.scenario_words.specs.Words.{ended_line}
 use Rattle.command_files.specs.declared.fault.Fault.{Fault}
 use Rattle.command_files.specs.declared.fault.Fault.TheVariants as faults
 
@@ -64,15 +64,15 @@ place_of (faults.Layout (BadField place)) = Some place
 place_of (faults.Layout (Limit place)) = Some place
 place_of _ = None
 
-abbrev pub placed : List ℕ → Option ℕ → List ℕ
-placed word None = word
-placed word (Some place) = word ++ codes " at " ++ decimal place
+abbrev pub word_with_place : List ℕ → Option ℕ → List ℕ
+word_with_place word None = word
+word_with_place word (Some place) = word ++ codes " at " ++ decimal place
 
 -- the name of a fault: its word, after the line where it is a text's, and with its place where it has one
 abbrev pub fault_name : Fault → List ℕ
 fault_name (faults.Text fault) = codes "line " ++ decimal fault.line ++ codes ": " ++ cause_words fault.cause
-fault_name fault = placed (fault_word fault) (place_of fault)
+fault_name fault = word_with_place (fault_word fault) (place_of fault)
 
 -- the line of a fault
 abbrev pub fault_line : Fault → List ℕ
-fault_line fault = line (codes "fault: " ++ fault_name fault)
+fault_line fault = ended_line (codes "fault: " ++ fault_name fault)

@@ -9,9 +9,11 @@ use Rattle.command_files.specs.declared.files.FileFault.TheVariants.{Failed, Mem
 abbrev pub most_bytes : ℕ
 most_bytes = 67108864
 
--- a file that was made: its path, and all its bytes
-abbrev pub Made : Type 0
-Made = List ℕ × List ℕ
+-- a file that was made
+pub record Made : Type 0 where
+  pub path : List ℕ
+  -- all that it has
+  pub bytes : List ℕ
 
 -- these were added to what is known, and nothing else
 abbrev pub Grows : Option (List Made) → Option (List Made) → List Made → Type 0

@@ -3,7 +3,6 @@ pub mod Fault
 pub mod FaultLine
 pub mod Files
 pub mod Input
-pub mod Lines
 pub mod Loading
 pub mod Refusals
 pub mod Status

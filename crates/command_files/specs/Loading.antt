@@ -12,6 +12,11 @@ use Rattle.trace_file.specs.Layout.{trace_file, IsTraceFile}
 use Rattle.command_files.specs.declared.fault.Fault.{Fault}
 use Rattle.command_files.specs.declared.fault.Fault.TheVariants as faults
 
+-- the paths of a scenario's image and of the trace of a run
+pub record RunPaths : Type 0 where
+  pub image : List ℕ
+  pub trace : List ℕ
+
 -- ---- what is read
 
 -- the file at the path is a scenario's image, in either version
@@ -56,6 +61,7 @@ pub record IsWorkFault (holds : List ℕ → List ℕ → Type 0) (image : List 
   pub fault : faulty scenario
 
 -- first the image is to blame, and then the trace file
-abbrev pub IsCheckRefused : (List ℕ → List ℕ → Type 0) → (List ℕ → Type 0) → List ℕ → List ℕ → Fault → Type 0
-IsCheckRefused holds fails image trace fault =
-    IsImageFault holds fails image fault ⊎ IsWorkFault holds image (λ s. IsTraceFault holds fails trace fault)
+abbrev pub IsCheckRefused : (List ℕ → List ℕ → Type 0) → (List ℕ → Type 0) → RunPaths → Fault → Type 0
+IsCheckRefused holds fails paths fault =
+    IsImageFault holds fails paths.image fault
+    ⊎ IsWorkFault holds paths.image (λ s. IsTraceFault holds fails paths.trace fault)

@@ -2,17 +2,17 @@
 use Rattle.std.specs.Prelude.{ℕ, ◌≡◌, ◌⊎◌, List, ◌++◌, Option, None, Some, codes}
 use Rattle.std.specs.Io.KnownBytes.{Appends}
 use Rattle.command_files.specs.FaultLine.{fault_line}
-use Rattle.command_files.specs.Lines.{line}
+use Rattle.scenario_words.specs.Words.{ended_line}
 use Rattle.command_files.specs.World.{StreamFaults, Streams}
 use Rattle.command_files.specs.declared.fault.Fault.{Fault}
 
 -- `lwbench: ABOUT: WHY`
 abbrev pub about_line : List ℕ → List ℕ → List ℕ
-about_line about why = line (codes "lwbench: " ++ about ++ codes ": " ++ why)
+about_line about why = ended_line (codes "lwbench: " ++ about ++ codes ": " ++ why)
 
 -- `lwbench: WHY`
 abbrev pub plain_line : List ℕ → List ℕ
-plain_line why = line (codes "lwbench: " ++ why)
+plain_line why = ended_line (codes "lwbench: " ++ why)
 
 -- a line about this file or word, if the fault is about one, with any reason
 abbrev pub IsAbout : Option (List ℕ) → List ℕ → Type 0

@@ -77,12 +77,13 @@ pub trait Files {
     /// All bytes of the file at this path, which are at most `most_bytes`. A larger file is `Failed`.
     fn read_all(&self, alloc: Global, path: &str) -> Result<Vec<u8>, FileFault>
         ensures bound { IfOk result (λ bytes. vec_len bytes ≤ most_bytes) }
-        ensures held { IfOk result (λ bytes. holds self.now path.now bytes.items) }
+        ensures content { IfOk result (λ bytes. holds self.now path.now bytes.items) }
         ensures failed { IfErr result (IsFailure (fails self.now path.now)) };
 
     /// Makes or replaces the file at this path.
     fn write_all(&mut self, path: &str, bytes: &[u8]) -> Result<(), FileFault>
-        ensures made { OnOk result (Grows (made self.old) (made self.new) ((path.now, bytes.now) ∷ [])) }
+        ensures made { OnOk result (Grows (made self.old) (made self.new)
+            ((record { path = path.now; bytes = bytes.now }) ∷ [])) }
         ensures kept { OnErr result (made self.new ≡ made self.old) }
         ensures failed { IfErr result (IsFailure (refuses path.now)) };
 }

@@ -19,9 +19,9 @@ pub fn read_file<'a, F: Files>(
     path: &'a str,
     files: &F,
 ) -> Result<Vec<u8>, Refusal<'a>>
-    ensures held { IfOk result (λ bytes. F.holds files.now path.entry.now bytes.items) }
+    ensures content { IfOk result (λ bytes. F.holds files.now path.entry.now bytes.items) }
     ensures refused { IfErr result (λ r. IsReadingFault (F.fails files.now path.entry.now) r.fault) }
-    ensures named { IfErr result (λ r. option_map (λ p. p.now) r.about ≡ Some path.entry.now) }
+    ensures names_path { IfErr result (λ r. option_map (λ p. p.now) r.about ≡ Some path.entry.now) }
 {
     match files.read_all(alloc, path) {
         Ok(bytes) => Ok(bytes),
@@ -37,7 +37,7 @@ pub fn read_file<'a, F: Files>(
 /// The refusal of a file for a fault whose name says why.
 fn refused_file<'a>(path: &'a str, fault: Fault) -> Refusal<'a>
     ensures fault { result.fault ≡ fault }
-    ensures named { option_map (λ p. p.now) result.about ≡ Some path.entry.now }
+    ensures names_path { option_map (λ p. p.now) result.about ≡ Some path.entry.now }
 {
     Refusal {
         fault,
@@ -63,7 +63,7 @@ pub fn load_scenario<'a, F: Files>(
 ) -> Result<Scenario, Refusal<'a>>
     ensures found { IfOk result (IsScenarioAt (F.holds files.now) path.entry.now) }
     ensures refused { IfErr result (λ r. IsImageFault (F.holds files.now) (F.fails files.now) path.entry.now r.fault) }
-    ensures named { IfErr result (λ r. option_map (λ p. p.now) r.about ≡ Some path.entry.now) }
+    ensures names_path { IfErr result (λ r. option_map (λ p. p.now) r.about ≡ Some path.entry.now) }
 {
     let bytes = read_file(alloc, path, files)?;
     match scenario_of(alloc, bytes.as_slice()) {
@@ -81,7 +81,7 @@ pub fn load_trace<'a, F: Files>(
 ) -> Result<Entries, Refusal<'a>>
     ensures found { IfOk result (IsTraceAt (F.holds files.now) path.entry.now) }
     ensures refused { IfErr result (λ r. IsTraceFault (F.holds files.now) (F.fails files.now) path.entry.now r.fault) }
-    ensures named { IfErr result (λ r. option_map (λ p. p.now) r.about ≡ Some path.entry.now) }
+    ensures names_path { IfErr result (λ r. option_map (λ p. p.now) r.about ≡ Some path.entry.now) }
 {
     let bytes = read_file(alloc, path, files)?;
     match read_entries(alloc, bytes.as_slice()) {

@@ -18,7 +18,7 @@ pub fn judge<'a>(
     scenario: &Scenario,
     entries: &[Entry],
 ) -> Result<Answer<'a>, AllocError>
-    ensures judged { IfOk result (λ a. IsJudged scenario.now entries.now a.status (string_bytes a.text)) }
+    ensures verdict { IfOk result (IsJudged scenario.now entries.now) }
     ensures made { IfOk result (λ a. files_of a.file ≡ []) }
 {
     let verdict = check(alloc, scenario, entries)?;

@@ -81,9 +81,9 @@ unheld_so show fault h k = subst (λ b. IsUnheld b fault) (sym h) k
 
 pub saved_at : (made : Transition (Option (List Made))) (path at bytes : List ℕ) (class : Template)
     (steps : List Step) → at ≡ path → IsImageIn 2 bytes (one_row class steps)
-    → Grows made.before made.after ((at, bytes) ∷ []) → IsSavedAt made path class steps
+    → Grows made.before made.after ((record { path = at; bytes = bytes }) ∷ []) → IsSavedAt made path class steps
 saved_at made path at bytes class steps same image grows =
-    (bytes, image, subst (λ p. Grows made.before made.after ((p, bytes) ∷ [])) same grows)
+    (bytes, image, subst (λ p. Grows made.before made.after ((record { path = p; bytes = bytes }) ∷ [])) same grows)
 
 pub unfit_memory : (class : Template) (steps : List Step) (fault : Fault) → fault ≡ faults.Memory
     → IsUnfit class steps fault

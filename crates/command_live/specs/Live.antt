@@ -15,7 +15,7 @@ use Rattle.live_link.specs.declared.session.LiveEnd.TheVariants as end
 use Rattle.live_link.specs.declared.session.LiveSession.{LiveSession}
 use Rattle.live_link.specs.Served.{IsServed}
 use Rattle.live_link.specs.Wire.{Traffic}
-use Rattle.command_files.specs.Lines.{line}
+use Rattle.scenario_words.specs.Words.{ended_line}
 use Rattle.command_files.specs.Fault.{IsWritingFault}
 use Rattle.command_files.specs.Files.{Grows, Made}
 use Rattle.command_files.specs.Loading.{IsImageFault, IsScenarioAt, IsWorkFault}
@@ -67,7 +67,7 @@ end_name end.Spent = codes "spent"
 -- `end NAME steps N sent M`
 abbrev pub named_line : List ℕ → ℕ → ℕ → List ℕ
 named_line name steps sent =
-    line (codes "end " ++ name ++ codes " steps " ++ decimal steps ++ codes " sent " ++ decimal sent)
+    ended_line (codes "end " ++ name ++ codes " steps " ++ decimal steps ++ codes " sent " ++ decimal sent)
 
 abbrev pub session_line : LiveEnd → ℕ → ℕ → List ℕ
 session_line ended steps sent = named_line (end_name ended) steps sent
@@ -82,7 +82,8 @@ line_of session = session_line session.end (length session.steps.items) (length 
 -- no other file
 abbrev pub IsSavedAt : Transition (Option (List Made)) → List ℕ → Template → List Step → Type 0
 IsSavedAt made path class steps =
-    (bytes : List ℕ) × IsImageIn 2 bytes (one_row class steps) × Grows made.before made.after ((path, bytes) ∷ [])
+    (bytes : List ℕ) × IsImageIn 2 bytes (one_row class steps)
+    × Grows made.before made.after ((record { path = path; bytes = bytes }) ∷ [])
 
 -- the same where there is a path; else no file was made
 abbrev pub IsSaved : Transition (Option (List Made)) → Option (List ℕ) → Template → List Step → Type 0

@@ -18,7 +18,7 @@ use Rattle.fleet_workers.specs.Fleet.{AreWorkers}
 use Rattle.command_files.specs.declared.fault.Fault.{Fault}
 use Rattle.command_files.specs.declared.fault.Fault.TheVariants as faults
 use Rattle.command_files.specs.Fault.{IsReadingFault, refused_text, text_fault, trace_fault}
-use Rattle.command_scenarios.specs.RunAnswer.{run_fault, IsRunBy, IsRunFault, IsSavingFault, IsWrongBatch}
+use Rattle.command_scenarios.specs.RunAnswer.{run_fault, IsRunBy, IsRunFault, IsSavingFault, IsWrongBatch, RunOptions}
 use Rattle.command_scenarios.specs.Texts.{IsTextFault}
 
 -- a text that was not read
@@ -77,34 +77,35 @@ unsaved es trace.TooLarge h = h.0 refl
 unsaved es trace.Memory h = tt
 
 -- a run that was not saved
-pub unsaved_run : (s : Scenario) (workers batch : ℕ) (r : FleetRun) → IsRunBy s workers batch r → (f : Fault)
+pub unsaved_run : (s : Scenario) (options : RunOptions) (r : FleetRun) → IsRunBy s options r → (f : Fault)
     → IsSavingFault r.entries f
-    → IsRunFault s workers batch f
-unsaved_run s workers batch r right faults.Memory h = tt
-unsaved_run s workers batch r right faults.TooLarge h = (r, right, h)
-unsaved_run s workers batch r right faults.Write h = absurd h
-unsaved_run s workers batch r right faults.Hex h = absurd h
-unsaved_run s workers batch r right faults.Read h = absurd h
-unsaved_run s workers batch r right (faults.Layout fault) h = absurd h
-unsaved_run s workers batch r right (faults.Text fault) h = absurd h
-unsaved_run s workers batch r right (faults.Template fault) h = absurd h
-unsaved_run s workers batch r right faults.Workers h = absurd h
-unsaved_run s workers batch r right faults.Batch h = absurd h
-unsaved_run s workers batch r right faults.Spent h = absurd h
-unsaved_run s workers batch r right faults.NoDevice h = absurd h
-unsaved_run s workers batch r right faults.PastEnd h = absurd h
-unsaved_run s workers batch r right faults.Range h = absurd h
-unsaved_run s workers batch r right faults.TooLong h = absurd h
-unsaved_run s workers batch r right faults.Bind h = absurd h
-unsaved_run s workers batch r right (faults.Session fault) h = absurd h
+    → IsRunFault s options f
+unsaved_run s options r right faults.Memory h = tt
+unsaved_run s options r right faults.TooLarge h = (r, right, h)
+unsaved_run s options r right faults.Write h = absurd h
+unsaved_run s options r right faults.Hex h = absurd h
+unsaved_run s options r right faults.Read h = absurd h
+unsaved_run s options r right (faults.Layout fault) h = absurd h
+unsaved_run s options r right (faults.Text fault) h = absurd h
+unsaved_run s options r right (faults.Template fault) h = absurd h
+unsaved_run s options r right faults.Workers h = absurd h
+unsaved_run s options r right faults.Batch h = absurd h
+unsaved_run s options r right faults.Spent h = absurd h
+unsaved_run s options r right faults.NoDevice h = absurd h
+unsaved_run s options r right faults.PastEnd h = absurd h
+unsaved_run s options r right faults.Range h = absurd h
+unsaved_run s options r right faults.TooLong h = absurd h
+unsaved_run s options r right faults.Bind h = absurd h
+unsaved_run s options r right (faults.Session fault) h = absurd h
 
 -- a run that was refused, or not ended
-pub run_fault_is : (s : Scenario) (workers batch : ℕ) (f : RunFault) → (f ≡ runs.Workers → AreWorkers workers → ⊥)
-    → (f ≡ runs.Batch → IsWrongBatch workers batch) → IsRunFault s workers batch (run_fault f)
-run_fault_is s workers batch (runs.Memory es) others batches = tt
-run_fault_is s workers batch (runs.Spent es) others batches = tt
-run_fault_is s workers batch runs.Workers others batches = others refl
-run_fault_is s workers batch runs.Batch others batches = batches refl
+pub run_fault_is : (s : Scenario) (options : RunOptions) (f : RunFault)
+    → (f ≡ runs.Workers → AreWorkers options.workers → ⊥) → (f ≡ runs.Batch → IsWrongBatch options)
+    → IsRunFault s options (run_fault f)
+run_fault_is s options (runs.Memory es) others batches = tt
+run_fault_is s options (runs.Spent es) others batches = tt
+run_fault_is s options runs.Workers others batches = others refl
+run_fault_is s options runs.Batch others batches = batches refl
 
 -- no memory is left
 pub text_memory : (holds : List ℕ → List ℕ → Type 0) (fails : List ℕ → Type 0) (path : List ℕ) (f : Fault)

@@ -4,46 +4,50 @@
 -- Two relations say what is known of the files: `holds path bytes`, the file at the path had these bytes when it was
 -- read; `fails path`, it could not be read.
 use Rattle.std.specs.Prelude.{ℕ, ◌≡◌, ◌⊎◌, List, [], ◌∷◌, Option}
+use Rattle.std.specs.String.{string_bytes}
 use Rattle.scenario_image.specs.Scenario.{Scenario}
 use Rattle.scenario_image.specs.Image.{IsImageIn}
 use Rattle.scenario_asm.specs.Canonical as canonical
-use Rattle.command_files.specs.Files.{Made}
+use Rattle.command_files.specs.Answers.{files_of}
 use Rattle.command_files.specs.Loading.{IsImageFault, IsScenarioAt, IsWorkFault}
+use Rattle.command_files.specs.declared.answer.Answer.{Answer}
 use Rattle.command_files.specs.declared.fault.Fault.{Fault}
-use Rattle.command_files.specs.declared.status.Status.{Status}
 use Rattle.command_files.specs.declared.status.Status.TheVariants.{Done}
-use Rattle.command_scenarios.specs.RunAnswer.{IsRunAnswer, IsRunFault}
+use Rattle.command_scenarios.specs.RunAnswer.{IsRunAnswer, IsRunFault, RunOptions}
 use Rattle.command_scenarios.specs.Texts.{IsTextAt, count_line}
 
+-- the paths of a scenario's text and of its image
+pub record TextPaths : Type 0 where
+  pub text : List ℕ
+  pub image : List ℕ
+
 -- `asm IN OUT`: the scenario that the text denotes, and its image of version 2, which goes to OUT
-pub record IsAsmDone (holds : List ℕ → List ℕ → Type 0) (input output : List ℕ) (status : Status) (text : List ℕ)
-    (made : List Made) : Type 0 where
+pub record IsAsmDone (holds : List ℕ → List ℕ → Type 0) (paths : TextPaths) (answer : Answer) : Type 0 where
   pub scenario : Scenario
-  pub found : IsTextAt holds input scenario
+  pub found : IsTextAt holds paths.text scenario
   pub bytes : List ℕ
   pub image : IsImageIn 2 bytes scenario
-  pub text_is : text ≡ count_line scenario
-  pub status_is : status ≡ Done
-  pub made_is : made ≡ (output, bytes) ∷ []
+  pub text_is : string_bytes answer.text ≡ count_line scenario
+  pub status_is : answer.status ≡ Done
+  pub made_is : files_of answer.file ≡ (record { path = paths.image; bytes = bytes }) ∷ []
 
 -- `dis IN`: the scenario's canonical text
-pub record IsDisDone (holds : List ℕ → List ℕ → Type 0) (input : List ℕ) (status : Status) (text : List ℕ)
-    (made : List Made) : Type 0 where
+pub record IsDisDone (holds : List ℕ → List ℕ → Type 0) (input : List ℕ) (answer : Answer) : Type 0 where
   pub scenario : Scenario
   pub found : IsScenarioAt holds input scenario
-  pub text_is : text ≡ canonical.printed scenario
-  pub status_is : status ≡ Done
-  pub made_is : made ≡ []
+  pub text_is : string_bytes answer.text ≡ canonical.printed scenario
+  pub status_is : answer.status ≡ Done
+  pub made_is : files_of answer.file ≡ []
 
--- `run IMAGE [--workers N] [--batch N] [--trace FILE]`: a run of the scenario that this many workers make,
--- in batches of at most this many steps
-pub record IsRunDone (holds : List ℕ → List ℕ → Type 0) (image : List ℕ) (workers batch : ℕ) (trace : Option (List ℕ))
-    (status : Status) (text : List ℕ) (made : List Made) : Type 0 where
+-- `run IMAGE [--workers N] [--batch N] [--trace FILE]`: a run of the scenario that is made by these options, and whose
+-- trace file goes to the path, if there is one
+pub record IsRunDone (holds : List ℕ → List ℕ → Type 0) (image : List ℕ) (options : RunOptions)
+    (trace : Option (List ℕ)) (answer : Answer) : Type 0 where
   pub scenario : Scenario
   pub found : IsScenarioAt holds image scenario
-  pub run : IsRunAnswer scenario workers batch trace status text made
+  pub run : IsRunAnswer scenario options trace answer
 
 -- first the image is to blame, and then its run
-abbrev pub IsRunRefused : (List ℕ → List ℕ → Type 0) → (List ℕ → Type 0) → List ℕ → ℕ → ℕ → Fault → Type 0
-IsRunRefused holds fails image workers batch fault =
-    IsImageFault holds fails image fault ⊎ IsWorkFault holds image (λ s. IsRunFault s workers batch fault)
+abbrev pub IsRunRefused : (List ℕ → List ℕ → Type 0) → (List ℕ → Type 0) → List ℕ → RunOptions → Fault → Type 0
+IsRunRefused holds fails image options fault =
+    IsImageFault holds fails image fault ⊎ IsWorkFault holds image (λ s. IsRunFault s options fault)

@@ -1,5 +1,6 @@
 -- When the run that workers made of a scenario and its trace file are an answer.
 use Rattle.std.specs.Prelude.{⊤, ℕ, ◌≡◌, List, [], ◌∷◌, length, Option, None, Some}
+use Rattle.std.specs.String.{string_bytes}
 use Rattle.scenario_image.specs.Scenario.{Scenario}
 use Rattle.trace_file.specs.declared.entry.Entry.{Entry}
 use Rattle.trace_file.specs.Layout.{IsTraceFile}
@@ -9,16 +10,25 @@ use Rattle.fleet_workers.specs.declared.fleet.RunFault.{RunFault}
 use Rattle.fleet_workers.specs.declared.fleet.RunFault.TheVariants as runs
 use Rattle.fleet_workers.specs.Blocks.{anyone}
 use Rattle.fleet_workers.specs.Fleet.{IsFleetRun, AreByBlocks, AreWorkers, IsBatch}
+use Rattle.command_files.specs.Answers.{files_of}
 use Rattle.command_files.specs.Files.{Made}
+use Rattle.command_files.specs.declared.answer.Answer.{Answer}
 use Rattle.command_scenarios.specs.Runs.{end_line, end_status}
 use Rattle.command_files.specs.declared.fault.Fault.{Fault}
 use Rattle.command_files.specs.declared.fault.Fault.TheVariants.{Batch, Memory, Spent, TooLarge, Workers}
-use Rattle.command_files.specs.declared.status.Status.{Status}
+
+-- the options of `run` that say how the run is made
+pub record RunOptions : Type 0 where
+  -- by how many workers
+  pub workers : ℕ
+  -- how many steps of a device a worker makes at a time, at most
+  pub batch : ℕ
 
 -- the trace file of these entries is made at the path, if there is one, and no other file
 abbrev pub IsSavedAs : Option (List ℕ) → List Entry → List Made → Type 0
 IsSavedAs None es made = made ≡ []
-IsSavedAs (Some path) es made = (bytes : List ℕ) × IsTraceFile bytes es × (made ≡ (path, bytes) ∷ [])
+IsSavedAs (Some path) es made =
+    (bytes : List ℕ) × IsTraceFile bytes es × (made ≡ (record { path = path; bytes = bytes }) ∷ [])
 
 -- no memory was left, or these entries have no trace file
 abbrev pub IsSavingFault : List Entry → Fault → Type 0
@@ -26,36 +36,35 @@ IsSavingFault es Memory = ⊤
 IsSavingFault es TooLarge = (bytes : List ℕ) → IsTraceFile bytes es → ⊥
 IsSavingFault es _ = ⊥
 
--- a run that this many workers made, none of which made more steps of a device at a time than the batch; there may be
--- so many workers, and such a batch
-pub record IsRunBy (s : Scenario) (workers batch : ℕ) (run : FleetRun) : Type 0 where
-  pub workers_are : AreWorkers workers
-  pub batch_is : IsBatch batch
-  pub right : IsFleetRun s workers run
-  pub blocks : AreByBlocks anyone s workers batch run.entries
+-- a run that so many workers made, none of which made more steps of a device at a time than the batch; there may be so
+-- many workers, and such a batch
+pub record IsRunBy (s : Scenario) (options : RunOptions) (run : FleetRun) : Type 0 where
+  pub workers_are : AreWorkers options.workers
+  pub batch_is : IsBatch options.batch
+  pub right : IsFleetRun s options.workers run
+  pub blocks : AreByBlocks anyone s options.workers options.batch run.entries
 
 -- such a run, its trace file where one is asked for, the line of its end, and the status
-pub record IsRunAnswer (s : Scenario) (workers batch : ℕ) (trace : Option (List ℕ)) (status : Status) (text : List ℕ)
-    (made : List Made) : Type 0 where
+pub record IsRunAnswer (s : Scenario) (options : RunOptions) (trace : Option (List ℕ)) (answer : Answer) : Type 0 where
   pub run : FleetRun
-  pub right : IsRunBy s workers batch run
-  pub saved : IsSavedAs trace run.entries made
-  pub text_is : text ≡ end_line (length run.entries) (waiting s run.entries)
-  pub status_is : status ≡ end_status (waiting s run.entries)
+  pub right : IsRunBy s options run
+  pub saved : IsSavedAs trace run.entries (files_of answer.file)
+  pub text_is : string_bytes answer.text ≡ end_line (length run.entries) (waiting s run.entries)
+  pub status_is : answer.status ≡ end_status (waiting s run.entries)
 
 -- there are 1 to 64 workers, and the batch is not one of 1 to 64 steps
-abbrev pub IsWrongBatch : ℕ → ℕ → Type 0
-IsWrongBatch workers batch = AreWorkers workers × (IsBatch batch → ⊥)
+abbrev pub IsWrongBatch : RunOptions → Type 0
+IsWrongBatch options = AreWorkers options.workers × (IsBatch options.batch → ⊥)
 
 -- the workers or the batch are refused; or no memory or no ticket was left; or the run has no trace file
-abbrev pub IsRunFault : Scenario → ℕ → ℕ → Fault → Type 0
-IsRunFault s workers batch Memory = ⊤
-IsRunFault s workers batch Spent = ⊤
-IsRunFault s workers batch Workers = AreWorkers workers → ⊥
-IsRunFault s workers batch Batch = IsWrongBatch workers batch
-IsRunFault s workers batch TooLarge =
-    (run : FleetRun) × IsRunBy s workers batch run × ((bytes : List ℕ) → IsTraceFile bytes run.entries → ⊥)
-IsRunFault s workers batch _ = ⊥
+abbrev pub IsRunFault : Scenario → RunOptions → Fault → Type 0
+IsRunFault s options Memory = ⊤
+IsRunFault s options Spent = ⊤
+IsRunFault s options Workers = AreWorkers options.workers → ⊥
+IsRunFault s options Batch = IsWrongBatch options
+IsRunFault s options TooLarge =
+    (run : FleetRun) × IsRunBy s options run × ((bytes : List ℕ) → IsTraceFile bytes run.entries → ⊥)
+IsRunFault s options _ = ⊥
 
 -- the fault of a run that the workers did not end
 abbrev pub run_fault : RunFault → Fault

@@ -2,13 +2,13 @@
 use Rattle.std.specs.Prelude.{ℕ, List, [], ◌∷◌, ◌++◌, codes}
 use Rattle.std.specs.Fmt.{decimal}
 use Rattle.std.specs.List.{flat_map}
-use Rattle.command_files.specs.Lines.{line}
+use Rattle.scenario_words.specs.Words.{ended_line}
 use Rattle.command_files.specs.declared.status.Status.{Status}
 use Rattle.command_files.specs.declared.status.Status.TheVariants.{Done, NotRun}
 
 -- `done E`: all devices are at the end of their rows, after E entries
 abbrev pub done_line : ℕ → List ℕ
-done_line count = line (codes "done " ++ decimal count)
+done_line count = ended_line (codes "done " ++ decimal count)
 
 -- a device, after a space
 abbrev pub device_word : ℕ → List ℕ
@@ -18,7 +18,7 @@ abbrev pub device_words : List ℕ → List ℕ
 device_words devices = flat_map device_word devices
 
 abbrev pub stalled_text : ℕ → List ℕ → List ℕ
-stalled_text count devices = line (codes "stalled " ++ decimal count ++ codes " waiting" ++ devices)
+stalled_text count devices = ended_line (codes "stalled " ++ decimal count ++ codes " waiting" ++ devices)
 
 -- `stalled E waiting D ..`: after E entries these devices are not at the end of their rows
 abbrev pub stalled_line : ℕ → List ℕ → List ℕ

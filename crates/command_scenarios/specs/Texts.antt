@@ -7,7 +7,7 @@ use Rattle.scenario_image.specs.Scenario.{Scenario}
 use Rattle.scenario_asm.specs.Denotes.{Denotes}
 use Rattle.scenario_asm.specs.Text.{assembled}
 use Rattle.scenario_asm.specs.declared.fault.AsmFault.{AsmFault}
-use Rattle.command_files.specs.Lines.{line}
+use Rattle.scenario_words.specs.Words.{ended_line}
 use Rattle.command_files.specs.declared.fault.Fault.{Fault}
 use Rattle.command_files.specs.declared.fault.Fault.TheVariants.{Memory, Read, Text}
 
@@ -38,7 +38,7 @@ IsTextFault holds fails path _ = ⊥
 
 abbrev pub ok_line : ℕ → ℕ → ℕ → List ℕ
 ok_line classes devices steps =
-    line (codes "ok " ++ decimal classes ++ codes " classes " ++ decimal devices ++ codes " devices " ++ decimal steps
+    ended_line (codes "ok " ++ decimal classes ++ codes " classes " ++ decimal devices ++ codes " devices " ++ decimal steps
     ++ codes " steps")
 
 -- `ok C classes D devices S steps`: how many a scenario has; the steps of all its rows together

@@ -1,8 +1,6 @@
 //! What the program answers to the words that are about scenarios and their runs. Nothing is written or printed here: a
 //! file that is only borrowed cannot be.
 ghost use Rattle.std.specs.Prelude.{IfErr, IfOk, option_map};
-ghost use Rattle.std.specs.String.{string_bytes};
-ghost use Rattle.command_files.specs.Answers.{files_of};
 ghost use Rattle.command_files.specs.Loading.{IsCheckRefused, IsImageFault};
 ghost use Rattle.command_files.specs.Verdicts.{IsCheckDone};
 ghost use Rattle.command_scenarios.specs.Jobs.{IsAsmDone, IsDisDone, IsRunDone, IsRunRefused};
@@ -25,9 +23,8 @@ pub fn asm<'a, F: Files>(
     output: &'a str,
     files: &F,
 ) -> Result<Answer<'a>, Refusal<'a>>
-    ensures done { IfOk result (λ a.
-        IsAsmDone (F.holds files.now) input.entry.now output.entry.now a.status (string_bytes a.text)
-        (files_of a.file)) }
+    ensures done { IfOk result
+        (IsAsmDone (F.holds files.now) (record { text = input.entry.now; image = output.entry.now })) }
     ensures refused { IfErr result (λ r. IsTextFault (F.holds files.now) (F.fails files.now) input.entry.now r.fault) }
 {
     let scenario = load_text(alloc, input, files)?;
@@ -47,8 +44,7 @@ pub fn dis<'a, F: Files>(
     input: &'a str,
     files: &F,
 ) -> Result<Answer<'a>, Refusal<'a>>
-    ensures done { IfOk result (λ a.
-        IsDisDone (F.holds files.now) input.entry.now a.status (string_bytes a.text) (files_of a.file)) }
+    ensures done { IfOk result (IsDisDone (F.holds files.now) input.entry.now) }
     ensures refused { IfErr result (λ r. IsImageFault (F.holds files.now) (F.fails files.now) input.entry.now r.fault) }
 {
     let scenario = load_scenario(alloc, input, files)?;
@@ -67,10 +63,10 @@ pub fn run<'a, R: Threads + Wait + Sync, F: Files>(
     trace: Option<&'a str>,
     files: &F,
 ) -> Result<Answer<'a>, Refusal<'a>>
-    ensures done { IfOk result (λ a. IsRunDone (F.holds files.now) image.entry.now workers batch
-        (option_map (λ p. p.now) trace.entry) a.status (string_bytes a.text) (files_of a.file)) }
-    ensures refused { IfErr result (λ r.
-        IsRunRefused (F.holds files.now) (F.fails files.now) image.entry.now workers batch r.fault) }
+    ensures done { IfOk result (IsRunDone (F.holds files.now) image.entry.now
+        (record { workers = workers; batch = batch }) (option_map (λ p. p.now) trace.entry)) }
+    ensures refused { IfErr result (λ r. IsRunRefused (F.holds files.now) (F.fails files.now) image.entry.now
+        (record { workers = workers; batch = batch }) r.fault) }
 {
     let scenario = load_scenario(alloc, image, files)?;
     Ok(run_scenario(rt, alloc, &scenario, workers, batch, trace)?)
@@ -84,10 +80,10 @@ pub fn check<'a, F: Files>(
     trace: &'a str,
     files: &F,
 ) -> Result<Answer<'a>, Refusal<'a>>
-    ensures done { IfOk result (λ a. IsCheckDone (F.holds files.now) image.entry.now trace.entry.now
-        a.status (string_bytes a.text) (files_of a.file)) }
-    ensures refused { IfErr result (λ r.
-        IsCheckRefused (F.holds files.now) (F.fails files.now) image.entry.now trace.entry.now r.fault) }
+    ensures done { IfOk result
+        (IsCheckDone (F.holds files.now) (record { image = image.entry.now; trace = trace.entry.now })) }
+    ensures refused { IfErr result (λ r. IsCheckRefused (F.holds files.now) (F.fails files.now)
+        (record { image = image.entry.now; trace = trace.entry.now }) r.fault) }
 {
     let scenario = load_scenario(alloc, image, files)?;
     let entries = load_trace(alloc, trace, files)?;

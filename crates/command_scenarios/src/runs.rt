@@ -25,10 +25,9 @@ pub fn run_scenario<'a, R: Threads + Wait + Sync>(
     batch: u32,
     trace: Option<&'a str>,
 ) -> Result<Answer<'a>, Fault>
-    ensures done { IfOk result (λ a.
-        IsRunAnswer scenario.now workers batch (option_map (λ p. p.now) trace.entry) a.status (string_bytes a.text)
-        (files_of a.file)) }
-    ensures refused { IfErr result (IsRunFault scenario.now workers batch) }
+    ensures done { IfOk result (IsRunAnswer scenario.now (record { workers = workers; batch = batch })
+        (option_map (λ p. p.now) trace.entry)) }
+    ensures refused { IfErr result (IsRunFault scenario.now (record { workers = workers; batch = batch })) }
 {
     let run = made_by_workers(rt, alloc, scenario, workers, batch)?;
     let ended = end_of(alloc, run.entries.len(), run.end.waiting())?;
@@ -48,8 +47,8 @@ fn made_by_workers<R: Threads + Wait + Sync>(
     workers: u16,
     batch: u32,
 ) -> Result<FleetRun, Fault>
-    ensures run { IfOk result (IsRunBy scenario.now workers batch) }
-    ensures refused { IfErr result (IsRunFault scenario.now workers batch) }
+    ensures run { IfOk result (IsRunBy scenario.now (record { workers = workers; batch = batch })) }
+    ensures refused { IfErr result (IsRunFault scenario.now (record { workers = workers; batch = batch })) }
 {
     match run_fleet(rt, alloc, scenario, workers, batch, &OpenGate) {
         Ok(run) => Ok(run),

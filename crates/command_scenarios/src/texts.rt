@@ -20,7 +20,7 @@ pub fn load_text<'a, F: Files>(
 ) -> Result<Scenario, Refusal<'a>>
     ensures found { IfOk result (IsTextAt (F.holds files.now) path.entry.now) }
     ensures refused { IfErr result (λ r. IsTextFault (F.holds files.now) (F.fails files.now) path.entry.now r.fault) }
-    ensures named { IfErr result (λ r. option_map (λ p. p.now) r.about ≡ Some path.entry.now) }
+    ensures names_path { IfErr result (λ r. option_map (λ p. p.now) r.about ≡ Some path.entry.now) }
 {
     let bytes = read_file(alloc, path, files)?;
     let Ok(text) = str::from_utf8(bytes.as_slice()) else {

@@ -1,6 +1,7 @@
 -- What the program answers to its words about the trace of a run: `show` and `pcap`.
 use Rattle.std.specs.Prelude.{⊤, ℕ, ◌≡◌, ◌⊎◌, IsTrue, List, [], ◌∷◌, ◌++◌, length, codes}
 use Rattle.std.specs.Fmt.{decimal}
+use Rattle.std.specs.String.{string_bytes}
 use Rattle.scenario_image.specs.Scenario.{Scenario}
 use Rattle.trace_file.specs.declared.entry.Entry.{Entry}
 use Rattle.fleet_core.specs.Run.{IsRun}
@@ -12,48 +13,45 @@ use Rattle.trace_pcap.specs.declared.fault.PcapFault.{PcapFault}
 use Rattle.trace_pcap.specs.declared.fault.PcapFault.TheVariants as pcap
 use Rattle.trace_pcap.specs.Packets.{has_long, trace_packets}
 use Rattle.udp_capture.specs.Capture.{IsCapture}
-use Rattle.command_files.specs.Lines.{line}
-use Rattle.command_files.specs.Files.{Made}
-use Rattle.command_files.specs.Loading.{IsCheckRefused, IsScenarioAt, IsTraceAt}
+use Rattle.scenario_words.specs.Words.{ended_line}
+use Rattle.command_files.specs.Answers.{files_of}
+use Rattle.command_files.specs.Loading.{IsCheckRefused, IsScenarioAt, IsTraceAt, RunPaths}
 use Rattle.command_files.specs.Verdicts.{IsJudged}
+use Rattle.command_files.specs.declared.answer.Answer.{Answer}
 use Rattle.command_files.specs.declared.fault.Fault.{Fault}
 use Rattle.command_files.specs.declared.fault.Fault.TheVariants as faults
-use Rattle.command_files.specs.declared.status.Status.{Status}
 use Rattle.command_files.specs.declared.status.Status.TheVariants.{Done, NotRun}
 
 -- the files at the paths are a scenario's image and a trace file, and this holds of the scenario and the entries
-pub record IsOverTrace (holds : List ℕ → List ℕ → Type 0) (image trace : List ℕ)
-    (over : Scenario → List Entry → Type 0) : Type 0 where
+pub record IsOverTrace (holds : List ℕ → List ℕ → Type 0) (paths : RunPaths) (over : Scenario → List Entry → Type 0)
+    : Type 0 where
   pub scenario : Scenario
-  pub found : IsScenarioAt holds image scenario
+  pub found : IsScenarioAt holds paths.image scenario
   pub entries : List Entry
-  pub read : IsTraceAt holds trace entries
+  pub read : IsTraceAt holds paths.trace entries
   pub so : over scenario entries
 
 -- the entries are not a run, which is answered as `check` answers it
-pub record IsNoRun (s : Scenario) (es : List Entry) (status : Status) (text : List ℕ) (made : List Made)
-    : Type 0 where
-  pub judged : IsJudged s es status text
-  pub no_run : status ≡ NotRun
-  pub made_is : made ≡ []
+pub record IsNoRun (s : Scenario) (es : List Entry) (answer : Answer) : Type 0 where
+  pub judged : IsJudged s es answer
+  pub no_run : answer.status ≡ NotRun
+  pub made_is : files_of answer.file ≡ []
 
 -- ---- `show IMAGE TRACE [--device N] [--from N] [--to N]`
 
 -- the entries are a run, and the text of those that are asked for is printed
-pub record IsRunShown (sel : Selection) (s : Scenario) (es : List Entry) (status : Status) (text : List ℕ)
-    (made : List Made) : Type 0 where
+pub record IsRunShown (sel : Selection) (s : Scenario) (es : List Entry) (answer : Answer) : Type 0 where
   pub run : IsRun s es
   pub selectable : IsSelectable s sel es
-  pub text_is : text ≡ selected_text s sel es
-  pub status_is : status ≡ Done
-  pub made_is : made ≡ []
+  pub text_is : string_bytes answer.text ≡ selected_text s sel es
+  pub status_is : answer.status ≡ Done
+  pub made_is : files_of answer.file ≡ []
 
-abbrev pub IsShownAs : Selection → Status → List ℕ → List Made → Scenario → List Entry → Type 0
-IsShownAs sel status text made s es = IsNoRun s es status text made ⊎ IsRunShown sel s es status text made
+abbrev pub IsShownAs : Selection → Answer → Scenario → List Entry → Type 0
+IsShownAs sel answer s es = IsNoRun s es answer ⊎ IsRunShown sel s es answer
 
-abbrev pub IsShowDone : (List ℕ → List ℕ → Type 0) → List ℕ → List ℕ → Selection → Status → List ℕ → List Made
-    → Type 0
-IsShowDone holds image trace sel status text made = IsOverTrace holds image trace (IsShownAs sel status text made)
+abbrev pub IsShowDone : (List ℕ → List ℕ → Type 0) → RunPaths → Selection → Answer → Type 0
+IsShowDone holds paths sel answer = IsOverTrace holds paths (IsShownAs sel answer)
 
 -- the entries are a run, and the scenario has no such device, or the run no entry of the first number, or the numbers
 -- are not in order, the first of these; or no memory was left
@@ -65,10 +63,9 @@ IsShowFault sel faults.Memory s es = ⊤
 IsShowFault sel _ s es = ⊥
 
 -- first the image is to blame, then the trace file, and then what is asked for
-abbrev pub IsShowRefused : (List ℕ → List ℕ → Type 0) → (List ℕ → Type 0) → List ℕ → List ℕ → Selection → Fault
-    → Type 0
-IsShowRefused holds fails image trace sel fault =
-    IsCheckRefused holds fails image trace fault ⊎ IsOverTrace holds image trace (IsShowFault sel fault)
+abbrev pub IsShowRefused : (List ℕ → List ℕ → Type 0) → (List ℕ → Type 0) → RunPaths → Selection → Fault → Type 0
+IsShowRefused holds fails paths sel fault =
+    IsCheckRefused holds fails paths fault ⊎ IsOverTrace holds paths (IsShowFault sel fault)
 
 -- the fault of entries that a trace does not have: a lack of memory is not the trace's fault
 abbrev pub selection_fault : SelectionFault → Fault
@@ -81,25 +78,22 @@ selection_fault selection.Memory = faults.Memory
 
 -- `ok N packets`
 abbrev pub packets_line : ℕ → List ℕ
-packets_line count = line (codes "ok " ++ decimal count ++ codes " packets")
+packets_line count = ended_line (codes "ok " ++ decimal count ++ codes " packets")
 
 -- the entries are a run, the capture of its packets is made, and how many there are is printed
-pub record IsRunCaptured (output : List ℕ) (s : Scenario) (es : List Entry) (status : Status) (text : List ℕ)
-    (made : List Made) : Type 0 where
+pub record IsRunCaptured (output : List ℕ) (s : Scenario) (es : List Entry) (answer : Answer) : Type 0 where
   pub run : IsRun s es
   pub bytes : List ℕ
   pub capture : IsCapture bytes (trace_packets s es)
-  pub text_is : text ≡ packets_line (length (trace_packets s es))
-  pub status_is : status ≡ Done
-  pub made_is : made ≡ (output, bytes) ∷ []
+  pub text_is : string_bytes answer.text ≡ packets_line (length (trace_packets s es))
+  pub status_is : answer.status ≡ Done
+  pub made_is : files_of answer.file ≡ (record { path = output; bytes = bytes }) ∷ []
 
-abbrev pub IsCapturedAs : List ℕ → Status → List ℕ → List Made → Scenario → List Entry → Type 0
-IsCapturedAs output status text made s es =
-    IsNoRun s es status text made ⊎ IsRunCaptured output s es status text made
+abbrev pub IsCapturedAs : List ℕ → Answer → Scenario → List Entry → Type 0
+IsCapturedAs output answer s es = IsNoRun s es answer ⊎ IsRunCaptured output s es answer
 
-abbrev pub IsPcapDone : (List ℕ → List ℕ → Type 0) → List ℕ → List ℕ → List ℕ → Status → List ℕ → List Made → Type 0
-IsPcapDone holds image trace output status text made =
-    IsOverTrace holds image trace (IsCapturedAs output status text made)
+abbrev pub IsPcapDone : (List ℕ → List ℕ → Type 0) → RunPaths → List ℕ → Answer → Type 0
+IsPcapDone holds paths output answer = IsOverTrace holds paths (IsCapturedAs output answer)
 
 -- the entries are a run, and it has a datagram that no packet carries; or no memory was left
 abbrev pub IsPcapFault : Fault → Scenario → List Entry → Type 0
@@ -108,9 +102,9 @@ IsPcapFault faults.Memory s es = ⊤
 IsPcapFault _ s es = ⊥
 
 -- first the image is to blame, then the trace file, and then a datagram of the run
-abbrev pub IsPcapRefused : (List ℕ → List ℕ → Type 0) → (List ℕ → Type 0) → List ℕ → List ℕ → Fault → Type 0
-IsPcapRefused holds fails image trace fault =
-    IsCheckRefused holds fails image trace fault ⊎ IsOverTrace holds image trace (IsPcapFault fault)
+abbrev pub IsPcapRefused : (List ℕ → List ℕ → Type 0) → (List ℕ → Type 0) → RunPaths → Fault → Type 0
+IsPcapRefused holds fails paths fault =
+    IsCheckRefused holds fails paths fault ⊎ IsOverTrace holds paths (IsPcapFault fault)
 
 -- the fault of entries that got no capture
 abbrev pub pcap_fault : PcapFault → Fault

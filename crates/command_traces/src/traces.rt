@@ -3,7 +3,6 @@
 ghost use Rattle.std.specs.Prelude.{◌≡◌, IfErr, IfNone, IfOk, IfSome};
 ghost use Rattle.std.specs.String.{string_bytes};
 ghost use Rattle.fleet_core.specs.Run.{IsRun};
-ghost use Rattle.command_files.specs.Answers.{files_of};
 ghost use Rattle.command_traces.specs.Traces.{IsCapturedAs, IsNoRun, IsPcapDone, IsPcapFault, IsPcapRefused};
 ghost use Rattle.command_traces.specs.Traces.{IsRunCaptured, IsRunShown, IsShowDone, IsShowFault, IsShowRefused};
 ghost use Rattle.command_traces.specs.Traces.{IsShownAs, packets_line, pcap_fault, selection_fault};
@@ -24,8 +23,7 @@ fn answer_no_run<'a>(
     scenario: &Scenario,
     entries: &[Entry],
 ) -> Result<Option<Answer<'a>>, AllocError>
-    ensures no_run { IfOk result (λ o. IfSome o (λ a.
-        IsNoRun scenario.now entries.now a.status (string_bytes a.text) (files_of a.file))) }
+    ensures no_run { IfOk result (λ o. IfSome o (IsNoRun scenario.now entries.now)) }
     ensures run { IfOk result (λ o. IfNone o (IsRun scenario.now entries.now)) }
 {
     match check(alloc, scenario, entries)? {
@@ -43,10 +41,10 @@ pub fn show<'a, F: Files>(
     selection: Selection,
     files: &F,
 ) -> Result<Answer<'a>, Refusal<'a>>
-    ensures done { IfOk result (λ a. IsShowDone (F.holds files.now) image.entry.now trace.entry.now selection
-        a.status (string_bytes a.text) (files_of a.file)) }
-    ensures refused { IfErr result (λ r.
-        IsShowRefused (F.holds files.now) (F.fails files.now) image.entry.now trace.entry.now selection r.fault) }
+    ensures done { IfOk result (IsShowDone (F.holds files.now)
+        (record { image = image.entry.now; trace = trace.entry.now }) selection) }
+    ensures refused { IfErr result (λ r. IsShowRefused (F.holds files.now) (F.fails files.now)
+        (record { image = image.entry.now; trace = trace.entry.now }) selection r.fault) }
 {
     let scenario = load_scenario(alloc, image, files)?;
     let entries = load_trace(alloc, trace, files)?;
@@ -60,8 +58,7 @@ fn show_trace<'a>(
     entries: &[Entry],
     selection: Selection,
 ) -> Result<Answer<'a>, Fault>
-    ensures done { IfOk result (λ a.
-        IsShownAs selection a.status (string_bytes a.text) (files_of a.file) scenario.now entries.now) }
+    ensures done { IfOk result (λ a. IsShownAs selection a scenario.now entries.now) }
     ensures refused { IfErr result (λ f. IsShowFault selection f scenario.now entries.now) }
 {
     match answer_no_run(alloc, scenario, entries)? {
@@ -78,8 +75,7 @@ fn show_run<'a>(
     selection: Selection,
 ) -> Result<Answer<'a>, Fault>
     requires { IsRun scenario.now entries.now }
-    ensures done { IfOk result (λ a.
-        IsRunShown selection scenario.now entries.now a.status (string_bytes a.text) (files_of a.file)) }
+    ensures done { IfOk result (IsRunShown selection scenario.now entries.now) }
     ensures refused { IfErr result (λ f. IsShowFault selection f scenario.now entries.now) }
 {
     match selected_text(alloc, scenario, entries, selection) {
@@ -109,10 +105,10 @@ pub fn pcap<'a, F: Files>(
     output: &'a str,
     files: &F,
 ) -> Result<Answer<'a>, Refusal<'a>>
-    ensures done { IfOk result (λ a. IsPcapDone (F.holds files.now) image.entry.now trace.entry.now output.entry.now
-        a.status (string_bytes a.text) (files_of a.file)) }
-    ensures refused { IfErr result (λ r.
-        IsPcapRefused (F.holds files.now) (F.fails files.now) image.entry.now trace.entry.now r.fault) }
+    ensures done { IfOk result (IsPcapDone (F.holds files.now)
+        (record { image = image.entry.now; trace = trace.entry.now }) output.entry.now) }
+    ensures refused { IfErr result (λ r. IsPcapRefused (F.holds files.now) (F.fails files.now)
+        (record { image = image.entry.now; trace = trace.entry.now }) r.fault) }
 {
     let scenario = load_scenario(alloc, image, files)?;
     let entries = load_trace(alloc, trace, files)?;
@@ -126,8 +122,7 @@ fn capture_trace<'a>(
     entries: &[Entry],
     output: &'a str,
 ) -> Result<Answer<'a>, Fault>
-    ensures done { IfOk result (λ a.
-        IsCapturedAs output.entry.now a.status (string_bytes a.text) (files_of a.file) scenario.now entries.now) }
+    ensures done { IfOk result (λ a. IsCapturedAs output.entry.now a scenario.now entries.now) }
     ensures refused { IfErr result (λ f. IsPcapFault f scenario.now entries.now) }
 {
     match answer_no_run(alloc, scenario, entries)? {
@@ -144,8 +139,7 @@ fn capture_run<'a>(
     output: &'a str,
 ) -> Result<Answer<'a>, Fault>
     requires { IsRun scenario.now entries.now }
-    ensures done { IfOk result (λ a. IsRunCaptured output.entry.now scenario.now entries.now
-        a.status (string_bytes a.text) (files_of a.file)) }
+    ensures done { IfOk result (IsRunCaptured output.entry.now scenario.now entries.now) }
     ensures refused { IfErr result (λ f. IsPcapFault f scenario.now entries.now) }
 {
     let bytes = match trace_pcap(alloc, scenario, entries) {

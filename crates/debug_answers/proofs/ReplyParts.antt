@@ -7,7 +7,7 @@ use Rattle.debug_answers.specs.Saying.{IsHelp, IsLineOf}
 use Rattle.debug_answers.proofs.Again.{help_apart}
 use Rattle.debugger.specs.Session.{Session}
 use Rattle.debug_answers.specs.Help.{help_text}
-use Rattle.debug_answers.specs.Lines.{line}
+use Rattle.scenario_words.specs.Words.{ended_line}
 use Rattle.debug_answers.specs.Notes.{IsNote, no_command}
 use Rattle.debug_answers.specs.Replies.{IsAnswer, IsReply}
 
@@ -24,7 +24,7 @@ reply_of old said new text c is again answered = record {
 
 -- the answer to a line that says none
 pub bad_reply : (old : Session) (said text : List ℕ) → ((c : Command) → IsLineOf c said → ⊥)
-    → text ≡ line (codes "bad command") → IsReply old said old text
+    → text ≡ ended_line (codes "bad command") → IsReply old said old text
 bad_reply old said text none is = record {
   answer = λ c h. absurd (none c h);
   bad_command = λ _. record { unchanged = refl; text_is = is };

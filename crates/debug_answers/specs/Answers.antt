@@ -6,7 +6,8 @@ use Rattle.debugger.specs.Replayed.{events_among, IsReplayedBack}
 use Rattle.debugger.specs.Session.{Session, at_place, with_replayed}
 use Rattle.debugger.specs.Stops.{IsNextStop}
 use Rattle.debugger.specs.Breaks.{IsTaken, AreAllTaken, IsAdded, IsRemoved}
-use Rattle.debug_answers.specs.Lines.{line, at_line, break_line, cleared_line, stop_line}
+use Rattle.scenario_words.specs.Words.{ended_line}
+use Rattle.debug_answers.specs.Lines.{at_line, break_line, cleared_line, stop_line}
 
 -- the place is now this one, and is answered; how many events devices took in the move is kept, and not answered
 pub record IsMoved (old new : Session) (to : ℕ) (text : List ℕ) : Type 0 where
@@ -20,7 +21,7 @@ IsAsBeforeOrAfter answer old new = (new ≡ old) ⊎ ((text : List ℕ) × answe
 -- nothing changed, and these words are answered
 pub record IsCommandRefused (old new : Session) (words text : List ℕ) : Type 0 where
   pub unchanged : new ≡ old
-  pub text_is : text ≡ line words
+  pub text_is : text ≡ ended_line words
 
 -- `forward N`: the new place, or `past end` where there are fewer entries after the place
 pub record IsForward (old : Session) (count : ℕ) (new : Session) (text : List ℕ) : Type 0 where

@@ -1,7 +1,7 @@
 -- What a person gets who asks for help.
 use Rattle.std.specs.Prelude.{ℕ, List, [], ◌∷◌, codes}
 use Rattle.std.specs.List.{flat_map}
-use Rattle.debug_answers.specs.Lines.{line}
+use Rattle.scenario_words.specs.Words.{ended_line}
 
 -- the commands, and what each answers or does
 abbrev pub help_lines : List (List ℕ)
@@ -19,4 +19,4 @@ help_lines =
     ∷ []
 
 abbrev pub help_text : List ℕ
-help_text = flat_map line help_lines
+help_text = flat_map ended_line help_lines

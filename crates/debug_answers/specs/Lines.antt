@@ -1,31 +1,28 @@
 -- The lines that are answered.
-use Rattle.std.specs.Prelude.{ℕ, List, [], ◌∷◌, ◌++◌, codes}
+use Rattle.std.specs.Prelude.{ℕ, List, ◌++◌, codes}
 use Rattle.std.specs.Fmt.{decimal}
+use Rattle.scenario_words.specs.Words.{ended_line}
 use Rattle.debugger.specs.declared.breaks.Stop.{Stop}
 use Rattle.debugger.specs.declared.breaks.Stop.TheVariants as stops
 
--- a line: its words, and the line feed after them
-abbrev pub line : List ℕ → List ℕ
-line words = words ++ 10 ∷ []
-
 -- `at N`
 abbrev pub at_line : ℕ → List ℕ
-at_line place = line (codes "at " ++ decimal place)
+at_line place = ended_line (codes "at " ++ decimal place)
 
 -- `break ID`
 abbrev pub break_line : ℕ → List ℕ
-break_line id = line (codes "break " ++ decimal id)
+break_line id = ended_line (codes "break " ++ decimal id)
 
 -- `cleared ID`
 abbrev pub cleared_line : ℕ → List ℕ
-cleared_line id = line (codes "cleared " ++ decimal id)
+cleared_line id = ended_line (codes "cleared " ++ decimal id)
 
 -- a place, after ` at `
 abbrev pub at_word : ℕ → List ℕ
 at_word place = codes " at " ++ decimal place
 
 abbrev pub break_text : ℕ → List ℕ → List ℕ
-break_text id place = line (codes "break " ++ decimal id ++ place)
+break_text id place = ended_line (codes "break " ++ decimal id ++ place)
 
 -- `break ID at N`
 abbrev pub break_at_line : ℕ → ℕ → List ℕ
@@ -33,7 +30,7 @@ break_at_line id place = break_text id (at_word place)
 
 -- `end at N`
 abbrev pub end_line : ℕ → List ℕ
-end_line place = line (codes "end at " ++ decimal place)
+end_line place = ended_line (codes "end at " ++ decimal place)
 
 -- `break ID at N` or `end at N`
 abbrev pub stop_line : Stop → ℕ → List ℕ

@@ -4,7 +4,7 @@ use Rattle.scenario_words.specs.Quoted.{quoted_word}
 use Rattle.debug_answers.specs.declared.command.Command.{Command}
 use Rattle.debug_answers.specs.Saying.{IsHelp, IsLineOf}
 use Rattle.debug_answers.specs.Help.{help_text}
-use Rattle.debug_answers.specs.Lines.{line}
+use Rattle.scenario_words.specs.Words.{ended_line}
 
 -- at most this many bytes of a line are shown
 abbrev pub most_shown_bytes : ℕ
@@ -15,7 +15,7 @@ abbrev pub cut_mark : List ℕ → List ℕ
 cut_mark said = if nat_le (length said) most_shown_bytes then [] else codes " and more"
 
 abbrev pub no_command_line : List ℕ → List ℕ → List ℕ
-no_command_line shown mark = line (codes "lwbench: standard input: not a command: " ++ shown ++ mark)
+no_command_line shown mark = ended_line (codes "lwbench: standard input: not a command: " ++ shown ++ mark)
 
 -- the line that was not understood, in quotes: what is not printable ASCII is a backslash and two hex digits
 abbrev pub no_command : List ℕ → List ℕ

@@ -7,11 +7,11 @@ use Rattle.device_requests.specs.declared.answer.Act.{Act as Deed}
 use Rattle.device_requests.specs.declared.answer.Act.TheVariants.{Reboot, FactoryReset, RegUpdate, Disable, Missed}
 use Rattle.device_machine.specs.declared.output.Output.{Output}
 use Rattle.device_machine.specs.declared.output.Output.TheVariants.{Send, Act}
-use Rattle.debug_answers.specs.Lines.{line}
+use Rattle.scenario_words.specs.Words.{ended_line}
 
 -- the line of bytes that are sent: the server that they go to, and the bytes in hex
 abbrev pub send_line : ℕ → List ℕ → List ℕ
-send_line server hex = line (codes "send " ++ decimal server ++ codes " " ++ hex)
+send_line server hex = ended_line (codes "send " ++ decimal server ++ codes " " ++ hex)
 
 -- what a device does beside sending, by its name
 abbrev pub act_name : Deed → List ℕ
@@ -22,7 +22,7 @@ act_name Disable = codes "disable"
 act_name Missed = codes "missed"
 
 abbrev pub act_line : List ℕ → List ℕ
-act_line name = line (codes "act " ++ name)
+act_line name = ended_line (codes "act " ++ name)
 
 -- the line of an output
 abbrev pub output_line : Output → List ℕ
@@ -31,5 +31,5 @@ output_line (Act act) = act_line (act_name act)
 
 -- the line of each output in turn, or a line that says that there is none
 abbrev pub output_lines : List Output → List ℕ
-output_lines [] = line (codes "nothing")
+output_lines [] = ended_line (codes "nothing")
 output_lines (output ∷ outputs) = flat_map output_line (output ∷ outputs)

@@ -9,7 +9,8 @@ use Rattle.debugger.specs.declared.breaks.Break.{Break}
 use Rattle.debugger.specs.declared.breaks.Break.TheVariants as breaks
 use Rattle.debugger.specs.Session.{Session}
 use Rattle.debugger.specs.Shown.{value_shown, observations_shown, outputs_shown}
-use Rattle.debug_answers.specs.Lines.{line, at_line}
+use Rattle.scenario_words.specs.Words.{ended_line}
+use Rattle.debug_answers.specs.Lines.{at_line}
 use Rattle.debug_answers.specs.Outputs.{output_lines}
 use Rattle.debug_answers.specs.Show.{value_line, observation_lines}
 use Rattle.debug_answers.specs.Answers.{IsCommandRefused, IsForward, IsBack, IsBreak, IsCleared, IsResumed}
@@ -17,7 +18,7 @@ use Rattle.debug_answers.specs.Answers.{IsCommandRefused, IsForward, IsBack, IsB
 -- this is shown of a device, or `no device` where the scenario has no row for it
 pub record IsDeviceAnswer (v : Session) (d : ℕ) (shown text : List ℕ) : Type 0 where
   pub device_there : d < length v.scenario.rows → text ≡ shown
-  pub no_device : length v.scenario.rows ≤ d → text ≡ line (codes "no device")
+  pub no_device : length v.scenario.rows ≤ d → text ≡ ended_line (codes "no device")
 
 -- the breakpoint of a point
 abbrev pub break_of : Point → Break

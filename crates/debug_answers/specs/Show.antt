@@ -8,12 +8,12 @@ use Rattle.notifier.specs.declared.observation.Observation.{Observation}
 use Rattle.notifier.specs.declared.observation.Timer.{Timer}
 use Rattle.scenario_words.specs.HexWord.{hex_word}
 use Rattle.scenario_words.specs.ValueWords.{spelled}
-use Rattle.debug_answers.specs.Lines.{line}
+use Rattle.scenario_words.specs.Words.{ended_line}
 
 -- a value as scenario text has it, or `none`
 abbrev pub value_line : Option Value → List ℕ
-value_line None = line (codes "none")
-value_line (Some v) = line (spelled v)
+value_line None = ended_line (codes "none")
+value_line (Some v) = ended_line (spelled v)
 
 -- the end of the line of an observation: ` open` where its last message awaits an acknowledgement
 abbrev pub line_end : Option Timer → List ℕ
@@ -23,7 +23,7 @@ line_end (Some timer) = codes " open"
 -- `S TOKEN PATH NUMBER`, the token and the path as words, and this end
 abbrev pub observation_words : ℕ → List ℕ → List ℕ → ℕ → List ℕ → List ℕ
 observation_words server token path number ending =
-    line (decimal server ++ codes " " ++ token ++ codes " " ++ path ++ codes " " ++ decimal number ++ ending)
+    ended_line (decimal server ++ codes " " ++ token ++ codes " " ++ path ++ codes " " ++ decimal number ++ ending)
 
 -- an observation: its server, its token in hex (`-` for none), its path, the Observe number of its last message, and
 -- whether it is open
@@ -32,7 +32,7 @@ observation_line o = observation_words o.server (hex_word o.token) (path_text o.
 
 -- `observations K`
 abbrev pub count_line : ℕ → List ℕ
-count_line count = line (codes "observations " ++ decimal count)
+count_line count = ended_line (codes "observations " ++ decimal count)
 
 -- how many observations there are, and the line of each in turn
 abbrev pub observation_lines : List Observation → List ℕ

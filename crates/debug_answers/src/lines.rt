@@ -2,7 +2,8 @@
 ghost use Rattle.std.specs.Prelude.{◌≡◌, IfOk};
 ghost use Rattle.std.specs.String.{string_bytes};
 ghost use Rattle.debug_answers.specs.Lines.{at_line, at_word, break_at_line, break_line, break_text, cleared_line};
-ghost use Rattle.debug_answers.specs.Lines.{end_line, line, stop_line};
+ghost use Rattle.debug_answers.specs.Lines.{end_line, stop_line};
+ghost use Rattle.scenario_words.specs.Words.{ended_line};
 
 use debugger::Stop;
 use std::alloc::{AllocError, Global};
@@ -68,7 +69,7 @@ pub fn stop_line(alloc: Global, stop: Stop, place: usize) -> Result<String, Allo
 
 /// A line of these words.
 pub fn fixed_line(alloc: Global, words: &str) -> Result<String, AllocError>
-    ensures { IfOk result (λ text. string_bytes text ≡ line words.now) }
+    ensures { IfOk result (λ text. string_bytes text ≡ ended_line words.now) }
 {
     format!(in alloc; "{words}\n")
 }

@@ -24,7 +24,8 @@ pub fn forward(alloc: Global, debugger: &mut Debugger, count: usize) -> Result<S
     let past = fixed_line(alloc, "past end")?;
     match debugger.forward(count) {
         Ok(()) => {
-            let _place = debugger.at();
+            // For the proof alone: a place that is read is a usize, so the sum above was not cut off.
+            let _known = debugger.at();
             Ok(there)
         }
         Err(ForwardFault::PastEnd) => Ok(past),

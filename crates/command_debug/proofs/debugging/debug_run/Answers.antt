@@ -8,9 +8,9 @@ use Rattle.command_files.specs.declared.fault.Fault.TheVariants.{Memory}
 use Rattle.command_files.proofs.Built.{judged_none}
 use Rattle.command_debug.proofs.debugging.debug_run.Goals as goal
 
-pub returns-in_ok-no_run-in-Err-NotRun-clause-told : goal.returns-in_ok-no_run-in-Err-NotRun-clause-told
-returns-in_ok-no_run-in-Err-NotRun-clause-told g c =
-    judged_none _ _ c.in-Err-NotRun.place _ _ (c.open.ensures.not_run c.in-Err-NotRun.place (search rules))
+pub returns-in_ok-no_run-in-Err-NotRun-clause-verdict : goal.returns-in_ok-no_run-in-Err-NotRun-clause-verdict
+returns-in_ok-no_run-in-Err-NotRun-clause-verdict g c =
+    judged_none _ _ c.in-Err-NotRun.place _ (c.open.ensures.not_run c.in-Err-NotRun.place (search rules))
     (search rules) (search rules)
 
 pub returns-in_err-converse-in-Ok-clause-refused : goal.returns-in_err-converse-in-Ok-clause-refused
