@@ -1,0 +1,8 @@
+/// A digit of bytes that a case states.
+#[derive(Clone, Copy, Debug, PartialEq, Eq)]
+pub enum Digit {
+    /// `.`: any hex digit.
+    Any,
+    /// A hex digit, by its value, which is below 16.
+    Is(u8),
+}

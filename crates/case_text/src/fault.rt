@@ -1,0 +1,82 @@
+use scenario_words::Cause;
+use std::alloc::{AllocError, AllocFailed};
+use thiserror::Error;
+
+/// Why a file of cases is refused.
+#[derive(Clone, Copy, Debug, PartialEq, Eq, Error)]
+pub enum Why {
+    /// The line is not UTF-8.
+    #[error("no text")]
+    NotText,
+    /// What stands behind `=>` or `=/>` is no answer.
+    #[error("no such answer: {0}")]
+    NotAnAnswer(Cause),
+    /// What stands behind `?` is no question with an answer to it.
+    #[error("no such question: {0}")]
+    NotAQuestion(Cause),
+    /// What stands behind `!` is no event.
+    #[error("no such event: {0}")]
+    NotAnEvent(Cause),
+    /// `*` without a number from 1 to 100,000 and a line.
+    #[error("`*` wants a number up to 100,000 and a line")]
+    NotACount,
+    /// A line that begins with `=`, `?` or `!` and is none of theirs.
+    #[error("no such line")]
+    NoSuchLine,
+    /// A `trace` file to be checked, which is not read yet.
+    #[error("`trace` is not read yet")]
+    NotYetRead,
+    /// `=| LINE` without `=> text` above it.
+    #[error("no `=> text` stands above this")]
+    NoTextAbove,
+    /// Something stands before the first case.
+    #[error("this stands before the first case")]
+    BeforeFirstCase,
+    /// A case without a title.
+    #[error("a case without a title")]
+    NoTitle,
+    /// A case with the title of one above it.
+    #[error("a case with the title of one above")]
+    SameTitle,
+    /// A case that states no answer and asks no question.
+    #[error("a case that states no answer")]
+    NoAnswer,
+    /// There is no case.
+    #[error("no case")]
+    NoCase,
+    /// Memory ran out.
+    #[error("memory")]
+    Memory,
+}
+
+/// The line of a file of cases that is refused, and why.
+#[derive(Clone, Copy, Debug, PartialEq, Eq, Error)]
+#[error("line {line}: {why}")]
+pub struct CaseFault {
+    /// The line, counted from 1.
+    pub line: usize,
+    /// Why.
+    pub why: Why,
+}
+
+impl From<AllocError> for Why {
+    ghost use Rattle.std.specs.Prelude.{◌≡◌};
+    ghost use Rattle.case_text.specs.declared.fault.Why.TheVariants.{Memory};
+
+    ghost from_gives = { λ _ e. e ≡ Memory };
+
+    fn from(_e: AllocError) -> Why {
+        Why::Memory
+    }
+}
+
+impl<T: Drop> From<AllocFailed<T>> for Why {
+    ghost use Rattle.std.specs.Prelude.{◌≡◌};
+    ghost use Rattle.case_text.specs.declared.fault.Why.TheVariants.{Memory};
+
+    ghost from_gives = { λ _ e. e ≡ Memory };
+
+    fn from(_e: AllocFailed<T>) -> Why {
+        Why::Memory
+    }
+}

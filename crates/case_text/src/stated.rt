@@ -1,0 +1,61 @@
+use crate::digits::Digits;
+use crate::numbers::DeviceNumbers;
+use device_machine::Act;
+use lwm2m_values::Text;
+use scenario_words::Cause;
+
+/// What a line states, behind its `=>` or `=/>`.
+#[derive(Debug, Drop)]
+pub enum Stated {
+    /// `nothing`: there is no output.
+    Nothing,
+    /// `send S HEX`: a server is sent a datagram.
+    Send {
+        /// The server, by its Short Server ID from 1 to 65534.
+        server: u16,
+        /// The digits of the datagram.
+        digits: Digits,
+    },
+    /// `code C.DD`, `code C.DD "TEXT"`: a server, whichever, is sent a datagram of this code.
+    Code {
+        /// The code in one byte (RFC 7252 section 3): its class by 32, and its detail.
+        code: u8,
+        /// The payload, where one is stated.
+        text: Option<Text>,
+    },
+    /// `notification N "TEXT"`: a server, whichever, is sent a notification.
+    Notification {
+        /// The value of its Observe option (RFC 7641 section 2), below 2^24.
+        number: u32,
+        /// The payload.
+        text: Text,
+    },
+    /// `act NAME`: the device does this.
+    Act(Act),
+    /// `N more`: this many outputs more, from 1 to 100,000, of which nothing is said.
+    More(u32),
+    /// `done E`: the serial run ends with this many entries, and each device has made all its steps.
+    Done(u64),
+    /// `stalled E waiting D ..`: the serial run ends with this many entries, and these devices wait.
+    Stalled {
+        /// The entries.
+        steps: u64,
+        /// The devices, one or more.
+        waiting: DeviceNumbers,
+    },
+    /// `image HEX`: the image of the scenario.
+    Image(Digits),
+    /// `trace HEX`: the trace file of the serial run.
+    Trace(Digits),
+    /// `text`: the canonical text of the scenario is the lines stated below.
+    Text,
+    /// `=| LINE`: a line of the canonical text.
+    TextLine(Text),
+    /// `fault line N CAUSE`: the text is refused.
+    Fault {
+        /// The line, counted in the case from 1 below the title.
+        line: u64,
+        /// Why.
+        cause: Cause,
+    },
+}
