@@ -1,0 +1,6 @@
+pub mod Asking
+pub mod Cases
+pub mod Digits
+pub mod Expanding
+pub mod Lines
+pub mod Stating

@@ -23,8 +23,8 @@ pub enum Why {
     /// A line that begins with `=`, `?` or `!` and is none of theirs.
     #[error("no such line")]
     NoSuchLine,
-    /// A `trace` file to be checked, which is not read yet.
-    #[error("`trace` is not read yet")]
+    /// A line of a case of files, which are not read yet.
+    #[error("cases of files are not read yet")]
     NotYetRead,
     /// `=| LINE` without `=> text` above it.
     #[error("no `=> text` stands above this")]
@@ -53,7 +53,7 @@ pub enum Why {
 #[derive(Clone, Copy, Debug, PartialEq, Eq, Error)]
 #[error("line {line}: {why}")]
 pub struct CaseFault {
-    /// The line, counted from 1.
+    /// The line, counted from 1; 0 where memory ran out for more than one line.
     pub line: usize,
     /// Why.
     pub why: Why,
@@ -78,5 +78,33 @@ impl<T: Drop> From<AllocFailed<T>> for Why {
 
     fn from(_e: AllocFailed<T>) -> Why {
         Why::Memory
+    }
+}
+
+impl From<AllocError> for CaseFault {
+    ghost use Rattle.std.specs.Prelude.{◌≡◌};
+    ghost use Rattle.case_text.specs.declared.fault.Why.TheVariants.{Memory};
+
+    ghost from_gives = { λ _ f. f.why ≡ Memory };
+
+    fn from(_e: AllocError) -> CaseFault {
+        CaseFault {
+            line: 0,
+            why: Why::Memory,
+        }
+    }
+}
+
+impl<T: Drop> From<AllocFailed<T>> for CaseFault {
+    ghost use Rattle.std.specs.Prelude.{◌≡◌};
+    ghost use Rattle.case_text.specs.declared.fault.Why.TheVariants.{Memory};
+
+    ghost from_gives = { λ _ f. f.why ≡ Memory };
+
+    fn from(_e: AllocFailed<T>) -> CaseFault {
+        CaseFault {
+            line: 0,
+            why: Why::Memory,
+        }
     }
 }

@@ -3,21 +3,39 @@
 #![tactic(auto)]
 
 mod answer;
+mod asking;
+mod body;
 mod case;
+mod checking;
+mod cut;
 mod digit;
 mod digits;
+mod expanding;
 mod fault;
+mod file;
+mod grouping;
 mod item;
+mod line;
+mod numbered;
 mod numbers;
+mod pieces;
 mod question;
+mod reading;
 mod stated;
+mod stating;
 
 pub use answer::{Answer, Answers};
+pub use asking::read_question;
 pub use case::Case;
 pub use digit::Digit;
 pub use digits::Digits;
 pub use fault::{CaseFault, Why};
+pub use file::read_cases;
 pub use item::{Item, Items, Part};
+pub use line::Line;
 pub use numbers::{DeviceNumbers, LineNumbers};
+pub use pieces::read_digits;
 pub use question::Question;
+pub use reading::read_line;
 pub use stated::Stated;
+pub use stating::read_stated;

@@ -1,0 +1,19 @@
+ghost use Rattle.std.specs.Prelude.{◌≡◌, ◌==◌, ◌<◌, ◌∷◌, length, option_map, IfSome, position};
+ghost use Rattle.scenario_words.specs.Words.{parts, parts_behind};
+
+fn place_of(bytes: &[u8], byte: u8) -> Option<usize>
+    ensures { result ≡ position (λ b. b == byte) bytes.now }
+{
+    bytes.iter().position(|b| *b == byte)
+}
+
+/// What stands before the first byte that is this one, and, where there is one, what stands after it.
+pub(crate) fn cut(bytes: &[u8], byte: u8) -> (&[u8], Option<&[u8]>)
+    ensures parts { parts byte bytes.now ≡ result.0.now ∷ parts_behind byte (option_map (λ x. x.now) result.1) }
+    ensures shorter { IfSome result.1 (λ x. length x.now < length bytes.now) }
+{
+    match place_of(bytes, byte) {
+        Some(place) => (&bytes[..place], Some(&bytes[place + 1..])),
+        None => (bytes, None),
+    }
+}
