@@ -1,0 +1,58 @@
+-- When a case passes.
+use Rattle.std.specs.Prelude.{◌≡◌, ℕ, ◌⊎◌, List, Option, None, Some, Result, Ok, Err, slice_get}
+use Rattle.scenario_image.specs.Scenario.{Scenario}
+use Rattle.trace_file.specs.declared.entry.Entry.{Entry}
+use Rattle.fleet_core.specs.Run.{IsSerial}
+use Rattle.scenario_asm.specs.Text.{assembled}
+use Rattle.scenario_asm.specs.declared.fault.AsmFault.{AsmFault}
+use Rattle.case_text.specs.declared.case.Case.{Case}
+use Rattle.case_text.specs.declared.item.Item.{Item}
+use Rattle.case_play.specs.declared.verdict.Verdict.{Verdict}
+use Rattle.case_play.specs.declared.verdict.Verdict.TheVariants.{Passes, Differs, Refused}
+use Rattle.case_play.specs.Spots.{spot_at}
+use Rattle.case_play.specs.Holds.{Holds, IsFirstDifference}
+use Rattle.case_play.specs.Ends.{AllEndsHold, IsFirstOfAll}
+use Rattle.case_play.specs.Refusals.{number_of, AreRefused}
+
+-- each item holds in the scenario
+abbrev pub AllHold : Scenario → List Item → Type 0
+AllHold s items = (k : ℕ) (item : Item) → slice_get items k ≡ Some item → Holds s (spot_at items k) item
+
+-- each item holds, and so does what is stated of the whole scenario, of which this is the serial run
+pub record HoldsIn (s : Scenario) (items : List Item) : Type 0 where
+  pub items_hold : AllHold s items
+  pub run : List Entry
+  pub serial : IsSerial s run
+  pub ends_hold : AllEndsHold s run items
+
+-- each item holds, and this is the first line that does not of what is stated of the whole scenario
+pub record DiffersAtEnd (s : Scenario) (items : List Item) (line : ℕ) : Type 0 where
+  pub items_hold : AllHold s items
+  pub run : List Entry
+  pub serial : IsSerial s run
+  pub first : IsFirstOfAll s run items line
+
+abbrev pub IsVerdictIn : Scenario → Case → Verdict → Type 0
+IsVerdictIn s case Passes = HoldsIn s case.items
+IsVerdictIn s case (Differs line) = IsFirstDifference s case.items line ⊎ DiffersAtEnd s case.items line
+IsVerdictIn s case (Refused line cause) = ⊥
+
+abbrev pub line_of : Option ℕ → ℕ
+line_of None = 0
+line_of (Some number) = number
+
+abbrev pub IsVerdictOn : AsmFault → Case → Verdict → Type 0
+IsVerdictOn fault case Passes = AreRefused case.numbers fault case.items
+IsVerdictOn fault case (Differs line) = ⊥
+IsVerdictOn fault case (Refused line cause) =
+    (AreRefused case.numbers fault case.items → ⊥)
+    × (line ≡ line_of (number_of case.numbers fault.line)) × (cause ≡ fault.cause)
+
+abbrev pub IsVerdictBy : Result Scenario AsmFault → Case → Verdict → Type 0
+IsVerdictBy (Ok s) case verdict = IsVerdictIn s case verdict
+IsVerdictBy (Err fault) case verdict = IsVerdictOn fault case verdict
+
+-- the verdict on a case. It passes exactly if all that it states holds of the scenario of its text; or if the text is
+-- refused, and the case states just that. Else this is the first line that does not hold
+abbrev pub IsVerdict : Case → Verdict → Type 0
+IsVerdict case verdict = IsVerdictBy (assembled case.text) case verdict

@@ -1,0 +1,9 @@
+pub mod Digits
+pub mod Outputs
+pub mod Questions
+pub mod Spots
+pub mod Holds
+pub mod Walks
+pub mod Ends
+pub mod Refusals
+pub mod Cases

@@ -1,0 +1,195 @@
+//! What is stated of a whole scenario.
+
+ghost use Rattle.std.specs.Prelude.{◌≡◌, ◌↔◌, ◌++◌, length, IsTrue, IfOk};
+ghost use Rattle.fleet_core.specs.Waiting.{waiting};
+ghost use Rattle.scenario_asm.specs.Canonical.{printed};
+ghost use Rattle.case_play.specs.Ends.{IsImageOf, IsTraceOf, IsEnd, EndHolds, AreEnds, AreAllEnds};
+ghost use Rattle.case_play.specs.Ends.{line_in, text_in, is_of_all};
+
+use crate::digits::matches;
+use case_text::{Answer, Digit, Item, Stated};
+use fleet_core::{Entry, WriteFault, unfinished, write_entries};
+use scenario_asm::disassemble;
+use scenario_image::{Scenario, save};
+use std::alloc::{AllocError, Global};
+
+/// Whether a run has so many entries, after which these devices are not at the end of their rows.
+fn is_run(
+    alloc: Global,
+    scenario: &Scenario,
+    entries: &[Entry],
+    count: u64,
+    devices: &[u16],
+) -> Result<bool, AllocError>
+    ensures { IfOk result (λ b. IsTrue b
+        ↔ ((length entries.now ≡ count) × (waiting scenario.now entries.now ≡ devices.now))) }
+{
+    let left = unfinished(alloc, scenario, entries)?;
+    Ok(entries.len() as u64 == count && left.as_slice() == devices)
+}
+
+/// Whether these are the digits of the image.
+fn is_image(alloc: Global, scenario: &Scenario, digits: &[Digit]) -> Result<bool, AllocError>
+    ensures { IfOk result (λ b. IsTrue b ↔ IsImageOf scenario.now digits.now) }
+{
+    let image = save(alloc, scenario)?;
+    Ok(matches(digits, image.as_slice()))
+}
+
+/// Whether these are the digits of the entries' trace file.
+fn is_trace(alloc: Global, entries: &[Entry], digits: &[Digit]) -> Result<bool, AllocError>
+    ensures { IfOk result (λ b. IsTrue b ↔ IsTraceOf entries.now digits.now) }
+{
+    match write_entries(alloc, entries) {
+        Ok(bytes) => Ok(matches(digits, bytes.as_slice())),
+        Err(WriteFault::Memory) => Err(AllocError),
+        Err(WriteFault::TooLarge) => Ok(false),
+    }
+}
+
+/// Adds the line of a text that an answer states, if it states one.
+fn put_line(out: &mut Vec<u8>, stated: &Stated) -> Result<(), AllocError>
+    ensures { IfOk result (λ u. out.new.items ≡ out.old.items ++ line_in stated.now) }
+{
+    match stated {
+        Stated::TextLine(text) => {
+            out.extend_from_slice(text.as_str().as_bytes())?;
+            out.push(b'\n')?;
+            Ok(())
+        }
+        Stated::Nothing
+        | Stated::Send { .. }
+        | Stated::Code { .. }
+        | Stated::Notification { .. }
+        | Stated::Act(_)
+        | Stated::More(_)
+        | Stated::Done(_)
+        | Stated::Stalled { .. }
+        | Stated::Image(_)
+        | Stated::Trace(_)
+        | Stated::Text
+        | Stated::Fault { .. } => Ok(()),
+    }
+}
+
+/// The text whose lines are stated.
+fn text_in(alloc: Global, answers: &[Answer]) -> Result<Vec<u8>, AllocError>
+    ensures { IfOk result (λ v. v.items ≡ text_in answers.now) }
+{
+    let mut out = Vec::new(alloc);
+    for answer in answers {
+        put_line(&mut out, &answer.stated)?;
+    }
+    Ok(out)
+}
+
+/// Whether the lines that are stated are the canonical text of the scenario.
+fn is_text(alloc: Global, scenario: &Scenario, answers: &[Answer]) -> Result<bool, AllocError>
+    ensures { IfOk result (λ b. IsTrue b ↔ (printed scenario.now ≡ text_in answers.now)) }
+{
+    let stated = text_in(alloc, answers)?;
+    let text = disassemble(alloc, scenario)?;
+    Ok(text.as_str().as_bytes() == stated.as_slice())
+}
+
+/// Whether an answer, among those below its item, is so of the scenario and its serial run.
+fn is_end(
+    alloc: Global,
+    scenario: &Scenario,
+    entries: &[Entry],
+    answers: &[Answer],
+    stated: &Stated,
+) -> Result<bool, AllocError>
+    ensures { IfOk result (λ b. IsTrue b ↔ IsEnd scenario.now entries.now answers.now stated.now) }
+{
+    match stated {
+        Stated::Done(count) => is_run(alloc, scenario, entries, *count, &[]),
+        Stated::Stalled { steps, waiting } => {
+            is_run(alloc, scenario, entries, *steps, waiting.as_slice())
+        }
+        Stated::Image(digits) => is_image(alloc, scenario, digits.as_slice()),
+        Stated::Trace(digits) => is_trace(alloc, entries, digits.as_slice()),
+        Stated::Text => is_text(alloc, scenario, answers),
+        Stated::Fault { .. } => Ok(false),
+        Stated::Nothing
+        | Stated::Send { .. }
+        | Stated::Code { .. }
+        | Stated::Notification { .. }
+        | Stated::Act(_)
+        | Stated::More(_)
+        | Stated::TextLine(_) => Ok(true),
+    }
+}
+
+fn is_of_all(stated: &Stated) -> bool
+    ensures { result ≡ is_of_all stated.now }
+{
+    match stated {
+        Stated::Done(_)
+        | Stated::Stalled { .. }
+        | Stated::Image(_)
+        | Stated::Trace(_)
+        | Stated::Text
+        | Stated::Fault { .. } => true,
+        Stated::Nothing
+        | Stated::Send { .. }
+        | Stated::Code { .. }
+        | Stated::Notification { .. }
+        | Stated::Act(_)
+        | Stated::More(_)
+        | Stated::TextLine(_) => false,
+    }
+}
+
+/// Whether an answer that is about the whole scenario is so, or is not where it must not come.
+fn end_holds(
+    alloc: Global,
+    scenario: &Scenario,
+    entries: &[Entry],
+    answers: &[Answer],
+    answer: &Answer,
+) -> Result<bool, AllocError>
+    ensures { IfOk result (λ b. IsTrue b ↔ EndHolds scenario.now entries.now answers.now answer.now) }
+{
+    if !is_of_all(&answer.stated) {
+        return Ok(true);
+    }
+    let is = is_end(alloc, scenario, entries, answers, &answer.stated)?;
+    Ok(is != answer.must_not)
+}
+
+/// The line of the first answer below an item that is about the whole scenario, and does not hold; none where all do.
+fn first_end(
+    alloc: Global,
+    scenario: &Scenario,
+    entries: &[Entry],
+    answers: &[Answer],
+) -> Result<Option<usize>, AllocError>
+    ensures { IfOk result (λ r. AreEnds scenario.now entries.now answers.now r) }
+{
+    for answer in answers {
+        if !end_holds(alloc, scenario, entries, answers, answer)? {
+            return Ok(Some(answer.line));
+        }
+    }
+    Ok(None)
+}
+
+/// The line of the first answer of a case that is about the whole scenario, and does not hold; none where all do. The
+/// entries are those of the serial run.
+pub fn first_wrong_end(
+    alloc: Global,
+    scenario: &Scenario,
+    entries: &[Entry],
+    items: &[Item],
+) -> Result<Option<usize>, AllocError>
+    ensures { IfOk result (λ r. AreAllEnds scenario.now entries.now items.now r) }
+{
+    for item in items {
+        match first_end(alloc, scenario, entries, item.answers.as_slice())? {
+            None => {}
+            Some(line) => return Ok(Some(line)),
+        }
+    }
+    Ok(None)
+}
