@@ -31,7 +31,8 @@ use Rattle.scenario_mnemonics.specs.declared.mnemonic.Request.{Request}
 use Rattle.scenario_mnemonics.specs.declared.mnemonic.Mnemonic.{Mnemonic}
 use Rattle.scenario_mnemonics.specs.declared.mnemonic.Mnemonic.TheVariants as mnemonic
 use Rattle.scenario_mnemonics.specs.Queries.{are_queries}
-use Rattle.scenario_mnemonics.specs.Messages.{fields_of, segments, fits_mnemonic, message_of, datagram_of, has_words, IsGood}
+use Rattle.scenario_mnemonics.specs.Messages.{fields_of, segments, fits_mnemonic, message_of, datagram_of, has_words}
+use Rattle.scenario_mnemonics.specs.Messages.{IsGood}
 use Rattle.scenario_mnemonics.specs.MnemonicWords.{formats}
 use Rattle.scenario_mnemonics.specs.Denoting.{values, actions, requests, candidates, is_own, mnemonic_of}
 use Rattle.scenario_mnemonics.specs.Inside.{mnemonic_found}
