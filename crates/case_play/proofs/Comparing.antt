@@ -1,5 +1,5 @@
 -- Answers beside what is output, and the line that is named.
-use Rattle.std.proofs.Common.{◌≡◌, ℕ, ◌+◌, ◌<◌, ◌≤◌, ◌⊎◌, inl, inr, Bool, true, false, List, length, Option, None, Some}
+use Rattle.std.proofs.Common.{◌≡◌, ℕ, ◌<◌, ◌≤◌, ◌⊎◌, inl, inr, Bool, true, false, List, length, Option, None, Some}
 use Rattle.std.proofs.Common.{Result, Ok, Err, IfOk, slice_get, refl, sym, ap, subst, ◌∙◌, arith}
 use Rattle.std.proofs.lemmas.Bool.{cases_lt}
 use Rattle.std.proofs.lemmas.Option.{slice_get_within}
@@ -8,9 +8,9 @@ use Rattle.scenario_image.specs.Scenario.{Scenario}
 use Rattle.case_text.specs.declared.answer.Answer.{Answer}
 use Rattle.case_text.specs.declared.item.Item.{Item}
 use Rattle.case_play.specs.declared.walk.Walk.{Walk}
-use Rattle.case_play.specs.Outputs.{width_before, States, IsSoOr, IsSoAt, IsFirstWrong}
+use Rattle.case_play.specs.Outputs.{width_before, States, IsSoOr, IsFirstWrong}
 use Rattle.case_play.specs.Spots.{Spot, spot_after, PutsOut}
-use Rattle.case_play.specs.Holds.{has_right, has_wrong, HoldBy, Hold, IsAnswered, Holds, IsWrongIn, IsWrongAnswer}
+use Rattle.case_play.specs.Holds.{has_right, has_wrong, HoldBy, Hold, IsAnswered, IsWrongIn}
 use Rattle.case_play.specs.Holds.{line_or, IsNamed}
 use Rattle.case_play.specs.Walks.{IsAt, IsCompared, IsChecked}
 use Rattle.case_play.proofs.Rows.{some_at, puts_same}

@@ -1,7 +1,6 @@
 -- The items before a place of a case hold, and the walk is at the place.
-use Rattle.std.proofs.Common.{◌≡◌, ℕ, ◌+◌, ◌<◌, ◌≤◌, List, [], ◌∷◌, length, take, None, Some, slice_get, refl, sym, ap}
+use Rattle.std.proofs.Common.{◌≡◌, ℕ, ◌+◌, ◌<◌, ◌≤◌, List, [], ◌∷◌, length, None, Some, slice_get, refl, sym, ap}
 use Rattle.std.proofs.Common.{subst, ◌∙◌, arith, below_more}
-use Rattle.std.specs.Prelude.{fold}
 use Rattle.std.proofs.lemmas.List.Sums.{fold_more}
 use Rattle.std.proofs.lemmas.Option.{same_Some, slice_get_within, get_or_from_slice_get}
 use Rattle.scenario_image.specs.Scenario.{Scenario}
@@ -9,7 +8,7 @@ use Rattle.case_text.specs.declared.item.Item.{Item}
 use Rattle.case_play.specs.declared.walk.Walk.{Walk}
 use Rattle.case_play.specs.Spots.{Spot, first_spot, spot_after, spot_at}
 use Rattle.case_play.specs.Holds.{Holds, IsFirstDifference}
-use Rattle.case_play.specs.Walks.{IsAt, IsChecked, IsSomewhere}
+use Rattle.case_play.specs.Walks.{IsAt, IsChecked}
 
 pub record IsWalked (s : Scenario) (items : List Item) (i : ℕ) (walk : Walk) : Type 0 where
   pub at : IsAt s (spot_at items i) walk

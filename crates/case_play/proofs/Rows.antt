@@ -1,14 +1,14 @@
 -- What the rows of a scenario say at a spot, which is one thing.
-use Rattle.std.proofs.Common.{◌≡◌, ℕ, zero, suc, ◌+◌, ◌-◌, ◌<◌, ◌≤◌, Bool, false, List, [], ◌∷◌, ◌++◌, length, Option}
+use Rattle.std.proofs.Common.{◌≡◌, ℕ, zero, suc, ◌-◌, ◌<◌, ◌≤◌, Bool, false, List, [], ◌∷◌, ◌++◌, length}
 use Rattle.std.proofs.Common.{None, Some, slice_get, refl, sym, ap, subst, ◌∙◌, arith}
 use Rattle.std.specs.Prelude.{fold}
 use Rattle.std.proofs.lemmas.List.Sums.{fold_push}
-use Rattle.std.proofs.lemmas.Option.{same_Some, slice_get_within, slice_get_past}
+use Rattle.std.proofs.lemmas.Option.{same_Some, slice_get_within}
 use Rattle.device_template.specs.Template.{Template}
 use Rattle.device_machine.specs.declared.event.Event.{Event}
 use Rattle.device_machine.specs.declared.output.Output.{Output}
-use Rattle.device_machine.specs.State.{Machine, Device, Shows, living}
-use Rattle.device_machine.specs.Reactions.{outputs_of, flat_after, is_refused}
+use Rattle.device_machine.specs.State.{Machine, Device, Shows}
+use Rattle.device_machine.specs.Reactions.{outputs_of, flat_after}
 use Rattle.scenario_image.specs.declared.step.Step.{Step}
 use Rattle.scenario_image.specs.Scenario.{Row, Scenario, IsGoodRow, IsValid}
 use Rattle.scenario_image.specs.Play.{state_at, shown, IsRowOf}

@@ -1,6 +1,6 @@
 -- A walk along the items of a case.
-use Rattle.std.proofs.Common.{◌≡◌, ℕ, ◌+◌, ◌-◌, ◌<◌, ◌≤◌, ◌↔◌, Bool, true, false, List, [], ◌∷◌, ◌++◌, length, Option}
-use Rattle.std.proofs.Common.{None, Some, slice_get, IsTrue, refl, sym, ap, subst, ◌∙◌, arith}
+use Rattle.std.proofs.Common.{◌≡◌, ℕ, ◌+◌, ◌-◌, ◌<◌, ◌≤◌, ◌↔◌, Bool, true, false, List, [], length, Option}
+use Rattle.std.proofs.Common.{None, Some, IsTrue, refl, sym, ap, subst, ◌∙◌, arith}
 use Rattle.device_template.specs.Template.{Template}
 use Rattle.device_machine.specs.declared.event.Event.{Event}
 use Rattle.device_machine.specs.declared.output.Output.{Output}
@@ -16,11 +16,11 @@ use Rattle.case_play.specs.declared.walk.Walk.{Walk}
 use Rattle.case_text.specs.declared.item.Part.{Part}
 use Rattle.case_text.specs.declared.item.Part.TheVariants as parts
 use Rattle.case_text.specs.declared.question.Question.{Question}
-use Rattle.case_play.specs.Spots.{Spot, spot_after, IsAsked, HasTaken, HasBegun, PutsOut}
+use Rattle.case_play.specs.Spots.{Spot, spot_after, HasBegun, PutsOut}
 use Rattle.case_play.specs.Holds.{IsMet, IsAnswered}
 use Rattle.case_play.specs.Walks.{IsMachine, IsCopy, IsAt, IsSomewhere, Asks, Takes, IsMadeLast}
 use Rattle.case_play.specs.Walks.{Advances, Passes}
-use Rattle.case_play.proofs.Rows.{last_of, machine_asked, none_asked, asked_next, shown_is, no_step, asked_same}
+use Rattle.case_play.proofs.Rows.{machine_asked, none_asked, asked_next, shown_is, no_step, asked_same}
 
 -- ---- steps of a row
 

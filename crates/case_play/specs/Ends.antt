@@ -12,7 +12,7 @@ use Rattle.case_text.specs.declared.digit.Digit.{Digit}
 use Rattle.case_text.specs.declared.answer.Answer.{Answer}
 use Rattle.case_text.specs.declared.item.Item.{Item}
 use Rattle.case_text.specs.declared.stated.Stated.{Stated}
-use Rattle.case_text.specs.declared.stated.Stated.TheVariants.{Nothing, Send, Code, Notification, Act, More, Done}
+use Rattle.case_text.specs.declared.stated.Stated.TheVariants.{Done}
 use Rattle.case_text.specs.declared.stated.Stated.TheVariants.{Stalled, Image, Trace, Text, TextLine, Fault}
 use Rattle.case_play.specs.Digits.{Matches}
 

@@ -10,8 +10,7 @@ use Rattle.case_text.specs.declared.item.Part.{Part}
 use Rattle.case_text.specs.declared.item.Part.TheVariants as parts
 use Rattle.case_text.specs.declared.question.Question.{Question}
 use Rattle.case_text.specs.declared.stated.Stated.{Stated}
-use Rattle.case_text.specs.declared.stated.Stated.TheVariants.{Nothing, Send, Code, Notification, Act, More, Done}
-use Rattle.case_text.specs.declared.stated.Stated.TheVariants.{Stalled, Image, Trace, Text, TextLine, Fault}
+use Rattle.case_text.specs.declared.stated.Stated.TheVariants.{Nothing, Send, Code, Notification, Act, More}
 use Rattle.case_play.specs.Outputs.{States, IsFirstWrong}
 use Rattle.case_play.specs.Questions.{IsAnswer}
 use Rattle.case_play.specs.Spots.{Spot, spot_at, IsAsked, PutsOut}

@@ -1,8 +1,7 @@
 -- When a case passes whose text is refused.
-use Rattle.std.specs.Prelude.{◌≡◌, ℕ, zero, suc, ◌+◌, ◌<◌, Bool, true, false, IsTrue, not, List, length, nat_lt, Option}
+use Rattle.std.specs.Prelude.{◌≡◌, ℕ, zero, suc, Bool, true, false, IsTrue, List, length, nat_lt, Option}
 use Rattle.std.specs.Prelude.{None, Some, slice_get}
 use Rattle.std.specs.List.{list_any}
-use Rattle.scenario_words.specs.declared.cause.Cause.{Cause}
 use Rattle.scenario_asm.specs.declared.fault.AsmFault.{AsmFault}
 use Rattle.case_text.specs.declared.answer.Answer.{Answer}
 use Rattle.case_text.specs.declared.item.Item.{Item}

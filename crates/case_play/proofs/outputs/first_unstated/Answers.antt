@@ -1,4 +1,4 @@
-use Rattle.std.proofs.Common.{◌≡◌, ◌+◌, length, refl, ap, arith}
+use Rattle.std.proofs.Common.{◌+◌, length, refl, ap, arith}
 use Rattle.std.proofs.lemmas.Option.{slice_get_read}
 use Rattle.case_play.proofs.Stating.{so_next, left_over, all_so}
 use Rattle.case_play.proofs.outputs.first_unstated.Goals as goal
