@@ -78,15 +78,15 @@ fn words_of(alloc: Global, refusal: &Refusal) -> Result<String, AllocError> {
 
 fn named(alloc: Global, fault: Fault) -> Result<String, AllocError> {
     match fault {
-        Fault::Memory => String::from_str(alloc, "no memory is left"),
+        Fault::Memory => String::from_str(alloc, "out of memory"),
         Fault::Workers => String::from_str(alloc, "the number of workers is not from 1 to 64"),
         Fault::Batch => String::from_str(alloc, "the batch is not from 1 to 64"),
         Fault::Spent => String::from_str(alloc, "no ticket is left"),
         Fault::NoDevice => String::from_str(alloc, "the scenario has no device of this number"),
         Fault::PastEnd => String::from_str(alloc, "the trace has no entry of this number"),
-        Fault::Range => String::from_str(alloc, "the last number is below the first one"),
+        Fault::Range => String::from_str(alloc, "`--to` is below `--from`"),
         Fault::TooLong => String::from_str(alloc, "a datagram is too long for a packet"),
-        Fault::Bind => String::from_str(alloc, "the port could not be had"),
+        Fault::Bind => String::from_str(alloc, "cannot bind the port"),
         Fault::Session(ScenarioFault::Limit) => {
             String::from_str(alloc, "the session has more steps than a scenario may have")
         }
