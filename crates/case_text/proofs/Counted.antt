@@ -6,7 +6,7 @@ use Rattle.case_text.specs.Expanding.{expanded}
 use Rattle.case_text.specs.Lines.{counted_by, counted_of}
 use Rattle.case_text.proofs.Parts.{some_part}
 
--- the line stands behind the count, whatever it is
+-- the line stands after the count, whatever it is
 pub counted_behind : (count line : List ℕ)
     → counted_of (count ∷ parts 32 line) ≡ counted_by (times_of count) (expanded (parts 32 line))
 counted_behind count line =

@@ -1,4 +1,4 @@
--- What a line asks a device, by the words behind its `?`, from the left. Each fault is the first one.
+-- What a line asks a device, by the words after its `?`, from the left. Each fault is the first one.
 use Rattle.std.specs.Prelude.{ℕ, Bool, List, Option, None, Some, Result, Ok, Err, codes, if◌then◌else◌}
 use Rattle.std.specs.Str.{bytes_eq}
 use Rattle.lwm2m_values.specs.declared.value.Value.{Value}

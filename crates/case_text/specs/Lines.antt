@@ -118,7 +118,7 @@ counted_of [] = Err why.NotACount
 counted_of (count ∷ []) = Err why.NotACount
 counted_of (count ∷ w ∷ ws) = counted_by (times_of count) (expanded (w ∷ ws))
 
--- whether a line begins so, and what stands behind this beginning
+-- whether a line begins so, and what stands after this beginning
 abbrev pub begins : List ℕ → List ℕ → Bool
 begins mark line = bytes_eq (take (length mark) line) mark
 

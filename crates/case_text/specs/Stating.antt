@@ -1,4 +1,4 @@
--- What a line states, by the words behind its `=>`, from the left. Each fault is the first one.
+-- What a line states, by the words after its `=>`, from the left. Each fault is the first one.
 use Rattle.std.specs.Prelude.{ℕ, ◌+◌, ◌*◌, ◌-◌, ◌==◌, nat_lt, ◌&&◌, Bool, false, List, [], ◌∷◌, Option, None, Some}
 use Rattle.std.specs.Prelude.{Result, Ok, Err, codes, if◌then◌else◌}
 use Rattle.std.specs.Char.{is_ascii_digit}

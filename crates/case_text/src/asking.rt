@@ -109,7 +109,7 @@ fn question_by(alloc: Global, word: &[u8], line: &[u8]) -> Result<(bool, Questio
     }
 }
 
-/// What a line asks a device, by the line behind its `?`, and whether the answer that it states must not come (`=/>`).
+/// What a line asks a device, by the line after its `?`, and whether the answer that it states must not come (`=/>`).
 /// Faults are those of `read_stated`.
 pub fn read_question(alloc: Global, line: &[u8]) -> Result<(bool, Question), Cause>
     ensures { Gives (λ x. x) result (question_of (words line.now)) }

@@ -30,7 +30,7 @@ fn put_word(alloc: Global, out: &mut Vec<u8>, word: &[u8]) -> Result<(), AllocEr
     }
 }
 
-/// A line in which each word with a `*` that is in pieces stands for its hex, and a space behind each word.
+/// A line in which each word with a `*` that is in pieces stands for its hex, and a space after each word.
 pub(crate) fn expanded(alloc: Global, line: &[u8]) -> Result<Vec<u8>, AllocError>
     ensures { IfOk result (λ v. v.items ≡ expanded (parts 32 line.now)) }
 {

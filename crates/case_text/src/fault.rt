@@ -8,13 +8,13 @@ pub enum Why {
     /// The line is not UTF-8.
     #[error("no text")]
     NotText,
-    /// What stands behind `=>` or `=/>` is no answer.
+    /// What stands after `=>` or `=/>` is not an answer.
     #[error("no such answer: {0}")]
     NotAnAnswer(Cause),
-    /// What stands behind `?` is no question with an answer to it.
+    /// What stands after `?` is not a question with an answer to it.
     #[error("no such question: {0}")]
     NotAQuestion(Cause),
-    /// What stands behind `!` is no event.
+    /// What stands after `!` is not an event.
     #[error("no such event: {0}")]
     NotAnEvent(Cause),
     /// `*` without a number from 1 to 100,000 and a line.

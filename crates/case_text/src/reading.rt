@@ -28,7 +28,7 @@ use scenario_statements::{Statement, read_statement};
 use scenario_words::{Cause, is_name, next_word};
 use std::alloc::{AllocError, Global};
 
-/// What stands behind the beginning of a line, where it begins so.
+/// What stands after the beginning of a line, where it begins so.
 fn behind<'a>(line: &'a [u8], mark: &str) -> Option<&'a [u8]>
     ensures { MatchOption result (begins mark.now line.now ≡ false)
         (λ x. (begins mark.now line.now ≡ true) × (x.now ≡ behind mark.now line.now)) }

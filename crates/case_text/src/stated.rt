@@ -4,7 +4,7 @@ use device_machine::Act;
 use lwm2m_values::Text;
 use scenario_words::Cause;
 
-/// What a line states, behind its `=>` or `=/>`.
+/// What a line states, after its `=>` or `=/>`.
 #[derive(Debug, Drop)]
 pub enum Stated {
     /// `nothing`: there is no output.

@@ -291,7 +291,7 @@ fn is_count(word: &[u8]) -> bool
     }
 }
 
-/// What a line states, by the line behind its `=>`.
+/// What a line states, by the line after its `=>`.
 ///
 /// Words are read from the left, and each fault is the first: `Missing` (a word is absent), `Token` (a word of the
 /// wrong form), `UnknownWord`, `Range` (a number outside its range), and after the last `Token` (a word too many).
