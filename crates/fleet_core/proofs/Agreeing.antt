@@ -11,7 +11,8 @@ use Rattle.scenario_image.specs.Scenario.{Scenario}
 use Rattle.scenario_image.specs.Play.{IsRowOf}
 use Rattle.trace_file.specs.declared.entry.Entry.{Entry}
 use Rattle.fleet_core.specs.Run.{out_at, step_at, made_by, posts_of, Fits, IsRun, IsComplete, IsSame}
-use Rattle.fleet_core.specs.Run.{outputs_by, outputs_in_row, outputs_with, may_pass, is_enabled}
+use Rattle.fleet_core.specs.Next.{next_of, may_pass}
+use Rattle.fleet_core.specs.Run.{outputs_by, outputs_in_row, outputs_with, is_enabled}
 use Rattle.fleet_core.proofs.Posts.{run_keeps, made_same, made_other, posts_are, posted-more, pass_more, fits_enabled}
 use Rattle.fleet_core.proofs.Posts.{ended_blocked}
 
@@ -28,7 +29,7 @@ stuck s a b d run complete within same go =
       posted-more g (λ i. made_by i a) (λ i. made_by i b) s.rows within,
     ) in
     let goes : is_enabled s b d ≡ true =
-    subst (λ k. may_pass (λ g. posts_of s g b) (step_at s d k) ≡ true) same
+    subst (λ k. may_pass (λ g. posts_of s g b) (next_of (step_at s d k)) ≡ true) same
     (pass_more (λ g. posts_of s g a) (λ g. posts_of s g b) (step_at s d (made_by d a)) posts go) in
     false≢true (sym (ended_blocked s b complete d) ∙ goes)
 

@@ -12,11 +12,14 @@ use Rattle.scenario_image.specs.Scenario.{Scenario, IsValid}
 use Rattle.device_machine.specs.declared.output.Output.{Output}
 use Rattle.scenario_image.specs.Play.{start, step_outputs, state_at, IsRowOf, PutsOut}
 use Rattle.trace_file.specs.declared.entry.Entry.{Entry}
-use Rattle.fleet_core.specs.Run.{step_at, made_by, posts_to, is_post, posts_of, may_pass, is_enabled, entry_of, out_at}
+use Rattle.fleet_core.specs.declared.next.Next.{Next}
+use Rattle.fleet_core.specs.Next.{next_of, may_pass}
+use Rattle.fleet_core.specs.Run.{step_at, made_by, posts_to, is_post, posts_of, is_enabled, entry_of, out_at}
 use Rattle.fleet_core.specs.Run.{outputs_before, outputs_with, outputs_in_row}
 use Rattle.fleet_core.specs.Board.{Seen, IsBoard, AreParked, HoldsAfter, Holding, IsFleet, posts_after}
 use Rattle.fleet_core.proofs.Posts.{one, run_push, made_same, made_other, posts-push, enabled_fits}
-use Rattle.fleet_core.proofs.Valid.{IsStep, step_is, posts_within}
+use Rattle.fleet_core.proofs.Valid.{IsStep, step_is, post_group, posts_within}
+use Rattle.fleet_core.proofs.Ends.{enabled_by}
 
 -- ---- lists
 
@@ -40,23 +43,32 @@ posts_length posts (Event event) = refl
 posts_length posts (Post group) = length-set posts group (slice_index posts group + 1)
 posts_length posts (Need group count) = refl
 
-post_at : (posts : List ℕ) (group g : ℕ) → length posts ≡ 256 → g < 256 → (group ≡ g) ⊎ (group ≡ g → ⊥)
+post_at : (posts : List ℕ) (group g : ℕ) → group < length posts → (group ≡ g) ⊎ (group ≡ g → ⊥)
     → slice_index (slice_set posts group (slice_index posts group + 1)) g ≡ slice_index posts g + one (eqb group g)
-post_at posts group g len within (inl same) =
-    let h : g < length posts = omega arith in
-    subst (λ i. slice_index (slice_set posts i (slice_index posts i + 1)) g ≡ slice_index posts g + one (eqb i g))
-    (sym same)
-    (get_or-set_same posts g (slice_index posts g + 1) 0 h
-    ∙ ap (λ b. slice_index posts g + one b) (sym (eq-eqb g g refl)))
-post_at posts group g len within (inr other) =
+post_at posts group g within (inl same) =
+    subst (λ i. slice_index (slice_set posts group (slice_index posts group + 1)) i
+    ≡ slice_index posts i + one (eqb group i)) same
+    (get_or-set_same posts group (slice_index posts group + 1) 0 within
+    ∙ ap (λ b. slice_index posts group + one b) (sym (eq-eqb group group refl)))
+post_at posts group g within (inr other) =
     get_or-set_other posts group g (slice_index posts group + 1) 0 (λ e. other (sym e))
     ∙ (sym (omega arith) ∙ ap (λ b. slice_index posts g + one b) (sym (ne_eqb group g other)))
 
-pub noted : (posts : List ℕ) (step : Step) (g : ℕ) → length posts ≡ 256 → g < 256
+counted : (posts : List ℕ) (step : Step) (g : ℕ) → ((group : ℕ) → step ≡ Post group → group < length posts)
     → slice_index (posts_after posts step) g ≡ slice_index posts g + one (posts_to g step)
-noted posts (Event event) g len within = omega arith
-noted posts (Post group) g len within = post_at posts group g len within (cases_eq group g)
-noted posts (Need group count) g len within = omega arith
+counted posts (Event event) g within = omega arith
+counted posts (Post group) g within = post_at posts group g (within group refl) (cases_eq group g)
+counted posts (Need group count) g within = omega arith
+
+-- with an entry more, the table in which its step is counted, with a place for the group of a post
+pub noted : (s : Scenario) (es : List Entry) (e : Entry) (step : Step) (posts : List ℕ)
+    → ((group : ℕ) → step ≡ Post group → group < length posts) → step_at s e.device e.step ≡ Some step
+    → (g : ℕ) → slice_index posts g ≡ posts_of s g es
+    → slice_index (posts_after posts step) g ≡ posts_of s g (es ++ e ∷ [])
+noted s es e step posts within at g was =
+    counted posts step g within
+    ∙ (ap (λ n. n + one (posts_to g step)) was
+    ∙ (ap (λ o. posts_of s g es + one (is_post g o)) (sym at) ∙ sym (posts-push s g es e)))
 
 -- ---- the board
 
@@ -84,10 +96,9 @@ board_push s es made posts worker d step board at go =
       made_is = λ i within. made_at s es (entry_of s worker d es) made d board.rows board.made_is i within
           (cases_eq d i);
       posts_is = λ g within.
-          noted posts step g board.groups within
-          ∙ (ap (λ n. n + one (posts_to g step)) (board.posts_is g within)
-          ∙ (ap (λ o. posts_of s g es + one (is_post g o)) (sym at)
-          ∙ sym (posts-push s g es (entry_of s worker d es))));
+          noted s es (entry_of s worker d es) step posts
+          (λ group is. omega (arith, post_group s d (made_by d es) group board.valid (at ∙ ap Some is), board.groups))
+          at g (board.posts_is g within);
     }
 
 -- ---- the devices
@@ -162,6 +173,18 @@ get_or_any [] i x y h = absurd (omega (arith, h))
 get_or_any (z ∷ zs) zero x y h = refl
 get_or_any (z ∷ zs) (suc i) x y h = get_or_any zs i x y (omega (arith, h))
 
+-- the table of a fleet says whether a device is enabled
+pub table_enabled : (v : Seen) (s : Scenario) (es : List Entry) (spent : Bool) (made posts l : List ℕ) (d : ℕ)
+    (n : Next) (b : Bool) → record { scenario = s; entries = es; spent = spent } ≡ v → IsBoard s es made posts
+    → l ≡ posts → n ≡ next_of (step_at v.scenario d (made_by d v.entries)) → b ≡ may_pass (λ g. slice_index l g) n
+    → b ≡ is_enabled v.scenario v.entries d
+table_enabled v s es spent made posts l d n b view board same next is =
+    subst (λ w. n ≡ next_of (step_at w.scenario d (made_by d w.entries)) → b ≡ is_enabled w.scenario w.entries d) view
+    (λ at. is ∙ (ap (may_pass (λ g. slice_index l g)) at
+    ∙ (ap (λ t. may_pass (λ g. slice_index t g) (next_of (step_at s d (made_by d es)))) same
+    ∙ enabled_by s es d (λ g. slice_index posts g) board.valid board.posts_is)))
+    next
+
 -- what a fleet that may go on knows of the next step of a device
 pub record Reads (s : Scenario) (es : List Entry) (devices : List Holding) (d place : ℕ) (step : Step)
     (old : Holding) : Type 0 where
@@ -176,11 +199,9 @@ pub reads : (v : Seen) (s : Scenario) (es : List Entry) (spent : Bool) (made pos
     (devices : List Holding) (d at place : ℕ) (step : Step) (old : Holding)
     → record { scenario = s; entries = es; spent = spent } ≡ v → IsFleet s es made posts devices spent → spent ≡ false
     → Some step ≡ step_at v.scenario d (made_by d v.entries)
-    → true ≡ may_pass (λ g. posts_of v.scenario g v.entries) (Some step) → at ≡ d → place ≡ get_or made at place
+    → true ≡ is_enabled v.scenario v.entries d → at ≡ d → place ≡ get_or made at place
     → old ≡ get_or devices at old → Reads s es devices d place step old
-reads v s es spent made posts devices d at place step old view fleet ready next passes from read got =
-    let go : true ≡ is_enabled v.scenario v.entries d =
-    passes ∙ ap (may_pass (λ g. posts_of v.scenario g v.entries)) next in
+reads v s es spent made posts devices d at place step old view fleet ready next go from read got =
     let next_is : step_at s d (made_by d es) ≡ Some step =
     subst (λ w. step_at w.scenario d (made_by d w.entries) ≡ Some step) (sym view) (sym next) in
     let is : IsStep s d (made_by d es) step = step_is s d (made_by d es) step fleet.board.valid next_is in
@@ -213,18 +234,23 @@ room_at s es made posts g board (inl low) =
     omega (arith, board.posts_is g low, posts_within s g es board.valid board.run)
 room_at s es made posts g board (inr high) = omega (arith, get_or_past posts g 0 (omega (arith, board.groups, high)))
 
+-- the table has a place for the group of a post
+pub post_within : (s : Scenario) (es : List Entry) (made posts : List ℕ) (devices : List Holding) (d place : ℕ)
+    (step : Step) (old : Holding) → IsBoard s es made posts → Reads s es devices d place step old
+    → (group : ℕ) → step ≡ Post group → group < length posts
+post_within s es made posts devices d place step old board r group is =
+    omega (arith, post_group s d (made_by d es) group board.valid (r.at ∙ ap Some is), board.groups)
+
 pub posts_room : (s : Scenario) (es : List Entry) (made posts : List ℕ) → IsBoard s es made posts → (g : ℕ)
     → slice_index posts g + 1 < 4294967296
 posts_room s es made posts board g = room_at s es made posts g board (cases_lt g 256)
 
 -- the entry that is added is the device's next
 pub entry_is : (s : Scenario) (es : List Entry) (devices : List Holding) (worker d place : ℕ) (step : Step)
-    (old : Holding) (out : List Output) → Reads s es devices d place step old → out ≡ out_at s d place
-    → record { worker = worker; device = d; step = place; outputs = out } ≡ entry_of s worker d es
-entry_is s es devices worker d place step old out r puts =
-    ap (λ k. record { worker = worker; device = d; step = k; outputs = out }) r.place_is
-    ∙ ap (λ o. record { worker = worker; device = d; step = made_by d es; outputs = o })
-    (puts ∙ ap (out_at s d) r.place_is)
+    (old : Holding) (e : Entry) → Reads s es devices d place step old
+    → e ≡ record { worker = worker; device = d; step = place; outputs = out_at s d place } → e ≡ entry_of s worker d es
+entry_is s es devices worker d place step old e r made =
+    made ∙ ap (λ k. record { worker = worker; device = d; step = k; outputs = out_at s d k }) r.place_is
 
 pub added : (v : Seen) (s : Scenario) (es new : List Entry) (spent : Bool) (worker d : ℕ) (e : Entry)
     → record { scenario = s; entries = es; spent = spent } ≡ v

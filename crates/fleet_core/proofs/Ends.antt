@@ -1,29 +1,26 @@
 -- Where runs end, and what their steps need.
-use Rattle.std.proofs.Common.{◌≡◌, ℕ, zero, suc, ◌<◌, ◌≤◌, nat_le, Bool, true, false, ◌⊎◌, inl, inr, List, [], ◌∷◌}
+use Rattle.std.proofs.Common.{◌≡◌, ℕ, zero, suc, ◌<◌, ◌≤◌, Bool, true, false, ◌⊎◌, inl, inr, List, [], ◌∷◌}
 use Rattle.std.proofs.Common.{◌++◌, length, Option, None, Some, slice_get, refl, sym, ap, subst, ◌∙◌, arith}
 use Rattle.std.proofs.lemmas.Bool.{cases_eq, cases_lt, lt-ltb, le-ltb, ltb-true, false_from_ne_true, false≢true}
 use Rattle.std.proofs.lemmas.List.{append-nil, append_assoc}
-use Rattle.std.proofs.lemmas.Option.{slice_get_within, slice_get_past}
+use Rattle.std.proofs.lemmas.Option.{slice_get_within}
 use Rattle.scenario_image.specs.declared.step.Step.{Step}
-use Rattle.scenario_image.specs.declared.step.Step.TheVariants.{Event, Post, Need}
-use Rattle.scenario_image.specs.Scenario.{Scenario, IsGoodStep, IsValid}
+use Rattle.scenario_image.specs.declared.step.Step.TheVariants.{Need}
+use Rattle.scenario_image.specs.Scenario.{Scenario, IsValid}
 use Rattle.trace_file.specs.declared.entry.Entry.{Entry}
-use Rattle.fleet_core.specs.Run.{steps_in, step_at, made_by, posts_of, Fits, IsRun, IsComplete, may_pass, is_enabled}
+use Rattle.fleet_core.specs.Next.{next_of, may_pass}
+use Rattle.fleet_core.specs.Run.{steps_in, step_at, made_by, posts_of, Fits, IsRun, IsComplete, is_enabled}
 use Rattle.fleet_core.specs.Run.{entry_of}
 use Rattle.fleet_core.specs.Waiting.{is_waiting}
-use Rattle.fleet_core.proofs.Posts.{run_push, run_keeps, made_same, made_other, pass_more, enabled_fits, blocked_ended}
-use Rattle.fleet_core.proofs.Valid.{IsStep, all_at, step_is}
+use Rattle.fleet_core.proofs.Posts.{run_push, run_keeps, made_same, made_other, pass_same, pass_more, past_rows}
+use Rattle.fleet_core.proofs.Posts.{enabled_fits, blocked_ended}
+use Rattle.fleet_core.proofs.Valid.{need_group}
 use Rattle.fleet_core.proofs.Lowest.{left, left-next}
 
 -- ---- no device is enabled
 
 pub no_more : (s : Scenario) (es : List Entry) → IsRun s es → ((d : ℕ) → is_enabled s es d ≡ false) → IsComplete s es
 no_more s es run blocked = record { run = run; ended = blocked_ended s es blocked }
-
--- a device that has no row
-pub past_rows : (s : Scenario) (es : List Entry) (d : ℕ) → length s.rows ≤ d → is_enabled s es d ≡ false
-past_rows s es d past =
-    ap (λ o. may_pass (λ g. posts_of s g es) (slice_get (steps_in o) (made_by d es))) (slice_get_past s.rows d past)
 
 -- an enabled device has a step left
 pub goes_waits : (s : Scenario) (es : List Entry) (d : ℕ) → is_enabled s es d ≡ true → is_waiting s es d ≡ true
@@ -86,33 +83,16 @@ made_most s es d run =
     run_keeps s (λ l. (i : ℕ) → made_by i l ≤ length (steps_in (slice_get s.rows i))) (λ i. omega arith)
     (λ b e before within fits i. made_push s b e within fits i (cases_eq e.device i)) es run d
 
--- ---- groups
-
-pub need_group : (s : Scenario) (d k g n : ℕ) → IsValid s → step_at s d k ≡ Some (Need g n) → g < 256
-need_group s d k g n valid at =
-    let is : IsStep s d k (Need g n) = step_is s d k (Need g n) valid at in
-    (all_at (IsGoodStep is.class.accounts) is.steps k (Need g n) is.good is.stands).fields
-
-pub post_group : (s : Scenario) (d k g : ℕ) → IsValid s → step_at s d k ≡ Some (Post g) → g < 256
-post_group s d k g valid at =
-    let is : IsStep s d k (Post g) = step_is s d k (Post g) valid at in
-    (all_at (IsGoodStep is.class.accounts) is.steps k (Post g) is.good is.stands).fields
-
-pass_same : (p q : ℕ → ℕ) (o : Option Step) → ((g n : ℕ) → o ≡ Some (Need g n) → p g ≡ q g)
-    → may_pass p o ≡ may_pass q o
-pass_same p q None h = refl
-pass_same p q (Some (Event event)) h = refl
-pass_same p q (Some (Post group)) h = refl
-pass_same p q (Some (Need group count)) h = ap (nat_le count) (h group count refl)
+-- ---- tables of posts
 
 -- posts that are the same for the 256 groups say the same of a step
 pub pass_alike : (s : Scenario) (d k : ℕ) (p q : ℕ → ℕ) → IsValid s → ((g : ℕ) → g < 256 → p g ≡ q g)
-    → may_pass p (step_at s d k) ≡ may_pass q (step_at s d k)
+    → may_pass p (next_of (step_at s d k)) ≡ may_pass q (next_of (step_at s d k))
 pass_alike s d k p q valid same = pass_same p q (step_at s d k) (λ g n at. same g (need_group s d k g n valid at))
 
 pub enabled_by : (s : Scenario) (es : List Entry) (d : ℕ) (posts : ℕ → ℕ) → IsValid s
     → ((g : ℕ) → g < 256 → posts g ≡ posts_of s g es)
-    → may_pass posts (step_at s d (made_by d es)) ≡ is_enabled s es d
+    → may_pass posts (next_of (step_at s d (made_by d es))) ≡ is_enabled s es d
 enabled_by s es d posts valid same = pass_alike s d (made_by d es) posts (λ g. posts_of s g es) valid same
 
 -- ---- a device that made no entry
@@ -122,7 +102,7 @@ pub enabled_stays : (s : Scenario) (a b : List Entry) (d : ℕ) → made_by d a 
     → ((g : ℕ) → posts_of s g a ≤ posts_of s g b)
     → is_enabled s a d ≡ true → is_enabled s b d ≡ true
 enabled_stays s a b d made posts go =
-    subst (λ k. may_pass (λ g. posts_of s g b) (step_at s d k) ≡ true) made
+    subst (λ k. may_pass (λ g. posts_of s g b) (next_of (step_at s d k)) ≡ true) made
     (pass_more (λ g. posts_of s g a) (λ g. posts_of s g b) (step_at s d (made_by d a)) posts go)
 
 -- and nothing else, where the group that it needs has the same posts
@@ -131,7 +111,7 @@ pub enabled_same : (s : Scenario) (a b : List Entry) (d : ℕ) → made_by d a �
     → is_enabled s a d ≡ is_enabled s b d
 enabled_same s a b d made posts =
     pass_same (λ g. posts_of s g a) (λ g. posts_of s g b) (step_at s d (made_by d a)) posts
-    ∙ ap (λ k. may_pass (λ g. posts_of s g b) (step_at s d k)) made
+    ∙ ap (λ k. may_pass (λ g. posts_of s g b) (next_of (step_at s d k))) made
 
 -- ---- every run begins a complete one
 

@@ -1,7 +1,7 @@
 -- What is held of a device before its first step, and after its last one.
 use Rattle.std.proofs.Common.{◌≡◌, ℕ, ◌+◌, ◌⊎◌, inl, inr, true, false, List, [], ◌∷◌, ◌++◌, length, Option, None, Some}
 use Rattle.std.proofs.Common.{slice_get, refl, sym, ap, subst, ◌∙◌, arith, length-append}
-use Rattle.std.proofs.lemmas.Bool.{false≢true}
+use Rattle.std.proofs.lemmas.Bool.{false_from_ne_true, false≢true}
 use Rattle.device_template.specs.Template.{Template}
 use Rattle.device_machine.specs.State.{Device, Shows}
 use Rattle.scenario_image.specs.declared.step.Step.{Step}
@@ -9,7 +9,7 @@ use Rattle.scenario_image.specs.Play.{start, shown, IsRowOf}
 use Rattle.scenario_image.specs.Scenario.{Scenario}
 use Rattle.fleet_core.specs.Run.{step_at}
 use Rattle.fleet_core.specs.Board.{ShowsAfter, HoldsAfter, Holding, AreParked}
-use Rattle.fleet_core.proofs.Started.{pushed, never}
+use Rattle.fleet_core.proofs.Started.{IsClassOf, pushed, never}
 
 -- a device that is there
 pub here_after : (s : Scenario) (d k : ℕ) (x : Device) → ShowsAfter s d k x
@@ -25,10 +25,21 @@ pub started : (s : Scenario) (d k : ℕ) (held : Holding) (x : Device) → Holds
     → ((class : Template) (steps : List Step) → IsRowOf s d class steps → Shows x (start class)) → ShowsAfter s d k x
 started s d k held x holds fresh shows = subst (λ i. ShowsAfter s d i x) (sym (holds.fresh fresh)) shows
 
+-- before its first step there is the start of its class
+pub fresh_holds : (s : Scenario) (d : ℕ) (v class : Template) → IsClassOf s d class → v ≡ class
+    → HoldsAfter s d 0 (record { shown = shown (start v); fresh = true; gone = false })
+fresh_holds s d v class is same = record {
+  shows = λ c steps row. subst (λ t. Shows (shown (start v)) (start t)) (same ∙ is c steps row)
+      (record { ready = refl; holds = refl });
+  fresh = λ e. refl;
+  gone = λ e. absurd (false≢true e);
+}
+
 -- one whose memory was let go of has no step left
 pub not_gone : (s : Scenario) (d k : ℕ) (step : Step) (held : Holding) → step_at s d k ≡ Some step
-    → HoldsAfter s d k held → held.gone ≡ true → ⊥
-not_gone s d k step held at holds gone = let e : None ≡ Some step = sym (holds.gone gone) ∙ at in cc
+    → HoldsAfter s d k held → held.gone ≡ false
+not_gone s d k step held at holds =
+    false_from_ne_true held.gone (λ gone. let e : None ≡ Some step = sym (holds.gone gone) ∙ at in cc)
 
 -- where there is no next step, the memory may be let go of
 pub let_go_then : (s : Scenario) (d k : ℕ) (next : Option Step) (old new : Holding) → next ≡ None

@@ -10,12 +10,14 @@ use Rattle.scenario_image.specs.declared.step.Step.TheVariants.{Event, Post, Nee
 use Rattle.scenario_image.specs.Scenario.{Row, Scenario}
 use Rattle.trace_file.specs.declared.entry.Entry.{Entry}
 use Rattle.fleet_core.specs.Along.{Along}
-use Rattle.fleet_core.specs.Run.{steps_in, step_in, step_at, made_by, is_post, posts_of, may_pass, is_enabled, entry_of}
+use Rattle.fleet_core.specs.Next.{next_of, may_pass}
+use Rattle.fleet_core.specs.Run.{steps_in, step_in, step_at, made_by, is_post, posts_of, is_enabled, entry_of}
 use Rattle.fleet_core.specs.Run.{Fits, IsLowest, IsSerial}
 use Rattle.fleet_core.specs.Board.{Seen, with_entry}
 use Rattle.fleet_core.specs.Cursor.{cursor_after, marks_after, marks_with}
 use Rattle.fleet_core.proofs.Along.{along-append, along_weaker}
 use Rattle.fleet_core.proofs.Posts.{one, made_same, made_other, posts-push, fits_enabled, enabled_fits, blocked_ended}
+use Rattle.fleet_core.proofs.Posts.{pass_same, past_rows}
 
 -- ---- the marks
 
@@ -83,13 +85,6 @@ sets_out s wake v e groups = subst (λ w. IsOnWay s 0 wake w) (sym e)
           λ d h. absurd (omega (arith, h));
     })
 
-pass_same : (p q : ℕ → ℕ) (o : Option Step) → ((g n : ℕ) → o ≡ Some (Need g n) → p g ≡ q g)
-    → may_pass p o ≡ may_pass q o
-pass_same p q None h = refl
-pass_same p q (Some (Event event)) h = refl
-pass_same p q (Some (Post group)) h = refl
-pass_same p q (Some (Need group count)) h = ap (λ n. may_pass (λ g. n) (Some (Need group count))) (h group count refl)
-
 -- a step that is no post to the group that another device waits for lets that device not go
 quiet : (s : Scenario) (es : List Entry) (e : Entry) (d : ℕ)
     → ((g n : ℕ) → step_at s d (made_by d es) ≡ Some (Need g n) → is_post g (step_at s e.device e.step) ≡ false)
@@ -99,7 +94,7 @@ quiet s es e d none other was =
     let posts : (g n : ℕ) → step_at s d (made_by d es) ≡ Some (Need g n)
     → posts_of s g (es ++ e ∷ []) ≡ posts_of s g es = λ g n h.
     posts-push s g es e ∙ (ap (λ b. posts_of s g es + one b) (none g n h) ∙ omega arith) in
-    ap (λ k. may_pass (λ g. posts_of s g (es ++ e ∷ [])) (step_at s d k)) (made_other d es e other)
+    ap (λ k. may_pass (λ g. posts_of s g (es ++ e ∷ [])) (next_of (step_at s d k))) (made_other d es e other)
     ∙ (pass_same (λ g. posts_of s g (es ++ e ∷ [])) (λ g. posts_of s g es) (step_at s d (made_by d es)) posts ∙ was)
 
 keeps : (s : Scenario) (es : List Entry) (e : Entry) (wake marks : List ℕ) (d : ℕ) → IsBlocked s es wake d
@@ -244,14 +239,10 @@ passes_on s low wake marks v way can noted room =
       blocked = λ d h. below_more s v.entries wake low d way.blocked here (cases_lt d low) h;
     })
 
-no_row : (s : Scenario) (es : List Entry) (d : ℕ) → length s.rows ≤ d → is_enabled s es d ≡ false
-no_row s es d past =
-    ap (λ o. may_pass (λ g. posts_of s g es) (slice_get (steps_in o) (made_by d es))) (slice_get_past s.rows d past)
-
 all_blocked : (s : Scenario) (es : List Entry) (low d : ℕ) → ((d : ℕ) → d < low → is_enabled s es d ≡ false)
     → length s.rows ≤ low → (d < low) ⊎ (low ≤ d) → is_enabled s es d ≡ false
 all_blocked s es low d blocked past (inl h) = blocked d h
-all_blocked s es low d blocked past (inr h) = no_row s es d (omega (arith, past, h))
+all_blocked s es low d blocked past (inr h) = past_rows s es d (omega (arith, past, h))
 
 -- the cursor is past the last device
 pub arrives : (s : Scenario) (low : ℕ) (wake : List ℕ) (v : Seen) → IsOnWay s low wake v → length s.rows ≤ low

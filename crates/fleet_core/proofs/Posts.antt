@@ -1,14 +1,17 @@
 -- Runs, and the posts that they make.
-use Rattle.std.proofs.Common.{◌≡◌, ℕ, zero, suc, ◌+◌, ◌≤◌, eqb, Bool, true, false, cond, List, [], ◌∷◌, ◌++◌, IsTrue}
-use Rattle.std.proofs.Common.{◌↔◌, Option, None, Some, slice_get, refl, sym, ap, subst, ◌∙◌, arith, add-one}
+use Rattle.std.proofs.Common.{◌≡◌, ℕ, zero, suc, ◌+◌, ◌≤◌, nat_le, eqb, Bool, true, false, cond, List, [], ◌∷◌, ◌++◌}
+use Rattle.std.proofs.Common.{IsTrue, ◌↔◌, length, Option, None, Some, slice_get, refl, sym, ap, subst, ◌∙◌, arith}
+use Rattle.std.proofs.Common.{add-one}
 use Rattle.std.proofs.lemmas.Bool.{eq-eqb, ne_eqb, le-leb, leb-true, false_from_ne_true, false≢true}
 use Rattle.std.proofs.lemmas.List.Sums.{sum_by_push}
+use Rattle.std.proofs.lemmas.Option.{slice_get_past}
 use Rattle.scenario_image.specs.declared.step.Step.{Step}
 use Rattle.scenario_image.specs.declared.step.Step.TheVariants.{Event, Post, Need}
 use Rattle.scenario_image.specs.Scenario.{Row, Scenario}
 use Rattle.trace_file.specs.declared.entry.Entry.{Entry}
-use Rattle.fleet_core.specs.Run.{step_in, step_at, out_at, made_by, posts_to, is_post, posts_of, IsMet, Fits, IsRun}
-use Rattle.fleet_core.specs.Run.{IsComplete, may_pass, is_enabled, entry_of, CanGo}
+use Rattle.fleet_core.specs.Next.{next_of, may_pass}
+use Rattle.fleet_core.specs.Run.{steps_in, step_in, step_at, out_at, made_by, posts_to, is_post, posts_of, IsMet}
+use Rattle.fleet_core.specs.Run.{Fits, IsRun, IsComplete, is_enabled, entry_of, CanGo}
 use Rattle.fleet_core.proofs.Along.{along-append, along-left, along-right, along_keeps}
 
 -- ---- runs, entry by entry
@@ -132,19 +135,29 @@ posts_are s g es run =
 
 -- ---- what may come next
 
-pub pass_more : (p q : ℕ → ℕ) (o : Option Step) → ((g : ℕ) → p g ≤ q g) → may_pass p o ≡ true → may_pass q o ≡ true
+pub pass_same : (p q : ℕ → ℕ) (o : Option Step) → ((g n : ℕ) → o ≡ Some (Need g n) → p g ≡ q g)
+    → may_pass p (next_of o) ≡ may_pass q (next_of o)
+pass_same p q None h = refl
+pass_same p q (Some (Event event)) h = refl
+pass_same p q (Some (Post group)) h = refl
+pass_same p q (Some (Need group count)) h = ap (nat_le count) (h group count refl)
+
+pub pass_more : (p q : ℕ → ℕ) (o : Option Step) → ((g : ℕ) → p g ≤ q g) → may_pass p (next_of o) ≡ true
+    → may_pass q (next_of o) ≡ true
 pass_more p q None h go = go
 pass_more p q (Some (Event event)) h go = refl
 pass_more p q (Some (Post group)) h go = refl
 pass_more p q (Some (Need group count)) h go =
     le-leb count (q group) (omega (arith, h group, leb-true count (p group) go))
 
-pass_met : (p : ℕ → ℕ) (o : Option Step) (step : Step) → o ≡ Some step → IsMet p step → may_pass p o ≡ true
-pass_met p o (Event event) at met = ap (may_pass p) at
-pass_met p o (Post group) at met = ap (may_pass p) at
-pass_met p o (Need group count) at met = ap (may_pass p) at ∙ le-leb count (p group) met
+pass_met : (p : ℕ → ℕ) (o : Option Step) (step : Step) → o ≡ Some step → IsMet p step
+    → may_pass p (next_of o) ≡ true
+pass_met p o (Event event) at met = ap (λ t. may_pass p (next_of t)) at
+pass_met p o (Post group) at met = ap (λ t. may_pass p (next_of t)) at
+pass_met p o (Need group count) at met = ap (λ t. may_pass p (next_of t)) at ∙ le-leb count (p group) met
 
-met_passed : (p : ℕ → ℕ) (o : Option Step) → may_pass p o ≡ true → (step : Step) × (o ≡ Some step) × IsMet p step
+met_passed : (p : ℕ → ℕ) (o : Option Step) → may_pass p (next_of o) ≡ true
+    → (step : Step) × (o ≡ Some step) × IsMet p step
 met_passed p None go = let e : false ≡ true = go in absurd cc
 met_passed p (Some (Event event)) go = (Event event, refl, tt)
 met_passed p (Some (Post group)) go = (Post group, refl, tt)
@@ -162,6 +175,12 @@ pub enabled_fits : (s : Scenario) (es : List Entry) (worker d : ℕ) → is_enab
 enabled_fits s es worker d go =
     let found = met_passed (λ g. posts_of s g es) (step_at s d (made_by d es)) go in
     record { step = found.0; stands = found.1; count = refl; outputs = refl; met = found.2 }
+
+-- a device that has no row is never enabled
+pub past_rows : (s : Scenario) (es : List Entry) (d : ℕ) → length s.rows ≤ d → is_enabled s es d ≡ false
+past_rows s es d past =
+    ap (λ o. may_pass (λ g. posts_of s g es) (next_of (slice_get (steps_in o) (made_by d es))))
+    (slice_get_past s.rows d past)
 
 -- an entry that may come next is the device's next entry
 pub fits_is : (s : Scenario) (es : List Entry) (e : Entry) → Fits s es e → entry_of s e.worker e.device es ≡ e

@@ -1,6 +1,6 @@
 -- Devices that start, one row after another.
 use Rattle.std.proofs.Common.{◌≡◌, ℕ, zero, suc, ◌+◌, ◌⊎◌, inl, inr, List, [], ◌∷◌, ◌++◌, length, None, Some, slice_get}
-use Rattle.std.proofs.Common.{refl, sym, ap, subst, ◌∙◌, arith, length-append}
+use Rattle.std.proofs.Common.{Result, Ok, Err, IfOk, refl, sym, ap, subst, ◌∙◌, arith, length-append}
 use Rattle.device_template.specs.Template.{Template}
 use Rattle.device_machine.specs.State.{Device, Shows}
 use Rattle.scenario_image.specs.declared.step.Step.{Step}
@@ -56,3 +56,15 @@ more_started s n devices more y first e here = record {
         (pushed devices y d x (ap (λ l. slice_get l d) (sym e) ∙ at));
   };
 }
+
+-- ---- one device, by the class of its row
+
+-- the class is that of the device's row, whatever its steps
+abbrev pub IsClassOf : Scenario → ℕ → Template → Type 0
+IsClassOf s d class = (c : Template) (steps : List Step) → IsRowOf s d c steps → class ≡ c
+
+pub row_started : {E : Type 0} (s : Scenario) (d : ℕ) (class : Template) (r : Result Device E) → IsClassOf s d class
+    → IfOk r (λ x. Shows x (start class))
+    → IfOk r (λ x. (c : Template) (steps : List Step) → IsRowOf s d c steps → Shows x (start c))
+row_started s d class (Ok x) is shows = λ c steps row. subst (λ t. Shows x (start t)) (is c steps row) shows
+row_started s d class (Err e) is shows = tt

@@ -1,16 +1,14 @@
 -- The steps of a valid scenario's rows, which the devices take.
-use Rattle.std.proofs.Common.{◌≡◌, ℕ, ◌+◌, ◌<◌, true, false, List, [], ◌∷◌, ◌++◌, length, Some, Result, Ok, Err, IfOk}
-use Rattle.std.proofs.Common.{OnOk, slice_get, sym, ap, subst, ◌∙◌, add-one}
+use Rattle.std.proofs.Common.{◌≡◌, ℕ, ◌+◌, ◌<◌, false, List, length, Some, Result, Ok, Err, IfOk, OnOk, slice_get}
+use Rattle.std.proofs.Common.{sym, subst, add-one}
 use Rattle.std.proofs.lemmas.Option.{slice_get_within}
 use Rattle.device_machine.specs.declared.output.Output.{Output}
 use Rattle.device_machine.specs.State.{Machine, Device, Shows}
 use Rattle.scenario_image.specs.declared.step.Step.{Step}
 use Rattle.scenario_image.specs.Scenario.{Scenario, IsValid}
 use Rattle.scenario_image.specs.Play.{start, step_after, step_outputs, state_at, is_step_refused}
-use Rattle.trace_file.specs.declared.entry.Entry.{Entry}
-use Rattle.fleet_core.specs.Run.{step_at, out_at, made_by, Fits, IsRun, is_enabled, entry_of}
+use Rattle.fleet_core.specs.Run.{step_at, out_at}
 use Rattle.fleet_core.specs.Board.{AreStarted, ShowsAfter}
-use Rattle.fleet_core.proofs.Posts.{run_push, enabled_fits}
 use Rattle.fleet_core.proofs.Valid.{in_row, step_is, step_stands, state-more, takes_step}
 use Rattle.fleet_core.proofs.Board.{puts_out}
 
@@ -50,18 +48,6 @@ pub row_below : (s : Scenario) (d k : ℕ) (step : Step) → step_at s d k ≡ S
 row_below s d k step at =
     let found = in_row (slice_get s.rows d) k step at in
     slice_get_within s.rows d found.0 found.1
-
--- with the entry of that step there is one more of the run
-pub run_next : (s : Scenario) (es : List Entry) (worker d place : ℕ) (out : List Output) → IsRun s es
-    → is_enabled s es d ≡ true
-    → place ≡ made_by d es → out ≡ out_at s d place
-    → IsRun s (es ++ record { worker = worker; device = d; step = place; outputs = out } ∷ [])
-run_next s es worker d place out run go count puts =
-    let fits : Fits s es (entry_of s worker d es) = enabled_fits s es worker d go in
-    let same : entry_of s worker d es ≡ record { worker = worker; device = d; step = place; outputs = out } =
-    sym (ap (λ o. record { worker = worker; device = d; step = place; outputs = o }) puts
-    ∙ ap (λ k. record { worker = worker; device = d; step = k; outputs = out_at s d k }) count) in
-    subst (λ e. IsRun s (es ++ e ∷ [])) same (run_push s es (entry_of s worker d es) run fits)
 
 -- ---- where the step may have failed
 

@@ -59,6 +59,17 @@ pub step_stands : (s : Scenario) (d k : ℕ) (step : Step) (class : Template) (s
     → slice_get steps k ≡ Some step
 step_stands s d k step class steps row at = subst (λ o. slice_get (steps_in o) k ≡ Some step) row.row at
 
+-- the group of a need or a post is one of 256
+pub need_group : (s : Scenario) (d k g n : ℕ) → IsValid s → step_at s d k ≡ Some (Need g n) → g < 256
+need_group s d k g n valid at =
+    let is : IsStep s d k (Need g n) = step_is s d k (Need g n) valid at in
+    (all_at (IsGoodStep is.class.accounts) is.steps k (Need g n) is.good is.stands).fields
+
+pub post_group : (s : Scenario) (d k g : ℕ) → IsValid s → step_at s d k ≡ Some (Post g) → g < 256
+post_group s d k g valid at =
+    let is : IsStep s d k (Post g) = step_is s d k (Post g) valid at in
+    (all_at (IsGoodStep is.class.accounts) is.steps k (Post g) is.good is.stands).fields
+
 -- ---- the clock
 
 -- a step sets the clock on by a day at most

@@ -1,4 +1,5 @@
 pub mod Along
+pub mod Next
 pub mod Run
 pub mod Board
 pub mod Held

@@ -1,5 +1,5 @@
 -- The runs of a scenario, as lists of entries.
-use Rattle.std.specs.Prelude.{◌≡◌, ℕ, ◌≤◌, ◌==◌, nat_le, Bool, true, false, List, [], map, filter, count_by, Option}
+use Rattle.std.specs.Prelude.{◌≡◌, ℕ, ◌≤◌, ◌==◌, Bool, true, false, List, [], map, filter, count_by, Option}
 use Rattle.std.specs.Prelude.{None, Some, slice_get}
 use Rattle.device_template.specs.Template.{Template}
 use Rattle.device_machine.specs.declared.output.Output.{Output}
@@ -10,6 +10,7 @@ use Rattle.scenario_image.specs.Scenario.{Row, Scenario}
 use Rattle.scenario_image.specs.Play.{state_at, step_outputs}
 use Rattle.trace_file.specs.declared.entry.Entry.{Entry}
 use Rattle.fleet_core.specs.Along.{Along}
+use Rattle.fleet_core.specs.Next.{next_of, may_pass}
 
 -- ---- what the rows say
 
@@ -110,16 +111,9 @@ pub record IsSame (d : ℕ) (a b : List Entry) : Type 0 where
 
 -- ---- the next entry
 
--- where each group has n posts, the step is there, and may be taken
-abbrev pub may_pass : (ℕ → ℕ) → Option Step → Bool
-may_pass posts None = false
-may_pass posts (Some (Event event)) = true
-may_pass posts (Some (Post group)) = true
-may_pass posts (Some (Need group count)) = nat_le count (posts group)
-
 -- an entry of the device may come next
 abbrev pub is_enabled : Scenario → List Entry → ℕ → Bool
-is_enabled s es d = may_pass (λ g. posts_of s g es) (step_at s d (made_by d es))
+is_enabled s es d = may_pass (λ g. posts_of s g es) (next_of (step_at s d (made_by d es)))
 
 -- the entry of a device that may come next, under this worker
 abbrev pub entry_of : Scenario → ℕ → ℕ → List Entry → Entry

@@ -1,10 +1,11 @@
 ghost use Rattle.std.specs.Prelude.{◌≡◌, ℕ, ◌<◌, ◌++◌, ◌∷◌, ◌↔◌, [], length, true, false, Err, IfOk, OnOk, OnErr};
 ghost use Rattle.std.specs.Prelude.{IsSome, IsTrue, Some};
 ghost use Rattle.std.specs.Option.{option_copied};
-ghost use Rattle.fleet_core.specs.Run.{made_by, may_pass, step_at, posts_of, is_enabled, entry_of, IsRun, CanGo};
+ghost use Rattle.fleet_core.specs.Run.{made_by, step_at, posts_of, is_enabled, entry_of, IsRun, CanGo};
 
 use crate::fault::CommitFault;
-use crate::held::{Held, held_of_rows, let_go_at_end, step_held};
+use crate::held::{Held, held_of_rows, make_entry};
+use crate::next::{may_pass, next_of};
 use crate::performing::{note_post, step_of};
 use scenario_image::{Scenario, Step};
 use std::alloc::{AllocError, Global};
@@ -71,23 +72,10 @@ impl<'a> Fleet<'a> {
         self.posts[usize::from(group)]
     }
 
-    /// Whether the step may come next, if it is a device's next one.
-    fn may_pass(&self, step: &Step) -> bool
-        ensures { result ≡ may_pass (λ g. posts_of self.now.scenario g self.now.entries) (Some step.now) }
-    {
-        match step {
-            Step::Event(_) | Step::Post(_) => true,
-            Step::Need(group, count) => *count <= self.posts(*group),
-        }
-    }
-
     fn is_enabled(&self, device: u16) -> bool
         ensures { result ≡ is_enabled self.now.scenario self.now.entries device }
     {
-        match self.next_step(device) {
-            None => false,
-            Some(step) => self.may_pass(step),
-        }
+        may_pass(next_of(self.next_step(device)), self.posts.as_slice())
     }
 
     /// Whether an entry of the device can be added: its row has a next step, and this is not a need of more posts than
@@ -135,28 +123,22 @@ impl<'a> Fleet<'a> {
         ensures stays_spent { is_enabled self.old.scenario self.old.entries device ≡ true → IsTrue self.old.spent
             → result ≡ Err CommitFault.Spent }
     {
-        let Some(step) = self.next_step(device) else {
-            return Err(CommitFault::NotEnabled);
-        };
-        if !self.may_pass(step) {
+        if !self.is_enabled(device) {
             return Err(CommitFault::NotEnabled);
         }
         if self.spent {
             return Err(CommitFault::Spent);
         }
+        let Some(step) = self.next_step(device) else {
+            unreachable!()
+        };
         let at = usize::from(device);
         let place = self.made[at];
         self.spent = true;
         let held = &mut self.devices[at];
-        let outputs = step_held(self.alloc, self.scenario, held, device, place, step)?;
+        let entry = make_entry(self.alloc, self.scenario, held, worker, device, place, step)?;
         let next = place + 1;
-        let_go_at_end(held, step_of(self.scenario, device, next));
-        self.entries.push(Entry {
-            worker,
-            device,
-            step: place,
-            outputs,
-        })?;
+        self.entries.push(entry)?;
         self.made[at] = next;
         note_post(&mut self.posts, step);
         self.spent = false;

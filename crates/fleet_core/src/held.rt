@@ -6,13 +6,14 @@ ghost use Rattle.scenario_image.specs.Scenario.{Scenario};
 ghost use Rattle.fleet_core.specs.Run.{step_at, out_at};
 ghost use Rattle.fleet_core.specs.Board.{ShowsAfter, HoldsAfter, AreParked};
 
-use crate::performing::{make_step, start_of_row};
+use crate::performing::{class_of_row, make_step, start_of_row, step_of};
 use device_machine::{Device, Outputs};
 use device_template::Template;
 use scenario_image::{Scenario, Step};
 use std::alloc::{AllocError, Global};
 use std::marker::Model;
 use std::snapshot::Snapshot;
+use trace_file::Entry;
 
 /// What there is of a device.
 #[derive(Drop)]
@@ -51,29 +52,17 @@ impl Held {
         requires { device < length scenario.now.rows }
         ensures { HoldsAfter scenario.now device 0 result }
     {
-        let _rows = scenario.rows();
-        let Some((class, _)) = scenario.row(device) else {
-            unreachable!()
-        };
-        let Some(class) = scenario.class(class) else {
-            unreachable!()
-        };
         Held {
-            state: State::Fresh(Snapshot::of(class)),
+            state: State::Fresh(Snapshot::of(class_of_row(scenario, device))),
         }
     }
 
-    /// Starts a device that has a step left, if it is yet to be started.
-    fn start(
-        &mut self,
-        scenario: &Scenario,
-        device: u16,
-        _place: u32,
-        _step: &Step,
-    ) -> Result<(), AllocError>
-        requires stands { step_at scenario.now device _place ≡ Some _step.now }
-        requires holds { HoldsAfter scenario.now device _place self.old }
-        ensures shows { OnOk result (ShowsAfter scenario.now device _place self.new.shown) }
+    /// Starts the device, if it is yet to be started. Its memory was not let go of.
+    fn start(&mut self, scenario: &Scenario, device: u16) -> Result<(), AllocError>
+        requires row { device < length scenario.now.rows }
+        requires left { self.old.gone ≡ false }
+        ensures shows { (k : ℕ) → HoldsAfter scenario.now device k self.old
+            → OnOk result (ShowsAfter scenario.now device k self.new.shown) }
         ensures here { OnOk result ((self.new.fresh ≡ false) × (self.new.gone ≡ false)) }
     {
         match self.state {
@@ -113,7 +102,7 @@ pub(crate) fn held_of_rows(alloc: Global, scenario: &Scenario) -> Result<Vec<Hel
 
 /// Lets the device make the step of this number in its row, and returns what it outputs; it is started first if it is
 /// yet to be. Only an allocation can fail; nothing is promised of what is held then.
-pub fn step_held(
+pub(crate) fn step_held(
     alloc: Global,
     scenario: &Scenario,
     held: &mut Held,
@@ -126,7 +115,7 @@ pub fn step_held(
     ensures outputs { IfOk result (λ o. o ≡ out_at scenario.now device place) }
     ensures holds { OnOk result (HoldsAfter scenario.now device (place + 1) held.new) }
 {
-    held.start(scenario, device, place, step)?;
+    held.start(scenario, device)?;
     match &mut held.state {
         State::Here(machine) => make_step(alloc, scenario, machine, device, place, step),
         State::Fresh(_) | State::Gone(_) => unreachable!(),
@@ -135,7 +124,7 @@ pub fn step_held(
 
 /// Lets go of the memory of a device that has no next step. One that is held for longer takes memory, and shows the
 /// same.
-pub fn let_go_at_end(held: &mut Held, next: Option<&Step>)
+pub(crate) fn let_go_at_end(held: &mut Held, next: Option<&Step>)
     ensures { (s : Scenario) (d : ℕ) (k : ℕ) → option_copied next.entry ≡ step_at s d k → HoldsAfter s d k held.old
         → HoldsAfter s d k held.new }
 {
@@ -143,4 +132,39 @@ pub fn let_go_at_end(held: &mut Held, next: Option<&Step>)
         None => held.let_go(),
         Some(_) => {}
     }
+}
+
+/// Lets the device make the step of this number in its row, and returns its entry under the worker's number. The device
+/// is started before its first step, and its memory is let go of after its last one. Only an allocation can fail;
+/// nothing is promised of what is held then.
+pub fn make_entry(
+    alloc: Global,
+    scenario: &Scenario,
+    held: &mut Held,
+    worker: u16,
+    device: u16,
+    place: u32,
+    step: &Step,
+) -> Result<Entry, AllocError>
+    requires stands { step_at scenario.now device place ≡ Some step.now }
+    requires holds { HoldsAfter scenario.now device place held.old }
+    ensures entry { IfOk result (λ e. e ≡ record {
+      worker = worker;
+      device = device;
+      step = place;
+      outputs = out_at scenario.now device place;
+    }) }
+    ensures holds { OnOk result (HoldsAfter scenario.now device (place + 1) held.new) }
+{
+    // The proof needs that the scenario is valid, which this call says.
+    let _valid = scenario.rows();
+    let outputs = step_held(alloc, scenario, held, device, place, step)?;
+    let next = place + 1;
+    let_go_at_end(held, step_of(scenario, device, next));
+    Ok(Entry {
+        worker,
+        device,
+        step: place,
+        outputs,
+    })
 }

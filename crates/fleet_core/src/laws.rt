@@ -10,7 +10,8 @@ ghost use Rattle.scenario_image.specs.Scenario.{Scenario, IsValid};
 ghost use Rattle.scenario_image.specs.Play.{start, step_after, step_outputs, is_step_refused, PutsOut, IsRowOf};
 ghost use Rattle.device_machine.specs.State.{Machine, Device, Shows};
 ghost use Rattle.trace_file.specs.declared.entry.Entry.{Entry};
-ghost use Rattle.fleet_core.specs.Run.{steps_in, step_at, made_by, posts_of, out_at, may_pass, is_enabled, CanGo, Fits};
+ghost use Rattle.fleet_core.specs.Run.{steps_in, step_at, made_by, posts_of, out_at, is_enabled, CanGo, Fits};
+ghost use Rattle.fleet_core.specs.Next.{next_of, may_pass};
 ghost use Rattle.fleet_core.specs.Run.{IsRun, IsComplete, IsSame, outputs_by};
 ghost use Rattle.fleet_core.specs.Board.{AreStarted, ShowsAfter};
 ghost use Rattle.fleet_core.specs.Blocks.{AreOf};
@@ -112,5 +113,5 @@ pub fn runs_end()
     ensures post { (s : Scenario) (d : ℕ) (k : ℕ) (g : ℕ) → IsValid s → step_at s d k ≡ Some (Post g) → g < 256 }
     ensures table { (s : Scenario) (es : List Entry) (d : ℕ) (posts : ℕ → ℕ) → IsValid s
         → ((g : ℕ) → g < 256 → posts g ≡ posts_of s g es)
-        → may_pass posts (step_at s d (made_by d es)) ≡ is_enabled s es d }
+        → may_pass posts (next_of (step_at s d (made_by d es))) ≡ is_enabled s es d }
 {}

@@ -6,6 +6,7 @@ mod fault;
 mod fleet;
 mod held;
 mod laws;
+mod next;
 mod performing;
 mod same;
 mod serial;
@@ -15,11 +16,12 @@ mod waiting;
 pub use checking::check;
 pub use fault::CommitFault;
 pub use fleet::Fleet;
-pub use held::{Held, let_go_at_end, step_held};
+pub use held::{Held, make_entry};
 pub use laws::{
     blocks_follow, counts_add_up, devices_stand_alone, outputs_are_the_rows, runs_agree, runs_end,
     runs_grow, steps_are_taken,
 };
+pub use next::{Next, may_pass, next_of};
 pub use performing::{make_step, note_post, start_devices, start_of_row, step_of};
 pub use serial::run_serial;
 pub use trace_file::{Entries, Entry, WriteFault, read_entries, write_entries};

@@ -11,8 +11,10 @@ ghost use Rattle.scenario_image.specs.Play.{start, step_outputs, step_after, is_
 ghost use Rattle.fleet_core.specs.Run.{step_at, out_at};
 ghost use Rattle.fleet_core.specs.Board.{AreStarted, ShowsAfter, posts_after};
 ghost use Rattle.scenario_image.specs.declared.step.Step.{Step};
+ghost use Rattle.scenario_image.specs.declared.step.Step.TheVariants.{Post};
 
 use device_machine::{Device, Outputs, StepFault};
+use device_template::Template;
 use scenario_image::{Scenario, Step, take_step};
 use std::alloc::{AllocError, Global};
 
@@ -24,20 +26,29 @@ pub fn step_of(scenario: &Scenario, device: u16, place: u32) -> Option<&Step>
     steps.get(place as usize)
 }
 
-/// A device at the start of a row.
-pub fn start_of_row(scenario: &Scenario, device: u16) -> Result<Device, AllocError>
+/// The class of the device's row.
+pub(crate) fn class_of_row(scenario: &Scenario, device: u16) -> &Template
     requires { device < length scenario.now.rows }
-    ensures { IfOk result (λ x. (class : Template) (steps : List Step) → IsRowOf scenario.now device class steps
-        → Shows x (start class)) }
+    ensures { (class : Template) (steps : List Step) → IsRowOf scenario.now device class steps → result.now ≡ class }
 {
-    let _rows = scenario.rows();
+    // The proof needs that the scenario is valid, which this call says.
+    let _valid = scenario.rows();
     let Some((class, _)) = scenario.row(device) else {
         unreachable!()
     };
     let Some(class) = scenario.class(class) else {
         unreachable!()
     };
-    Device::start(class)
+    class
+}
+
+/// A device at the start of a row.
+pub fn start_of_row(scenario: &Scenario, device: u16) -> Result<Device, AllocError>
+    requires { device < length scenario.now.rows }
+    ensures { IfOk result (λ x. (class : Template) (steps : List Step) → IsRowOf scenario.now device class steps
+        → Shows x (start class)) }
+{
+    Device::start(class_of_row(scenario, device))
 }
 
 /// The devices of a scenario, each at the start of its row. There is room for just these devices.
@@ -89,13 +100,14 @@ pub fn make_step(
     // A post and a need take no memory.
     ensures silent { is_event step.now ≡ false → IsOk result }
 {
-    let _rows = scenario.rows();
+    // The proof needs that the scenario is valid, which this call says.
+    let _valid = scenario.rows();
     perform(alloc, machine, step)
 }
 
-/// Counts a step that is a post. There is a count for each of the 256 groups.
+/// Counts a step that is a post. The table has a place for the post's group.
 pub fn note_post(posts: &mut Vec<u32>, step: &Step)
-    requires groups { length posts.old.items ≡ 256 }
+    requires within { (group : ℕ) → step.now ≡ Post group → group < length posts.old.items }
     requires room { (g : ℕ) → slice_index posts.old.items g + 1 < 2 ^ 32 }
     ensures { posts.new.items ≡ posts_after posts.old.items step.now }
 {

@@ -36,7 +36,7 @@ use Rattle.scenario_image.specs.contracts.scenario.Scenario as Scenario
 use Rattle.trace_file.specs.contracts.entry.Entry as Entry
 use Rattle.fleet_core.specs.contracts.held.State as State
 use Rattle.fleet_core.specs.contracts.held.Held as Held
-use Rattle.shared_trace.specs.contracts.next.Next as Next
+use Rattle.fleet_core.specs.contracts.next.Next as Next
 use Rattle.shared_trace.specs.contracts.pages.Pages as Pages
 use Rattle.shared_trace.specs.contracts.station.Place as Place
 use Rattle.shared_trace.specs.contracts.station.Station as Station

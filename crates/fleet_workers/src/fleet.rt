@@ -1,6 +1,6 @@
 //! Workers, and the run that they make.
 
-ghost use Rattle.std.specs.Prelude.{◌≡◌, ◌≢◌, ◌≤◌, ◌↔◌, [], IsTrue, Err, IfOk, IfErr, IfSome};
+ghost use Rattle.std.specs.Prelude.{◌≡◌, ◌≢◌, ℕ, ◌≤◌, ◌↔◌, [], IsTrue, Err, IfOk, IfErr, IfSome};
 ghost use Rattle.std.specs.List.{AllByRecursion};
 ghost use Rattle.fleet_core.specs.Run.{IsRun, IsComplete};
 ghost use Rattle.ticket_lock.specs.Changes.{whole};
@@ -73,15 +73,10 @@ pub enum RunFault {
 }
 
 /// The run, where no device can step and a row is not at its end.
-fn stalled_run(
-    alloc: Global,
-    scenario: &Scenario,
-    _workers: u16,
-    entries: Entries,
-) -> Result<FleetRun, RunFault>
+fn stalled_run(alloc: Global, scenario: &Scenario, entries: Entries) -> Result<FleetRun, RunFault>
     requires stalled { IsStalled scenario.now entries }
-    requires workers { AllByRecursion (IsByWorker _workers) entries }
-    ensures run { IfOk result (λ r. IsFleetRun scenario.now _workers r) }
+    ensures run { (workers : ℕ) → AllByRecursion (IsByWorker workers) entries
+        → IfOk result (λ r. IsFleetRun scenario.now workers r) }
     ensures entries { IfOk result (λ r. r.entries ≡ entries) }
     ensures fault { IfErr result (λ e. e ≡ RunFault.Memory entries) }
 {
@@ -112,7 +107,7 @@ pub fn outcome(
             entries,
             end: FleetEnd::Done,
         }),
-        LoopEnd::Stalled => stalled_run(alloc, scenario, workers, entries),
+        LoopEnd::Stalled => stalled_run(alloc, scenario, entries),
         LoopEnd::Stopped | LoopEnd::Memory => Err(RunFault::Memory(entries)),
         LoopEnd::Spent => Err(RunFault::Spent(entries)),
     }

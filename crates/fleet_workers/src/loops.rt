@@ -70,7 +70,7 @@ fn make_steps<R: Wait, G: Gate>(
             return (stop_trace(rt, lock, pass), Err(LoopEnd::Memory));
         }
     }
-    // (what is known of a job's entries is told where they are asked for)
+    // The proof needs that the job's entries are a run, which this call says.
     let _made = job.entries();
     put_and_claim(rt, lock, pass, job)
 }

@@ -5,12 +5,12 @@ use Rattle.std.proofs.lemmas.Bool.{cases_eq, false≢true}
 use Rattle.scenario_image.specs.Scenario.{Scenario}
 use Rattle.trace_file.specs.declared.entry.Entry.{Entry}
 use Rattle.fleet_core.specs.Waiting.{is_waiting}
-use Rattle.shared_trace.specs.declared.next.Next.{Next}
-use Rattle.shared_trace.specs.declared.next.Next.TheVariants.{End, Free, Waits}
+use Rattle.fleet_core.specs.declared.next.Next.{Next}
+use Rattle.fleet_core.specs.declared.next.Next.TheVariants.{End, Free, Waits}
 use Rattle.shared_trace.specs.declared.station.Place.{Place}
 use Rattle.shared_trace.specs.declared.station.Place.TheVariants.{Parked, Out}
 use Rattle.shared_trace.specs.declared.station.Station.{Station}
-use Rattle.shared_trace.specs.Next.{is_end}
+use Rattle.shared_trace.specs.Kept.{is_end}
 use Rattle.shared_trace.specs.Kept.{IsTrace, AreEnded, is_ready_in}
 use Rattle.shared_trace.proofs.Lists.{get-set_other}
 use Rattle.shared_trace.proofs.Stations.{left_is}

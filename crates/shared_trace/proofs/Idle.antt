@@ -3,13 +3,13 @@ use Rattle.std.proofs.Common.{◌≡◌, ℕ, ◌+◌, ◌<◌, ◌≤◌, ◌�
 use Rattle.std.proofs.Common.{refl, sym, ap, subst, ◌∙◌, arith}
 use Rattle.std.specs.Prelude.{◌==◌, count_by}
 use Rattle.std.proofs.lemmas.Bool.{cases_eq}
-use Rattle.shared_trace.specs.declared.next.Next.{Next}
+use Rattle.fleet_core.specs.declared.next.Next.{Next}
 use Rattle.shared_trace.specs.declared.station.Place.{Place}
 use Rattle.shared_trace.specs.declared.station.Place.TheVariants.{Parked, Out}
 use Rattle.shared_trace.specs.declared.station.Station.{Station}
 use Rattle.shared_trace.specs.Kept.{AreEnded, AreIdle, LooksFrom, is_ready, is_ready_in}
 use Rattle.shared_trace.proofs.Lists.{set_gives, get-set_other}
-use Rattle.shared_trace.proofs.Nexts.{go_same}
+use Rattle.shared_trace.proofs.Nexts.{next_same}
 use Rattle.shared_trace.proofs.Ended.{not_ready}
 
 pub none_idle : (posts : ℕ → ℕ) (stations : List Station) → AreIdle posts stations 0
@@ -42,7 +42,7 @@ out_idle posts stations first d w y out idle i z less here =
 -- ---- a device that is parked
 
 ready_same : (p q : ℕ → ℕ) (x : Place) (n : Next) → ((g : ℕ) → p g ≡ q g) → is_ready_in p x n ≡ is_ready_in q x n
-ready_same p q (Parked x) n h = go_same p q n h
+ready_same p q (Parked x) n h = next_same p q n h
 ready_same p q (Out w) n h = refl
 
 before_it : (old new : ℕ → ℕ) (stations : List Station) (first d i : ℕ) (y : Station) → AreIdle old stations first

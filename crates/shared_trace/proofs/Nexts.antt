@@ -7,31 +7,25 @@ use Rattle.scenario_image.specs.declared.step.Step.{Step}
 use Rattle.scenario_image.specs.declared.step.Step.TheVariants as step
 use Rattle.scenario_image.specs.Scenario.{Scenario}
 use Rattle.trace_file.specs.declared.entry.Entry.{Entry}
-use Rattle.fleet_core.specs.Run.{steps_in, step_at, made_by, posts_of, may_pass, is_enabled}
+use Rattle.fleet_core.specs.Next.{next_of, may_pass}
+use Rattle.fleet_core.specs.Run.{steps_in, step_at, made_by, posts_of, is_enabled}
 use Rattle.fleet_core.specs.Waiting.{is_waiting}
-use Rattle.shared_trace.specs.declared.next.Next.{Next}
-use Rattle.shared_trace.specs.declared.next.Next.TheVariants.{End, Free, Waits}
-use Rattle.shared_trace.specs.Next.{next_of, can_go, is_end}
+use Rattle.fleet_core.specs.declared.next.Next.{Next}
+use Rattle.fleet_core.specs.declared.next.Next.TheVariants.{End, Free, Waits}
+use Rattle.shared_trace.specs.Kept.{is_end}
 use Rattle.shared_trace.proofs.Lists.{some_at}
 
-pub go_same : (p q : ℕ → ℕ) (n : Next) → ((g : ℕ) → p g ≡ q g) → can_go p n ≡ can_go q n
-go_same p q End h = refl
-go_same p q Free h = refl
-go_same p q (Waits group count) h = ap (λ k. nat_le count k) (h group)
-
-pub go_passes : (p : ℕ → ℕ) (o : Option Step) → can_go p (next_of o) ≡ may_pass p o
-go_passes p None = refl
-go_passes p (Some (step.Event event)) = refl
-go_passes p (Some (step.Post group)) = refl
-go_passes p (Some (step.Need group count)) = refl
+pub next_same : (p q : ℕ → ℕ) (n : Next) → ((g : ℕ) → p g ≡ q g) → may_pass p n ≡ may_pass q n
+next_same p q End h = refl
+next_same p q Free h = refl
+next_same p q (Waits group count) h = ap (λ k. nat_le count k) (h group)
 
 -- whether a device can step, by a table of the posts and by what is kept of its next step
-pub go_enabled : (s : Scenario) (es : List Entry) (d : ℕ) (p : ℕ → ℕ) (n : Next) → ((g : ℕ) → p g ≡ posts_of s g es)
+pub pass_enabled : (s : Scenario) (es : List Entry) (d : ℕ) (p : ℕ → ℕ) (n : Next) → ((g : ℕ) → p g ≡ posts_of s g es)
     → n ≡ next_of (step_at s d (made_by d es))
-    → can_go p n ≡ is_enabled s es d
-go_enabled s es d p n posts next =
-    go_same p (λ g. posts_of s g es) n posts
-    ∙ (ap (can_go (λ g. posts_of s g es)) next ∙ go_passes (λ g. posts_of s g es) (step_at s d (made_by d es)))
+    → may_pass p n ≡ is_enabled s es d
+pass_enabled s es d p n posts next =
+    next_same p (λ g. posts_of s g es) n posts ∙ ap (may_pass (λ g. posts_of s g es)) next
 
 left_here : (x : Step) → true ≡ not (is_end (next_of (Some x)))
 left_here (step.Event event) = refl
@@ -51,7 +45,7 @@ pub waiting_is : (s : Scenario) (es : List Entry) (d : ℕ)
 waiting_is s es d =
     let xs = steps_in (slice_get s.rows d) in left_by xs (made_by d es) (cases_lt (made_by d es) (length xs))
 
-passes_left : (p : ℕ → ℕ) (o : Option Step) → may_pass p o ≡ true → not (is_end (next_of o)) ≡ true
+passes_left : (p : ℕ → ℕ) (o : Option Step) → may_pass p (next_of o) ≡ true → not (is_end (next_of o)) ≡ true
 passes_left p None h = h
 passes_left p (Some (step.Event event)) h = refl
 passes_left p (Some (step.Post group)) h = refl

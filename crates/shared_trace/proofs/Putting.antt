@@ -15,11 +15,11 @@ use Rattle.fleet_core.proofs.Sums.{made-append, posts-append}
 use Rattle.fleet_core.proofs.Valid.{posts_within}
 use Rattle.fleet_core.proofs.Blocks.{block_follows, block_others}
 use Rattle.ticket_lock.specs.Log.{Adds}
-use Rattle.shared_trace.specs.declared.next.Next.{Next}
+use Rattle.fleet_core.specs.declared.next.Next.{Next}
 use Rattle.shared_trace.specs.declared.station.Place.{Place}
 use Rattle.shared_trace.specs.declared.station.Place.TheVariants.{Parked, Out}
 use Rattle.shared_trace.specs.declared.station.Station.{Station}
-use Rattle.shared_trace.specs.Next.{next_of}
+use Rattle.fleet_core.specs.Next.{next_of}
 use Rattle.shared_trace.specs.declared.stops.Stops.{Stops}
 use Rattle.shared_trace.specs.Stops.{numbers_in, is_among}
 use Rattle.shared_trace.specs.Trace.{Traced, IsPlaced, with_block, trace_log}

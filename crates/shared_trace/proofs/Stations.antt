@@ -9,19 +9,20 @@ use Rattle.scenario_image.specs.Scenario.{Scenario}
 use Rattle.trace_file.specs.declared.entry.Entry.{Entry}
 use Rattle.fleet_core.specs.Run.{is_enabled, IsComplete}
 use Rattle.fleet_core.specs.Waiting.{is_waiting}
-use Rattle.fleet_core.proofs.Ends.{no_more, past_rows}
-use Rattle.shared_trace.specs.declared.next.Next.{Next}
+use Rattle.fleet_core.proofs.Posts.{past_rows}
+use Rattle.fleet_core.proofs.Ends.{no_more}
+use Rattle.fleet_core.specs.declared.next.Next.{Next}
 use Rattle.shared_trace.specs.declared.station.Place.{Place}
 use Rattle.shared_trace.specs.declared.station.Place.TheVariants.{Parked, Out}
 use Rattle.shared_trace.specs.declared.station.Station.{Station}
-use Rattle.shared_trace.specs.Next.{can_go, is_end}
+use Rattle.fleet_core.specs.Next.{may_pass}
 use Rattle.shared_trace.specs.declared.stops.Stops.{Stops}
 use Rattle.shared_trace.specs.Stops.{numbers_in}
 use Rattle.shared_trace.specs.Trace.{Traced, IsPlaced, IsShared, IsReady, is_stopped}
 use Rattle.shared_trace.specs.Claims.{IsAnyOut, IsAnyLeft, AreAllAtEnd, IsIdle}
-use Rattle.shared_trace.specs.Kept.{IsTrace, is_parked, is_ready, is_ready_in, places_of}
+use Rattle.shared_trace.specs.Kept.{IsTrace, is_end, is_parked, is_ready, is_ready_in, places_of}
 use Rattle.shared_trace.proofs.Lists.{at_map, from_map, some_at}
-use Rattle.shared_trace.proofs.Nexts.{go_enabled, waiting_is, past_waiting}
+use Rattle.shared_trace.proofs.Nexts.{pass_enabled, waiting_is, past_waiting}
 
 abbrev pub traced : Scenario → List Entry → List Station → Stops → Traced
 traced s es stations stops = record {
@@ -51,7 +52,7 @@ shared_of v s es stations counts stops view t = subst IsShared view (shared_is s
 
 ready_parked : (posts : ℕ → ℕ) (p : Place) (n : Next) → is_ready_in posts p n ≡ true → (x : Holding)
     × (p ≡ Parked x)
-    × (can_go posts n ≡ true)
+    × (may_pass posts n ≡ true)
 ready_parked posts (Parked x) n h = (x, refl, h)
 ready_parked posts (Out w) n h = absurd (false≢true h)
 
@@ -64,7 +65,7 @@ ready_is s es stations counts stops d x t at ready =
     record {
       held = found.0;
       parked = at_map (λ y. y.place) stations d x at ∙ ap Some found.1;
-      enabled = sym (go_enabled s es d (λ g. slice_index counts g) x.next t.posts (t.each d x at).next) ∙ found.2;
+      enabled = sym (pass_enabled s es d (λ g. slice_index counts g) x.next t.posts (t.each d x at).next) ∙ found.2;
     }
 
 ready_at : (s : Scenario) (es : List Entry) (stations : List Station) (counts : List ℕ) (stops : Stops) (d : ℕ)
@@ -76,7 +77,7 @@ ready_at s es stations counts stops d t r =
       found.0,
       found.1,
       ap (λ p. is_ready_in (λ g. slice_index counts g) p found.0.next) found.2
-          ∙ (go_enabled s es d (λ g. slice_index counts g) found.0.next t.posts (t.each d found.0 found.1).next
+          ∙ (pass_enabled s es d (λ g. slice_index counts g) found.0.next t.posts (t.each d found.0 found.1).next
           ∙ r.enabled),
     )
 

@@ -1,12 +1,11 @@
 -- One step of a job.
-use Rattle.std.proofs.Common.{◌≡◌, ℕ, zero, suc, ◌+◌, ◌<◌, ◌≤◌, eqb, Bool, true, false, ◌⊎◌, inl, inr, List, [], ◌∷◌}
-use Rattle.std.proofs.Common.{◌++◌, length, set, Some, slice_index, refl, sym, ap, subst, ◌∙◌, arith, add-one}
-use Rattle.std.proofs.Common.{get_or-set_same, get_or-set_other}
+use Rattle.std.proofs.Common.{◌≡◌, ℕ, zero, suc, ◌+◌, ◌<◌, ◌≤◌, eqb, Bool, true, false, inl, inr, List, [], ◌∷◌}
+use Rattle.std.proofs.Common.{◌++◌, length, Some, slice_index, refl, sym, ap, subst, ◌∙◌, arith, add-one}
 use Rattle.std.specs.Prelude.{◌==◌, count_by}
 use Rattle.std.specs.List.{AllByRecursion}
-use Rattle.std.proofs.lemmas.List.{length-set, length-append, append-nil, append_assoc}
+use Rattle.std.proofs.lemmas.List.{length-append, append-nil, append_assoc}
 use Rattle.std.proofs.lemmas.List.Sums.{sum_by_push}
-use Rattle.std.proofs.lemmas.Bool.{cases_eq, eq-eqb, ne_eqb, false≢true}
+use Rattle.std.proofs.lemmas.Bool.{cases_eq, false≢true}
 use Rattle.scenario_image.specs.declared.step.Step.{Step}
 use Rattle.scenario_image.specs.declared.step.Step.TheVariants.{Event, Post, Need}
 use Rattle.scenario_image.specs.Scenario.{Scenario}
@@ -16,12 +15,13 @@ use Rattle.fleet_core.specs.Board.{HoldsAfter, posts_after, Holding}
 use Rattle.fleet_core.proofs.Posts.{one, run_push, enabled_fits, made_same, posts-push}
 use Rattle.fleet_core.proofs.Valid.{posts_within}
 use Rattle.fleet_core.proofs.Taken.{place_below}
-use Rattle.shared_trace.specs.declared.next.Next.{Next}
-use Rattle.shared_trace.specs.Next.{next_of, can_go}
+use Rattle.fleet_core.proofs.Board.{noted, posts_length}
+use Rattle.fleet_core.specs.declared.next.Next.{Next}
+use Rattle.fleet_core.specs.Next.{next_of, may_pass}
 use Rattle.shared_trace.specs.Job.{Task, IsOf, IsStepped, IsGrown, Advances, seen_by, can_step, entry_next}
 use Rattle.shared_trace.specs.Kept.{IsTask, IsOnWay, IsJob, table_length, groups_in}
 use Rattle.shared_trace.proofs.Lists.{all-push}
-use Rattle.shared_trace.proofs.Nexts.{go_enabled}
+use Rattle.shared_trace.proofs.Nexts.{pass_enabled}
 use Rattle.shared_trace.proofs.Lengths.{post_has_place}
 
 abbrev pub tasked : Scenario → ℕ → ℕ → List Entry → List Entry → Holding → Bool → Task
@@ -43,18 +43,18 @@ going v s w d front es x spent counts groups k n view job ready =
 -- whether it can step
 pub goes : (v : Task) (s : Scenario) (w d : ℕ) (front es : List Entry) (x : Holding) (spent : Bool)
     (counts groups l : List ℕ) (k : ℕ) (n : Next) (b : Bool) → tasked s w d front es x spent ≡ v
-    → IsGoing s w d front es x counts groups k n → l ≡ counts → b ≡ can_go (λ g. slice_index l g) n → can_step v ≡ b
+    → IsGoing s w d front es x counts groups k n → l ≡ counts → b ≡ may_pass (λ g. slice_index l g) n → can_step v ≡ b
 goes v s w d front es x spent counts groups l k n b view g same is =
-    sym (is ∙ (ap (λ m. can_go (λ i. slice_index m i) n) same
-    ∙ (go_enabled s (front ++ es) d (λ i. slice_index counts i) n g.way.known g.way.next ∙ ap can_step view)))
+    sym (is ∙ (ap (λ m. may_pass (λ i. slice_index m i) n) same
+    ∙ (pass_enabled s (front ++ es) d (λ i. slice_index counts i) n g.way.known g.way.next ∙ ap can_step view)))
 
 pub able_here : (s : Scenario) (w d : ℕ) (front es : List Entry) (x : Holding) (counts groups l : List ℕ) (k : ℕ)
     (n : Next) (b : Bool)
-    → IsGoing s w d front es x counts groups k n → l ≡ counts → b ≡ can_go (λ g. slice_index l g) n
+    → IsGoing s w d front es x counts groups k n → l ≡ counts → b ≡ may_pass (λ g. slice_index l g) n
     → is_enabled s (front ++ es) d ≡ b
 able_here s w d front es x counts groups l k n b g same is =
-    sym (is ∙ (ap (λ m. can_go (λ i. slice_index m i) n) same
-    ∙ go_enabled s (front ++ es) d (λ i. slice_index counts i) n g.way.known g.way.next))
+    sym (is ∙ (ap (λ m. may_pass (λ i. slice_index m i) n) same
+    ∙ pass_enabled s (front ++ es) d (λ i. slice_index counts i) n g.way.known g.way.next))
 
 pub holds_here : (v : Task) (s : Scenario) (w d : ℕ) (front es : List Entry) (x : Holding) (spent : Bool)
     (counts groups : List ℕ) (k : ℕ) (n : Next) (scenario : Scenario) → tasked s w d front es x spent ≡ v
@@ -89,28 +89,6 @@ place_room s w d front es x counts groups k n step g at = omega (arith, place_be
 
 -- ---- the tables after a step
 
-post_at : (counts : List ℕ) (group g : ℕ) → group < length counts → (group ≡ g) ⊎ (group ≡ g → ⊥)
-    → slice_index (set counts group (slice_index counts group + 1)) g ≡ slice_index counts g + one (eqb group g)
-post_at counts group g within (inl same) =
-    subst (λ i. slice_index (set counts group (slice_index counts group + 1)) i
-    ≡ slice_index counts i + one (eqb group i)) same
-    (get_or-set_same counts group (slice_index counts group + 1) 0 within
-    ∙ ap (λ b. slice_index counts group + one b) (sym (eq-eqb group group refl)))
-post_at counts group g within (inr other) =
-    get_or-set_other counts group g (slice_index counts group + 1) 0 (λ e. other (sym e))
-    ∙ (sym (omega arith) ∙ ap (λ b. slice_index counts g + one b) (sym (ne_eqb group g other)))
-
-counted : (counts : List ℕ) (step : Step) (g : ℕ) → ((group : ℕ) → step ≡ Post group → group < length counts)
-    → slice_index (posts_after counts step) g ≡ slice_index counts g + one (posts_to g step)
-counted counts (Event event) g within = omega arith
-counted counts (Post group) g within = post_at counts group g (within group refl) (cases_eq group g)
-counted counts (Need group count) g within = omega arith
-
-counted_length : (counts : List ℕ) (step : Step) → length (posts_after counts step) ≡ length counts
-counted_length counts (Event event) = refl
-counted_length counts (Post group) = length-set counts group (slice_index counts group + 1)
-counted_length counts (Need group count) = refl
-
 grouped : (groups : List ℕ) (step : Step) (g : ℕ)
     → count_by (λ h. h == g) (groups ++ groups_in step) ≡ count_by (λ h. h == g) groups + one (posts_to g step)
 grouped groups (Event event) g = ap (count_by (λ h. h == g)) (append-nil groups) ∙ omega arith
@@ -137,6 +115,27 @@ pub record IsMade (s : Scenario) (w d : ℕ) (front es : List Entry) (counts gro
   pub known : after ≡ posts_after counts step
   pub posted : more ≡ groups ++ groups_in step
   pub next : m ≡ next_of (step_at s d (k + 1))
+
+-- a step that is made by the job's scenario, which is that of its subject
+pub step_made : (v : Task) (s : Scenario) (w d : ℕ) (front es : List Entry) (x y : Holding) (spent : Bool)
+    (counts groups l after more : List ℕ) (k : ℕ) (n m : Next) (scenario : Scenario) (step : Step) (e : Entry)
+    → tasked s w d front es x spent ≡ v → IsGoing s w d front es x counts groups k n → scenario ≡ v.subject
+    → Some step ≡ step_at scenario d k → l ≡ counts → true ≡ may_pass (λ g. slice_index l g) n
+    → e ≡ record { worker = w; device = d; step = k; outputs = out_at scenario d k }
+    → HoldsAfter scenario d (k + 1) y → after ≡ posts_after counts step → more ≡ groups ++ groups_in step
+    → m ≡ next_of (step_at scenario d (k + 1)) → IsMade s w d front es counts groups k step e y after more m
+step_made v s w d front es x y spent counts groups l after more k n m scenario step e view g subject at table goes entry
+    holds known posted next =
+    let same : scenario ≡ s = subject ∙ sym (ap (λ t. t.subject) view) in
+    record {
+      at = step_here v s w d front es x spent scenario k step view subject at;
+      able = able_here s w d front es x counts groups l k n true g table goes;
+      entry = entry ∙ ap (λ t. record { worker = w; device = d; step = k; outputs = out_at t d k }) same;
+      holds = subst (λ t. HoldsAfter t d (k + 1) y) same holds;
+      known = known;
+      posted = posted;
+      next = next ∙ ap (λ t. next_of (step_at t d (k + 1))) same;
+    }
 
 made_entry : (s : Scenario) (w d : ℕ) (front es : List Entry) (x y : Holding) (counts groups after more : List ℕ)
     (k : ℕ)
@@ -173,10 +172,8 @@ made_way s w d seen es x y counts groups after more k n m step way at within hol
       holds = subst (λ i. HoldsAfter s d i y) count holds;
       known = λ g.
           ap (λ l. slice_index l g) known
-          ∙ (counted counts step g (λ group is. omega (arith, within group is, way.table))
-          ∙ (ap (λ i. i + one (posts_to g step)) (way.known g)
-          ∙ (ap (λ o. posts_of s g seen + one (is_post g o)) (sym here) ∙ sym (posts-push s g seen e))));
-      table = ap length known ∙ (counted_length counts step ∙ way.table);
+          ∙ noted s seen e step counts (λ group is. omega (arith, within group is, way.table)) here g (way.known g);
+      table = ap length known ∙ (posts_length counts step ∙ way.table);
       posted = λ g.
           ap (count_by (λ h. h == g)) posted
           ∙ (grouped groups step g

@@ -8,13 +8,14 @@ use Rattle.scenario_image.specs.declared.step.Step.{Step}
 use Rattle.scenario_image.specs.declared.step.Step.TheVariants.{Event, Post, Need}
 use Rattle.scenario_image.specs.Scenario.{Row, Scenario, IsValid}
 use Rattle.trace_file.specs.declared.entry.Entry.{Entry}
+use Rattle.fleet_core.specs.declared.next.Next.{Next}
+use Rattle.fleet_core.specs.declared.next.Next.TheVariants.{End, Free, Waits}
+use Rattle.fleet_core.specs.Next.{next_of, may_pass}
 use Rattle.fleet_core.specs.Run.{made_by, posts_of, step_at, is_enabled, IsRun}
 use Rattle.fleet_core.specs.Board.{HoldsAfter, Holding}
-use Rattle.shared_trace.specs.declared.next.Next.{Next}
 use Rattle.shared_trace.specs.declared.station.Place.{Place}
 use Rattle.shared_trace.specs.declared.station.Place.TheVariants.{Parked, Out}
 use Rattle.shared_trace.specs.declared.station.Station.{Station}
-use Rattle.shared_trace.specs.Next.{next_of, can_go, is_end}
 use Rattle.shared_trace.specs.Trace.{IsPlaced}
 use Rattle.shared_trace.specs.Job.{IsOf}
 
@@ -41,6 +42,12 @@ groups_in (Event event) = []
 groups_in (Post group) = group ∷ []
 groups_in (Need group count) = []
 
+-- the device has no next step
+abbrev pub is_end : Next → Bool
+is_end End = true
+is_end Free = false
+is_end (Waits group count) = false
+
 abbrev pub is_parked : Place → Bool
 is_parked (Parked x) = true
 is_parked (Out worker) = false
@@ -50,7 +57,7 @@ places_of stations = map (λ x. x.place) stations
 
 -- the device is parked, and its next step may be made where each group has this many posts
 abbrev pub is_ready_in : (ℕ → ℕ) → Place → Next → Bool
-is_ready_in posts (Parked x) next = can_go posts next
+is_ready_in posts (Parked x) next = may_pass posts next
 is_ready_in posts (Out worker) next = false
 
 abbrev pub is_ready : (ℕ → ℕ) → Station → Bool

@@ -1,4 +1,3 @@
-pub mod Next
 pub mod Pages
 pub mod Stops
 pub mod Trace

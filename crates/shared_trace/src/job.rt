@@ -9,11 +9,10 @@ ghost use Rattle.shared_trace.specs.Trace.{no_work};
 ghost use Rattle.shared_trace.specs.Job.{Task, IsOf, StandsIn, IsSameJob, Advances, Steps, seen_by};
 ghost use Rattle.shared_trace.specs.Kept.{IsJob, table_length};
 
-use crate::next::{Next, can_go, next_of};
 use crate::pages::PAGE;
-use crate::tables::note;
+use crate::tables::push_group;
 use crate::trace::Trace;
-use fleet_core::{Held, let_go_at_end, step_held, step_of};
+use fleet_core::{Held, Next, make_entry, may_pass, next_of, note_post, step_of};
 use scenario_image::Scenario;
 use std::alloc::{AllocError, Global};
 use std::marker::Model;
@@ -119,32 +118,28 @@ impl Job {
         ensures memory { OnErr result (IsTrue self.new.spent) }
         ensures began { is_enabled self.old.subject self.old.front self.old.device ≡ true }
     {
-        if !can_go(self.next, self.known.as_slice()) {
+        if !may_pass(self.next, self.known.as_slice()) {
             return Ok(false);
         }
         let Some(step) = step_of(scenario, self.device, self.place) else {
             unreachable!()
         };
         self.spent = true;
-        let outputs = step_held(
+        let entry = make_entry(
             self.alloc,
             scenario,
             &mut self.held,
+            self.worker,
             self.device,
             self.place,
             step,
         )?;
-        note(&mut self.known, &mut self.posted, step)?;
-        self.entries.push(Entry {
-            worker: self.worker,
-            device: self.device,
-            step: self.place,
-            outputs,
-        })?;
+        push_group(&mut self.posted, step)?;
+        self.entries.push(entry)?;
+        note_post(&mut self.known, step);
         self.place += 1;
         let next = step_of(scenario, self.device, self.place);
         self.next = next_of(next);
-        let_go_at_end(&mut self.held, next);
         self.spent = false;
         Ok(true)
     }

@@ -6,7 +6,6 @@
 mod claims;
 mod entries;
 mod job;
-mod next;
 mod pages;
 mod start;
 mod station;

@@ -3,9 +3,8 @@
 ghost use Rattle.std.specs.Prelude.{◌≡◌, ◌<◌, [], true, length, IfOk};
 ghost use Rattle.shared_trace.specs.Kept.{IsStation, AreParked, table_length, is_parked};
 
-use crate::next::next_of;
 use crate::station::{Place, Station};
-use fleet_core::{Held, step_of};
+use fleet_core::{Held, next_of, step_of};
 use scenario_image::Scenario;
 use std::alloc::{AllocError, Global};
 

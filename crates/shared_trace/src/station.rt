@@ -3,11 +3,9 @@
 ghost use Rattle.std.specs.Prelude.{◌≡◌, ℕ, ◌<◌, true, false, [], Some, IfSome, IfNone, slice_get, slice_index};
 ghost use Rattle.shared_trace.specs.declared.station.Station.{Station};
 ghost use Rattle.shared_trace.specs.declared.station.Place.TheVariants.{Parked, Out};
-ghost use Rattle.shared_trace.specs.Next.{is_end};
-ghost use Rattle.shared_trace.specs.Kept.{AreEnded, AreIdle, LooksFrom, is_parked, is_ready};
+ghost use Rattle.shared_trace.specs.Kept.{AreEnded, AreIdle, LooksFrom, is_end, is_parked, is_ready};
 
-use crate::next::{Next, can_go};
-use fleet_core::Held;
+use fleet_core::{Held, Next, may_pass};
 use std::alloc::Global;
 use std::mem;
 
@@ -40,7 +38,7 @@ impl Station {
         ensures { result ≡ is_ready (λ g. slice_index posts.now g) self.now }
     {
         match self.place {
-            Place::Parked(_) => can_go(self.next, posts),
+            Place::Parked(_) => may_pass(self.next, posts),
             Place::Out(_) => false,
         }
     }

@@ -2,9 +2,8 @@
 
 ghost use Rattle.std.specs.Prelude.{◌≡◌, ℕ, ◌+◌, ◌^◌, ◌<◌, ◌==◌, ◌++◌, length, slice_get, slice_index, count_by, OnOk};
 ghost use Rattle.std.specs.List.{AllByRecursion};
-ghost use Rattle.fleet_core.specs.Board.{posts_after};
 ghost use Rattle.fleet_core.specs.Run.{steps_in};
-ghost use Rattle.scenario_image.specs.declared.step.Step.TheVariants.{Post};
+ghost use Rattle.scenario_image.specs.Scenario.{IsValid};
 ghost use Rattle.shared_trace.specs.Kept.{groups_in, places_for, places_for_steps, table_length};
 
 use scenario_image::{Scenario, Step};
@@ -43,23 +42,14 @@ fn places_for_row(scenario: &Scenario, device: u16) -> usize
 /// posts, a claim copies nothing.
 #[tactic(auto, using(crate::proofs::Lengths::more_rows))]
 pub(crate) fn table_length(scenario: &Scenario) -> usize
-    ensures { result ≡ table_length scenario.now }
+    ensures places { result ≡ table_length scenario.now }
+    ensures valid { IsValid scenario.now }
 {
     let mut most = 0;
     for device in 0..scenario.rows() {
         most = most.max(places_for_row(scenario, device as u16));
     }
     most
-}
-
-/// The posts to a group: none where the table has no place for it.
-pub(crate) fn posts_to(posts: &[u32], group: u8) -> u32
-    ensures { result ≡ slice_index posts.now group }
-{
-    match posts.get(usize::from(group)) {
-        Some(count) => *count,
-        None => 0,
-    }
 }
 
 /// Counts a post to each of these groups.
@@ -75,22 +65,14 @@ pub(crate) fn add_posts(posts: &mut Vec<u32>, groups: &[u8])
     }
 }
 
-/// Counts a step that is a post, and keeps its group after the others.
-pub(crate) fn note(
-    known: &mut Vec<u32>,
-    posted: &mut Vec<u8>,
-    step: &Step,
-) -> Result<(), AllocError>
-    requires within { (group : ℕ) → step.now ≡ Post group → group < length known.old.items }
-    requires room { (g : ℕ) → slice_index known.old.items g + 1 < 2 ^ 32 }
-    ensures known { OnOk result (known.new.items ≡ posts_after known.old.items step.now) }
-    ensures posted { OnOk result (posted.new.items ≡ posted.old.items ++ groups_in step.now) }
+/// Adds the group of a step that is a post.
+pub(crate) fn push_group(groups: &mut Vec<u8>, step: &Step) -> Result<(), AllocError>
+    ensures { OnOk result (groups.new.items ≡ groups.old.items ++ groups_in step.now) }
 {
     match step {
         Step::Event(_) | Step::Need(_, _) => Ok(()),
         Step::Post(group) => {
-            posted.push(*group)?;
-            known[usize::from(*group)] += 1;
+            groups.push(*group)?;
             Ok(())
         }
     }

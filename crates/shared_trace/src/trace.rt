@@ -93,7 +93,6 @@ impl Trace {
         ensures parked { IfOk result (λ t. (d : ℕ) (p : Place) → slice_get t.places d ≡ Some p → is_parked p ≡ true) }
         ensures shared { IfOk result (λ t. IsShared t) }
     {
-        let _rows = scenario.rows();
         let places = table_length(scenario);
         let stations = start_stations(alloc, scenario, places)?;
         let posts = vec![in alloc; 0u32; places]?;

@@ -1,6 +1,6 @@
-use Rattle.fleet_core.proofs.Posts.{ended_blocked}
-use Rattle.fleet_core.proofs.Ends.{no_more, begins, past_rows, goes_waits, done_complete, made_most, need_group}
-use Rattle.fleet_core.proofs.Ends.{post_group, enabled_by}
+use Rattle.fleet_core.proofs.Posts.{ended_blocked, past_rows}
+use Rattle.fleet_core.proofs.Valid.{need_group, post_group}
+use Rattle.fleet_core.proofs.Ends.{no_more, begins, goes_waits, done_complete, made_most, enabled_by}
 use Rattle.fleet_core.proofs.laws.runs_end.Goals as goal
 
 pub returns-clause-complete : goal.returns-clause-complete

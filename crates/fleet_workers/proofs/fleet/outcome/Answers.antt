@@ -14,3 +14,6 @@ pub returns-in-Stalled-clause-outcome : goal.returns-in-Stalled-clause-outcome
 returns-in-Stalled-clause-outcome c =
     subst (λ e. IsOutcome c.args.entries e c.stalled_run.result) (sym c.in-Stalled.is)
     (c.stalled_run.ensures.entries, c.stalled_run.ensures.fault)
+
+pub returns-in-Stalled-clause-run : goal.returns-in-Stalled-clause-run
+returns-in-Stalled-clause-run c = c.stalled_run.ensures.run c.args.workers c.requires.by_workers

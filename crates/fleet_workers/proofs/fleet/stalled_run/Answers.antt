@@ -5,10 +5,9 @@ use Rattle.fleet_workers.proofs.Ending.{fleet_run}
 use Rattle.fleet_workers.proofs.fleet.stalled_run.Goals as goal
 
 pub returns-in-Ok-clause-run : goal.returns-in-Ok-clause-run
-returns-in-Ok-clause-run c =
+returns-in-Ok-clause-run c = λ workers by.
     let s = c.args.scenario.now in
-    fleet_run s c.args._workers c.args.entries (ends.Stalled c.in-Ok.devices) c.requires.workers
-    c.requires.stalled.complete (record {
+    fleet_run s workers c.args.entries (ends.Stalled c.in-Ok.devices) by c.requires.stalled.complete (record {
       exactly = c.in-Ok.ensures ∙ ap (waiting s) c.as_slice.ensures;
       device = c.requires.stalled.device;
       waits = c.requires.stalled.waits;

@@ -1,6 +1,6 @@
 use Rattle.std.proofs.Common.{◌≡◌, length, true, refl, sym, ◌∙◌}
 use Rattle.std.proofs.lemmas.Option.{slice_get_read}
-use Rattle.shared_trace.specs.Next.{is_end}
+use Rattle.shared_trace.specs.Kept.{is_end}
 use Rattle.shared_trace.proofs.Lists.{scan_more, scan_end}
 use Rattle.shared_trace.proofs.station.first_left.Goals as goal
 

@@ -1,25 +1,26 @@
 use Rattle.std.proofs.Common.{◌+◌, arith}
-use Rattle.fleet_core.proofs.Board.{Reads, reads, step_stands_here, place_early, posts_room, entry_is, added}
-use Rattle.fleet_core.proofs.Board.{fleet_push}
+use Rattle.fleet_core.proofs.Board.{Reads, reads, step_stands_here, place_early, post_within, posts_room, entry_is}
+use Rattle.fleet_core.proofs.Board.{added, fleet_push}
 use Rattle.fleet_core.proofs.fleet.Fleet.commit.Goals as goal
 
-read : (c : goal.After-step_held-arg-2-1)
-    → Reads c.self.inside.scenario.now c.self.inside.entries c.self.inside.devices.items c.args.device
+pub make_entry-requires-clause-stands : goal.make_entry-requires-clause-stands
+make_entry-requires-clause-stands c =
+    step_stands_here c.self.inside.scenario.now c.self.inside.entries c.self.inside.devices.items c.args.device
     c.index-place.result.now c.in-Some.step.now c.index_mut-held.result.now
-read c =
-    reads c.args.self.now c.self.inside.scenario.now c.self.inside.entries c.self.inside.spent c.self.inside.made.items
+    (reads c.args.self.now c.self.inside.scenario.now c.self.inside.entries c.self.inside.spent c.self.inside.made.items
     c.self.inside.posts.items c.self.inside.devices.items
     c.args.device c.from-at.result c.index-place.result.now c.in-Some.step.now c.index_mut-held.result.now
-    c.self.view_is c.self.invariant c.if-self.false c.in-Some.ensures c.if-not-may_pass.ensures c.from-at.ensures
-    c.index-place.ensures c.index_mut-held.ensures.value
+    c.self.view_is c.self.invariant c.if-self.false c.in-Some.ensures c.if-not-is_enabled.ensures c.from-at.ensures
+    c.index-place.ensures c.index_mut-held.ensures.value)
 
-pub step_held-requires-clause-stands : goal.step_held-requires-clause-stands
-step_held-requires-clause-stands c =
-    step_stands_here c.self.inside.scenario.now c.self.inside.entries c.self.inside.devices.items c.args.device
-    c.index-place.result.now c.in-Some.step.now c.index_mut-held.result.now (read c)
-
-pub step_held-requires-clause-holds : goal.step_held-requires-clause-holds
-step_held-requires-clause-holds c = (read c).holds
+pub make_entry-requires-clause-holds : goal.make_entry-requires-clause-holds
+make_entry-requires-clause-holds c =
+    let r = reads c.args.self.now c.self.inside.scenario.now c.self.inside.entries c.self.inside.spent
+    c.self.inside.made.items c.self.inside.posts.items c.self.inside.devices.items
+    c.args.device c.from-at.result c.index-place.result.now c.in-Some.step.now c.index_mut-held.result.now
+    c.self.view_is c.self.invariant c.if-self.false c.in-Some.ensures c.if-not-is_enabled.ensures c.from-at.ensures
+    c.index-place.ensures c.index_mut-held.ensures.value in
+    r.holds
 
 pub overflow_add-next : goal.overflow_add-next
 overflow_add-next c =
@@ -28,7 +29,7 @@ overflow_add-next c =
     (reads c.args.self.now c.self.inside.scenario.now c.self.inside.entries c.self.inside.spent c.self.inside.made.items
     c.self.inside.posts.items c.self.inside.devices.items
     c.args.device c.from-at.result c.index-place.result.now c.in-Some.step.now c.index_mut-held.result.now
-    c.self.view_is c.self.invariant c.if-self.false c.in-Some.ensures c.if-not-may_pass.ensures c.from-at.ensures
+    c.self.view_is c.self.invariant c.if-self.false c.in-Some.ensures c.if-not-is_enabled.ensures c.from-at.ensures
     c.index-place.ensures c.index_mut-held.ensures.value) in
     omega (arith, h)
 
@@ -37,14 +38,9 @@ index_mut-requires c =
     let r = reads c.args.self.now c.self.inside.scenario.now c.self.inside.entries c.self.inside.spent
     c.self.inside.made.items c.self.inside.posts.items c.self.inside.devices.items
     c.args.device c.from-at.result c.index-place.result.now c.in-Some.step.now c.index_mut-held.result.now
-    c.self.view_is c.self.invariant c.if-self.false c.in-Some.ensures c.if-not-may_pass.ensures c.from-at.ensures
+    c.self.view_is c.self.invariant c.if-self.false c.in-Some.ensures c.if-not-is_enabled.ensures c.from-at.ensures
     c.index-place.ensures c.index_mut-held.ensures.value in
     omega (arith, r.is.within, c.self.invariant.board.rows, c.from-at.ensures)
-
-pub note_post-requires-clause-room : goal.note_post-requires-clause-room
-note_post-requires-clause-room c =
-    posts_room c.self.inside.scenario.now c.self.inside.entries c.self.inside.made.items c.self.inside.posts.items
-    c.self.invariant.board
 
 read_then : (c : goal.After-self-4-1)
     → Reads c.self.inside.scenario.now c.self.inside.entries c.self.inside.devices.items c.args.device
@@ -53,8 +49,24 @@ read_then c =
     reads c.args.self.now c.self.inside.scenario.now c.self.inside.entries c.self.inside.spent c.self.inside.made.items
     c.self.inside.posts.items c.self.inside.devices.items
     c.args.device c.from-at.result c.index-place.result.now c.in-Some.step.now c.index_mut-held.result.now
-    c.self.view_is c.self.invariant c.if-self.false c.in-Some.ensures c.if-not-may_pass.ensures c.from-at.ensures
+    c.self.view_is c.self.invariant c.if-self.false c.in-Some.ensures c.if-not-is_enabled.ensures c.from-at.ensures
     c.index-place.ensures c.index_mut-held.ensures.value
+
+pub note_post-requires-clause-within : goal.note_post-requires-clause-within
+note_post-requires-clause-within c =
+    post_within c.self.inside.scenario.now c.self.inside.entries c.self.inside.made.items c.self.inside.posts.items
+    c.self.inside.devices.items c.args.device c.index-place.result.now c.in-Some.step.now
+    c.index_mut-held.result.now c.self.invariant.board
+    (reads c.args.self.now c.self.inside.scenario.now c.self.inside.entries c.self.inside.spent c.self.inside.made.items
+    c.self.inside.posts.items c.self.inside.devices.items
+    c.args.device c.from-at.result c.index-place.result.now c.in-Some.step.now c.index_mut-held.result.now
+    c.self.view_is c.self.invariant c.if-self.false c.in-Some.ensures c.if-not-is_enabled.ensures c.from-at.ensures
+    c.index-place.ensures c.index_mut-held.ensures.value)
+
+pub note_post-requires-clause-room : goal.note_post-requires-clause-room
+note_post-requires-clause-room c =
+    posts_room c.self.inside.scenario.now c.self.inside.entries c.self.inside.made.items c.self.inside.posts.items
+    c.self.invariant.board
 
 pub returns-clause-added : goal.returns-clause-added
 returns-clause-added c =
@@ -62,18 +74,16 @@ returns-clause-added c =
     c.args.worker c.args.device _ c.self.view_is c.in_ok-push.ensures.ok
     (entry_is c.self.inside.scenario.now c.self.inside.entries c.self.inside.devices.items c.args.worker c.args.device
     c.index-place.result.now c.in-Some.step.now c.index_mut-held.result.now
-    c.in_ok-outputs.outputs (read_then c) c.in_ok-outputs.ensures.outputs)
+    c.in_ok-entry.entry (read_then c) c.in_ok-entry.ensures.entry)
 
 pub invariant_of-self-2 : goal.invariant_of-self-2
 invariant_of-self-2 c =
     fleet_push c.self.inside.scenario.now c.self.inside.entries c.push.new.self c.self.inside.made.items
     c.self.inside.posts.items c.note_post.new.posts.items c.self.inside.devices.items
     c.args.worker c.args.device c.from-at.result c.index-place.result.now c.in-Some.step.now
-    c.index_mut-held.result.now c.let_go_at_end.new.held _
+    c.index_mut-held.result.now c.make_entry.new.held _
     c.self.invariant.board c.self.invariant.count (read_then c) c.from-at.ensures c.in_ok-push.ensures.ok
     (entry_is c.self.inside.scenario.now c.self.inside.entries c.self.inside.devices.items c.args.worker c.args.device
     c.index-place.result.now c.in-Some.step.now c.index_mut-held.result.now
-    c.in_ok-outputs.outputs (read_then c) c.in_ok-outputs.ensures.outputs)
-    c.note_post.ensures
-    (c.let_go_at_end.ensures c.self.inside.scenario.now c.args.device (c.index-place.result.now + 1) c.step_of.ensures
-    c.in_ok-outputs.ensures.holds)
+    c.in_ok-entry.entry (read_then c) c.in_ok-entry.ensures.entry)
+    c.note_post.ensures c.in_ok-entry.ensures.holds

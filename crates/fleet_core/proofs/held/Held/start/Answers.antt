@@ -4,7 +4,7 @@ use Rattle.fleet_core.proofs.Holding.{started}
 use Rattle.fleet_core.proofs.held.Held.start.Goals as goal
 
 pub returns-clause-shows : goal.returns-clause-shows
-returns-clause-shows c =
-    started c.args.scenario.now c.args.device c.args._place c.args.self.now c.in_ok-start_of_row.field-0
-    c.requires.holds (sym (ap (λ h. h.fresh) c.self.view_is) ∙ ap (λ s. (holding_of s).fresh) c.in-Fresh.is)
+returns-clause-shows c = λ k holds.
+    started c.args.scenario.now c.args.device k c.args.self.now c.in_ok-start_of_row.field-0
+    holds (sym (ap (λ h. h.fresh) c.self.view_is) ∙ ap (λ s. (holding_of s).fresh) c.in-Fresh.is)
     c.in_ok-start_of_row.ensures

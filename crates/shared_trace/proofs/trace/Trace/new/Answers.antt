@@ -9,9 +9,9 @@ use Rattle.shared_trace.proofs.trace.Trace.new.Goals as goal
 pub invariant_of-result : goal.invariant_of-result
 invariant_of-result c = (
   start_trace c.args.scenario.now c.of.result.value c.in_ok-entries.entries.held c.in_ok-stations.stations.items
-      c.in_ok-posts.posts.items c.table_length-places.result c.rows-rows.ensures.valid
+      c.in_ok-posts.posts.items c.table_length-places.result c.table_length-places.ensures.valid
       c.of.ensures c.in_ok-entries.ensures c.in_ok-stations.ensures.count c.in_ok-stations.ensures.parked
-      c.table_length-places.ensures (c.in_ok-posts.ensures.items_if_clones_equal (λ y e. e)),
+      c.table_length-places.ensures.places (c.in_ok-posts.ensures.items_if_clones_equal (λ y e. e)),
   none_ended c.in_ok-stations.stations.items,
   none_idle (λ g. slice_index c.in_ok-posts.posts.items g) c.in_ok-stations.stations.items,
 )
