@@ -20,6 +20,7 @@ use Rattle.command_live.specs.Live.{IsLiveDone, IsLiveFault}
 use Rattle.command_files.specs.Refusals.{IsTold}
 use Rattle.command_files.specs.Status.{text_status}
 use Rattle.command_scenarios.specs.Texts.{IsTextFault}
+use Rattle.command_test.specs.Jobs.{IsTestDone, IsTestFault}
 use Rattle.command_traces.specs.Traces.{IsPcapDone, IsPcapRefused, IsShowDone, IsShowRefused}
 use Rattle.command_files.specs.World.{FilesKnown, IsAside, StreamFaults, Streams, World}
 use Rattle.command_files.specs.declared.answer.Answer.{Answer}
@@ -46,6 +47,7 @@ IsDone holds (jobs.Pcap image trace output) answer =
     IsPcapDone holds (record { image = image.now; trace = trace.now }) output.now answer
 IsDone holds (jobs.Debug image trace) answer =
     IsDebugRefused holds (record { image = image.now; trace = trace.now }) answer
+IsDone holds (jobs.Test file) answer = IsTestDone holds file.now answer
 
 -- a job is refused for this fault
 abbrev pub IsRefusedJob : (List ℕ → List ℕ → Type 0) → (List ℕ → Type 0) → Job → Fault → Type 0
@@ -63,6 +65,7 @@ IsRefusedJob holds fails (jobs.Pcap image trace output) fault =
     IsPcapRefused holds fails (record { image = image.now; trace = trace.now }) fault
 IsRefusedJob holds fails (jobs.Debug image trace) fault =
     IsCheckRefused holds fails (record { image = image.now; trace = trace.now }) fault
+IsRefusedJob holds fails (jobs.Test file) fault = IsTestFault holds fails file.now fault
 
 -- what words are answered with; a text on how to use the program is printed as it is
 abbrev pub IsAnswerTo : (List ℕ → List ℕ → Type 0) → Asked → Answer → Type 0

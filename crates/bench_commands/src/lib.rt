@@ -7,6 +7,7 @@
 //! | `asm`, `dis`, `run`, `check` | `command_scenarios` |
 //! | `show`, `pcap` | `command_traces` |
 //! | `debug` | `command_debug` |
+//! | `test` | `command_test` |
 //! | `live` | `command_live` |
 //!
 //! What they share is in `command_files`. What each is answered with stands in specs/Command.antt (`IsDone`,

@@ -6,6 +6,9 @@ use Rattle.hex.specs.declared.error.FromHexError.TheVariants.{OutOfMemory}
 use Rattle.scenario_words.specs.declared.cause.Cause.{Cause}
 use Rattle.scenario_words.specs.declared.cause.Cause.TheVariants as cause
 use Rattle.scenario_asm.specs.declared.fault.AsmFault.{AsmFault}
+use Rattle.case_text.specs.declared.fault.CaseFault.{CaseFault}
+use Rattle.case_text.specs.declared.fault.Why.{Why}
+use Rattle.case_text.specs.declared.fault.Why.TheVariants as why
 use Rattle.byte_layout.specs.declared.fault.LayoutFault.{LayoutFault}
 use Rattle.byte_layout.specs.declared.fault.LayoutFault.TheVariants as layout
 use Rattle.trace_file.specs.declared.fault.WriteFault.{WriteFault}
@@ -16,7 +19,7 @@ use Rattle.scenario_image.specs.declared.fault.ScenarioFault.{ScenarioFault}
 use Rattle.scenario_image.specs.declared.fault.ScenarioFault.TheVariants as session
 use Rattle.command_files.specs.declared.fault.Fault.{Fault}
 use Rattle.command_files.specs.declared.fault.Fault.TheVariants.{Hex, Memory, Read, Write, Layout, Text, TooLarge}
-use Rattle.command_files.specs.declared.fault.Fault.TheVariants.{Template, Session}
+use Rattle.command_files.specs.declared.fault.Fault.TheVariants.{Template, Session, Cases}
 
 -- the fault of a text that could not be read as hex: a lack of memory is not the text's fault
 abbrev pub hex_fault : FromHexError → Fault
@@ -62,6 +65,14 @@ session_fault session.Range = Session session.Range
 session_fault session.Missing = Session session.Missing
 session_fault session.Limit = Session session.Limit
 session_fault session.Memory = Memory
+
+abbrev pub refused_cases : Why → CaseFault → Fault
+refused_cases why.Memory fault = Memory
+refused_cases _ fault = Cases fault
+
+-- the fault of a file that is no file of cases: a lack of memory is not the file's fault
+abbrev pub case_fault : CaseFault → Fault
+case_fault fault = refused_cases fault.why fault
 
 -- what may befall a text that is printed, or a file that is made: a lack of memory, or that it was not taken
 abbrev pub IsWritingFault : Type 0 → Fault → Type 0

@@ -2,6 +2,9 @@
 use Rattle.std.specs.Prelude.{ℕ, List, ◌++◌, Option, None, Some, codes}
 use Rattle.std.specs.Fmt.{decimal}
 use Rattle.scenario_words.specs.CauseWords.{cause_words}
+use Rattle.scenario_words.specs.declared.cause.Cause.{Cause}
+use Rattle.case_text.specs.declared.fault.Why.{Why}
+use Rattle.case_text.specs.declared.fault.Why.TheVariants as why
 use Rattle.byte_layout.specs.declared.fault.LayoutFault.{LayoutFault}
 use Rattle.byte_layout.specs.declared.fault.LayoutFault.TheVariants.{Magic, Version, Cut, Trailing, BadField, Limit}
 use Rattle.byte_layout.specs.declared.fault.LayoutFault.TheVariants as layout
@@ -38,6 +41,40 @@ session_word session.Missing = codes "missing"
 session_word session.Limit = codes "limit"
 session_word session.Memory = codes "memory"
 
+-- the words of a refusal of a file of cases
+abbrev pub case_word : Why → List ℕ
+case_word why.NotText = codes "no text"
+case_word (why.NotAnAnswer cause) = codes "no such answer"
+case_word (why.NotAQuestion cause) = codes "no such question"
+case_word (why.NotAnEvent cause) = codes "no such event"
+case_word why.NotACount = codes "`*` wants a number up to 100,000 and a line"
+case_word why.NoSuchLine = codes "no such line"
+case_word why.NotYetRead = codes "cases of files are not read yet"
+case_word why.NoTextAbove = codes "no `=> text` stands above this"
+case_word why.BeforeFirstCase = codes "this stands before the first case"
+case_word why.NoTitle = codes "a case without a title"
+case_word why.SameTitle = codes "a case with the title of one above"
+case_word why.NoAnswer = codes "a case that states no answer"
+case_word why.NoCase = codes "no case"
+case_word why.Memory = codes "memory"
+
+-- the cause for which the words of an answer, a question or an event are refused
+abbrev pub case_cause : Why → Option Cause
+case_cause (why.NotAnAnswer cause) = Some cause
+case_cause (why.NotAQuestion cause) = Some cause
+case_cause (why.NotAnEvent cause) = Some cause
+case_cause why.NotText = None
+case_cause why.NotACount = None
+case_cause why.NoSuchLine = None
+case_cause why.NotYetRead = None
+case_cause why.NoTextAbove = None
+case_cause why.BeforeFirstCase = None
+case_cause why.NoTitle = None
+case_cause why.SameTitle = None
+case_cause why.NoAnswer = None
+case_cause why.NoCase = None
+case_cause why.Memory = None
+
 -- the word of a fault
 abbrev pub fault_word : Fault → List ℕ
 fault_word faults.Hex = codes "hex"
@@ -57,6 +94,7 @@ fault_word faults.Range = codes "range"
 fault_word faults.TooLong = codes "too long"
 fault_word faults.Bind = codes "bind"
 fault_word (faults.Session fault) = session_word fault
+fault_word (faults.Cases fault) = case_word fault.why
 
 -- the place of a fault of bytes, in bytes from 0
 abbrev pub place_of : Fault → Option ℕ
@@ -68,9 +106,16 @@ abbrev pub word_with_place : List ℕ → Option ℕ → List ℕ
 word_with_place word None = word
 word_with_place word (Some place) = word ++ codes " at " ++ decimal place
 
--- the name of a fault: its word, after the line where it is a text's, and with its place where it has one
+abbrev pub word_with_cause : List ℕ → Option Cause → List ℕ
+word_with_cause word None = word
+word_with_cause word (Some cause) = word ++ codes ": " ++ cause_words cause
+
+-- the name of a fault: its word, after the line where it is that of a text or of cases, and with its place or its cause
+-- where it has one
 abbrev pub fault_name : Fault → List ℕ
 fault_name (faults.Text fault) = codes "line " ++ decimal fault.line ++ codes ": " ++ cause_words fault.cause
+fault_name (faults.Cases fault) =
+    codes "line " ++ decimal fault.line ++ codes ": " ++ word_with_cause (case_word fault.why) (case_cause fault.why)
 fault_name fault = word_with_place (fault_word fault) (place_of fault)
 
 -- the line of a fault

@@ -1,7 +1,9 @@
 ghost use Rattle.std.specs.Prelude.{◌≡◌};
-ghost use Rattle.command_files.specs.FaultLine.{fault_word, layout_word, session_word, template_word};
+ghost use Rattle.command_files.specs.FaultLine.{case_cause, case_word, fault_word, layout_word, session_word};
+ghost use Rattle.command_files.specs.FaultLine.{template_word};
 
 use byte_layout::LayoutFault;
+use case_text::{CaseFault, Why};
 use device_machine::TemplateFault;
 use hex::FromHexError;
 use scenario_asm::AsmFault;
@@ -48,6 +50,8 @@ pub enum Fault {
     Bind,
     /// What a device did is not the row of a scenario.
     Session(ScenarioFault),
+    /// A line of a file of cases is refused.
+    Cases(CaseFault),
 }
 
 impl fmt::Display for Fault {
@@ -63,6 +67,16 @@ impl fmt::Display for Fault {
             Fault::Text(AsmFault { line, cause }) => {
                 let words = cause_words(*cause);
                 write!(f, "line {line}: {words}")
+            }
+            Fault::Cases(CaseFault { line, why }) => {
+                let word = case_word(*why);
+                match case_cause(*why) {
+                    Some(cause) => {
+                        let words = cause_words(cause);
+                        write!(f, "line {line}: {word}: {words}")
+                    }
+                    None => write!(f, "line {line}: {word}"),
+                }
             }
             _ => {
                 let word = word_of(*self);
@@ -88,7 +102,7 @@ impl fmt::Display for FaultLine {
     }
 }
 
-/// The name of a fault; of one with a place or a line, without it.
+/// The name of a fault; of one with a place, a line or a cause, without it.
 fn word_of(fault: Fault) -> &'static str
     ensures { result.now ≡ fault_word fault }
 {
@@ -110,6 +124,7 @@ fn word_of(fault: Fault) -> &'static str
         Fault::TooLong => "too long",
         Fault::Bind => "bind",
         Fault::Session(fault) => session_word(fault),
+        Fault::Cases(fault) => case_word(fault.why),
     }
 }
 
@@ -147,6 +162,47 @@ fn session_word(fault: ScenarioFault) -> &'static str
         ScenarioFault::Missing => "missing",
         ScenarioFault::Limit => "limit",
         ScenarioFault::Memory => "memory",
+    }
+}
+
+fn case_word(why: Why) -> &'static str
+    ensures { result.now ≡ case_word why }
+{
+    match why {
+        Why::NotText => "no text",
+        Why::NotAnAnswer(_) => "no such answer",
+        Why::NotAQuestion(_) => "no such question",
+        Why::NotAnEvent(_) => "no such event",
+        Why::NotACount => "`*` wants a number up to 100,000 and a line",
+        Why::NoSuchLine => "no such line",
+        Why::NotYetRead => "cases of files are not read yet",
+        Why::NoTextAbove => "no `=> text` stands above this",
+        Why::BeforeFirstCase => "this stands before the first case",
+        Why::NoTitle => "a case without a title",
+        Why::SameTitle => "a case with the title of one above",
+        Why::NoAnswer => "a case that states no answer",
+        Why::NoCase => "no case",
+        Why::Memory => "memory",
+    }
+}
+
+/// The cause for which the words of an answer, a question or an event are refused.
+fn case_cause(why: Why) -> Option<Cause>
+    ensures { result ≡ case_cause why }
+{
+    match why {
+        Why::NotAnAnswer(cause) | Why::NotAQuestion(cause) | Why::NotAnEvent(cause) => Some(cause),
+        Why::NotText
+        | Why::NotACount
+        | Why::NoSuchLine
+        | Why::NotYetRead
+        | Why::NoTextAbove
+        | Why::BeforeFirstCase
+        | Why::NoTitle
+        | Why::SameTitle
+        | Why::NoAnswer
+        | Why::NoCase
+        | Why::Memory => None,
     }
 }
 
@@ -224,6 +280,20 @@ impl From<AsmFault> for Fault {
         match fault.cause {
             Cause::Memory => Fault::Memory,
             _ => Fault::Text(fault),
+        }
+    }
+}
+
+impl From<CaseFault> for Fault {
+    ghost use Rattle.std.specs.Prelude.{◌≡◌};
+    ghost use Rattle.command_files.specs.Fault.{case_fault};
+
+    ghost from_gives = { λ fault e. e ≡ case_fault fault };
+
+    fn from(fault: CaseFault) -> Fault {
+        match fault.why {
+            Why::Memory => Fault::Memory,
+            _ => Fault::Cases(fault),
         }
     }
 }

@@ -10,7 +10,7 @@ pub enum Status {
     Fault,
     /// Words that ask for nothing, answered by the text on how to use the program.
     Usage,
-    /// A run that stalled, or a trace that is no run.
+    /// A run that stalled, a trace that is no run, or a case that differs.
     NotRun,
 }
 

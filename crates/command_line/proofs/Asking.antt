@@ -24,6 +24,7 @@ no_one rows (jobs.Check image trace) none asks = search rules
 no_one rows (jobs.Show image trace device from to) none asks = search rules
 no_one rows (jobs.Pcap image trace output) none asks = search rules
 no_one rows (jobs.Debug image trace) none asks = search rules
+no_one rows (jobs.Test file) none asks = search rules
 
 pub no_asm : (rows : List Row) (job : Job) → (first_of (codes "IN") rows ≡ None) ⊎ (first_of (codes "OUT") rows ≡ None)
     → AsksFor (codes "asm", rows) job → ⊥
@@ -36,6 +37,7 @@ no_asm rows (jobs.Check image trace) none asks = search rules
 no_asm rows (jobs.Show image trace device from to) none asks = search rules
 no_asm rows (jobs.Pcap image trace output) none asks = search rules
 no_asm rows (jobs.Debug image trace) none asks = search rules
+no_asm rows (jobs.Test file) none asks = search rules
 
 pub no_dis : (rows : List Row) (job : Job) → first_of (codes "IN") rows ≡ None → AsksFor (codes "dis", rows) job → ⊥
 no_dis rows (jobs.One hex) none asks = search rules
@@ -46,6 +48,7 @@ no_dis rows (jobs.Check image trace) none asks = search rules
 no_dis rows (jobs.Show image trace device from to) none asks = search rules
 no_dis rows (jobs.Pcap image trace output) none asks = search rules
 no_dis rows (jobs.Debug image trace) none asks = search rules
+no_dis rows (jobs.Test file) none asks = search rules
 
 pub no_run : (rows : List Row) (job : Job) → LacksRun rows → AsksFor (codes "run", rows) job → ⊥
 no_run rows (jobs.One hex) lacks asks = search rules
@@ -58,6 +61,7 @@ no_run rows (jobs.Check image trace) lacks asks = search rules
 no_run rows (jobs.Show image trace device from to) lacks asks = search rules
 no_run rows (jobs.Pcap image trace output) lacks asks = search rules
 no_run rows (jobs.Debug image trace) lacks asks = search rules
+no_run rows (jobs.Test file) lacks asks = search rules
 
 pub no_check : (rows : List Row) (job : Job) → (first_of (codes "IMAGE") rows ≡ None)
     ⊎ (first_of (codes "TRACE") rows ≡ None) → AsksFor (codes "check", rows) job → ⊥
@@ -70,6 +74,7 @@ no_check rows (jobs.Check image trace) (inr none) asks = search rules
 no_check rows (jobs.Show image trace device from to) none asks = search rules
 no_check rows (jobs.Pcap image trace output) none asks = search rules
 no_check rows (jobs.Debug image trace) none asks = search rules
+no_check rows (jobs.Test file) none asks = search rules
 
 pub no_show : (rows : List Row) (job : Job) → (first_of (codes "IMAGE") rows ≡ None)
     ⊎ (first_of (codes "TRACE") rows ≡ None) → AsksFor (codes "show", rows) job → ⊥
@@ -82,6 +87,7 @@ no_show rows (jobs.Show image trace device from to) (inl none) asks = search rul
 no_show rows (jobs.Show image trace device from to) (inr none) asks = search rules
 no_show rows (jobs.Pcap image trace output) none asks = search rules
 no_show rows (jobs.Debug image trace) none asks = search rules
+no_show rows (jobs.Test file) none asks = search rules
 
 pub no_debug : (rows : List Row) (job : Job) → (first_of (codes "IMAGE") rows ≡ None)
     ⊎ (first_of (codes "TRACE") rows ≡ None) → AsksFor (codes "debug", rows) job → ⊥
@@ -94,6 +100,7 @@ no_debug rows (jobs.Show image trace device from to) none asks = search rules
 no_debug rows (jobs.Pcap image trace output) none asks = search rules
 no_debug rows (jobs.Debug image trace) (inl none) asks = search rules
 no_debug rows (jobs.Debug image trace) (inr none) asks = search rules
+no_debug rows (jobs.Test file) none asks = search rules
 
 pub no_pcap : (rows : List Row) (job : Job) → (first_of (codes "IMAGE") rows ≡ None)
     ⊎ ((first_of (codes "TRACE") rows ≡ None) ⊎ (first_of (codes "OUT") rows ≡ None))
@@ -108,6 +115,19 @@ no_pcap rows (jobs.Pcap image trace output) (inl none) asks = search rules
 no_pcap rows (jobs.Pcap image trace output) (inr (inl none)) asks = search rules
 no_pcap rows (jobs.Pcap image trace output) (inr (inr none)) asks = search rules
 no_pcap rows (jobs.Debug image trace) none asks = search rules
+no_pcap rows (jobs.Test file) none asks = search rules
+
+pub no_test : (rows : List Row) (job : Job) → first_of (codes "FILE") rows ≡ None
+    → AsksFor (codes "test", rows) job → ⊥
+no_test rows (jobs.One hex) none asks = search rules
+no_test rows (jobs.Asm input output) none asks = search rules
+no_test rows (jobs.Dis input) none asks = search rules
+no_test rows (jobs.Run image workers batch trace) none asks = search rules
+no_test rows (jobs.Check image trace) none asks = search rules
+no_test rows (jobs.Show image trace device from to) none asks = search rules
+no_test rows (jobs.Pcap image trace output) none asks = search rules
+no_test rows (jobs.Debug image trace) none asks = search rules
+no_test rows (jobs.Test file) none asks = search rules
 
 -- the words of a device on the network
 lacks_live : (rows : List Row) (live : Live) → LacksLive rows → AsksToLive (codes "live", rows) live → ⊥
@@ -126,6 +146,7 @@ live_alone rows (jobs.Check image trace) asks = search rules
 live_alone rows (jobs.Show image trace device from to) asks = search rules
 live_alone rows (jobs.Pcap image trace output) asks = search rules
 live_alone rows (jobs.Debug image trace) asks = search rules
+live_alone rows (jobs.Test file) asks = search rules
 
 pub not_live : (rows : List Row) (wanted : Asked) → LacksLive rows → MayAskFor (codes "live", rows) wanted → ⊥
 not_live rows (asked.Job job) lacks asks = live_alone rows job asks

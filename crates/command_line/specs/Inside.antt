@@ -67,13 +67,17 @@ live_app =
     with_rule (with_rule (with_rule (with_port (new_app (codes "live"))) (needed_number (codes "TURNS") 1 100000))
     (file (codes "save"))) (flag (codes "show"))
 
+-- `test FILE`
+abbrev pub test_app : App
+test_app = with_rule (new_app (codes "test")) (needed (codes "FILE"))
+
 -- the program, which is `bench_app`
 abbrev pub whole_app : App
 whole_app =
     with_subcommand (with_subcommand (with_subcommand (with_subcommand (with_subcommand (with_subcommand
-    (with_subcommand (with_subcommand (with_subcommand (with_settings (new_app (codes "lwbench")))
+    (with_subcommand (with_subcommand (with_subcommand (with_subcommand (with_settings (new_app (codes "lwbench")))
     one_app.top) asm_app.top) dis_app.top) run_app.top) check_app.top) show_app.top) pcap_app.top) debug_app.top)
-    live_app.top
+    live_app.top) test_app.top
 
 -- a value that a run needs is not there
 abbrev pub LacksRun : List Row → Type 0

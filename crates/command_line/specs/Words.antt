@@ -72,7 +72,9 @@ commands =
     -- `live IMAGE DEVICE PORT TURNS [--save FILE] [--show]`
     ∷ command (codes "live") (needed (codes "IMAGE") ∷ needed_number (codes "DEVICE") 0 65535
     ∷ needed_number (codes "PORT") 0 65535 ∷ needed_number (codes "TURNS") 1 100000 ∷ file (codes "save")
-    ∷ flag (codes "show") ∷ []) ∷ []
+    ∷ flag (codes "show") ∷ [])
+    -- `test FILE`
+    ∷ command (codes "test") (needed (codes "FILE") ∷ []) ∷ []
 
 -- the program
 abbrev pub bench_app : App
@@ -131,6 +133,7 @@ AsksFor found (jobs.Pcap image trace output) =
     × IsText found (codes "OUT") output.now
 AsksFor found (jobs.Debug image trace) =
     (found.0 ≡ codes "debug") × IsText found (codes "IMAGE") image.now × IsText found (codes "TRACE") trace.now
+AsksFor found (jobs.Test file) = (found.0 ≡ codes "test") × IsText found (codes "FILE") file.now
 
 -- a subcommand with its values asks for this device on the network
 abbrev pub AsksToLive : Word × List Row → Live → Type 0

@@ -12,7 +12,7 @@ Status:
   0  it was done
   1  a fault
   2  the words are not a command
-  3  the run stalled, or the trace is not a run";
+  3  the run stalled, the trace is not a run, or a case differs";
 
 pub const ONE: &str =
     "Reads no file. Prints a line for each output of the device, a datagram or another act, or `nothing`:
@@ -121,3 +121,18 @@ it. With `--show` prints what happens while it goes on. At the end prints
 
 Example:
   lwbench live reader.image 0 5683 1000 --show";
+
+pub const TEST: &str =
+    "Reads FILE, which is UTF-8, and plays its cases. For each case of which something does not come as the
+file states it, in their order, prints the case's title with the number of the first line that does not
+hold, and that line; where the text of a case is refused and the case does not say so, the line that is
+refused, and why. Then prints how many cases there are, and how many differ (status 3 if any does):
+  TITLE, line N
+  TITLE, line N: CAUSE
+  C cases, D differ
+A file of which a line cannot be read, or that holds no case, is a fault: nothing of it is played.
+Writes no file.
+
+Example:
+  lwbench test reader.cases
+  1 cases, 0 differ";

@@ -3,7 +3,8 @@ ghost use Rattle.std.specs.Prelude.{◌≡◌, codes, false, true, IfOk};
 ghost use Rattle.clap.specs.Words.{App, app_of, new_app, rule_of, with_rule, with_subcommand};
 ghost use Rattle.command_line.specs.Words.{file, flag, needed, needed_number, optional_number, with_settings};
 ghost use Rattle.command_line.specs.Inside.{asm_app, batch, check_app, debug_app, dis_app, live_app, one_app, pcap_app};
-ghost use Rattle.command_line.specs.Inside.{run_app, show_app, whole_app, with_port, with_range, with_trace, workers};
+ghost use Rattle.command_line.specs.Inside.{run_app, show_app, test_app, whole_app, with_port, with_range, with_trace};
+ghost use Rattle.command_line.specs.Inside.{workers};
 
 use crate::help;
 use clap::{Arg, ArgAction, Command, value_parser};
@@ -15,7 +16,8 @@ pub(crate) fn bench<'a>(alloc: Global) -> Result<Command<'a>, AllocError>
 {
     let texts = with_texts(alloc, top(alloc))?;
     let runs = with_runs(alloc, texts)?;
-    with_traces(alloc, runs)
+    let traces = with_traces(alloc, runs)?;
+    with_cases(alloc, traces)
 }
 
 fn with_texts<'a>(alloc: Global, command: Command<'a>) -> Result<Command<'a>, AllocError>
@@ -43,6 +45,12 @@ fn with_traces<'a>(alloc: Global, command: Command<'a>) -> Result<Command<'a>, A
     let pcap = with_subcommand(Ok(command), pcap_command(alloc));
     let debug = with_subcommand(pcap, debug_command(alloc));
     with_subcommand(debug, live_command(alloc))
+}
+
+fn with_cases<'a>(alloc: Global, command: Command<'a>) -> Result<Command<'a>, AllocError>
+    ensures { IfOk result (λ c. app_of c ≡ with_subcommand (app_of command.entry) test_app.top) }
+{
+    with_subcommand(Ok(command), test_command(alloc))
 }
 
 /// Adds a subcommand that has no global argument. Either may have failed, so a chain of these needs no `?`, each of
@@ -215,6 +223,13 @@ fn with_port<'a>(alloc: Global, command: Command<'a>) -> Result<Command<'a>, All
         .arg(needed(alloc, "IMAGE").help("The scenario, as an image"))?
         .arg(needed_small(alloc, "DEVICE").help("The number of the device"))?
         .arg(needed_small(alloc, "PORT").help("Its UDP port (0: any free port)"))
+}
+
+fn test_command<'a>(alloc: Global) -> Result<Command<'a>, AllocError>
+    ensures { IfOk result (λ c. app_of c ≡ test_app) }
+{
+    let about = "Plays the cases of a file, and names those that differ";
+    described(alloc, "test", about, help::TEST).arg(needed(alloc, "FILE").help("The file of cases"))
 }
 
 fn turns<'a>(alloc: Global) -> Arg<'a>

@@ -83,6 +83,11 @@ pub enum Job<'a> {
         /// The path of the run's trace file.
         trace: &'a str,
     },
+    /// Which cases of a file differ.
+    Test {
+        /// The path of the file of cases.
+        file: &'a str,
+    },
 }
 
 /// A device that receives the datagrams of the network, and answers them.
@@ -163,7 +168,7 @@ fn asked_in<'a>(name: &str, found: &ArgMatches<'a>) -> Option<Asked<'a>>
     }
 }
 
-#[tactic(auto, using(crate::proofs::Asking::no_one, crate::proofs::Asking::no_asm, crate::proofs::Asking::no_dis, crate::proofs::Asking::no_run, crate::proofs::Asking::no_check, crate::proofs::Asking::no_show, crate::proofs::Asking::no_pcap, crate::proofs::Asking::no_debug))]
+#[tactic(auto, using(crate::proofs::Asking::no_one, crate::proofs::Asking::no_asm, crate::proofs::Asking::no_dis, crate::proofs::Asking::no_run, crate::proofs::Asking::no_check, crate::proofs::Asking::no_show, crate::proofs::Asking::no_pcap, crate::proofs::Asking::no_debug, crate::proofs::Asking::no_test))]
 fn job_in<'a>(name: &str, found: &ArgMatches<'a>) -> Option<Job<'a>>
     ensures some { IfSome result (AsksFor (name.now, rows_of (found_of found.now))) }
     ensures none { IfNone result ((job : JobData) → AsksFor (name.now, rows_of (found_of found.now)) job → ⊥) }
@@ -177,6 +182,7 @@ fn job_in<'a>(name: &str, found: &ArgMatches<'a>) -> Option<Job<'a>>
         "show" => show_job(found),
         "pcap" => pcap_job(found),
         "debug" => debug_job(found),
+        "test" => test_job(found),
         _ => None,
     }
 }
@@ -268,6 +274,15 @@ fn debug_job<'a>(found: &ArgMatches<'a>) -> Option<Job<'a>>
     Some(Job::Debug {
         image: value_of(found, "IMAGE")?,
         trace: value_of(found, "TRACE")?,
+    })
+}
+
+fn test_job<'a>(found: &ArgMatches<'a>) -> Option<Job<'a>>
+    ensures some { IfSome result (AsksFor (codes "test", rows_of (found_of found.now))) }
+    ensures none { IfNone result (first_of (codes "FILE") (rows_of (found_of found.now)) ≡ None) }
+{
+    Some(Job::Test {
+        file: value_of(found, "FILE")?,
     })
 }
 

@@ -1,0 +1,4 @@
+pub mod Built
+pub mod Faults
+pub mod LinesAt
+pub mod Played
