@@ -24,7 +24,7 @@ use Rattle.case_play.proofs.Rows.{machine_asked, none_asked, asked_next, shown_i
 
 -- ---- steps of a row
 
--- so many steps were made after the first ones
+-- after the first steps further ones were made
 pub record HasMade (s : Scenario) (d from n place : ℕ) (last : List Output) (x : Device) : Type 0 where
   pub count : place ≡ from + n
   pub shows : ShowsAfter s d place x

@@ -32,9 +32,10 @@ line_in stated = []
 abbrev pub text_in : List Answer → List ℕ
 text_in answers = flat_map (λ a. line_in a.stated) answers
 
--- an answer, among those below its item, is so of a scenario and its serial run: the run has so many entries, and after
--- them these devices wait; the image, the trace file of the run, the canonical text are these. A line of the text is
--- part of what `text` states, and what is stated of outputs is no matter here. A text that was read has no fault
+-- an answer, among those below its item, holds of a scenario and its serial run: the run has this number of entries,
+-- and these devices wait after them; the image, the trace file of the run, the canonical text are these. A line of the
+-- text is part of what `text` states, and answers on outputs are judged at their item. A text that was read has no
+-- fault
 abbrev pub IsEnd : Scenario → List Entry → List Answer → Stated → Type 0
 IsEnd s es answers (Done count) = (length es ≡ count) × (waiting s es ≡ [])
 IsEnd s es answers (Stalled count devices) = (length es ≡ count) × (waiting s es ≡ devices)

@@ -54,7 +54,7 @@ pub record IsAsked (s : Scenario) (spot : Spot) (f : Machine) : Type 0 where
   pub is_row : IsRowOf s device class row
   pub state : f ≡ fold flat_after (state_at class row spot.steps) spot.asides
 
--- a line of the text is so many steps of the row, and the last of them outputs this
+-- a line of the text is `times` steps of the row, and the last of them outputs this
 pub record HasStepped (s : Scenario) (spot : Spot) (times : ℕ) (outputs : List Output) : Type 0 where
   pub device : ℕ
   pub last : IsLast s spot device
@@ -72,7 +72,7 @@ pub record HasTaken (s : Scenario) (spot : Spot) (event : Event) (outputs : List
   pub taken : is_refused (shown state) event ≡ false
   pub put_out : outputs ≡ outputs_of state event
 
--- so many devices begin: the scenario has a row for each
+-- `times` devices begin: the scenario has a row for each
 pub record HasBegun (s : Scenario) (spot : Spot) (times : ℕ) (outputs : List Output) : Type 0 where
   pub some : 0 < times
   pub rows : spot.begun + times ≤ length s.rows

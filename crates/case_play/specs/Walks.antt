@@ -16,7 +16,7 @@ use Rattle.case_play.specs.declared.walk.Walk.{Walk}
 use Rattle.case_play.specs.Spots.{Spot, spot_after, IsAsked, PutsOut}
 use Rattle.case_play.specs.Holds.{Hold, Holds, IsWrongIn, IsNamed}
 
--- the last of so many devices has made these steps of its row; before the first one there is none
+-- the last of the devices that have begun has made these steps of its row; before the first one there is none
 abbrev pub IsMachine : Scenario → ℕ → ℕ → Option Device → Type 0
 IsMachine s begun steps None = begun ≡ 0
 IsMachine s begun steps (Some x) = (0 < begun) × ShowsAfter s (begun - 1) steps x

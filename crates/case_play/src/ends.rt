@@ -13,7 +13,7 @@ use scenario_asm::disassemble;
 use scenario_image::{Scenario, save};
 use std::alloc::{AllocError, Global};
 
-/// Whether a run has so many entries, after which these devices are not at the end of their rows.
+/// Whether a run has `count` entries and ends with these devices waiting, not at the end of their rows.
 fn is_run(
     alloc: Global,
     scenario: &Scenario,

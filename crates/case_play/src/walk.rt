@@ -45,8 +45,8 @@ fn take_event(device: &mut Device, event: &Event) -> Result<Option<Outputs>, All
     }
 }
 
-/// Lets a device that has made its first steps make so many more, and gives what the last of them outputs; none where
-/// its row has not as many.
+/// Lets a device that has made its first steps make `times` more, and gives what the last of them outputs; none where
+/// fewer are left in its row.
 fn advance(
     alloc: Global,
     scenario: &Scenario,
@@ -95,7 +95,7 @@ impl Walk {
         }
     }
 
-    /// Begins so many devices; none where the scenario has fewer rows.
+    /// Begins `times` devices; none where the scenario has fewer rows.
     fn begin(
         &mut self,
         alloc: Global,
@@ -118,7 +118,8 @@ impl Walk {
         Ok(Some(no_outputs(alloc)))
     }
 
-    /// Lets the device make so many steps, and gives what the last of them outputs; none where its row has not as many.
+    /// Lets the device make `times` steps, and gives what the last of them outputs; none where fewer are left in its
+    /// row.
     fn make_steps(
         &mut self,
         alloc: Global,

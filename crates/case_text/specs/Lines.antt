@@ -85,7 +85,7 @@ event_of line = statement_of (words line) >>= event_from
 abbrev pub aside_of : List ℕ → Result Line Why
 aside_of line = made why.NotAnEvent (λ e. beside (part.Aside e)) (event_of (expanded (parts 32 line)))
 
--- a line of the text by its statement, so many times
+-- what a line of the text is by its statement, where it stands n times
 abbrev pub part_by : ℕ → Statement → Part
 part_by n says.Scenario = part.Line
 part_by n says.Class = part.Line
@@ -103,7 +103,7 @@ part_of n (Ok None) = part.Line
 part_of n (Ok (Some s)) = part_by n s
 part_of n (Err cause) = part.Line
 
--- a line of the scenario's text, so many times
+-- a line of the scenario's text that stands n times
 abbrev pub text_of : ℕ → List ℕ → Result Line Why
 text_of n line =
     of_text (λ t. is.Part (part_of n (statement_of (words t))) (repeat n (t ++ 10 ∷ [])) n) (text_from line)

@@ -46,7 +46,7 @@ fn count_by(line: &Line) -> u32
     }
 }
 
-/// Adds a number so many times.
+/// Adds a number, repeated.
 #[tactic(auto, using(crate::proofs::Parts::one_more))]
 fn put_number(out: &mut Vec<usize>, number: usize, times: u32) -> Result<(), AllocError>
     ensures { OnOk result (out.new.items ≡ out.old.items ++ replicate times number) }

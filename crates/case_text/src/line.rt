@@ -20,7 +20,7 @@ pub enum Line {
     Part {
         /// What it is.
         part: Part,
-        /// What it adds to the scenario's text: itself so many times, or one empty line, each ended by LF.
+        /// What it adds to the scenario's text: itself, as often as it says, or one empty line, each ended by LF.
         text: Text,
         /// How many lines that are.
         lines: u32,

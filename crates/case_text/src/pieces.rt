@@ -52,7 +52,7 @@ pub(crate) fn times_of(line: &[u8]) -> Result<u32, Cause>
     Ok(times as u32)
 }
 
-/// These bytes so many times.
+/// These bytes, repeated.
 fn repeated(alloc: Global, bytes: &[u8], times: u32) -> Result<Vec<u8>, AllocError>
     ensures { IfOk result (λ v. v.items ≡ repeat times bytes.now) }
 {

@@ -159,7 +159,7 @@ fn aside_of(alloc: Global, line: &[u8]) -> Result<Line, Why>
     }
 }
 
-/// A line of the text by its statement, so many times.
+/// What a line of the scenario's text is by its statement, where it stands `times` times.
 fn part_by(times: u32, statement: &Statement) -> Part
     ensures { result ≡ part_by times statement.now }
 {
@@ -188,7 +188,7 @@ fn part_of(alloc: Global, times: u32, line: &[u8]) -> Result<Part, AllocError>
     }
 }
 
-/// A line with the LF that ends it, so many times.
+/// A line with the LF that ends it, repeated.
 fn ended_lines(alloc: Global, line: &str, times: u32) -> Result<Text, AllocError>
     ensures { IfOk result (λ t. t ≡ repeat times (line.now ++ 10 ∷ [])) }
 {
@@ -198,7 +198,7 @@ fn ended_lines(alloc: Global, line: &str, times: u32) -> Result<Text, AllocError
     Ok(Text::from_string(all))
 }
 
-/// A line of the scenario's text, so many times.
+/// A line of the scenario's text that stands `times` times.
 fn text_of(alloc: Global, times: u32, line: &[u8]) -> Result<Line, Why>
     ensures { Finds (λ l. l) result (text_of times line.now) }
 {

@@ -78,7 +78,7 @@ fn commit_once(fleet: &mut Fleet, device: u16, marks: &mut Marks, line: &mut Lin
     }
 }
 
-/// Asks a fleet of so many devices for a commit of each that is enabled: adds how many of these are refused since it is
+/// Asks a fleet for a commit of each device that is enabled: adds how many of these are refused since it is
 /// spent, and what comes of the others.
 fn commit_spent(fleet: &mut Fleet, devices: usize, line: &mut Line) {
     let mut asked = 0u64;

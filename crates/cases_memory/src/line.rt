@@ -86,7 +86,7 @@ impl Line {
         }
     }
 
-    /// Of so many calls after that, these were refused since what was called is spent.
+    /// How many of the calls after that were refused since what was called is spent.
     pub fn add_spent(&mut self, refused: u64, asked: u64) {
         self.add_count("then spent", refused);
         self.add_count("of", asked);

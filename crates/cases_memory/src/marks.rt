@@ -79,7 +79,7 @@ impl Marks {
     }
 }
 
-/// Makes boxes, at most so many, until one is refused: how many were made.
+/// Makes boxes, `most` at most, until one is refused: how many were made.
 fn make(alloc: Global, most: u32) -> u32 {
     for made in 0..most {
         match Box::new(alloc, 0u8) {

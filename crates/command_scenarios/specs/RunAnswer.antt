@@ -36,8 +36,8 @@ IsSavingFault es Memory = ⊤
 IsSavingFault es TooLarge = (bytes : List ℕ) → IsTraceFile bytes es → ⊥
 IsSavingFault es _ = ⊥
 
--- a run that so many workers made, none of which made more steps of a device at a time than the batch; there may be so
--- many workers, and such a batch
+-- a run by the workers of the options, none of which made more steps of a device at a time than the batch; both numbers
+-- are in their range
 pub record IsRunBy (s : Scenario) (options : RunOptions) (run : FleetRun) : Type 0 where
   pub workers_are : AreWorkers options.workers
   pub batch_is : IsBatch options.batch

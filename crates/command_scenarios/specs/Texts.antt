@@ -38,8 +38,8 @@ IsTextFault holds fails path _ = ⊥
 
 abbrev pub ok_line : ℕ → ℕ → ℕ → List ℕ
 ok_line classes devices steps =
-    ended_line (codes "ok " ++ decimal classes ++ codes " classes " ++ decimal devices ++ codes " devices " ++ decimal steps
-    ++ codes " steps")
+    ended_line (codes "ok " ++ decimal classes ++ codes " classes " ++ decimal devices ++ codes " devices "
+    ++ decimal steps ++ codes " steps")
 
 -- `ok C classes D devices S steps`: how many a scenario has; the steps of all its rows together
 abbrev pub count_line : Scenario → List ℕ

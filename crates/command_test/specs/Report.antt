@@ -68,7 +68,7 @@ count_line cases differing = ended_line (decimal cases ++ codes " cases, " ++ de
 abbrev pub report : List ℕ → List Judged → List ℕ
 report file all = differences file all ++ count_line (length all) (count_differing all)
 
--- the status of a file of which so many cases differ
+-- the status of a file by how many of its cases differ
 abbrev pub status_of : ℕ → Status
 status_of zero = Done
 status_of (suc n) = NotRun

@@ -31,7 +31,7 @@ abbrev pub events_by : Scenario → ℕ → ℕ → ℕ
 events_by s d k = length (filter is_event (take k (steps_in (slice_get s.rows d))))
 
 -- a device was copied after each 64 of its steps, and at the start: of the copies that are not after its first k steps
--- the latest was made after so many
+-- the latest was made after this number of steps
 pub record IsLatestCopy (k copied : ℕ) : Type 0 where
   pub number : ℕ
   pub copied_is : copied ≡ 64 * number
@@ -39,12 +39,12 @@ pub record IsLatestCopy (k copied : ℕ) : Type 0 where
   pub latest : k < copied + 64
 
 -- in a move back, from the place after its first steps of the one number to that after those of the other, a device
--- takes so many events: none where it has no entry between the two; else those of its row from its latest copy on
+-- takes n events: none where it has no entry between the two; else those of its row from its latest copy on
 pub record GoesBack (s : Scenario) (d from to n : ℕ) : Type 0 where
   pub still : from ≡ to → n ≡ 0
   pub again : (copied : ℕ) → IsLatestCopy to copied → to < from → events_by s d copied + n ≡ events_by s d to
 
--- in a move back to this place all devices take so many events
+-- in a move back to this place all devices together take n events
 pub record IsReplayedBack (v : Session) (to n : ℕ) : Type 0 where
   pub each : ℕ → ℕ
   pub goes : (d : ℕ) → d < length v.scenario.rows

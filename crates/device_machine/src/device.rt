@@ -109,20 +109,20 @@ impl Device {
     /// start: that the device may forget those past their lifetime is proved.
     ///
     /// `Memory` leaves the device spent, and nothing else does; its clock, its next message ID and its recorded
-    /// requests are as before (`left`). Its attributes, instances, values and observations are as before the event or as
-    /// after it; but after a tick the observations are as some of its seconds leave them, and after a datagram the
+    /// requests are as before (`left`). Its attributes, instances, values and observations are as before the event or
+    /// as after it; but after a tick the observations are as some of its seconds leave them, and after a datagram the
     /// observations alone may be as before, or what its request changes may be done in part (`part`): of a Write that
-    /// gives several values some may be set, or those that they replace be gone, in the instance or the resource that it
-    /// writes to; and Reset Error Code may have removed the error codes. `Spent`: it was spent, or the tick would take
+    /// gives several values, those of the instance or the resource that it writes to may be any, and no other has
+    /// changed; and Reset Error Code may have removed the error codes. `Spent`: it was spent, or the tick would take
     /// its clock past 2^63 - 1; nothing changes.
     ///
-    /// No event ends a device for lack of memory that is (`may_lack_memory`): a datagram of a server without an account, of
-    /// another version or of fewer than four bytes; an acknowledgement or a Reset, whatever follows the header; a NON
-    /// that is Empty or has a format error in its header or right after its token; seconds in which nothing is sent and
-    /// no observation removed; a Put that does not fit, or one of an Integer, Time, Flag or Link over a value that is
-    /// held and reaches no observation; an end of a download or an update that is not taken, or over a State and an
-    /// Update Result that are held and reach no observation. A value reaches an observation at or below its path, and
-    /// as one of Access Control, a Short Server ID or a default period.
+    /// No event ends a device for lack of memory that is (`may_lack_memory`): a datagram of a server without an
+    /// account, of another version or of fewer than four bytes; an acknowledgement or a Reset, whatever follows the
+    /// header; a NON that is Empty or has a format error in its header or right after its token; seconds in which
+    /// nothing is sent and no observation removed; a Put that does not fit, or one of an Integer, Time, Flag or Link
+    /// over a value that is held and reaches no observation; an end of a download or an update that is not taken, or
+    /// over a State and an Update Result that are held and reach no observation. A value reaches an observation at or
+    /// below its path, and as one of Access Control, a Short Server ID or a default period.
     pub fn step(&mut self, event: &Event) -> Result<Outputs, StepFault>
         ensures outputs { (f : FlatState) → Shows self.old f → IfOk result (λ o. o ≡ outputs_of f event.now) }
         ensures shows { (f : FlatState) → Shows self.old f → OnOk result (Shows self.new (flat_after f event.now)) }

@@ -1,5 +1,6 @@
--- What a request leaves of what is managed where memory runs out: all is as before, but that of a Write which gives
--- several values some may be set, and that Reset Error Code may have removed the error codes.
+-- What a request leaves of what is managed where memory runs out: all is as before, but that after a Write of several
+-- values those of the instance or the resource that it writes to may be any, and that Reset Error Code may have removed
+-- the error codes.
 use Rattle.std.specs.Prelude.{◌≡◌, ◌⊎◌, ℕ, Bool, true, false, Option, None, Some, Result, Ok, Err}
 use Rattle.coap_codec.specs.Message.{Message}
 use Rattle.object_defs.specs.Numbers.{device_object, reset_error_code}
@@ -36,8 +37,8 @@ written_at (Instance o i) = Instance o i
 written_at (Resource o i r) = Resource o i r
 written_at (Part o i r n) = Resource o i r
 
--- a Write has set some of its values, or removed some that it replaces: no value of another resource, or instance, has
--- changed, no instance, and nothing else. One that gives a single value has changed nothing
+-- a Write was not finished: no value of another resource, or instance, has changed, no instance, and nothing else. What
+-- the instance or the resource itself holds is not said. A Write that gives a single value has changed nothing
 pub record IsWrittenInPart (path : Path) (values : Option NewValues) (old new : Client) : Type 0 where
   pub rest : new ≡ with_stored old new.store
   pub instances : new.store.instances ≡ old.store.instances
@@ -48,7 +49,8 @@ pub record IsWrittenInPart (path : Path) (values : Option NewValues) (old new : 
 abbrev pub IsExecutedInPart : Path → Client → Client → Type 0
 IsExecutedInPart path old new =
     (new ≡ old)
-    ⊎ ((is_resource device_object reset_error_code path ≡ true) × (new ≡ with_stored old (without_errors old.store path)))
+    ⊎ ((is_resource device_object reset_error_code path ≡ true)
+        × (new ≡ with_stored old (without_errors old.store path)))
 
 -- what an operation leaves, with the payload of its message: a Create, a Delete and a Write-Attributes are done or not
 abbrev pub IsPartBy : Client → Message → Request → Operation → Client → Type 0

@@ -119,10 +119,10 @@ impl Client {
     ///
     /// No refusal of an option, a path, a method, a server, an operation that the target does not have or a format
     /// takes memory (`request`, `has`); those that may are listed by code, and of 4.05 only that of a firmware that
-    /// does not take a Package, a Package URI or an Update now (`may_lack_memory`). If memory runs out, all is as before
-    /// (`left`), with two exceptions: of a Write that gives several values some may be set, or those that they replace be
-    /// gone, in the instance or the resource that it writes to; and Reset Error Code may have removed the error codes.
-    /// No instance is there or gone for it, and a request that would be refused leaves all as it was.
+    /// does not take a Package, a Package URI or an Update now (`may_lack_memory`). If memory runs out, all is as
+    /// before (`left`), with two exceptions: of a Write that gives several values, those of the instance or the
+    /// resource that it writes to may be any, and no other has changed; and Reset Error Code may have removed the error
+    /// codes. No instance is there or gone for it, and a request that would be refused leaves all as it was.
     pub fn answer(&mut self, server: u16, message: &Message) -> Result<RequestResult, AllocError>
         ensures outcome { IfOk result (λ h. Leaves h.answer self.new (outcome_of self.old server message.now)) }
         ensures interest { IfOk result (λ h. h.interest ≡ interest_of message.now) }

@@ -36,12 +36,12 @@ pub record IsAccount (stored : Stored) (server x : ℕ) : Type 0 where
 abbrev pub IsSeconds : ℤ → ℕ → Type 0
 IsSeconds z n = (z ≡ pos n) × (n ≤ 2147483647)
 
--- the attribute of the path says so many seconds
+-- the attribute of the path is n seconds
 abbrev pub SetByAttribute : Client → ℕ → Path → Name → ℕ → Type 0
 SetByAttribute client server path name n =
     (z : ℤ) × (effective client.attributes server path name ≡ Some z) × IsSeconds z n
 
--- the resource of the lowest instance of the server says so many; higher ones are of no concern
+-- the resource of the lowest instance of the server is n seconds; higher ones are not looked at
 abbrev pub SetByServer : Stored → ℕ → ℕ → ℕ → Type 0
 SetByServer stored server resource n =
     (x : ℕ) × IsAccount stored server x × ((z : ℤ) × SaysNumber stored x resource z × IsSeconds z n)

@@ -42,8 +42,8 @@ pub record ArePassed (readings seconds : List ℕ) : Type 0 where
   pub each : (k : ℕ) → k < length readings → slice_index seconds k
       ≡ min 86400 (slice_index readings k - (slice_index readings 0 + sum (take k seconds)))
 
--- of n turns so many readings and calls of `receive` were made: all of them, or some, and in the last turn the reading
--- may have been made alone
+-- in n turns the clock was read and `receive` called this often: in each turn, or in some, and in the last turn the
+-- reading may have been made alone
 abbrev pub AreCountsAt : LiveEnd → ℕ → ℕ → ℕ → Type 0
 AreCountsAt Turns turns readings calls = (readings ≡ turns) × (calls ≡ turns)
 AreCountsAt ReceiveFault turns readings calls = (readings ≤ turns) × (calls ≡ readings)

@@ -17,7 +17,7 @@ use std::time::Duration;
 /// The most bytes of a datagram that is received.
 const MOST_BYTES: usize = 1500;
 
-/// After so many datagrams that were dropped, one after another, nothing has arrived.
+/// After this number of datagrams that were dropped, one after another, nothing has arrived.
 const MOST_DROPPED: u32 = 1000;
 
 /// What came of asking a socket.

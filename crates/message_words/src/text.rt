@@ -92,7 +92,8 @@ fn no_message(alloc: Global, fault: CoapFault) -> Result<String, AllocError>
 /// all bytes one of the two, in one line.
 pub fn datagram_text(alloc: Global, bytes: &[u8]) -> Result<String, AllocError>
     ensures text { IfOk result (λ text. string_bytes text ≡ reading_text (reading_of bytes.now)) }
-    ensures message { (m : MessageData) → Spells bytes.now m → IfOk result (λ text. string_bytes text ≡ message_text m) }
+    ensures message { (m : MessageData) → Spells bytes.now m
+        → IfOk result (λ text. string_bytes text ≡ message_text m) }
     ensures fault { (f : Fault) → HasFault bytes.now f → IfOk result (λ text. string_bytes text ≡ no_message f) }
     ensures one_line { IfOk result (λ text. IsOneLine (string_bytes text)) }
 {

@@ -30,7 +30,7 @@ fn start_station(
     })
 }
 
-/// A station for each row, whose device is parked at the start. No device is started yet. A table has so many places.
+/// A station for each row, whose device is parked at the start. No device is started yet. A table has `places` places.
 pub(crate) fn start_stations(
     alloc: Global,
     scenario: &Scenario,

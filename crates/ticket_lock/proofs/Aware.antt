@@ -106,7 +106,8 @@ module _ {T E S O : Type 0} (R : Reading T E S O) where
   -- two neighbours as one
   pub both_aware : (x : T) (v w : View T E S O) → 0 < v.count → AreNeighbours v w → IsAware R x v → IsAware R x w
       → IsAware R x (joined v w)
-  both_aware x v w some next a b = as_one x v w (min v.low w.low) (joined v w).shares (λ n l h. in_one v w next n (l, h))
+  both_aware x v w some next a b =
+      as_one x v w (min v.low w.low) (joined v w).shares (λ n l h. in_one v w next n (l, h))
       (⊎_elim
       (λ (above : v.low + v.count ≡ w.low).
       let low : v.low ≡ min v.low w.low = omega arith in

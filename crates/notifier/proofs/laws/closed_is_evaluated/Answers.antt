@@ -17,7 +17,8 @@ returns c =
     λ o is. record {
       turn = λ clock. ap (λ t. turn_with o.second t clock) is;
       acts = λ p clock. ap (λ t. acts_in (turn_with o.second t clock) o.second p clock) is;
-      awaits = λ server mid. ap (λ t. server == o.server && (is_some t && o.mid == mid)) is ∙ and_false (server == o.server);
+      awaits = λ server mid. ap (λ t. server == o.server && (is_some t && o.mid == mid)) is
+          ∙ and_false (server == o.server);
       rejected =
           λ server mid. ap (λ t. server == o.server && ((o.non || is_some t) && o.mid == mid)) is
           ∙ ap (λ b. server == o.server && (b && o.mid == mid)) (or_false o.non);

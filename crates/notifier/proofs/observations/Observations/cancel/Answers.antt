@@ -18,7 +18,8 @@ loop-place-preserved c =
           ∙ c.loop-place.invariant.0,
       (λ j. said_without p (c.remove.ensures.list j) (c.remove.ensures.said j)) ∙ said_removed p os ss i is_first
           ∙ c.loop-place.invariant.1,
-      c.loop-place.invariant.2 ∙ ap (λ b. c.loop-place.held || b) (any_first p os i is_first) ∙ or_true c.loop-place.held,
+      c.loop-place.invariant.2 ∙ ap (λ b. c.loop-place.held || b) (any_first p os i is_first)
+          ∙ or_true c.loop-place.held,
     )
 
 pub returns-clause-answer : goal.returns-clause-answer
