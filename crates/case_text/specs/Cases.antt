@@ -7,6 +7,7 @@ use Rattle.scenario_words.specs.Words.{lines}
 use Rattle.case_text.specs.declared.answer.Answer.{Answer}
 use Rattle.case_text.specs.declared.body.Body.{Body}
 use Rattle.case_text.specs.declared.case.Case.{Case}
+use Rattle.case_text.specs.declared.case.Case.TheVariants as of
 use Rattle.case_text.specs.declared.fault.CaseFault.{CaseFault}
 use Rattle.case_text.specs.declared.fault.Why.{Why}
 use Rattle.case_text.specs.declared.fault.Why.TheVariants as why
@@ -19,6 +20,15 @@ use Rattle.case_text.specs.declared.numbered.Numbered.{Numbered}
 use Rattle.case_text.specs.declared.stated.Stated.{Stated}
 use Rattle.case_text.specs.declared.stated.Stated.TheVariants as states
 use Rattle.case_text.specs.Lines.{line_of}
+
+-- the title of a case, and the line that it stands in
+abbrev pub title_of_case : Case → List ℕ
+title_of_case (of.Scenario c) = c.title
+title_of_case (of.File c) = c.title
+
+abbrev pub line_of_case : Case → ℕ
+line_of_case (of.Scenario c) = c.line
+line_of_case (of.File c) = c.line
 
 -- a line, by its number, before others, or the first that cannot be read
 abbrev pub before : ℕ → Result Line Why → Result (List Numbered) CaseFault → Result (List Numbered) CaseFault
