@@ -1,5 +1,5 @@
 ghost use Rattle.std.specs.Prelude.{◌≡◌};
-ghost use Rattle.case_text.specs.Above.{above_none, adds_after, after, kind_after};
+ghost use Rattle.case_text.specs.Above.{above_none, adding_after, after, kind_after, kind_after_answer};
 
 use crate::file_case::FileKind;
 use crate::file_stated::FileStated;
@@ -74,7 +74,7 @@ fn kind_after(kind: CaseKind, line: &Line) -> CaseKind
         Line::Part { .. } => CaseKind::Scenario,
         Line::Answer { .. } => kind_after_answer(kind),
         Line::File(FileLine::Gives { kind, .. }) => CaseKind::File(*kind),
-        Line::Remark | Line::More(_) | Line::File(_) => kind,
+        Line::Remark | Line::More(_) | Line::MoreDigits(_) | Line::File(_) => kind,
     }
 }
 
@@ -85,5 +85,23 @@ fn kind_after_answer(kind: CaseKind) -> CaseKind
     match kind {
         CaseKind::Open => CaseKind::Scenario,
         CaseKind::Scenario | CaseKind::Recorded | CaseKind::File(_) => kind,
+    }
+}
+
+fn adding_after(adding: Adding, line: &Line) -> Adding
+    ensures { result ≡ adding_after adding line.now }
+{
+    match line {
+        Line::Remark | Line::More(_) | Line::MoreDigits(_) => adding,
+        Line::Part {
+            part: Part::Recorded(_),
+            ..
+        }
+        | Line::File(FileLine::Gives { .. } | FileLine::Makes(Made::And(_))) => Adding::Bytes,
+        Line::File(FileLine::Answer {
+            stated: FileStated::Image(_) | FileStated::Trace(_),
+            ..
+        }) => Adding::Digits,
+        Line::Title(_) | Line::Answer { .. } | Line::Part { .. } | Line::File(_) => Adding::Nothing,
     }
 }

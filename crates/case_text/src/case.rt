@@ -1,5 +1,5 @@
 ghost use Rattle.std.specs.Prelude.{◌≡◌};
-ghost use Rattle.case_text.specs.Cases.{line_of_case, title_of_case};
+ghost use Rattle.case_text.specs.Checks.{line_of_case, title_of_case};
 
 use crate::file_case::FileCase;
 use crate::scenario_case::ScenarioCase;

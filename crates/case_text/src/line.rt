@@ -32,11 +32,13 @@ pub enum Line {
     },
     /// `+ BYTES`, or `| LINE` with the LF that ends it: more of the bytes that the line above gives.
     More(Bytes),
-    /// A line of a case of a file.
+    /// `+ BYTES`: more of the bytes that the line above states.
+    MoreDigits(Digits),
+    /// Any other line of a case of a file.
     File(FileLine),
 }
 
-/// What a line of a case of a file is.
+/// What a line of a case of a file is that adds nothing to another one.
 #[derive(Debug, Drop)]
 pub enum FileLine {
     /// `image BYTES`, `trace BYTES` or `text`: the file.
@@ -55,6 +57,4 @@ pub enum FileLine {
         /// The answer.
         stated: FileStated,
     },
-    /// `+ BYTES`: more of the bytes that the line above states.
-    MoreDigits(Digits),
 }
