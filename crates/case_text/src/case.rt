@@ -1,6 +1,3 @@
-ghost use Rattle.std.specs.Prelude.{◌≡◌};
-ghost use Rattle.case_text.specs.Checks.{line_of_case, title_of_case};
-
 use crate::file_case::FileCase;
 use crate::scenario_case::ScenarioCase;
 use lwm2m_values::Text;
@@ -15,6 +12,9 @@ pub enum Case {
 }
 
 impl Case {
+    ghost use Rattle.std.specs.Prelude.{◌≡◌};
+    ghost use Rattle.case_text.specs.Checks.{line_of_case, title_of_case};
+
     /// The title.
     pub fn title(&self) -> &Text
         ensures { result.now ≡ title_of_case self.now }

@@ -78,16 +78,16 @@ fn stray_in(items: &[Item]) -> Option<usize>
 fn file_stray(answers: &[FileAnswer]) -> Option<usize>
     ensures { result ≡ file_stray answers.now false }
 {
-    let mut announced = false;
+    let mut listed = false;
     for answer in answers {
         match &answer.stated {
-            FileStated::Text | FileStated::Entries => announced = true,
+            FileStated::Text | FileStated::Entries => listed = true,
             FileStated::TextLine(_) => {
-                if !announced {
+                if !listed {
                     return Some(answer.line);
                 }
             }
-            _ => announced = false,
+            _ => listed = false,
         }
     }
     None

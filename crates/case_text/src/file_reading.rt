@@ -61,7 +61,7 @@ fn with_line_of(alloc: Global, line: &[u8]) -> Result<Line, Why>
     ensures { Finds (λ l. l) result (made why.NotBytes makes (with_of (words line.now))) }
 {
     match with_of(alloc, line) {
-        Ok(made) => Ok(Line::File(FileLine::Makes(made))),
+        Ok(other) => Ok(Line::File(FileLine::Makes(other))),
         Err(cause) => Err(unless_memory(cause, Why::NotBytes(cause))),
     }
 }
