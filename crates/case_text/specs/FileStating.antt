@@ -92,7 +92,7 @@ recorded_stated_by w ws =
     else (if bytes_eq w (codes "not") then not_a_run ws
     else (if bytes_eq w (codes "fault") then recorded_fault ws
     else (if bytes_eq w (codes "done") then
-      (only_number 0 18446744073709551615 ws >>= (λ n. Ok (states_of_run.Done n)))
+    (only_number 0 18446744073709551615 ws >>= (λ n. Ok (states_of_run.Done n)))
     else (if bytes_eq w (codes "stalled") then stalled ws else Err (name_fault w)))))
 
 -- what is stated

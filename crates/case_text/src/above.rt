@@ -98,10 +98,12 @@ fn adding_after(adding: Adding, line: &Line) -> Adding
             ..
         }
         | Line::File(FileLine::Gives { .. } | FileLine::Makes(Made::And(_))) => Adding::Bytes,
-        Line::File(FileLine::Answer {
-            stated: FileStated::Image(_) | FileStated::Trace(_),
-            ..
-        }) => Adding::Digits,
+        Line::File(
+            FileLine::Answer {
+                stated: FileStated::Image(_) | FileStated::Trace(_),
+                ..
+            },
+        ) => Adding::Digits,
         Line::Title(_) | Line::Answer { .. } | Line::Part { .. } | Line::File(_) => Adding::Nothing,
     }
 }

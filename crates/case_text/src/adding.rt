@@ -54,13 +54,26 @@ fn whole_stated(alloc: Global, stated: FileStated, more: &[Digit]) -> Result<Fil
     ensures { IfOk result (λ s. s ≡ whole_stated stated more.now) }
 {
     match stated {
-        FileStated::Image(digits) => Ok(FileStated::Image(joined_digits(alloc, digits.as_slice(), more)?)),
-        FileStated::Trace(digits) => Ok(FileStated::Trace(joined_digits(alloc, digits.as_slice(), more)?)),
+        FileStated::Image(digits) => Ok(FileStated::Image(joined_digits(
+            alloc,
+            digits.as_slice(),
+            more,
+        )?)),
+        FileStated::Trace(digits) => Ok(FileStated::Trace(joined_digits(
+            alloc,
+            digits.as_slice(),
+            more,
+        )?)),
         stated => Ok(stated),
     }
 }
 
-fn whole_in_file(alloc: Global, line: FileLine, more: &[u8], digits: &[Digit]) -> Result<FileLine, AllocError>
+fn whole_in_file(
+    alloc: Global,
+    line: FileLine,
+    more: &[u8],
+    digits: &[Digit],
+) -> Result<FileLine, AllocError>
     ensures { IfOk result (λ l. l ≡ whole_in_file line more.now digits.now) }
 {
     match line {

@@ -50,7 +50,13 @@ fn opening_of(alloc: Global, word: &[u8], line: &[u8]) -> Result<Line, Why>
 }
 
 /// A line of a case of a scenario, by its first word.
-fn scenario_line_of(alloc: Global, kind: CaseKind, adding: Adding, word: &[u8], line: &[u8]) -> Result<Line, Why>
+fn scenario_line_of(
+    alloc: Global,
+    kind: CaseKind,
+    adding: Adding,
+    word: &[u8],
+    line: &[u8],
+) -> Result<Line, Why>
     ensures { Finds (λ l. l) result (scenario_line_of kind adding word.now line.now) }
 {
     match adding {
@@ -63,13 +69,21 @@ fn scenario_line_of(alloc: Global, kind: CaseKind, adding: Adding, word: &[u8], 
 }
 
 /// A line with words that begins no case, by its first word.
-fn line_in(alloc: Global, kind: CaseKind, adding: Adding, word: &[u8], line: &[u8]) -> Result<Line, Why>
+fn line_in(
+    alloc: Global,
+    kind: CaseKind,
+    adding: Adding,
+    word: &[u8],
+    line: &[u8],
+) -> Result<Line, Why>
     ensures { Finds (λ l. l) result (line_in kind adding word.now line.now) }
 {
     match kind {
         CaseKind::Open => opening_of(alloc, word, line),
         CaseKind::File(file) => file_line_of(alloc, file, adding, line),
-        CaseKind::Scenario | CaseKind::Recorded => scenario_line_of(alloc, kind, adding, word, line),
+        CaseKind::Scenario | CaseKind::Recorded => scenario_line_of(
+            alloc, kind, adding, word, line,
+        ),
     }
 }
 

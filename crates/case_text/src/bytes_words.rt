@@ -92,7 +92,6 @@ fn word_hex(alloc: Global, word: &[u8]) -> Result<Vec<u8>, Cause>
 }
 
 /// The hex of the words of a line up to `at`, and the line from there on.
-#[tactic(auto, using(crate::proofs::Parts::next_word_hex))]
 fn hex_up_to_at(alloc: Global, line: &[u8]) -> Result<(Vec<u8>, &[u8]), Cause>
     ensures { Gives (λ x. (x.0.items, words x.1.now)) result (hex_up_to_at (words line.now)) }
 {

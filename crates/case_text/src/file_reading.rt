@@ -220,7 +220,12 @@ fn file_text_line_of(alloc: Global, line: &[u8]) -> Result<Line, Why>
 }
 
 /// A line with words that begins no case, in a case of a file of this kind.
-pub(crate) fn file_line_of(alloc: Global, kind: FileKind, adding: Adding, line: &[u8]) -> Result<Line, Why>
+pub(crate) fn file_line_of(
+    alloc: Global,
+    kind: FileKind,
+    adding: Adding,
+    line: &[u8],
+) -> Result<Line, Why>
     ensures { Finds (λ l. l) result (file_line_of kind adding line.now) }
 {
     if let Some(answer) = behind(line, "=> ") {

@@ -25,11 +25,8 @@ fn put_text(out: &mut String, line: &Line) -> Result<(), AllocError>
     match line {
         Line::Title(_) => Ok(()),
         Line::Part { text, .. } => out.push_str(text.as_str()),
-        Line::Remark
-        | Line::Answer { .. }
-        | Line::More(_)
-        | Line::MoreDigits(_)
-        | Line::File(_) => out.push('\n'),
+        Line::Remark | Line::Answer { .. } | Line::More(_) | Line::MoreDigits(_) | Line::File(_) =>
+            out.push('\n'),
     }
 }
 
@@ -49,11 +46,8 @@ fn count_by(line: &Line) -> u32
     match line {
         Line::Title(_) => 0,
         Line::Part { lines, .. } => *lines,
-        Line::Remark
-        | Line::Answer { .. }
-        | Line::More(_)
-        | Line::MoreDigits(_)
-        | Line::File(_) => 1,
+        Line::Remark | Line::Answer { .. } | Line::More(_) | Line::MoreDigits(_) | Line::File(_) =>
+            1,
     }
 }
 

@@ -238,7 +238,12 @@ fn asking_of(alloc: Global, word: &[u8], line: &[u8]) -> Result<Line, Why>
 }
 
 /// A line with words that begins no case, by its first word, in a case of this kind.
-pub(crate) fn marked_of(alloc: Global, kind: CaseKind, word: &[u8], line: &[u8]) -> Result<Line, Why>
+pub(crate) fn marked_of(
+    alloc: Global,
+    kind: CaseKind,
+    word: &[u8],
+    line: &[u8],
+) -> Result<Line, Why>
     ensures { Finds (λ l. l) result (marked_of kind word.now line.now) }
 {
     if let Some(answer) = behind(line, "=> ") {
