@@ -2,6 +2,7 @@
 //! say.
 #![tactic(auto)]
 
+mod came;
 mod digits;
 mod ends;
 mod items;
@@ -13,6 +14,7 @@ mod refusals;
 mod verdict;
 mod walk;
 
+pub use came::Came;
 pub use digits::matches;
 pub use ends::first_wrong_end;
 pub use items::first_difference;
