@@ -22,7 +22,7 @@ abbrev pub OwnEntryDecides : Type 0
 OwnEntryDecides =
     (stored : Stored) (accounts server object instance j : ℕ) (number : ℤ) → 2 ≤ accounts
     → object ≢ access_control_object → control_of stored object instance ≡ Some j
-        → entry_of stored j server ≡ Some number
+    → entry_of stored j server ≡ Some number
     → right_of stored accounts server object instance ≡ letters_of number
 
 -- with more accounts an instance that no instance of Access Control speaks of is closed to all

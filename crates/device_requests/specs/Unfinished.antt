@@ -50,7 +50,7 @@ abbrev pub IsExecutedInPart : Path → Client → Client → Type 0
 IsExecutedInPart path old new =
     (new ≡ old)
     ⊎ ((is_resource device_object reset_error_code path ≡ true)
-        × (new ≡ with_stored old (without_errors old.store path)))
+    × (new ≡ with_stored old (without_errors old.store path)))
 
 -- what an operation leaves, with the payload of its message: a Create, a Delete and a Write-Attributes are done or not
 abbrev pub IsPartBy : Client → Message → Request → Operation → Client → Type 0

@@ -72,7 +72,7 @@ natural_tested : (ds : List ℕ) → IsNatural ds → is_natural ds ≡ true
 natural_tested [] h = absurd h
 natural_tested (d ∷ ds) h =
     and_from (list_all is_ascii_digit (d ∷ ds)) _
-        (each_tested is_ascii_digit (IsWithin 48 57) digit_tested (d ∷ ds) h.0)
+    (each_tested is_ascii_digit (IsWithin 48 57) digit_tested (d ∷ ds) h.0)
     (and_from (nat_lt 0 (length (d ∷ ds))) _ (lt-ltb 0 (length (d ∷ ds)) (omega arith))
     (long_or_other d ds h.0.0.0 h.1))
 
@@ -348,7 +348,7 @@ pair_tested : (w : List ℕ) → IsPair w → is_pair (parts 58 w) ≡ true
 pair_tested w h =
     ap (λ x. is_pair (parts 58 x)) h.2
     ∙ ap is_pair (cut_after 58 h.0 h.1 (colon_without h.0 h.3)
-        ∙ ap (λ ps. h.0 ∷ ps) (uncut 58 h.1 (colon_without h.1 h.4)))
+    ∙ ap (λ ps. h.0 ∷ ps) (uncut 58 h.1 (colon_without h.1 h.4)))
     ∙ each_tested is_number IsNumber number_tested (h.0 ∷ h.1 ∷ []) (h.3, (h.4, tt))
 
 abbrev linked : ℕ → ℕ → Result (ℕ × ℕ) Cause

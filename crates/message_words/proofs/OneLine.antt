@@ -182,7 +182,7 @@ segment_line h before o =
 pub plain_line : (o : Opt) → IsClean (plain_option o)
 plain_line o =
     then (then (then (wrap (codes ", option ") refl) (decimal_text o.number)) (wrap (codes " ") refl))
-        (hex_text o.value)
+    (hex_text o.value)
 
 pub option_line : (before : ℕ) (o : Opt) → IsClean (option_text before o)
 option_line before o =

@@ -152,4 +152,4 @@ chosen_alone false false false false false h = cc
 pub not_evaluated : (s t clock : ℕ) → resending s t clock ≡ Evaluate → ⊥
 not_evaluated s t clock h =
     chosen_alone (is_at s t clock 1) (is_at s t clock 2) (is_at s t clock 3) (is_at s t clock 4)
-        (is_timed_out s t clock) h
+    (is_timed_out s t clock) h

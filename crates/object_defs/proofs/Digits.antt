@@ -62,8 +62,10 @@ none-long s h = decimal_number-none s (λ n small e. omega
 
 pub zero_alone : (s : List ℕ) → get_or s 0 0 ≡ 48 → length s ≡ 1 → Some 0 ≡ decimal_number s
 zero_alone s h one =
-    sym ((decimal_number-law s 0).1 (lit< tt,
-        text_from_reads s (48 ∷ []) one (h, tt) ∙ sym (decimal_digit 0 (lit< tt))))
+    sym ((decimal_number-law s 0).1 (
+      lit< tt,
+      text_from_reads s (48 ∷ []) one (h, tt) ∙ sym (decimal_digit 0 (lit< tt)),
+    ))
 
 zero_first : (s : List ℕ) (n : ℕ) → n < 65536 → get_or s 0 0 ≡ 48 → s ≡ decimal n → length s ≡ 1
 zero_first s n small h e =
@@ -84,7 +86,7 @@ none-zero s h long = decimal_number-none s (λ n small e. long (zero_first s n s
 pub none-other : (s : List ℕ) (i : ℕ) → i < length s → (IsInRange 48 57 (get_or s i 0) → ⊥) → None ≡ decimal_number s
 none-other s i inside other =
     decimal_number-none s (λ n small e. other
-        (subst (λ t. (i : ℕ) → i < length t → IsInRange 48 57 (get_or t i 0)) (sym e)
+    (subst (λ t. (i : ℕ) → i < length t → IsInRange 48 57 (get_or t i 0)) (sym e)
     (digits_decimal own n (omega arith)) i inside))
 
 and_true : {A : Type 0} (b : Bool) (x y : A) → cond (b && true) x y ≡ cond b x y

@@ -6,5 +6,5 @@ of_parts-requires c =
     let s = c.in_ok-start.ensures in
     let o = c.in_ok-options.ensures in
     is_well_formed _ _ _ _ _ _ _ _ _ _ s.range.0 s.range.1 c.in_ok-token.ensures.copy s.token c.from_vec.ensures
-        o.follow
+    o.follow
     c.in_ok-payload.ensures.copy o.parts s.empty

@@ -8,7 +8,7 @@ use Rattle.device_notifications.proofs.sweep.seconds.Given as goal
 abbrev pub invariant-loop-due : goal.invariant-loop-due
 invariant-loop-due l =
     HavePassed l.fn.client l.fn.clock l.fn.observations.list (empty l.fn.next_id)
-        (l.now - l.fn.clock) l.observations.list
+    (l.now - l.fn.clock) l.observations.list
     l.outbox
     × IsKnown l.fn.client l.observations
     × (l.fn.clock ≤ l.now)

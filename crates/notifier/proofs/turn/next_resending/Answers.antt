@@ -11,7 +11,7 @@ returns c =
     let t = c.from-timeout.result in
     λ p. same_first _ _ c.args.now c.earlier.result
     (λ clock. acts_by_sums s t clock p ∙ ap (λ first. acts_in (resending s first clock) s p clock)
-        c.from-timeout.ensures)
+    c.from-timeout.ensures)
     (c.earlier.ensures (λ clock. clock == s + t) _ c.args.now c.only_at-4.ensures
     (c.earlier-from_second.ensures (λ clock. clock == s + 3 * t) _ c.args.now c.only_at-3.ensures
     (c.earlier-from_third.ensures (λ clock. clock == s + 7 * t) _ c.args.now c.only_at-2.ensures
