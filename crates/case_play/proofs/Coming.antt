@@ -1,5 +1,5 @@
 -- What came of an item.
-use Rattle.std.proofs.Common.{◌≡◌, ℕ, ◌+◌, ◌<◌, ◌≤◌, inl, inr, ◌⊎◌, Bool, List, Option, None, Some, Result, IfOk}
+use Rattle.std.proofs.Common.{◌≡◌, ℕ, ◌+◌, ◌≤◌, inl, inr, Bool, List, Option, None, Some, Result, IfOk}
 use Rattle.std.proofs.Common.{slice_get, refl, sym, ap, subst, ◌∙◌}
 use Rattle.std.proofs.lemmas.Option.{same_Some}
 use Rattle.std.proofs.lemmas.Result.{IfOk-weaker}
@@ -14,10 +14,10 @@ use Rattle.case_play.specs.declared.came.Came.{Came}
 use Rattle.case_play.specs.declared.came.Came.TheVariants as came
 use Rattle.case_play.specs.declared.walk.Walk.{Walk}
 use Rattle.case_play.specs.Spots.{Spot, spot_after, spot_at, IsAsked, PutsOut}
-use Rattle.case_play.specs.Holds.{IsMet, IsAnswered, Holds}
+use Rattle.case_play.specs.Holds.{IsMet, IsAnswered}
 use Rattle.case_play.specs.Came.{CameThere}
 use Rattle.case_play.specs.Walks.{IsAt, Asks, Passes, CameAsked}
-use Rattle.case_play.proofs.Judged.{spot_first, spot_next}
+use Rattle.case_play.proofs.Judged.{spot_next}
 use Rattle.case_play.proofs.Rows.{asked_same}
 
 -- ---- one item
@@ -96,7 +96,7 @@ came_here r s items i place item same stands h =
     IfOk-weaker r (λ x. CameThere s (spot_at items i) item.part x)
     (λ x. (other : Item) → slice_get items place ≡ Some other → CameThere s (spot_at items place) other.part x)
     (λ x c other there.
-        let is : item ≡ other = same_Some item other (sym stands ∙ (ap (slice_get items) same ∙ there)) in
-        subst (λ (o : Item). CameThere s (spot_at items place) o.part x) is
-        (subst (λ k. CameThere s (spot_at items k) item.part x) same c))
+    let is : item ≡ other = same_Some item other (sym stands ∙ (ap (slice_get items) same ∙ there)) in
+    subst (λ (o : Item). CameThere s (spot_at items place) o.part x) is
+    (subst (λ k. CameThere s (spot_at items k) item.part x) same c))
     h

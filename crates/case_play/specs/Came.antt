@@ -82,7 +82,8 @@ abbrev pub EndCame : Scenario → List Entry → Came → Type 0
 EndCame s es (came.Run entries devices) = (entries ≡ length es) × (devices ≡ waiting s es)
 EndCame s es x = ⊥
 
--- what a scenario and its run have of the kind that is stated: an image, a trace file, a text; and else how the run ends
+-- what a scenario and its run have of the kind that is stated: an image, a trace file, a text; and else how the run
+-- ends
 abbrev pub CameInstead : Scenario → List Entry → Stated → Came → Type 0
 CameInstead s es (Image digits) x = ImageCame s x
 CameInstead s es (Trace digits) x = TraceCame es x

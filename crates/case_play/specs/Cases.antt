@@ -33,8 +33,8 @@ pub record DiffersInItem (s : Scenario) (items : List Item) (line : ℕ) (came :
   pub first : IsFirstDifference s items line
   pub there : CameThere s (spot_at items first.place) first.item.part came
 
--- each item holds; of what is stated of the whole scenario or of a recorded trace, this is the first line that does not,
--- and this came instead
+-- each item holds; of what is stated of the whole scenario or of a recorded trace, this is the first line that does
+-- not, and this came instead
 pub record DiffersAtEnd (s : Scenario) (items : List Item) (line : ℕ) (came : Came) : Type 0 where
   pub items_hold : AllHold s items
   pub run : List Entry

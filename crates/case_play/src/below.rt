@@ -106,8 +106,8 @@ fn first_end(
     Ok(None)
 }
 
-/// Where the first answer of a case stands that is about the whole scenario or a recorded trace, and does not hold; none
-/// where all do. The entries are those of the serial run.
+/// Where the first answer of a case stands that is about the whole scenario or a recorded trace, and does not hold;
+/// none where all do. The entries are those of the serial run.
 pub fn first_wrong_end(
     alloc: Global,
     scenario: &Scenario,
@@ -117,9 +117,18 @@ pub fn first_wrong_end(
     ensures { IfOk result (λ r. AreAllEnds scenario.now entries.now items.now r) }
 {
     for (place, item) in items.iter().enumerate() {
-        match first_end(alloc, scenario, entries, &item.part, item.answers.as_slice())? {
+        match first_end(
+            alloc,
+            scenario,
+            entries,
+            &item.part,
+            item.answers.as_slice(),
+        )? {
             None => {}
-            Some(answer) => return Ok(Some(AnswerPlace { item: place, answer })),
+            Some(answer) => return Ok(Some(AnswerPlace {
+                item: place,
+                answer,
+            })),
         }
     }
     Ok(None)

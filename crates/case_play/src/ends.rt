@@ -112,7 +112,8 @@ pub(crate) fn is_end(
         Stated::Image(digits) => is_image(alloc, scenario, digits.as_slice()),
         Stated::Trace(digits) => is_trace(alloc, entries, digits.as_slice()),
         Stated::Text => is_text(alloc, scenario, answers),
-        Stated::Fault { .. } | Stated::Run | Stated::NotARun(_) | Stated::RecordedFault(_) => Ok(false),
+        Stated::Fault { .. } => Ok(false),
+        Stated::Run | Stated::NotARun(_) | Stated::RecordedFault(_) => Ok(false),
         Stated::Nothing
         | Stated::Send { .. }
         | Stated::Code { .. }

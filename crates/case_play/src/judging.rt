@@ -1,9 +1,8 @@
 //! The verdict on a case.
 
-ghost use Rattle.std.specs.Prelude.{◌≡◌, ℕ, Some, slice_get, IfOk};
+ghost use Rattle.std.specs.Prelude.{IfOk};
 ghost use Rattle.fleet_core.specs.Run.{IsSerial};
-ghost use Rattle.case_text.specs.declared.item.Item.{Item};
-ghost use Rattle.case_play.specs.Cases.{AllHold, DiffersAtEnd, IsVerdict, IsVerdictIn, IsVerdictOn};
+ghost use Rattle.case_play.specs.Cases.{AllHold, IsVerdict, IsVerdictIn, IsVerdictOn};
 ghost use Rattle.case_play.specs.Ends.{IsFirstOfAll};
 
 use crate::answer_place::AnswerPlace;

@@ -1,5 +1,5 @@
-//! Whether cases of scenarios hold: what they state of the outputs and the states of devices, beside what the rows of the
-//! scenario say; and what came where they do not.
+//! Whether cases of scenarios hold: what they state of the outputs and the states of devices, beside what the rows of
+//! the scenario say; and what came where they do not.
 #![tactic(auto)]
 
 mod answer_place;

@@ -116,11 +116,7 @@ fn are_words(alloc: Global, fault: LayoutFault, words: &Text) -> Result<bool, Al
 }
 
 /// Whether an answer states this fault.
-fn states_refusal(
-    alloc: Global,
-    fault: LayoutFault,
-    stated: &Stated,
-) -> Result<bool, AllocError>
+fn states_refusal(alloc: Global, fault: LayoutFault, stated: &Stated) -> Result<bool, AllocError>
     ensures { IfOk result (λ b. IsTrue b ↔ StatesRefusal fault stated.now) }
 {
     match stated {
