@@ -1,11 +1,11 @@
 -- Which files are tried.
-use Rattle.std.proofs.Common.{◌≡◌, ◌≢◌, ◌↔◌, ℕ, ◌+◌, ◌*◌, ◌/◌, ◌%◌, ◌<◌, ◌==◌, ◌&&◌, not, cond, true, false, List, length}
-use Rattle.std.proofs.Common.{take, Some, None, slice_index, slice_set, nat_lt, ap, sym, subst, ◌∙◌, lit<}
+use Rattle.std.proofs.Common.{◌≡◌, ◌≢◌, ◌↔◌, ℕ, ◌+◌, ◌*◌, ◌/◌, ◌%◌, ◌<◌, ◌==◌, ◌&&◌, not, cond, true, List, length}
+use Rattle.std.proofs.Common.{take, Some, None, slice_index, slice_set, nat_lt, ap, sym, ◌∙◌, lit<}
 use Rattle.std.proofs.lemmas.Bool.{ltb-true, lt-ltb, eqb-false, ne_eqb, not-true, and_parts}
 use Rattle.std.proofs.lemmas.Nat.{mod_below, div-mul-add, mod-mul-add}
 use Rattle.std.proofs.lemmas.Option.{cond_some}
 use Rattle.case_text.specs.declared.trial.Made.TheVariants.{EachChange, EachFront}
-use Rattle.case_files.specs.Files.{file_at, proper_front, with_byte}
+use Rattle.case_files.specs.Files.{file_at, with_byte}
 use Rattle.case_files.specs.Laws.{IsChangeOf, IsProperFront}
 
 front_of_file : (body file : List ℕ) → (n : ℕ) × (file_at EachFront body n ≡ Some file) → IsProperFront body file
@@ -50,8 +50,8 @@ file_of_change : (body file : List ℕ) → IsChangeOf body file → (n : ℕ) �
 file_of_change body file h = (
   h.place * 256 + h.byte,
   ap (λ p. with_byte p ((h.place * 256 + h.byte) % 256) body) (div-mul-add h.place 256 h.byte h.fits)
-  ∙ ap (λ b. with_byte h.place b body) (mod-mul-add h.place 256 h.byte h.fits)
-  ∙ at_change h.place h.byte body h.within h.differs ∙ ap Some (sym h.changed),
+      ∙ ap (λ b. with_byte h.place b body) (mod-mul-add h.place 256 h.byte h.fits)
+      ∙ at_change h.place h.byte body h.within h.differs ∙ ap Some (sym h.changed),
 )
 
 pub changes_are : (body file : List ℕ)

@@ -6,7 +6,6 @@ use Rattle.byte_layout.specs.declared.fault.LayoutFault.TheVariants as layout
 use Rattle.byte_layout.specs.Whole.{HasFault}
 use Rattle.scenario_image.specs.Image.{IsImage, HasImageFault}
 use Rattle.scenario_image.specs.Scenario.{Scenario}
-use Rattle.scenario_words.specs.declared.cause.Cause.{Cause}
 use Rattle.scenario_words.specs.declared.cause.Cause.TheVariants as cause
 use Rattle.scenario_asm.specs.declared.fault.AsmFault.{AsmFault}
 use Rattle.scenario_asm.specs.Text.{assembled}
@@ -103,7 +102,7 @@ one_text : (bytes : List ℕ) (s : Scenario) → IsUtf8 bytes → assembled byte
     → IsInText bytes other → other ≡ found.Scenario s
 one_text bytes s utf8 is (found.Scenario t) h = ap found.Scenario (same_Ok t s (assembled bytes) h.1 is)
 one_text bytes s utf8 is (found.Entries es) h = absurd h
-one_text bytes s utf8 is (found.Fault words) (inl no) = absurd (no.0 utf8)
+one_text bytes s utf8 is (found.Fault words) (inl h) = absurd (h.0 utf8)
 one_text bytes s utf8 is (found.Fault words) (inr h) = absurd (not_both s h.0 (assembled bytes) is h.2)
 
 pub text_found : (bytes : List ℕ) (s : Scenario) → IsUtf8 bytes → assembled bytes ≡ Ok s
@@ -114,7 +113,7 @@ one_text_fault : (bytes : List ℕ) (f : AsmFault) → IsUtf8 bytes → assemble
     → IsInText bytes other → other ≡ found.Fault (text_fault_words f)
 one_text_fault bytes f utf8 is (found.Scenario t) h = absurd (not_both t f (assembled bytes) h.1 is)
 one_text_fault bytes f utf8 is (found.Entries es) h = absurd h
-one_text_fault bytes f utf8 is (found.Fault words) (inl no) = absurd (no.0 utf8)
+one_text_fault bytes f utf8 is (found.Fault words) (inl h) = absurd (h.0 utf8)
 one_text_fault bytes f utf8 is (found.Fault words) (inr h) =
     ap found.Fault (h.3 ∙ ap text_fault_words (same_Err h.0 f (assembled bytes) h.2 is))
 
@@ -130,14 +129,14 @@ text_refused bytes f (Err e) utf8 h is = tt
 
 one_unreadable : (bytes : List ℕ) → (IsUtf8 bytes → ⊥) → (other : Finding) → IsInText bytes other
     → other ≡ found.Fault unreadable_words
-one_unreadable bytes no (found.Scenario t) h = absurd (no h.0)
-one_unreadable bytes no (found.Entries es) h = absurd h
-one_unreadable bytes no (found.Fault words) (inl h) = ap found.Fault h.1
-one_unreadable bytes no (found.Fault words) (inr h) = absurd (no h.1)
+one_unreadable bytes broken (found.Scenario t) h = absurd (broken h.0)
+one_unreadable bytes broken (found.Entries es) h = absurd h
+one_unreadable bytes broken (found.Fault words) (inl h) = ap found.Fault h.1
+one_unreadable bytes broken (found.Fault words) (inr h) = absurd (broken h.1)
 
 pub text_unreadable : {E : Type 0} (bytes : List ℕ) (r : Result Finding E) → (IsUtf8 bytes → ⊥)
     → IfOk r (λ x. x ≡ found.Fault unreadable_words) → IfOk r (λ x. IsOneFinding Text bytes x)
-text_unreadable bytes (Ok x) no h =
+text_unreadable bytes (Ok x) broken h =
     subst (λ y. IsOneFinding Text bytes y) (sym h)
-    (record { is = inl (no, refl); only = one_unreadable bytes no })
-text_unreadable bytes (Err e) no h = tt
+    (record { is = inl (broken, refl); only = one_unreadable bytes broken })
+text_unreadable bytes (Err e) broken h = tt

@@ -1,5 +1,5 @@
 -- When an answer of a trial holds.
-use Rattle.std.proofs.Common.{◌≡◌, ℕ, ◌+◌, Bool, true, false, List, None, Some, drop, length, slice_get, ◌≤◌, inl, inr}
+use Rattle.std.proofs.Common.{◌≡◌, ℕ, ◌+◌, true, false, List, None, Some, drop, inl, inr}
 use Rattle.std.proofs.Common.{refl, sym, subst, ◌∙◌}
 use Rattle.std.proofs.lemmas.Option.{none-some}
 use Rattle.case_text.specs.declared.file_answer.FileAnswer.{FileAnswer}
@@ -13,10 +13,9 @@ use Rattle.case_files.specs.Answers.{is_line}
 use Rattle.case_files.specs.Arrivals.{FindingCame}
 use Rattle.case_files.specs.Findings.{IsFinding}
 use Rattle.case_files.specs.Trials.{IsRightOfEach, TurnedBy, HoldsOfFiles, UnlessLine, FileAnswerHolds, HasNoFile}
-use Rattle.case_files.specs.Trials.{IsInFirstWrong, IsTelling, CameOfTrial}
+use Rattle.case_files.specs.Trials.{IsInFirstWrong, IsTelling}
 use Rattle.case_files.specs.Trying.{IsFirstFile, IsAnswerJudged}
-use Rattle.case_files.specs.Verdicts.{TrialHolds, TrialDiffers, TrialsHold, FileDiffers}
-use Rattle.case_files.proofs.Each.{HoldsBefore, before_end}
+use Rattle.case_files.specs.Verdicts.{TrialHolds}
 
 -- ---- a line of a text
 
@@ -63,7 +62,7 @@ pub right_differs : (case : FileCase) (made : Made) (answer : FileAnswer) (below
     → IsAnswerJudged case made answer below (Some came)
 right_differs case made answer below file found finding came other must first same is arrived right = (
   λ holds. subst (λ b. TurnedBy b (IsRightOfEach case made answer.stated below)) must
-  (of_holds case made answer below other holds).right right,
+      (of_holds case made answer below other holds).right right,
   inr (
     finding,
     subst (λ b. IsTelling b case made answer.stated below finding) (sym must) (
@@ -100,8 +99,8 @@ pub wrong_differs : (case : FileCase) (made : Made) (answer : FileAnswer) (below
     → IsAnswerJudged case made answer below (Some came)
 wrong_differs case made answer below finding came other must wrong arrived = (
   λ holds. let right = subst (λ b. TurnedBy b (IsRightOfEach case made answer.stated below)) must
-  (of_holds case made answer below other holds).right in
-  wrong.wrong (right wrong.number wrong.file wrong.stands),
+      (of_holds case made answer below other holds).right in
+      wrong.wrong (right wrong.number wrong.file wrong.stands),
   inr (
     finding,
     subst (λ b. IsTelling b case made answer.stated below finding) (sym must) wrong,
@@ -109,46 +108,12 @@ wrong_differs case made answer below finding came other must wrong arrived = (
   ),
 )
 
--- ---- the answers of a trial
+-- ---- one after another
 
+-- the answer of this number of a trial holds
 abbrev pub AnswerAt : FileCase → Trial → ℕ → FileAnswer → Type 0
 AnswerAt case trial k answer = FileAnswerHolds case trial.made answer (drop (k + 1) trial.answers)
 
-pub trial_differs : (case : FileCase) (trial : Trial) (i : ℕ) (answer : FileAnswer) (below : List FileAnswer)
-    (came : Came) → HoldsBefore (AnswerAt case trial) trial.answers i → slice_get trial.answers i ≡ Some answer
-    → below ≡ drop (i + 1) trial.answers → IsAnswerJudged case trial.made answer below (Some came)
-    → TrialDiffers case trial answer.line came
-trial_differs case trial i answer below came before at same judged =
-    let here = subst (λ b. IsAnswerJudged case trial.made answer b (Some came)) same judged in record {
-      place = i;
-      answer = answer;
-      stands = at;
-      above = λ k other less there. before.each k less other there;
-      wrong = here.0;
-      instead = here.1;
-      named = refl;
-    }
-
-pub trial_holds : (case : FileCase) (trial : Trial) (n : ℕ) → HoldsBefore (AnswerAt case trial) trial.answers n
-    → length trial.answers ≤ n → TrialHolds case trial
-trial_holds case trial n before end = before_end (AnswerAt case trial) trial.answers n before end
-
--- ---- the trials of a case
-
+-- so do those of a trial, whatever its number
 abbrev pub TrialAt : FileCase → ℕ → Trial → Type 0
 TrialAt case k trial = TrialHolds case trial
-
-pub file_differs : (case : FileCase) (i : ℕ) (trial : Trial) (line : ℕ) (came : Came)
-    → HoldsBefore (TrialAt case) case.trials i → slice_get case.trials i ≡ Some trial
-    → TrialDiffers case trial line came → FileDiffers case line came
-file_differs case i trial line came before at first = record {
-  place = i;
-  trial = trial;
-  stands = at;
-  above = λ k other less there. before.each k less other there;
-  first = first;
-}
-
-pub file_holds : (case : FileCase) (n : ℕ) → HoldsBefore (TrialAt case) case.trials n → length case.trials ≤ n
-    → TrialsHold case
-file_holds case n before end = before_end (TrialAt case) case.trials n before end

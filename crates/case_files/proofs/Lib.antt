@@ -1,6 +1,6 @@
 pub mod Each
 pub mod Found
+pub mod Stated
 pub mod Tried
-pub mod Ends
 pub mod Judged
 pub mod Changed

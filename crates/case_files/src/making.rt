@@ -76,12 +76,7 @@ fn proper_front(alloc: Global, count: u128, body: &[u8]) -> Result<Option<Bytes>
 }
 
 /// The body with this byte in a place; none where it stands there, or there is no such place.
-fn with_byte(
-    alloc: Global,
-    place: u128,
-    byte: u8,
-    body: &[u8],
-) -> Result<Option<Bytes>, AllocError>
+fn with_byte(alloc: Global, place: u128, byte: u8, body: &[u8]) -> Result<Option<Bytes>, AllocError>
     ensures { IfOk result (λ file. file ≡ with_byte place byte body.now) }
 {
     if place >= body.len() as u128 {
