@@ -8,6 +8,8 @@ ghost use Rattle.case_files.specs.Laws.{IsChangeOf, IsProperFront};
 /// The files of `each front` are the proper prefixes of the body, and those of `each change` are those that differ from
 /// it in one byte: all of them, and no others.
 pub fn what_is_tried()
-    ensures fronts { (body file : List ℕ) → ((n : ℕ) × (file_at EachFront body n ≡ Some file)) ↔ IsProperFront body file }
-    ensures changes { (body file : List ℕ) → ((n : ℕ) × (file_at EachChange body n ≡ Some file)) ↔ IsChangeOf body file }
+    ensures fronts { (body file : List ℕ) → ((n : ℕ) × (file_at EachFront body n ≡ Some file))
+        ↔ IsProperFront body file }
+    ensures changes { (body file : List ℕ) → ((n : ℕ) × (file_at EachChange body n ≡ Some file))
+        ↔ IsChangeOf body file }
 {}
