@@ -14,14 +14,18 @@ ROOT = pathlib.Path(__file__).resolve().parent.parent
 sys.dont_write_bytecode = True
 
 # Files of cases: what they are called, and where they are, in one file or in those of a folder. A case carries ids in
-# brackets, at the end of its title (a line `case ..`, where the title is free text) or of a comment.
+# brackets, at the end of its title (a line `case ..` of a file that `lwbench test` plays) or of a comment.
 SHEETS = {
-    "device": "crates/cases_device/stdin",
+    "device": "cases/device",
+    "files": "cases/files",
+    "conformance": "examples/conformance",
     "codec": "crates/cases_codec/stdin",
     "commands": "cases/commands",
     "live": "crates/cases_live/stdin",
     "memory": "crates/cases_memory/stdin",
 }
+# Those that `lwbench test` plays.
+PLAYED = ("device", "files", "conformance")
 MARK = re.compile(r" ?\[([a-z0-9]+(?:-[a-z0-9]+)+(?: [a-z0-9]+(?:-[a-z0-9]+)+)*)\]$")
 # A program that uses threads prints a line for each thing that it tries; a rule names the line in `shown_by`.
 USES = {"lock": "crates/ticket_lock_uses/stdout", "workers": "crates/fleet_workers_uses/stdout"}
@@ -152,7 +156,7 @@ def marks(sheet, file):
     lines = read(ROOT / file).splitlines()
     title = ""
     for number, line in enumerate(lines):
-        is_title = line.startswith("case ") and sheet == "device"
+        is_title = line.startswith("case ") and sheet in PLAYED
         if is_title:
             title = MARK.sub("", line[len("case ") :])
         found = MARK.search(line) if is_title or line.startswith("#") else None
@@ -165,7 +169,7 @@ def marks(sheet, file):
                 first -= 1
             text = " ".join(MARK.sub("", it).lstrip("# ") for it in lines[first : number + 1]).strip()
             below = next((it for it in lines[number + 1 :] if it and not it.startswith("#")), "")
-            if sheet == "device" and title:
+            if sheet in PLAYED and title:
                 text = f"{title}: {text or below}"
             elif sheet == "memory" and text:
                 text = f"{text} ({below})"

@@ -42,15 +42,18 @@ walked_next s items i item before after walked at checked = record {
 
 pub walked_differs : (s : Scenario) (items : List Item) (i : ℕ) (item : Item) (line : ℕ) (before after : Walk)
     → IsWalked s items i before → slice_get items i ≡ Some item → IsChecked s (spot_at items i) item (Some line) after
-    → IsFirstDifference s items line
-walked_differs s items i item line before after walked at checked = record {
-  place = i;
-  item = item;
-  stands = at;
-  above = λ k other less there. walked.above k less other there;
-  differs = checked.0;
-  named = checked.1;
-}
+    → (first : IsFirstDifference s items line) × (first.place ≡ i)
+walked_differs s items i item line before after walked at checked = (
+  record {
+    place = i;
+    item = item;
+    stands = at;
+    above = λ k other less there. walked.above k less other there;
+    differs = checked.0;
+    named = checked.1;
+  },
+  refl,
+)
 
 pub walked_all : (s : Scenario) (items : List Item) (i : ℕ) (walk : Walk) → IsWalked s items i walk
     → length items ≤ i → (k : ℕ) (item : Item) → slice_get items k ≡ Some item → Holds s (spot_at items k) item

@@ -6,3 +6,6 @@ pub mod Judged
 pub mod Walking
 pub mod Each
 pub mod Ending
+pub mod Recording
+pub mod Coming
+pub mod Differing

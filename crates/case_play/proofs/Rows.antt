@@ -136,6 +136,7 @@ puts_same s spot (parts.Step times) a b first other = stepped_same s spot times 
 puts_same s spot parts.Line a b first other = first ∙ sym other
 puts_same s spot (parts.Ask must_not question) a b first other = first ∙ sym other
 puts_same s spot (parts.Aside event) a b first other = taken_same s spot event a b first other
+puts_same s spot (parts.Recorded bytes) a b first other = first ∙ sym other
 
 -- ---- a device that shows a flat state
 

@@ -10,6 +10,7 @@ use Rattle.case_text.specs.declared.answer.Answer.{Answer}
 use Rattle.case_text.specs.declared.stated.Stated.{Stated}
 use Rattle.case_text.specs.declared.stated.Stated.TheVariants.{Nothing, Send, Code, Notification, Act, More, Done}
 use Rattle.case_text.specs.declared.stated.Stated.TheVariants.{Stalled, Image, Trace, Text, TextLine, Fault}
+use Rattle.case_text.specs.declared.stated.Stated.TheVariants.{Run, NotARun, RecordedFault}
 use Rattle.case_play.specs.Outputs.{IsMessage, IsNotification, StatesSend, StatesThis, width, width_before, IsSo}
 use Rattle.case_play.specs.Outputs.{States}
 use Rattle.case_play.specs.Outputs.{IsSoOr, IsSoAt, IsFirstWrong}
@@ -38,6 +39,9 @@ so_within (Trace digits) outputs before within so = omega (arith, within)
 so_within Text outputs before within so = omega (arith, within)
 so_within (TextLine text) outputs before within so = omega (arith, within)
 so_within (Fault line cause) outputs before within so = omega (arith, within)
+so_within Run outputs before within so = omega (arith, within)
+so_within (NotARun place) outputs before within so = omega (arith, within)
+so_within (RecordedFault words) outputs before within so = omega (arith, within)
 
 -- the answers before this one are so, and are about as many outputs
 pub record AreSo (answers : List Answer) (outputs : List Output) (i before : ℕ) : Type 0 where

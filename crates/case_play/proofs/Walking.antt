@@ -120,6 +120,7 @@ answered_same s spot (parts.Step times) = (λ h. h, λ h. h)
 answered_same s spot parts.Line = (λ h. h, λ h. h)
 answered_same s spot (parts.Ask must_not question) = (λ h. h, λ h. h)
 answered_same s spot (parts.Aside event) = (λ h. h, λ h. h)
+answered_same s spot (parts.Recorded bytes) = (λ h. h, λ h. h)
 
 pub answered_before : (s : Scenario) (spot : Spot) (part : Part) (r : Bool)
     → IsTrue r ↔ IsAnswered s (spot_after spot part) part → IsTrue r ↔ IsAnswered s spot part

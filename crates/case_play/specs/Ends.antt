@@ -1,20 +1,30 @@
--- What is stated of a whole scenario.
-use Rattle.std.specs.Prelude.{◌≡◌, ℕ, ◌<◌, Bool, true, false, List, [], length, Option, None, Some, slice_get}
+-- What is stated of a whole scenario, or of a recorded trace.
+use Rattle.std.specs.Prelude.{◌≡◌, ℕ, ◌<◌, ◌⊎◌, Bool, true, false, List, [], length, Option, None, Some, slice_get}
+use Rattle.std.specs.Prelude.{MatchBool, MatchOption}
 use Rattle.std.specs.List.{flat_map}
+use Rattle.byte_layout.specs.declared.fault.LayoutFault.{LayoutFault}
+use Rattle.byte_layout.specs.Whole.{HasFault}
 use Rattle.scenario_image.specs.Image.{IsImageIn}
 use Rattle.scenario_image.specs.Scenario.{Scenario}
 use Rattle.trace_file.specs.declared.entry.Entry.{Entry}
-use Rattle.trace_file.specs.Layout.{IsTraceFile}
+use Rattle.trace_file.specs.Layout.{trace_file, IsTraceFile}
+use Rattle.fleet_core.specs.Run.{IsRun}
+use Rattle.fleet_core.specs.Verdict.{BreaksAt}
 use Rattle.fleet_core.specs.Waiting.{waiting}
 use Rattle.scenario_words.specs.Words.{ended_line}
 use Rattle.scenario_asm.specs.Canonical.{printed}
 use Rattle.case_text.specs.declared.digit.Digit.{Digit}
 use Rattle.case_text.specs.declared.answer.Answer.{Answer}
 use Rattle.case_text.specs.declared.item.Item.{Item}
+use Rattle.case_text.specs.declared.item.Part.{Part}
+use Rattle.case_text.specs.declared.item.Part.TheVariants as parts
 use Rattle.case_text.specs.declared.stated.Stated.{Stated}
 use Rattle.case_text.specs.declared.stated.Stated.TheVariants.{Done}
 use Rattle.case_text.specs.declared.stated.Stated.TheVariants.{Stalled, Image, Trace, Text, TextLine, Fault}
+use Rattle.case_text.specs.declared.stated.Stated.TheVariants.{Run, NotARun, RecordedFault}
+use Rattle.case_play.specs.declared.answer_place.AnswerPlace.{AnswerPlace}
 use Rattle.case_play.specs.Digits.{Matches}
+use Rattle.case_play.specs.Faults.{fault_words}
 
 -- the bytes are the image of the scenario, in the version that is written, or the trace file of entries; and these are
 -- their digits
@@ -35,7 +45,7 @@ text_in answers = flat_map (λ a. line_in a.stated) answers
 -- an answer, among those below its item, holds of a scenario and its serial run: the run has this number of entries,
 -- and these devices wait after them; the image, the trace file of the run, the canonical text are these. A line of the
 -- text is part of what `text` states, and answers on outputs are judged at their item. A text that was read has no
--- fault
+-- fault, and the verdict on a recorded trace stands below one
 abbrev pub IsEnd : Scenario → List Entry → List Answer → Stated → Type 0
 IsEnd s es answers (Done count) = (length es ≡ count) × (waiting s es ≡ [])
 IsEnd s es answers (Stalled count devices) = (length es ≡ count) × (waiting s es ≡ devices)
@@ -43,9 +53,55 @@ IsEnd s es answers (Image digits) = IsImageOf s digits
 IsEnd s es answers (Trace digits) = IsTraceOf es digits
 IsEnd s es answers Text = printed s ≡ text_in answers
 IsEnd s es answers (Fault line cause) = ⊥
+IsEnd s es answers Run = ⊥
+IsEnd s es answers (NotARun place) = ⊥
+IsEnd s es answers (RecordedFault words) = ⊥
 IsEnd s es answers stated = Unit {0}
 
--- it is about the whole scenario, and not about outputs or a line of a text
+-- ---- a recorded trace
+
+-- it is the verdict on a recorded trace
+abbrev pub is_of_verdict : Stated → Bool
+is_of_verdict Run = true
+is_of_verdict (NotARun place) = true
+is_of_verdict (RecordedFault words) = true
+is_of_verdict stated = false
+
+-- entries are a run, or the one at this place is the first that does not follow
+abbrev pub IsOfVerdict : Scenario → List Entry → Stated → Type 0
+IsOfVerdict s es Run = IsRun s es
+IsOfVerdict s es (NotARun place) = BreaksAt s es place
+IsOfVerdict s es stated = ⊥
+
+-- an answer holds of entries that were recorded: the verdict on them does, and all else as of a serial run
+abbrev pub IsOfEntries : Scenario → List Entry → List Answer → Stated → Type 0
+IsOfEntries s es answers stated =
+    MatchBool (is_of_verdict stated) (IsOfVerdict s es stated) (IsEnd s es answers stated)
+
+abbrev pub StatesRefusal : LayoutFault → Stated → Type 0
+StatesRefusal fault (RecordedFault words) = words ≡ fault_words fault
+StatesRefusal fault stated = ⊥
+
+-- an answer holds of bytes that were recorded: they are refused, which it states; or they are the trace file of entries
+-- of which it holds
+abbrev pub IsOfRecorded : Scenario → List ℕ → List Answer → Stated → Type 0
+IsOfRecorded s bytes answers stated =
+    ((fault : LayoutFault) × HasFault trace_file bytes fault × StatesRefusal fault stated)
+    ⊎ ((es : List Entry) × IsTraceFile bytes es × IsOfEntries s es answers stated)
+
+-- the bytes of a recorded trace
+abbrev pub recorded_in : Part → Option (List ℕ)
+recorded_in (parts.Recorded bytes) = Some bytes
+recorded_in part = None
+
+-- below a recorded trace an answer holds of that, and below any other item of the scenario and its serial run
+abbrev pub IsEndBelow : Scenario → List Entry → Part → List Answer → Stated → Type 0
+IsEndBelow s es part answers stated =
+    MatchOption (recorded_in part) (IsEnd s es answers stated) (λ bytes. IsOfRecorded s bytes answers stated)
+
+-- ---- an answer
+
+-- it is about the whole scenario or a recorded trace, and not about outputs or a line of a text
 abbrev pub is_of_all : Stated → Bool
 is_of_all (Done count) = true
 is_of_all (Stalled count devices) = true
@@ -53,6 +109,9 @@ is_of_all (Image digits) = true
 is_of_all (Trace digits) = true
 is_of_all Text = true
 is_of_all (Fault line cause) = true
+is_of_all Run = true
+is_of_all (NotARun place) = true
+is_of_all (RecordedFault words) = true
 is_of_all stated = false
 
 abbrev pub EndHoldsBy : Bool → Bool → Type 0 → Type 0
@@ -60,44 +119,43 @@ EndHoldsBy false must_not is = Unit {0}
 EndHoldsBy true false is = is
 EndHoldsBy true true is = is → ⊥
 
--- if it is about the whole scenario, it is so, or where it must not come it is not
-abbrev pub EndHolds : Scenario → List Entry → List Answer → Answer → Type 0
-EndHolds s es answers answer =
-    EndHoldsBy (is_of_all answer.stated) answer.must_not (IsEnd s es answers answer.stated)
+-- if it is about one of these, it is so, or where it must not come it is not
+abbrev pub EndHolds : Scenario → List Entry → Part → List Answer → Answer → Type 0
+EndHolds s es part answers answer =
+    EndHoldsBy (is_of_all answer.stated) answer.must_not (IsEndBelow s es part answers answer.stated)
 
 -- ---- the first that does not hold
 
--- each of the answers below an item that is about the whole scenario holds
-abbrev pub EndsHold : Scenario → List Entry → List Answer → Type 0
-EndsHold s es answers =
-    (i : ℕ) (answer : Answer) → slice_get answers i ≡ Some answer → EndHolds s es answers answer
+-- each of the answers below an item that is about one of these holds
+abbrev pub EndsHold : Scenario → List Entry → Part → List Answer → Type 0
+EndsHold s es part answers =
+    (i : ℕ) (answer : Answer) → slice_get answers i ≡ Some answer → EndHolds s es part answers answer
 
--- this is the line of the first that does not
-pub record IsFirstEnd (s : Scenario) (es : List Entry) (answers : List Answer) (line : ℕ) : Type 0 where
-  pub place : ℕ
+-- the one at this place is the first that does not
+pub record IsFirstEnd (s : Scenario) (es : List Entry) (part : Part) (answers : List Answer) (place : ℕ) : Type 0 where
   pub answer : Answer
   pub stands : slice_get answers place ≡ Some answer
-  pub above : (i : ℕ) (other : Answer) → i < place → slice_get answers i ≡ Some other → EndHolds s es answers other
-  pub differs : EndHolds s es answers answer → ⊥
-  pub named : line ≡ answer.line
+  pub above : (i : ℕ) (other : Answer) → i < place → slice_get answers i ≡ Some other
+      → EndHolds s es part answers other
+  pub differs : EndHolds s es part answers answer → ⊥
 
-abbrev pub AreEnds : Scenario → List Entry → List Answer → Option ℕ → Type 0
-AreEnds s es answers None = EndsHold s es answers
-AreEnds s es answers (Some line) = IsFirstEnd s es answers line
+abbrev pub AreEnds : Scenario → List Entry → Part → List Answer → Option ℕ → Type 0
+AreEnds s es part answers None = EndsHold s es part answers
+AreEnds s es part answers (Some place) = IsFirstEnd s es part answers place
 
 -- each holds, below each item
 abbrev pub AllEndsHold : Scenario → List Entry → List Item → Type 0
 AllEndsHold s es items =
-    (k : ℕ) (item : Item) → slice_get items k ≡ Some item → EndsHold s es item.answers
+    (k : ℕ) (item : Item) → slice_get items k ≡ Some item → EndsHold s es item.part item.answers
 
--- this is the line of the first that does not, in the first item with such a one
-pub record IsFirstOfAll (s : Scenario) (es : List Entry) (items : List Item) (line : ℕ) : Type 0 where
-  pub place : ℕ
+-- below the first item with one that does not hold, this is the first of them
+pub record IsFirstOfAll (s : Scenario) (es : List Entry) (items : List Item) (at : AnswerPlace) : Type 0 where
   pub item : Item
-  pub stands : slice_get items place ≡ Some item
-  pub above : (k : ℕ) (other : Item) → k < place → slice_get items k ≡ Some other → EndsHold s es other.answers
-  pub first : IsFirstEnd s es item.answers line
+  pub stands : slice_get items at.item ≡ Some item
+  pub above : (k : ℕ) (other : Item) → k < at.item → slice_get items k ≡ Some other
+      → EndsHold s es other.part other.answers
+  pub first : IsFirstEnd s es item.part item.answers at.answer
 
-abbrev pub AreAllEnds : Scenario → List Entry → List Item → Option ℕ → Type 0
+abbrev pub AreAllEnds : Scenario → List Entry → List Item → Option AnswerPlace → Type 0
 AreAllEnds s es items None = AllEndsHold s es items
-AreAllEnds s es items (Some line) = IsFirstOfAll s es items line
+AreAllEnds s es items (Some at) = IsFirstOfAll s es items at

@@ -11,6 +11,7 @@ use Rattle.case_text.specs.declared.item.Part.TheVariants as parts
 use Rattle.case_text.specs.declared.question.Question.{Question}
 use Rattle.case_text.specs.declared.stated.Stated.{Stated}
 use Rattle.case_text.specs.declared.stated.Stated.TheVariants.{Nothing, Send, Code, Notification, Act, More}
+use Rattle.case_play.specs.declared.named_item.NamedItem.{NamedItem}
 use Rattle.case_play.specs.Outputs.{States, IsFirstWrong}
 use Rattle.case_play.specs.Questions.{IsAnswer}
 use Rattle.case_play.specs.Spots.{Spot, spot_at, IsAsked, PutsOut}
@@ -54,6 +55,7 @@ IsAnswered s spot (parts.Step times) = Unit {0}
 IsAnswered s spot parts.Line = Unit {0}
 IsAnswered s spot (parts.Ask must_not question) = (f : Machine) × IsAsked s spot f × IsMet must_not question f
 IsAnswered s spot (parts.Aside event) = Unit {0}
+IsAnswered s spot (parts.Recorded bytes) = Unit {0}
 
 -- an item holds at a spot: it outputs what the answers below it say, and a question has its answer
 pub record Holds (s : Scenario) (spot : Spot) (item : Item) : Type 0 where
@@ -100,7 +102,7 @@ pub record IsFirstDifference (s : Scenario) (items : List Item) (line : ℕ) : T
   pub differs : Holds s (spot_at items place) item → ⊥
   pub named : IsNamed s (spot_at items place) item line
 
--- each item holds, or this is the line of the first that does not
-abbrev pub IsJudged : Scenario → List Item → Option ℕ → Type 0
+-- each item holds, or this is the first that does not, and the line that names it
+abbrev pub IsJudged : Scenario → List Item → Option NamedItem → Type 0
 IsJudged s items None = (k : ℕ) (item : Item) → slice_get items k ≡ Some item → Holds s (spot_at items k) item
-IsJudged s items (Some line) = IsFirstDifference s items line
+IsJudged s items (Some named) = (first : IsFirstDifference s items named.line) × (first.place ≡ named.place)

@@ -3,7 +3,9 @@ pub mod Outputs
 pub mod Questions
 pub mod Spots
 pub mod Holds
-pub mod Walks
+pub mod Faults
 pub mod Ends
+pub mod Came
+pub mod Walks
 pub mod Refusals
 pub mod Cases

@@ -32,7 +32,7 @@ FaultHoldsBy true numbers fault stated = (is_fault stated ≡ true) × (StatesFa
 abbrev pub FaultHolds : List ℕ → AsmFault → Answer → Type 0
 FaultHolds numbers fault answer = FaultHoldsBy answer.must_not numbers fault answer.stated
 
--- it asks nothing
+-- it asks nothing, neither of a device nor of a recorded trace
 abbrev pub is_plain : Part → Bool
 is_plain parts.Start = true
 is_plain (parts.Device times) = true
@@ -40,6 +40,7 @@ is_plain (parts.Step times) = true
 is_plain parts.Line = true
 is_plain (parts.Ask must_not question) = false
 is_plain (parts.Aside event) = true
+is_plain (parts.Recorded bytes) = false
 
 abbrev pub AllFaultsHold : List ℕ → AsmFault → List Answer → Type 0
 AllFaultsHold numbers fault answers =

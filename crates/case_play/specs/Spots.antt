@@ -32,6 +32,7 @@ spot_after spot parts.Line = record { begun = spot.begun; steps = spot.steps; as
 spot_after spot (parts.Ask must_not question) = spot
 spot_after spot (parts.Aside event) =
     record { begun = spot.begun; steps = spot.steps; asides = spot.asides ++ event ∷ [] }
+spot_after spot (parts.Recorded bytes) = spot
 
 -- before item i
 abbrev pub spot_at : List Item → ℕ → Spot
@@ -78,7 +79,8 @@ pub record HasBegun (s : Scenario) (spot : Spot) (times : ℕ) (outputs : List O
   pub rows : spot.begun + times ≤ length s.rows
   pub put_out : outputs ≡ []
 
--- what an item outputs at a spot: a line of the text that is no step outputs nothing, nor does a question
+-- what an item outputs at a spot: a line of the text that is no step outputs nothing, nor does a question or a
+-- recorded trace
 abbrev pub PutsOut : Scenario → Spot → Part → List Output → Type 0
 PutsOut s spot parts.Start outputs = outputs ≡ []
 PutsOut s spot (parts.Device times) outputs = HasBegun s spot times outputs
@@ -86,3 +88,4 @@ PutsOut s spot (parts.Step times) outputs = HasStepped s spot times outputs
 PutsOut s spot parts.Line outputs = outputs ≡ []
 PutsOut s spot (parts.Ask must_not question) outputs = outputs ≡ []
 PutsOut s spot (parts.Aside event) outputs = HasTaken s spot event outputs
+PutsOut s spot (parts.Recorded bytes) outputs = outputs ≡ []

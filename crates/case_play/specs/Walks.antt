@@ -1,5 +1,5 @@
 -- A walk along the items of a case, as clauses of private functions name it. No promise rests on it.
-use Rattle.std.specs.Prelude.{◌≡◌, ℕ, ◌+◌, ◌-◌, ◌<◌, ◌≤◌, ◌⊎◌, true, false, List, [], length, Option, None, Some}
+use Rattle.std.specs.Prelude.{◌≡◌, ℕ, ◌+◌, ◌-◌, ◌<◌, ◌≤◌, ◌⊎◌, Bool, true, false, List, [], length, Option, None, Some}
 use Rattle.device_machine.specs.declared.event.Event.{Event}
 use Rattle.device_machine.specs.declared.output.Output.{Output}
 use Rattle.device_machine.specs.State.{Machine, Device, Shows}
@@ -12,9 +12,13 @@ use Rattle.fleet_core.specs.Board.{ShowsAfter}
 use Rattle.case_text.specs.declared.answer.Answer.{Answer}
 use Rattle.case_text.specs.declared.item.Item.{Item}
 use Rattle.case_text.specs.declared.item.Part.{Part}
+use Rattle.case_text.specs.declared.question.Question.{Question}
+use Rattle.case_play.specs.declared.came.Came.{Came}
+use Rattle.case_play.specs.declared.came.Came.TheVariants as came
 use Rattle.case_play.specs.declared.walk.Walk.{Walk}
 use Rattle.case_play.specs.Spots.{Spot, spot_after, IsAsked, PutsOut}
-use Rattle.case_play.specs.Holds.{Hold, Holds, IsWrongIn, IsNamed}
+use Rattle.case_play.specs.Holds.{Hold, IsMet, Holds, IsWrongIn, IsNamed}
+use Rattle.case_play.specs.Came.{RepliesWith}
 
 -- the last of the devices that have begun has made these steps of its row; before the first one there is none
 abbrev pub IsMachine : Scenario → ℕ → ℕ → Option Device → Type 0
@@ -79,3 +83,9 @@ IsCompared own answers outputs (Some line) =
 abbrev pub IsChecked : Scenario → Spot → Item → Option ℕ → Walk → Type 0
 IsChecked s spot item None walk = Holds s spot item × IsAt s (spot_after spot item.part) walk
 IsChecked s spot item (Some line) walk = (Holds s spot item → ⊥) × IsNamed s spot item line
+
+-- what came of a question that is asked of this flat state, at which this is output
+abbrev pub CameAsked : Bool → Question → Machine → List Output → Came → Type 0
+CameAsked must_not question f outputs x =
+    (IsMet must_not question f × (x ≡ came.Outputs outputs))
+    ⊎ ((IsMet must_not question f → ⊥) × RepliesWith question f x)

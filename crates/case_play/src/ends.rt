@@ -3,11 +3,10 @@
 ghost use Rattle.std.specs.Prelude.{◌≡◌, ◌↔◌, ◌++◌, length, IsTrue, IfOk};
 ghost use Rattle.fleet_core.specs.Waiting.{waiting};
 ghost use Rattle.scenario_asm.specs.Canonical.{printed};
-ghost use Rattle.case_play.specs.Ends.{IsImageOf, IsTraceOf, IsEnd, EndHolds, AreEnds, AreAllEnds};
-ghost use Rattle.case_play.specs.Ends.{line_in, text_in, is_of_all};
+ghost use Rattle.case_play.specs.Ends.{IsImageOf, IsTraceOf, IsEnd, line_in, text_in};
 
 use crate::digits::matches;
-use case_text::{Answer, Digit, Item, Stated};
+use case_text::{Answer, Digit, Stated};
 use fleet_core::{Entry, WriteFault, unfinished, write_entries};
 use scenario_asm::disassemble;
 use scenario_image::{Scenario, save};
@@ -68,7 +67,10 @@ fn put_line(out: &mut Vec<u8>, stated: &Stated) -> Result<(), AllocError>
         | Stated::Image(_)
         | Stated::Trace(_)
         | Stated::Text
-        | Stated::Fault { .. } => Ok(()),
+        | Stated::Fault { .. }
+        | Stated::Run
+        | Stated::NotARun(_)
+        | Stated::RecordedFault(_) => Ok(()),
     }
 }
 
@@ -93,7 +95,7 @@ fn is_text(alloc: Global, scenario: &Scenario, answers: &[Answer]) -> Result<boo
 }
 
 /// Whether an answer, among those below its item, is so of the scenario and its serial run.
-fn is_end(
+pub(crate) fn is_end(
     alloc: Global,
     scenario: &Scenario,
     entries: &[Entry],
@@ -111,6 +113,7 @@ fn is_end(
         Stated::Trace(digits) => is_trace(alloc, entries, digits.as_slice()),
         Stated::Text => is_text(alloc, scenario, answers),
         Stated::Fault { .. } => Ok(false),
+        Stated::Run | Stated::NotARun(_) | Stated::RecordedFault(_) => Ok(false),
         Stated::Nothing
         | Stated::Send { .. }
         | Stated::Code { .. }
@@ -119,77 +122,4 @@ fn is_end(
         | Stated::More(_)
         | Stated::TextLine(_) => Ok(true),
     }
-}
-
-fn is_of_all(stated: &Stated) -> bool
-    ensures { result ≡ is_of_all stated.now }
-{
-    match stated {
-        Stated::Done(_)
-        | Stated::Stalled { .. }
-        | Stated::Image(_)
-        | Stated::Trace(_)
-        | Stated::Text
-        | Stated::Fault { .. } => true,
-        Stated::Nothing
-        | Stated::Send { .. }
-        | Stated::Code { .. }
-        | Stated::Notification { .. }
-        | Stated::Act(_)
-        | Stated::More(_)
-        | Stated::TextLine(_) => false,
-    }
-}
-
-/// Whether an answer that is about the whole scenario is so, or is not where it must not come.
-fn end_holds(
-    alloc: Global,
-    scenario: &Scenario,
-    entries: &[Entry],
-    answers: &[Answer],
-    answer: &Answer,
-) -> Result<bool, AllocError>
-    ensures { IfOk result (λ b. IsTrue b ↔ EndHolds scenario.now entries.now answers.now answer.now) }
-{
-    if !is_of_all(&answer.stated) {
-        return Ok(true);
-    }
-    let is = is_end(alloc, scenario, entries, answers, &answer.stated)?;
-    Ok(is != answer.must_not)
-}
-
-/// The line of the first answer below an item that is about the whole scenario, and does not hold; none where all do.
-fn first_end(
-    alloc: Global,
-    scenario: &Scenario,
-    entries: &[Entry],
-    answers: &[Answer],
-) -> Result<Option<usize>, AllocError>
-    ensures { IfOk result (λ r. AreEnds scenario.now entries.now answers.now r) }
-{
-    for answer in answers {
-        if !end_holds(alloc, scenario, entries, answers, answer)? {
-            return Ok(Some(answer.line));
-        }
-    }
-    Ok(None)
-}
-
-/// The line of the first answer of a case that is about the whole scenario, and does not hold; none where all do. The
-/// entries are those of the serial run.
-pub fn first_wrong_end(
-    alloc: Global,
-    scenario: &Scenario,
-    entries: &[Entry],
-    items: &[Item],
-) -> Result<Option<usize>, AllocError>
-    ensures { IfOk result (λ r. AreAllEnds scenario.now entries.now items.now r) }
-{
-    for item in items {
-        match first_end(alloc, scenario, entries, item.answers.as_slice())? {
-            None => {}
-            Some(line) => return Ok(Some(line)),
-        }
-    }
-    Ok(None)
 }

@@ -6,6 +6,7 @@ ghost use Rattle.case_play.specs.Spots.{Spot, spot_after, PutsOut};
 ghost use Rattle.case_play.specs.Holds.{is_of_outputs, has_right, has_wrong, line_or, IsMet, IsAnswered, IsJudged};
 ghost use Rattle.case_play.specs.Walks.{IsAt, IsSomewhere, IsCompared, IsChecked};
 
+use crate::named_item::NamedItem;
 use crate::outputs::first_unstated;
 use crate::questions::is_answered;
 use crate::walk::Walk;
@@ -31,7 +32,10 @@ fn is_of_outputs(stated: &Stated) -> bool
         | Stated::Trace(_)
         | Stated::Text
         | Stated::TextLine(_)
-        | Stated::Fault { .. } => false,
+        | Stated::Fault { .. }
+        | Stated::Run
+        | Stated::NotARun(_)
+        | Stated::RecordedFault(_) => false,
     }
 }
 
@@ -85,7 +89,7 @@ fn wrong_line(
 }
 
 /// Whether the answer to a question comes, or does not where it must not.
-fn is_met(question: &Question, must_not: bool, device: &Device) -> bool
+pub(crate) fn is_met(question: &Question, must_not: bool, device: &Device) -> bool
     ensures { (f : Machine) → Shows device.now f → IsTrue result ↔ IsMet must_not question.now f }
 {
     let answered = is_answered(question, device);
@@ -100,7 +104,12 @@ fn has_answer(walk: &Walk, scenario: &Scenario, part: &Part) -> bool
     ensures { (spot : Spot) → IsAt scenario.now spot walk.now → IsTrue result ↔ IsAnswered scenario.now spot part.now }
 {
     match part {
-        Part::Start | Part::Device { .. } | Part::Step { .. } | Part::Line | Part::Aside(_) => true,
+        Part::Start
+        | Part::Device { .. }
+        | Part::Step { .. }
+        | Part::Line
+        | Part::Aside(_)
+        | Part::Recorded(_) => true,
         Part::Ask { must_not, question } => match walk.asked(scenario) {
             None => false,
             Some(device) => is_met(question, *must_not, device),
@@ -143,20 +152,20 @@ fn check_item(
     }
 }
 
-/// The line of the first item of a case that does not hold in the scenario, or of the answer in it that is not so. None
-/// where each item holds.
+/// The first item of a case that does not hold in the scenario, and its line, or that of the answer in it that is not
+/// so. None where each item holds.
 pub fn first_difference(
     alloc: Global,
     scenario: &Scenario,
     items: &[Item],
-) -> Result<Option<usize>, AllocError>
+) -> Result<Option<NamedItem>, AllocError>
     ensures { IfOk result (λ r. IsJudged scenario.now items.now r) }
 {
     let mut walk = Walk::new();
-    for item in items {
+    for (place, item) in items.iter().enumerate() {
         match check_item(alloc, scenario, &mut walk, item)? {
             None => {}
-            Some(line) => return Ok(Some(line)),
+            Some(line) => return Ok(Some(NamedItem { place, line })),
         }
     }
     Ok(None)

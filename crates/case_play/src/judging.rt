@@ -1,37 +1,73 @@
 //! The verdict on a case.
 
 ghost use Rattle.std.specs.Prelude.{IfOk};
-ghost use Rattle.case_play.specs.Cases.{IsVerdict, IsVerdictIn, IsVerdictOn};
+ghost use Rattle.fleet_core.specs.Run.{IsSerial};
+ghost use Rattle.case_play.specs.Cases.{AllHold, IsVerdict, IsVerdictIn, IsVerdictOn};
+ghost use Rattle.case_play.specs.Ends.{IsFirstOfAll};
 
-use crate::ends::first_wrong_end;
+use crate::answer_place::AnswerPlace;
+use crate::below::first_wrong_end;
+use crate::instead::came_below;
 use crate::items::first_difference;
+use crate::outcomes::came_at;
 use crate::refusals::{are_refused, number_of};
 use crate::verdict::Verdict;
-use case_text::Case;
-use fleet_core::run_serial;
+use case_text::{Item, ScenarioCase};
+use fleet_core::{Entry, run_serial};
 use scenario_asm::{AsmFault, assemble};
 use scenario_image::Scenario;
 use scenario_words::Cause;
 use std::alloc::{AllocError, Global};
 
-/// The verdict on a case whose text denotes this scenario.
-fn judge_scenario(alloc: Global, scenario: &Scenario, case: &Case) -> Result<Verdict, AllocError>
-    ensures { IfOk result (λ v. IsVerdictIn scenario.now case.now v) }
+/// The verdict where this answer is the first that does not hold.
+fn differs_at_end(
+    alloc: Global,
+    scenario: &Scenario,
+    entries: &[Entry],
+    items: &[Item],
+    place: AnswerPlace,
+) -> Result<Verdict, AllocError>
+    requires hold { AllHold scenario.now items.now }
+    requires serial { IsSerial scenario.now entries.now }
+    requires first { IsFirstOfAll scenario.now entries.now items.now place }
+    ensures { IfOk result (λ v. IsVerdictIn scenario.now items.now v) }
 {
-    let items = case.items.as_slice();
-    let differs = first_difference(alloc, scenario, items)?;
-    if let Some(line) = differs {
-        return Ok(Verdict::Differs(line));
-    }
+    let item = &items[place.item];
+    let answer = &item.answers.as_slice()[place.answer];
+    let came = came_below(alloc, scenario, entries, &item.part, &answer.stated)?;
+    Ok(Verdict::Differs {
+        line: answer.line,
+        came,
+    })
+}
+
+/// The verdict on a case whose text denotes this scenario, in which each of its items holds.
+fn judge_ends(alloc: Global, scenario: &Scenario, items: &[Item]) -> Result<Verdict, AllocError>
+    requires { AllHold scenario.now items.now }
+    ensures { IfOk result (λ v. IsVerdictIn scenario.now items.now v) }
+{
     let entries = run_serial(alloc, scenario)?;
     match first_wrong_end(alloc, scenario, entries.as_slice(), items)? {
         None => Ok(Verdict::Passes),
-        Some(line) => Ok(Verdict::Differs(line)),
+        Some(place) => differs_at_end(alloc, scenario, entries.as_slice(), items, place),
+    }
+}
+
+/// The verdict on a case whose text denotes this scenario.
+fn judge_items(alloc: Global, scenario: &Scenario, items: &[Item]) -> Result<Verdict, AllocError>
+    ensures { IfOk result (λ v. IsVerdictIn scenario.now items.now v) }
+{
+    match first_difference(alloc, scenario, items)? {
+        None => judge_ends(alloc, scenario, items),
+        Some(named) => Ok(Verdict::Differs {
+            line: named.line,
+            came: came_at(alloc, scenario, items, named.place)?,
+        }),
     }
 }
 
 /// The verdict on a case whose text is refused.
-fn judge_refusal(case: &Case, fault: AsmFault) -> Verdict
+fn judge_refusal(case: &ScenarioCase, fault: AsmFault) -> Verdict
     ensures { IsVerdictOn fault case.now result }
 {
     if are_refused(case.numbers.as_slice(), fault, case.items.as_slice()) {
@@ -43,12 +79,13 @@ fn judge_refusal(case: &Case, fault: AsmFault) -> Verdict
     }
 }
 
-/// The verdict on a case: whether all that it states holds, and else the first line that does not.
-pub fn judge(alloc: Global, case: &Case) -> Result<Verdict, AllocError>
+/// The verdict on a case of a scenario: whether all that it states holds, and else the first line that does not, and
+/// what came of it.
+pub fn judge_scenario(alloc: Global, case: &ScenarioCase) -> Result<Verdict, AllocError>
     ensures { IfOk result (λ v. IsVerdict case.now v) }
 {
     match assemble(alloc, case.text.as_str()) {
-        Ok(scenario) => judge_scenario(alloc, &scenario, case),
+        Ok(scenario) => judge_items(alloc, &scenario, case.items.as_slice()),
         Err(fault) => {
             if fault.cause == Cause::Memory {
                 return Err(AllocError);

@@ -26,7 +26,10 @@ fn states_send(alloc: Global, stated: &Stated, to: u16, bytes: &[u8]) -> Result<
         | Stated::Trace(_)
         | Stated::Text
         | Stated::TextLine(_)
-        | Stated::Fault { .. } => Ok(false),
+        | Stated::Fault { .. }
+        | Stated::Run
+        | Stated::NotARun(_)
+        | Stated::RecordedFault(_) => Ok(false),
     }
 }
 
@@ -47,7 +50,10 @@ fn states_act(stated: &Stated, act: Act) -> bool
         | Stated::Trace(_)
         | Stated::Text
         | Stated::TextLine(_)
-        | Stated::Fault { .. } => false,
+        | Stated::Fault { .. }
+        | Stated::Run
+        | Stated::NotARun(_)
+        | Stated::RecordedFault(_) => false,
     }
 }
 
@@ -91,7 +97,10 @@ fn width(stated: &Stated) -> usize
         | Stated::Trace(_)
         | Stated::Text
         | Stated::TextLine(_)
-        | Stated::Fault { .. } => 0,
+        | Stated::Fault { .. }
+        | Stated::Run
+        | Stated::NotARun(_)
+        | Stated::RecordedFault(_) => 0,
     }
 }
 
@@ -118,7 +127,10 @@ fn is_so(
         | Stated::Trace(_)
         | Stated::Text
         | Stated::TextLine(_)
-        | Stated::Fault { .. } => Ok(true),
+        | Stated::Fault { .. }
+        | Stated::Run
+        | Stated::NotARun(_)
+        | Stated::RecordedFault(_) => Ok(true),
     }
 }
 

@@ -43,7 +43,10 @@ fn states_fault(numbers: &[usize], fault: AsmFault, stated: &Stated) -> bool
         | Stated::Image(_)
         | Stated::Trace(_)
         | Stated::Text
-        | Stated::TextLine(_) => false,
+        | Stated::TextLine(_)
+        | Stated::Run
+        | Stated::NotARun(_)
+        | Stated::RecordedFault(_) => false,
     }
 }
 
@@ -62,7 +65,7 @@ fn is_plain(part: &Part) -> bool
 {
     match part {
         Part::Start | Part::Device { .. } | Part::Step { .. } | Part::Line | Part::Aside(_) => true,
-        Part::Ask { .. } => false,
+        Part::Ask { .. } | Part::Recorded(_) => false,
     }
 }
 

@@ -1,12 +1,18 @@
+use crate::came::Came;
 use scenario_words::Cause;
 
 /// Whether a case passes.
-#[derive(Clone, Copy, Debug, PartialEq, Eq)]
+#[derive(Debug, Drop)]
 pub enum Verdict {
     /// It does.
     Passes,
-    /// It does not: this line of the file is the first that does not hold.
-    Differs(usize),
+    /// It does not: something else came than a line states.
+    Differs {
+        /// The first line of the file that does not hold, counted from 1.
+        line: usize,
+        /// What came.
+        came: Came,
+    },
     /// It does not: its text is refused, and the case does not say so.
     Refused {
         /// The line of the case that is refused, counted from 1 below the title.

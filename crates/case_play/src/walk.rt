@@ -179,7 +179,7 @@ impl Walk {
             → IfOk result (λ r. Passes scenario.now spot part.now r self.new) }
     {
         match part {
-            Part::Start | Part::Ask { .. } => Ok(Some(no_outputs(alloc))),
+            Part::Start | Part::Ask { .. } | Part::Recorded(_) => Ok(Some(no_outputs(alloc))),
             Part::Device { times } => self.begin(alloc, scenario, *times),
             Part::Step { times } => self.make_steps(alloc, scenario, *times),
             Part::Line => {

@@ -1,19 +1,31 @@
 -- Lines that are grouped one after another.
 use Rattle.std.proofs.Common.{◌≡◌, ℕ, suc, List, [], ◌∷◌, ◌++◌, length, Option, None, Some, Result, Ok, Err, refl, sym}
 use Rattle.std.proofs.Common.{◌+◌, ap, ◌∙◌, append_assoc}
+use Rattle.case_text.specs.declared.above.Above.{Above}
 use Rattle.case_text.specs.declared.answer.Answer.{Answer}
 use Rattle.case_text.specs.declared.fault.CaseFault.{CaseFault}
+use Rattle.case_text.specs.declared.file_answer.FileAnswer.{FileAnswer}
 use Rattle.case_text.specs.declared.item.Item.{Item}
 use Rattle.case_text.specs.declared.item.Part.{Part}
 use Rattle.case_text.specs.declared.line.Line.{Line}
 use Rattle.case_text.specs.declared.numbered.Numbered.{Numbered}
 use Rattle.case_text.specs.declared.fault.Why.{Why}
+use Rattle.case_text.specs.declared.trial.Made.{Made}
+use Rattle.case_text.specs.declared.trial.Trial.{Trial}
 use Rattle.scenario_words.specs.Words.{lines}
-use Rattle.case_text.specs.Cases.{before, numbered}
-use Rattle.case_text.specs.Lines.{line_of}
+use Rattle.case_text.specs.Above.{after}
+use Rattle.case_text.specs.AnyLine.{line_of}
+use Rattle.case_text.specs.Cases.{before, numbered, onto_line}
 
 abbrev pub item : ℕ → Part → List Answer → Item
 item n p answers = record { line = n; part = p; answers = answers }
+
+abbrev pub trial : ℕ → Made → List FileAnswer → Trial
+trial n m answers = record { line = n; made = m; answers = answers }
+
+-- a line by its number
+abbrev pub numbered_line : ℕ → Line → Numbered
+numbered_line n l = record { number = n; line = l }
 
 -- one more than the bytes that are left, and nothing after the last line
 abbrev pub bytes_left : Option (List ℕ) → ℕ
@@ -27,27 +39,27 @@ ahead xs (Err f) = Err f
 
 -- one line more
 pub ahead_more : (xs : List Numbered) (n : ℕ) (l : Line) (r : Result (List Numbered) CaseFault)
-    → ahead xs (before n (Ok l) r) ≡ ahead (xs ++ record { number = n; line = l } ∷ []) r
-ahead_more xs n l (Ok ys) = ap Ok (sym (append_assoc xs (record { number = n; line = l } ∷ []) ys))
+    → ahead xs (onto_line (numbered_line n l) r) ≡ ahead (xs ++ numbered_line n l ∷ []) r
+ahead_more xs n l (Ok ys) = ap Ok (sym (append_assoc xs (numbered_line n l ∷ []) ys))
 ahead_more xs n l (Err f) = refl
 
 -- a line is read
-pub goes_on : (text first : List ℕ) (more : List (List ℕ)) (n : ℕ) (all : List Numbered) (l : Line)
-    (total : Result (List Numbered) CaseFault) → lines text ≡ first ∷ more → line_of first ≡ Ok l
-    → ahead all (numbered (lines text) n) ≡ total
-    → ahead (all ++ record { number = n + 1; line = l } ∷ []) (numbered more (n + 1)) ≡ total
-goes_on text first more n all l total cut read so_far =
-    sym (ahead_more all (n + 1) l (numbered more (n + 1)))
-    ∙ sym (ap (λ ls. ahead all (numbered ls n)) cut
-    ∙ ap (λ r. ahead all (before (n + 1) r (numbered more (n + 1)))) read)
+pub goes_on : (text first : List ℕ) (more : List (List ℕ)) (n : ℕ) (a : Above) (all : List Numbered) (l : Line)
+    (total : Result (List Numbered) CaseFault) → lines text ≡ first ∷ more → line_of a first ≡ Ok l
+    → ahead all (numbered (lines text) n a) ≡ total
+    → ahead (all ++ numbered_line (n + 1) l ∷ []) (numbered more (n + 1) (after a l)) ≡ total
+goes_on text first more n a all l total cut read so_far =
+    sym (ahead_more all (n + 1) l (numbered more (n + 1) (after a l)))
+    ∙ sym (ap (λ ls. ahead all (numbered ls n a)) cut
+    ∙ ap (λ r. ahead all (before (n + 1) a r (numbered more (n + 1)))) read)
     ∙ so_far
 
 -- a line cannot be read
-pub stops : (text first : List ℕ) (more : List (List ℕ)) (n : ℕ) (all : List Numbered) (w : Why)
-    (total : Result (List Numbered) CaseFault) → lines text ≡ first ∷ more → line_of first ≡ Err w
-    → ahead all (numbered (lines text) n) ≡ total → total ≡ Err (record { line = n + 1; why = w })
-stops text first more n all w total cut refused so_far =
-    sym so_far ∙ (ap (λ ls. ahead all (numbered ls n)) cut
-    ∙ ap (λ r. ahead all (before (n + 1) r (numbered more (n + 1)))) refused)
+pub stops : (text first : List ℕ) (more : List (List ℕ)) (n : ℕ) (a : Above) (all : List Numbered) (w : Why)
+    (total : Result (List Numbered) CaseFault) → lines text ≡ first ∷ more → line_of a first ≡ Err w
+    → ahead all (numbered (lines text) n a) ≡ total → total ≡ Err (record { line = n + 1; why = w })
+stops text first more n a all w total cut refused so_far =
+    sym so_far ∙ (ap (λ ls. ahead all (numbered ls n a)) cut
+    ∙ ap (λ r. ahead all (before (n + 1) a r (numbered more (n + 1)))) refused)
 
 pub ruleset line_by_line = (goes_on, stops)

@@ -1,12 +1,15 @@
 -- Lists that are read part by part.
 use Rattle.std.proofs.Common.{◌≡◌, ℕ, zero, suc, ◌-◌, ◌<◌, ◌==◌, Bool, true, false, cond, List, [], ◌∷◌, ◌++◌}
 use Rattle.std.proofs.Common.{replicate, Result, Ok, Err, refl, sym, ap, ◌∙◌, append_assoc, arith}
+use Rattle.std.specs.Prelude.{codes}
 use Rattle.std.specs.List.{repeat, slice_split, onto_first}
+use Rattle.std.specs.Str.{bytes_eq}
 use Rattle.scenario_words.specs.declared.cause.Cause.{Cause}
 use Rattle.scenario_words.specs.declared.cause.Cause.TheVariants.{Token}
 use Rattle.scenario_words.specs.Words.{parts}
 use Rattle.scenario_words.specs.Reading.{◌>>=◌, word_by}
 use Rattle.scenario_words.specs.Number.{number_of}
+use Rattle.case_text.specs.BytesWords.{hex_up_to_at, text_hex, word_hex}
 use Rattle.case_text.specs.Digits.{piece_of, pieces_of}
 use Rattle.case_text.specs.Stating.{devices_of}
 
@@ -93,3 +96,29 @@ some_part c (x ∷ xs) = first_part (x == c) x (parts c xs)
 pub too_many : (hex count more : List ℕ) → piece_of (hex ∷ count ∷ parts 42 more) ≡ Err Token
 too_many hex count more =
     let some = some_part 42 more in ap (λ ps. piece_of (hex ∷ count ∷ ps)) some.2
+
+-- a text in quotes with a further `"` behind it
+pub too_many_quotes : (inside behind more : List ℕ) → text_hex (inside ∷ behind ∷ parts 34 more) ≡ Err Token
+too_many_quotes inside behind more =
+    let some = some_part 34 more in ap (λ ps. text_hex (inside ∷ behind ∷ ps)) some.2
+
+-- the hex that was read, before what is still to be read up to `at`
+abbrev pub onto_hex : List ℕ → Result (List ℕ × List (List ℕ)) Cause → Result (List ℕ × List (List ℕ)) Cause
+onto_hex hex r = r >>= (λ x. Ok (hex ++ x.0, x.1))
+
+pub onto_hex_more : (xs ys : List ℕ) (r : Result (List ℕ × List (List ℕ)) Cause)
+    → onto_hex xs (onto_hex ys r) ≡ onto_hex (xs ++ ys) r
+onto_hex_more xs ys (Ok x) = ap (λ zs. Ok (zs, x.1)) (sym (append_assoc xs ys x.0))
+onto_hex_more xs ys (Err e) = refl
+
+-- one word more
+pub next_word_hex : (ws behind : List (List ℕ)) (w all hex : List ℕ) (total : Result (List ℕ × List (List ℕ)) Cause)
+    → ws ≡ w ∷ behind → bytes_eq w (codes "at") ≡ false → word_hex w ≡ Ok hex
+    → onto_hex all (hex_up_to_at ws) ≡ total → onto_hex (all ++ hex) (hex_up_to_at behind) ≡ total
+next_word_hex ws behind w all hex total cut other read so_far =
+    let next = λ (r : Result (List ℕ) Cause). r >>= (λ h. hex_up_to_at behind >>= (λ x. Ok (h ++ x.0, x.1))) in
+    sym (onto_hex_more all hex (hex_up_to_at behind))
+    ∙ sym (ap (λ v. onto_hex all (hex_up_to_at v)) cut
+    ∙ ap (λ b. onto_hex all (cond b (Ok ([], w ∷ behind)) (next (word_hex w)))) other
+    ∙ ap (λ r. onto_hex all (next r)) read)
+    ∙ so_far

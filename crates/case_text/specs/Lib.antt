@@ -1,6 +1,15 @@
+pub mod Above
+pub mod Added
+pub mod AnyLine
 pub mod Asking
+pub mod BytesWords
 pub mod Cases
+pub mod Checks
 pub mod Digits
 pub mod Expanding
+pub mod FileCases
+pub mod FileLines
+pub mod FileStating
 pub mod Lines
+pub mod Marks
 pub mod Stating

@@ -1,19 +1,37 @@
-use crate::item::Items;
-use crate::numbers::LineNumbers;
+use crate::file_case::FileCase;
+use crate::scenario_case::ScenarioCase;
 use lwm2m_values::Text;
 
-/// A case of a scenario.
+/// A case: a title, and what stands below it.
 #[derive(Debug, Drop)]
-pub struct Case {
+pub enum Case {
+    /// A scenario, with what its devices have to output and to hold.
+    Scenario(ScenarioCase),
+    /// A file, with what is to be found in it.
+    File(FileCase),
+}
+
+impl Case {
+    ghost use Rattle.std.specs.Prelude.{◌≡◌};
+    ghost use Rattle.case_text.specs.Checks.{line_of_case, title_of_case};
+
     /// The title.
-    pub title: Text,
+    pub fn title(&self) -> &Text
+        ensures { result.now ≡ title_of_case self.now }
+    {
+        match self {
+            Case::Scenario(case) => &case.title,
+            Case::File(case) => &case.title,
+        }
+    }
+
     /// The line of the title, counted in the file from 1.
-    pub line: usize,
-    /// What the assembler gets: the lines of the scenario's text, each ended by LF, and an empty line for each other
-    /// line below the title.
-    pub text: Text,
-    /// For each line of that text its number in the case, counted from 1 below the title.
-    pub numbers: LineNumbers,
-    /// The start, and each line that has words and states no answer, with the answers below it.
-    pub items: Items,
+    pub fn line(&self) -> usize
+        ensures { result ≡ line_of_case self.now }
+    {
+        match self {
+            Case::Scenario(case) => case.line,
+            Case::File(case) => case.line,
+        }
+    }
 }

@@ -1,15 +1,22 @@
 //! What is refused of cases that were read.
 
 ghost use Rattle.std.specs.Prelude.{◌≡◌, [], false};
-ghost use Rattle.case_text.specs.Cases.{asks, begun, checked, fault_of, has_title, stray, stray_in, states_something};
+ghost use Rattle.case_text.specs.Checks.{asks, begun, checked, fault_in, fault_of, file_fault, file_stray, has_title};
+ghost use Rattle.case_text.specs.Checks.{is_recorded, line_fault, scenario_fault, stray, stray_in, stray_in_trials};
+ghost use Rattle.case_text.specs.Checks.{states_something, unanswered_item, unanswered_trial};
 
 use crate::answer::Answer;
 use crate::case::Case;
 use crate::fault::{CaseFault, Why};
+use crate::file_answer::FileAnswer;
+use crate::file_case::FileCase;
+use crate::file_stated::FileStated;
 use crate::item::{Item, Part};
 use crate::line::Line;
 use crate::numbered::Numbered;
+use crate::scenario_case::ScenarioCase;
 use crate::stated::Stated;
+use crate::trial::Trial;
 
 /// Refuses lines of which none begins a case, or where something but remarks stands before the first.
 pub(crate) fn begun(lines: &[Numbered]) -> Result<(), CaseFault>
@@ -19,7 +26,11 @@ pub(crate) fn begun(lines: &[Numbered]) -> Result<(), CaseFault>
         match &next.line {
             Line::Remark => {}
             Line::Title(_) => return Ok(()),
-            Line::Answer { .. } | Line::Part { .. } => {
+            Line::Answer { .. }
+            | Line::Part { .. }
+            | Line::More(_)
+            | Line::MoreDigits(_)
+            | Line::File(_) => {
                 return Err(CaseFault {
                     line: next.number,
                     why: Why::BeforeFirstCase,
@@ -63,6 +74,69 @@ fn stray_in(items: &[Item]) -> Option<usize>
     None
 }
 
+/// The same in a case of a file, where `=> entries` announces lines too.
+fn file_stray(answers: &[FileAnswer]) -> Option<usize>
+    ensures { result ≡ file_stray answers.now false }
+{
+    let mut listed = false;
+    for answer in answers {
+        match &answer.stated {
+            FileStated::Text | FileStated::Entries => listed = true,
+            FileStated::TextLine(_) => {
+                if !listed {
+                    return Some(answer.line);
+                }
+            }
+            _ => listed = false,
+        }
+    }
+    None
+}
+
+fn stray_in_trials(trials: &[Trial]) -> Option<usize>
+    ensures { result ≡ stray_in_trials trials.now }
+{
+    for trial in trials {
+        if let Some(line) = file_stray(trial.answers.as_slice()) {
+            return Some(line);
+        }
+    }
+    None
+}
+
+fn is_recorded(part: &Part) -> bool
+    ensures { result ≡ is_recorded part.now }
+{
+    match part {
+        Part::Recorded(_) => true,
+        _ => false,
+    }
+}
+
+/// The line of the first recorded trace without an answer.
+fn unanswered_item(items: &[Item]) -> Option<usize>
+    ensures { result ≡ unanswered_item items.now }
+{
+    for item in items {
+        if is_recorded(&item.part) && item.answers.as_slice().is_empty() {
+            return Some(item.line);
+        }
+    }
+    None
+}
+
+/// The line of the first trial without an answer.
+fn unanswered_trial(trials: &[Trial]) -> Option<usize>
+    ensures { result ≡ unanswered_trial trials.now }
+{
+    for trial in trials {
+        if trial.answers.as_slice().is_empty() {
+            return Some(trial.line);
+        }
+    }
+    None
+}
+
 fn asks(part: &Part) -> bool
     ensures { result ≡ asks part.now }
 {
@@ -78,37 +152,74 @@ fn states_something(items: &[Item]) -> bool
     items.iter().any(|item| asks(&item.part) || !item.answers.as_slice().is_empty())
 }
 
-fn has_title(title: &str, cases: &[Case]) -> bool
-    ensures { result ≡ has_title title.now cases.now }
+/// The fault of the line that has no answer, or of the one that is not announced.
+fn line_fault(unanswered: Option<usize>, stray: Option<usize>) -> Option<CaseFault>
+    ensures { result ≡ line_fault unanswered stray }
 {
-    cases.iter().any(|case| case.title.as_str() == title)
-}
-
-/// Why a case is refused, below those above it.
-fn fault_of(above: &[Case], case: &Case) -> Option<CaseFault>
-    ensures { result ≡ fault_of above.now case.now }
-{
-    if has_title(case.title.as_str(), above) {
+    if let Some(line) = unanswered {
         return Some(CaseFault {
-            line: case.line,
-            why: Why::SameTitle,
+            line,
+            why: Why::NoAnswerBelow,
         });
     }
-    if !states_something(case.items.as_slice()) {
-        return Some(CaseFault {
-            line: case.line,
-            why: Why::NoAnswer,
-        });
-    }
-    let line = stray_in(case.items.as_slice())?;
+    let line = stray?;
     Some(CaseFault {
         line,
         why: Why::NoTextAbove,
     })
 }
 
-/// Refuses the first case that has the title of one above it, or states nothing, or states a line of a canonical text
-/// that is not announced.
+fn scenario_fault(case: &ScenarioCase) -> Option<CaseFault>
+    ensures { result ≡ scenario_fault case.now }
+{
+    let items = case.items.as_slice();
+    if !states_something(items) {
+        return Some(CaseFault {
+            line: case.line,
+            why: Why::NoAnswer,
+        });
+    }
+    line_fault(unanswered_item(items), stray_in(items))
+}
+
+fn file_fault(case: &FileCase) -> Option<CaseFault>
+    ensures { result ≡ file_fault case.now }
+{
+    let trials = case.trials.as_slice();
+    line_fault(unanswered_trial(trials), stray_in_trials(trials))
+}
+
+/// Why a case is refused, whatever stands above it.
+fn fault_in(case: &Case) -> Option<CaseFault>
+    ensures { result ≡ fault_in case.now }
+{
+    match case {
+        Case::Scenario(case) => scenario_fault(case),
+        Case::File(case) => file_fault(case),
+    }
+}
+
+fn has_title(title: &str, cases: &[Case]) -> bool
+    ensures { result ≡ has_title title.now cases.now }
+{
+    cases.iter().any(|case| case.title().as_str() == title)
+}
+
+/// Why a case is refused, below those above it.
+fn fault_of(above: &[Case], case: &Case) -> Option<CaseFault>
+    ensures { result ≡ fault_of above.now case.now }
+{
+    if has_title(case.title().as_str(), above) {
+        return Some(CaseFault {
+            line: case.line(),
+            why: Why::SameTitle,
+        });
+    }
+    fault_in(case)
+}
+
+/// Refuses the first case that has the title of one above it, or states nothing of the whole or of a file, or states a
+/// line that is not announced.
 pub(crate) fn checked(cases: &[Case]) -> Result<(), CaseFault>
     ensures { result ≡ checked [] cases.now }
 {

@@ -20,13 +20,16 @@ pub enum Why {
     /// `*` without a number from 1 to 100,000 and a line.
     #[error("`*` wants a number up to 100,000 and a line")]
     NotACount,
-    /// A line that begins with `=`, `?` or `!` and is none of theirs.
+    /// What stands where bytes have to stand is not bytes in pieces.
+    #[error("no such bytes: {0}")]
+    NotBytes(Cause),
+    /// A line that begins with `=`, `?`, `!` or `<=` and is none of theirs, or is none of a case of a file.
     #[error("no such line")]
     NoSuchLine,
-    /// A line of a case of files, which are not read yet.
-    #[error("cases of files are not read yet")]
-    NotYetRead,
-    /// `=| LINE` without `=> text` above it.
+    /// `+ BYTES` or `| LINE` in a case of a file, below a line that they add nothing to.
+    #[error("this adds to nothing")]
+    AddsToNothing,
+    /// `=| LINE` without `=> text` above it, or in a case of a file `=> entries`.
     #[error("no `=> text` stands above this")]
     NoTextAbove,
     /// Something stands before the first case.
@@ -41,6 +44,9 @@ pub enum Why {
     /// A case that states no answer and asks no question.
     #[error("a case that states no answer")]
     NoAnswer,
+    /// A file, or a recorded trace, without an answer below it.
+    #[error("no answer stands below this")]
+    NoAnswerBelow,
     /// There is no case.
     #[error("no case")]
     NoCase,

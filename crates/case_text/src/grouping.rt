@@ -3,15 +3,18 @@
 ghost use Rattle.std.specs.Prelude.{◌≡◌, ◌++◌, ◌∷◌, [], map, replicate, IfOk, OnOk};
 ghost use Rattle.std.specs.String.{string_bytes};
 ghost use Rattle.case_text.specs.Cases.{all_items, body_of, case_by, case_of, cases_of, count_by, numbers_of};
-ghost use Rattle.case_text.specs.Cases.{text_by, text_of};
+ghost use Rattle.case_text.specs.Cases.{scenario_of, text_by, text_of};
 
+use crate::adding::whole_lines;
 use crate::answer::{Answer, Answers};
 use crate::body::Body;
 use crate::case::Case;
+use crate::file_grouping::{file_of, gives_file};
 use crate::item::{Item, Items, Part};
 use crate::line::Line;
 use crate::numbered::Numbered;
 use crate::numbers::LineNumbers;
+use crate::scenario_case::ScenarioCase;
 use lwm2m_values::Text;
 use std::alloc::{AllocError, Global};
 
@@ -20,9 +23,10 @@ fn put_text(out: &mut String, line: &Line) -> Result<(), AllocError>
     ensures { OnOk result (string_bytes out.new ≡ string_bytes out.old ++ text_by line.now) }
 {
     match line {
-        Line::Remark | Line::Answer { .. } => out.push('\n'),
         Line::Title(_) => Ok(()),
         Line::Part { text, .. } => out.push_str(text.as_str()),
+        Line::Remark | Line::Answer { .. } | Line::More(_) | Line::MoreDigits(_) | Line::File(_) =>
+            out.push('\n'),
     }
 }
 
@@ -40,9 +44,10 @@ fn count_by(line: &Line) -> u32
     ensures { result ≡ count_by line.now }
 {
     match line {
-        Line::Remark | Line::Answer { .. } => 1,
         Line::Title(_) => 0,
         Line::Part { lines, .. } => *lines,
+        Line::Remark | Line::Answer { .. } | Line::More(_) | Line::MoreDigits(_) | Line::File(_) =>
+            1,
     }
 }
 
@@ -101,8 +106,7 @@ fn all_items(alloc: Global, title: usize, lines: Vec<Numbered>) -> Result<Items,
                 part = behind;
                 answers = Vec::new(alloc);
             }
-            Line::Title(title) => drop(title),
-            Line::Remark => {}
+            other => drop(other),
         }
     }
     items.push(Item {
@@ -113,20 +117,30 @@ fn all_items(alloc: Global, title: usize, lines: Vec<Numbered>) -> Result<Items,
     Ok(Items::from_vec(items))
 }
 
-fn case_of(alloc: Global, body: Body) -> Result<Case, AllocError>
-    ensures { IfOk result (λ c. c ≡ case_by body) }
+fn scenario_of(alloc: Global, body: Body) -> Result<ScenarioCase, AllocError>
+    ensures { IfOk result (λ c. c ≡ scenario_of body.title body.line body.lines.items) }
 {
     let Body { title, line, lines } = body;
     let text = text_of(alloc, lines.as_slice())?;
     let numbers = numbers_of(alloc, line, lines.as_slice())?;
-    let items = all_items(alloc, line, lines)?;
-    Ok(Case {
+    let items = all_items(alloc, line, whole_lines(alloc, lines)?)?;
+    Ok(ScenarioCase {
         title,
         line,
         text,
         numbers,
         items,
     })
+}
+
+fn case_of(alloc: Global, body: Body) -> Result<Case, AllocError>
+    ensures { IfOk result (λ c. c ≡ case_by body) }
+{
+    if gives_file(body.lines.as_slice()) {
+        Ok(Case::File(file_of(alloc, body)?))
+    } else {
+        Ok(Case::Scenario(scenario_of(alloc, body)?))
+    }
 }
 
 /// What stands before the first title, as if it had one, and each title with the lines below it.

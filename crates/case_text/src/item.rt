@@ -3,6 +3,7 @@ ghost use Rattle.std.specs.Prelude.{◌≡◌};
 use crate::answer::Answers;
 use crate::question::Question;
 use device_machine::Event;
+use octets::Bytes;
 use std::marker::Model;
 
 /// What a line of a case is that states no answer.
@@ -31,6 +32,8 @@ pub enum Part {
     },
     /// `! LINE`: an event that a copy of the device takes.
     Aside(Event),
+    /// `trace BYTES`: the trace file of a recorded run.
+    Recorded(Bytes),
 }
 
 /// A line that states no answer, and the answers that are stated below it.

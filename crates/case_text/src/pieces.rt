@@ -53,7 +53,7 @@ pub(crate) fn times_of(line: &[u8]) -> Result<u32, Cause>
 }
 
 /// These bytes, repeated.
-fn repeated(alloc: Global, bytes: &[u8], times: u32) -> Result<Vec<u8>, AllocError>
+pub(crate) fn repeated(alloc: Global, bytes: &[u8], times: u32) -> Result<Vec<u8>, AllocError>
     ensures { IfOk result (λ v. v.items ≡ repeat times bytes.now) }
 {
     let mut all = Vec::new(alloc);
@@ -118,7 +118,7 @@ pub(crate) fn pieces_of(alloc: Global, word: &[u8]) -> Result<Vec<u8>, Cause>
 }
 
 /// The digits of hex.
-fn digits_in(alloc: Global, hex: &[u8]) -> Result<Vec<Digit>, AllocError>
+pub(crate) fn digits_in(alloc: Global, hex: &[u8]) -> Result<Vec<Digit>, AllocError>
     ensures { IfOk result (λ v. v.items ≡ filter_map digit_of hex.now) }
 {
     hex.iter().filter_map(|byte| digit_of(*byte)).collect(alloc)

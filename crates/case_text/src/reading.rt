@@ -1,23 +1,25 @@
-//! What a line is.
+//! What a line of a case of a scenario is.
 
-ghost use Rattle.std.specs.Prelude.{◌≡◌, ◌≢◌, ◌++◌, ◌∷◌, [], true, false, IfOk, MatchOption};
+ghost use Rattle.std.specs.Prelude.{◌≡◌, ◌++◌, ◌∷◌, [], false, IfOk};
 ghost use Rattle.std.specs.List.{repeat};
-ghost use Rattle.std.specs.Str.{IsUtf8, is_utf8};
-ghost use Rattle.scenario_words.specs.declared.cause.Cause.TheVariants as cause;
 ghost use Rattle.scenario_words.specs.Words.{parts, words};
 ghost use Rattle.scenario_words.specs.Reading.{Gives};
 ghost use Rattle.scenario_statements.specs.Grammar.{statement_of};
-ghost use Rattle.case_text.specs.declared.fault.Why.TheVariants as why;
-ghost use Rattle.case_text.specs.Lines.{Finds, answer_of, aside_of, begins, behind, counted_of, event_by, event_of};
-ghost use Rattle.case_text.specs.Lines.{is_marked, is_of_file, line_of, marked_of, part_by, part_of, question_line_of};
-ghost use Rattle.case_text.specs.Lines.{asking_of, beside, text_from, text_line_of, text_of, title_of, unmarked_of};
+ghost use Rattle.case_text.specs.Lines.{answer_of, aside_of, asking_of, beside, counted_of, event_by, event_of};
+ghost use Rattle.case_text.specs.Lines.{is_marked, marked_of, part_by, part_of, question_line_of, recorded_of, stated_in};
+ghost use Rattle.case_text.specs.Lines.{text_line_of, text_of, unmarked_of};
+ghost use Rattle.case_text.specs.Marks.{Finds};
 
+use crate::above::CaseKind;
 use crate::asking::read_question;
+use crate::bytes_words::bytes_of;
 use crate::cut::cut;
 use crate::expanding::expanded;
 use crate::fault::Why;
+use crate::file_stating::read_recorded_stated;
 use crate::item::Part;
 use crate::line::Line;
+use crate::marks::{begins, behind, checked, headed, text_from, unless_memory};
 use crate::pieces::times_of;
 use crate::stated::Stated;
 use crate::stating::read_stated;
@@ -25,64 +27,23 @@ use device_machine::Event;
 use lwm2m_values::Text;
 use scenario_mnemonics::encode;
 use scenario_statements::{Statement, read_statement};
-use scenario_words::{Cause, is_name, next_word};
+use scenario_words::{Cause, is_name};
 use std::alloc::{AllocError, Global};
 
-/// What stands after the beginning of a line, where it begins so.
-fn behind<'a>(line: &'a [u8], mark: &str) -> Option<&'a [u8]>
-    ensures { MatchOption result (begins mark.now line.now ≡ false)
-        (λ x. (begins mark.now line.now ≡ true) × (x.now ≡ behind mark.now line.now)) }
+/// What a line states in a case of this kind, by the line behind its `=>`.
+fn stated_in(alloc: Global, kind: CaseKind, line: &[u8]) -> Result<Stated, Cause>
+    ensures { Gives (λ s. s) result (stated_in kind (words line.now)) }
 {
-    line.strip_prefix(mark.as_bytes())
-}
-
-/// Want of memory, or why a line is refused.
-fn unless_memory(met: Cause, refused: Why) -> Why
-    ensures memory { met ≡ cause.Memory → result ≡ why.Memory }
-    ensures other { result ≢ why.Memory → (met ≢ cause.Memory) × (result ≡ refused) }
-{
-    match met {
-        Cause::Memory => Why::Memory,
-        _ => refused,
+    match kind {
+        CaseKind::Recorded => read_recorded_stated(alloc, line),
+        CaseKind::Open | CaseKind::Scenario | CaseKind::File(_) => read_stated(alloc, line),
     }
 }
 
-/// The text that bytes are, where they are UTF-8.
-fn utf8_of(bytes: &[u8]) -> Option<&str>
-    ensures { MatchOption result (¬ (IsUtf8 bytes.now)) (λ s. (s.now ≡ bytes.now) × IsUtf8 bytes.now) }
+fn answer_of(alloc: Global, kind: CaseKind, must_not: bool, line: &[u8]) -> Result<Line, Why>
+    ensures { Finds (λ l. l) result (answer_of kind must_not line.now) }
 {
-    str::from_utf8(bytes).ok()
-}
-
-fn checked(bytes: &[u8]) -> Option<&str>
-    ensures { MatchOption result (is_utf8 bytes.now ≡ false) (λ s. (s.now ≡ bytes.now) × (is_utf8 bytes.now ≡ true)) }
-{
-    utf8_of(bytes)
-}
-
-/// A copy of bytes that have to be text.
-fn text_from(alloc: Global, bytes: &[u8]) -> Result<Text, Why>
-    ensures { Finds (λ t. t) result (text_from bytes.now) }
-{
-    match checked(bytes) {
-        Some(text) => Ok(Text::from_str(alloc, text)?),
-        None => Err(Why::NotText),
-    }
-}
-
-fn title_of(alloc: Global, title: &[u8]) -> Result<Line, Why>
-    ensures { Finds (λ l. l) result (title_of title.now) }
-{
-    if title.is_empty() {
-        return Err(Why::NoTitle);
-    }
-    Ok(Line::Title(text_from(alloc, title)?))
-}
-
-fn answer_of(alloc: Global, must_not: bool, line: &[u8]) -> Result<Line, Why>
-    ensures { Finds (λ l. l) result (answer_of must_not line.now) }
-{
-    match read_stated(alloc, line) {
+    match stated_in(alloc, kind, line) {
         Ok(stated) => Ok(Line::Answer { must_not, stated }),
         Err(cause) => Err(unless_memory(cause, Why::NotAnAnswer(cause))),
     }
@@ -230,26 +191,21 @@ fn counted_of(alloc: Global, line: &[u8]) -> Result<Line, Why>
     text_of(alloc, times, line.as_slice())
 }
 
+/// The trace file of a recorded run.
+fn recorded_of(alloc: Global, line: &[u8]) -> Result<Line, Why>
+    ensures { Finds (λ l. l) result (recorded_of line.now) }
+{
+    match bytes_of(alloc, line) {
+        Ok(bytes) => Ok(beside(alloc, Part::Recorded(bytes))?),
+        Err(cause) => Err(unless_memory(cause, Why::NotBytes(cause))),
+    }
+}
+
 /// Whether a line begins as no line of a text does.
 fn is_marked(line: &[u8]) -> bool
     ensures { result ≡ is_marked line.now }
 {
-    begins(line, "=") || begins(line, "?") || begins(line, "!")
-}
-
-fn begins(line: &[u8], mark: &str) -> bool
-    ensures { result ≡ begins mark.now line.now }
-{
-    behind(line, mark).is_some()
-}
-
-fn is_of_file(word: &[u8]) -> bool
-    ensures { result ≡ is_of_file word.now }
-{
-    is_name(word, "trace")
-        || is_name(word, "image")
-        || is_name(word, "text")
-        || is_name(word, "entries")
+    begins(line, "=") || begins(line, "?") || begins(line, "!") || begins(line, "<=")
 }
 
 /// A line without a mark, by its first word.
@@ -259,35 +215,10 @@ fn unmarked_of(alloc: Global, word: &[u8], line: &[u8]) -> Result<Line, Why>
     if is_marked(line) {
         return Err(Why::NoSuchLine);
     }
-    if is_of_file(word) {
-        return Err(Why::NotYetRead);
+    if let Some(bytes) = headed(word, line, "trace") {
+        return recorded_of(alloc, bytes);
     }
     text_of(alloc, 1, line)
-}
-
-/// A line with words that begins a case, or states an answer.
-fn marked_of(alloc: Global, word: &[u8], line: &[u8]) -> Result<Line, Why>
-    ensures { Finds (λ l. l) result (marked_of word.now line.now) }
-{
-    if is_name(line, "case") {
-        return Err(Why::NoTitle);
-    }
-    if let Some(title) = behind(line, "case ") {
-        return title_of(alloc, title);
-    }
-    if let Some(answer) = behind(line, "=> ") {
-        return answer_of(alloc, false, answer);
-    }
-    if let Some(answer) = behind(line, "=/> ") {
-        return answer_of(alloc, true, answer);
-    }
-    if is_name(line, "=|") {
-        return text_line_of(alloc, &[]);
-    }
-    if let Some(text) = behind(line, "=| ") {
-        return text_line_of(alloc, text);
-    }
-    asking_of(alloc, word, line)
 }
 
 /// Any other line with words.
@@ -306,12 +237,26 @@ fn asking_of(alloc: Global, word: &[u8], line: &[u8]) -> Result<Line, Why>
     unmarked_of(alloc, word, line)
 }
 
-/// What a line of a file of cases is.
-pub fn read_line(alloc: Global, line: &[u8]) -> Result<Line, Why>
-    ensures { Finds (λ l. l) result (line_of line.now) }
+/// A line with words that begins no case, by its first word, in a case of this kind.
+pub(crate) fn marked_of(
+    alloc: Global,
+    kind: CaseKind,
+    word: &[u8],
+    line: &[u8],
+) -> Result<Line, Why>
+    ensures { Finds (λ l. l) result (marked_of kind word.now line.now) }
 {
-    match next_word(line) {
-        Some((word, _)) => marked_of(alloc, word, line),
-        None => Ok(Line::Remark),
+    if let Some(answer) = behind(line, "=> ") {
+        return answer_of(alloc, kind, false, answer);
     }
+    if let Some(answer) = behind(line, "=/> ") {
+        return answer_of(alloc, kind, true, answer);
+    }
+    if is_name(line, "=|") {
+        return text_line_of(alloc, &[]);
+    }
+    if let Some(text) = behind(line, "=| ") {
+        return text_line_of(alloc, text);
+    }
+    asking_of(alloc, word, line)
 }

@@ -58,4 +58,11 @@ pub enum Stated {
         /// Why.
         cause: Cause,
     },
+    /// `run`: the entries of the recorded trace above are a run of the scenario.
+    Run,
+    /// `not a run at N`: entry N is the first that does not follow, counted from 0.
+    NotARun(u64),
+    /// `fault WORDS` but `fault line ..`: the recorded trace above is refused so, in the words of `lwbench`, which one
+    /// space parts.
+    RecordedFault(Text),
 }

@@ -27,7 +27,7 @@ pub(crate) fn only_number(line: &[u8], low: u64, high: u64) -> Result<u64, Cause
     Ok(number)
 }
 
-fn named(alloc: Global, name: &str, word: &[u8]) -> Result<(), Cause>
+pub(crate) fn named(alloc: Global, name: &str, word: &[u8]) -> Result<(), Cause>
     ensures { Gives (λ u. u) result (named name.now word.now) }
 {
     if is_name(word, name) {
@@ -38,7 +38,7 @@ fn named(alloc: Global, name: &str, word: &[u8]) -> Result<(), Cause>
 }
 
 /// The line after its first word, which has to be this name.
-fn after_name<'a>(alloc: Global, name: &str, line: &'a [u8]) -> Result<&'a [u8], Cause>
+pub(crate) fn after_name<'a>(alloc: Global, name: &str, line: &'a [u8]) -> Result<&'a [u8], Cause>
     ensures { Gives (λ rest. (tt, words rest.now)) result (word_by (named name.now) (words line.now)) }
 {
     let (word, line) = first_word(line)?;
@@ -46,7 +46,7 @@ fn after_name<'a>(alloc: Global, name: &str, line: &'a [u8]) -> Result<&'a [u8],
     Ok(line)
 }
 
-fn only_name(alloc: Global, name: &str, line: &[u8]) -> Result<(), Cause>
+pub(crate) fn only_name(alloc: Global, name: &str, line: &[u8]) -> Result<(), Cause>
     ensures { Gives (λ u. u) result (only_name name.now (words line.now)) }
 {
     let line = after_name(alloc, name, line)?;
@@ -62,7 +62,7 @@ fn only_digits(alloc: Global, line: &[u8]) -> Result<Digits, Cause>
     Ok(digits)
 }
 
-fn only_text(alloc: Global, line: &[u8]) -> Result<Text, Cause>
+pub(crate) fn only_text(alloc: Global, line: &[u8]) -> Result<Text, Cause>
     ensures { Gives (λ t. t) result (only_text (words line.now)) }
 {
     let (text, line) = quoted(alloc, line)?;
@@ -188,7 +188,7 @@ fn some_devices(alloc: Global, line: &[u8]) -> Result<DeviceNumbers, Cause>
     Ok(DeviceNumbers::from_vec(devices_of(alloc, line)?))
 }
 
-fn stalled(alloc: Global, line: &[u8]) -> Result<Stated, Cause>
+pub(crate) fn stalled(alloc: Global, line: &[u8]) -> Result<Stated, Cause>
     ensures { Gives (λ s. s) result (stalled (words line.now)) }
 {
     let (steps, line) = natural(line, 0, u64::MAX)?;
@@ -223,7 +223,7 @@ fn cause_by(alloc: Global, word: &[u8], line: &[u8]) -> Result<Cause, Cause>
     }
 }
 
-fn fault(alloc: Global, line: &[u8]) -> Result<Stated, Cause>
+pub(crate) fn fault(alloc: Global, line: &[u8]) -> Result<Stated, Cause>
     ensures { Gives (λ s. s) result (fault (words line.now)) }
 {
     let line = after_name(alloc, "line", line)?;

@@ -21,6 +21,7 @@ mod records;
 mod stating;
 mod stores;
 mod tally;
+mod traces;
 mod values;
 mod words;
 mod writing;
@@ -49,6 +50,7 @@ fn answer(subject: &str, question: &mut Question<'_>, out: &mut Sheet) -> bool {
         || layouts::answer(subject, question, out)
         || fields::answer(subject, question, out)
         || lines::answer(subject, question, out)
+        || traces::answer(subject, question, out)
 }
 
 /// Asks a question, and prints the line where its answer is another, or where it has none.

@@ -30,6 +30,7 @@ reading_file holds fails broken path faults.TooLong h = absurd h
 reading_file holds fails broken path faults.Bind h = absurd h
 reading_file holds fails broken path (faults.Session fault) h = absurd h
 reading_file holds fails broken path (faults.Cases fault) h = absurd h
+reading_file holds fails broken path faults.NoSuchCase h = absurd h
 
 -- a file whose bytes break off
 pub broken_at : (holds : List ℕ → List ℕ → Type 0) (fails : List ℕ → Type 0) (broken : List ℕ → LayoutFault → Type 0)

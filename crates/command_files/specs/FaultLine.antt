@@ -48,30 +48,34 @@ case_word (why.NotAnAnswer cause) = codes "no such answer"
 case_word (why.NotAQuestion cause) = codes "no such question"
 case_word (why.NotAnEvent cause) = codes "no such event"
 case_word why.NotACount = codes "`*` wants a number up to 100,000 and a line"
+case_word (why.NotBytes cause) = codes "no such bytes"
 case_word why.NoSuchLine = codes "no such line"
-case_word why.NotYetRead = codes "cases of files are not read yet"
+case_word why.AddsToNothing = codes "this adds to nothing"
 case_word why.NoTextAbove = codes "no `=> text` stands above this"
 case_word why.BeforeFirstCase = codes "this stands before the first case"
 case_word why.NoTitle = codes "a case without a title"
 case_word why.SameTitle = codes "a case with the title of one above"
 case_word why.NoAnswer = codes "a case that states no answer"
+case_word why.NoAnswerBelow = codes "no answer stands below this"
 case_word why.NoCase = codes "no case"
 case_word why.Memory = codes "memory"
 
--- the cause for which the words of an answer, a question or an event are refused
+-- the cause for which the words of an answer, a question, an event or bytes are refused
 abbrev pub case_cause : Why → Option Cause
 case_cause (why.NotAnAnswer cause) = Some cause
 case_cause (why.NotAQuestion cause) = Some cause
 case_cause (why.NotAnEvent cause) = Some cause
+case_cause (why.NotBytes cause) = Some cause
 case_cause why.NotText = None
 case_cause why.NotACount = None
 case_cause why.NoSuchLine = None
-case_cause why.NotYetRead = None
+case_cause why.AddsToNothing = None
 case_cause why.NoTextAbove = None
 case_cause why.BeforeFirstCase = None
 case_cause why.NoTitle = None
 case_cause why.SameTitle = None
 case_cause why.NoAnswer = None
+case_cause why.NoAnswerBelow = None
 case_cause why.NoCase = None
 case_cause why.Memory = None
 
@@ -95,6 +99,7 @@ fault_word faults.TooLong = codes "too long"
 fault_word faults.Bind = codes "bind"
 fault_word (faults.Session fault) = session_word fault
 fault_word (faults.Cases fault) = case_word fault.why
+fault_word faults.NoSuchCase = codes "no such case"
 
 -- the place of a fault of bytes, in bytes from 0
 abbrev pub place_of : Fault → Option ℕ

@@ -52,6 +52,8 @@ pub enum Fault {
     Session(ScenarioFault),
     /// A line of a file of cases is refused.
     Cases(CaseFault),
+    /// No case has a title that begins with the words that were given.
+    NoSuchCase,
 }
 
 impl fmt::Display for Fault {
@@ -125,6 +127,7 @@ fn word_of(fault: Fault) -> &'static str
         Fault::Bind => "bind",
         Fault::Session(fault) => session_word(fault),
         Fault::Cases(fault) => case_word(fault.why),
+        Fault::NoSuchCase => "no such case",
     }
 }
 
@@ -174,33 +177,39 @@ fn case_word(why: Why) -> &'static str
         Why::NotAQuestion(_) => "no such question",
         Why::NotAnEvent(_) => "no such event",
         Why::NotACount => "`*` wants a number up to 100,000 and a line",
+        Why::NotBytes(_) => "no such bytes",
         Why::NoSuchLine => "no such line",
-        Why::NotYetRead => "cases of files are not read yet",
+        Why::AddsToNothing => "this adds to nothing",
         Why::NoTextAbove => "no `=> text` stands above this",
         Why::BeforeFirstCase => "this stands before the first case",
         Why::NoTitle => "a case without a title",
         Why::SameTitle => "a case with the title of one above",
         Why::NoAnswer => "a case that states no answer",
+        Why::NoAnswerBelow => "no answer stands below this",
         Why::NoCase => "no case",
         Why::Memory => "memory",
     }
 }
 
-/// The cause for which the words of an answer, a question or an event are refused.
+/// The cause for which the words of an answer, a question, an event or bytes are refused.
 fn case_cause(why: Why) -> Option<Cause>
     ensures { result ≡ case_cause why }
 {
     match why {
-        Why::NotAnAnswer(cause) | Why::NotAQuestion(cause) | Why::NotAnEvent(cause) => Some(cause),
+        Why::NotAnAnswer(cause)
+        | Why::NotAQuestion(cause)
+        | Why::NotAnEvent(cause)
+        | Why::NotBytes(cause) => Some(cause),
         Why::NotText
         | Why::NotACount
         | Why::NoSuchLine
-        | Why::NotYetRead
+        | Why::AddsToNothing
         | Why::NoTextAbove
         | Why::BeforeFirstCase
         | Why::NoTitle
         | Why::SameTitle
         | Why::NoAnswer
+        | Why::NoAnswerBelow
         | Why::NoCase
         | Why::Memory => None,
     }

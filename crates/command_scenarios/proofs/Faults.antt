@@ -42,6 +42,7 @@ reading_text holds fails path faults.TooLong h = absurd h
 reading_text holds fails path faults.Bind h = absurd h
 reading_text holds fails path (faults.Session fault) h = absurd h
 reading_text holds fails path (faults.Cases fault) h = absurd h
+reading_text holds fails path faults.NoSuchCase h = absurd h
 
 -- bytes that are no text
 pub no_text : (holds : List ℕ → List ℕ → Type 0) (fails : List ℕ → Type 0) (path bytes : List ℕ) → holds path bytes
@@ -99,6 +100,7 @@ unsaved_run s options r right faults.TooLong h = absurd h
 unsaved_run s options r right faults.Bind h = absurd h
 unsaved_run s options r right (faults.Session fault) h = absurd h
 unsaved_run s options r right (faults.Cases fault) h = absurd h
+unsaved_run s options r right faults.NoSuchCase h = absurd h
 
 -- a run that was refused, or not ended
 pub run_fault_is : (s : Scenario) (options : RunOptions) (f : RunFault)

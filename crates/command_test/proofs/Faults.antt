@@ -17,6 +17,7 @@ pub reading : (holds : List ℕ → List ℕ → Type 0) (fails : List ℕ → T
 reading holds fails path faults.Memory h = tt
 reading holds fails path faults.Read h = inl h
 reading holds fails path (faults.Cases fault) h = absurd h
+reading holds fails path faults.NoSuchCase h = absurd h
 reading holds fails path faults.Hex h = absurd h
 reading holds fails path faults.Write h = absurd h
 reading holds fails path (faults.Layout fault) h = absurd h
@@ -44,6 +45,7 @@ pub wrong : (holds : List ℕ → List ℕ → Type 0) (fails : List ℕ → Typ
 wrong holds fails path bytes faults.Memory held h = tt
 wrong holds fails path bytes (faults.Cases fault) held h = record { bytes = bytes; held = held; wrong = h }
 wrong holds fails path bytes faults.Read held h = absurd h
+wrong holds fails path bytes faults.NoSuchCase held h = absurd h
 wrong holds fails path bytes faults.Hex held h = absurd h
 wrong holds fails path bytes faults.Write held h = absurd h
 wrong holds fails path bytes (faults.Layout fault) held h = absurd h
@@ -68,7 +70,9 @@ refused_as file (why.NotAQuestion cause) fault h = h (search rules)
 refused_as file (why.NotAnEvent cause) fault h = h (search rules)
 refused_as file why.NotACount fault h = h (search rules)
 refused_as file why.NoSuchLine fault h = h (search rules)
-refused_as file why.NotYetRead fault h = h (search rules)
+refused_as file (why.NotBytes cause) fault h = h (search rules)
+refused_as file why.AddsToNothing fault h = h (search rules)
+refused_as file why.NoAnswerBelow fault h = h (search rules)
 refused_as file why.NoTextAbove fault h = h (search rules)
 refused_as file why.BeforeFirstCase fault h = h (search rules)
 refused_as file why.NoTitle fault h = h (search rules)

@@ -6,11 +6,11 @@ use Rattle.std.specs.List.{filter, flat_map}
 use Rattle.scenario_words.specs.CauseWords.{cause_words}
 use Rattle.scenario_words.specs.Words.{ended_line, lines}
 use Rattle.scenario_words.specs.declared.cause.Cause.{Cause}
-use Rattle.case_play.specs.declared.verdict.Verdict.{Verdict}
-use Rattle.case_play.specs.declared.verdict.Verdict.TheVariants.{Passes, Differs, Refused}
 use Rattle.command_files.specs.declared.status.Status.{Status}
 use Rattle.command_files.specs.declared.status.Status.TheVariants.{Done, NotRun}
 use Rattle.command_test.specs.declared.judged.Judged.{Judged}
+use Rattle.command_test.specs.declared.judged.Outcome.{Outcome}
+use Rattle.command_test.specs.declared.judged.Outcome.TheVariants.{Passes, Differs, Refused}
 
 abbrev pub or_empty : Option (List ℕ) → List ℕ
 or_empty None = []
@@ -38,27 +38,27 @@ refused_text title number cause line =
 abbrev pub refused_lines : List ℕ → List ℕ → ℕ → Cause → List ℕ
 refused_lines file title number cause = refused_text title number (cause_words cause) (line_at file number)
 
--- what is printed by the verdict on a case of this title, which stands in this line: nothing where it passes; where it
+-- what is printed of a case of this title, which stands in this line: nothing where it passes; where it
 -- differs, the line that does not hold; where its text is refused, that line, which is counted below the title
-abbrev pub difference_by : List ℕ → List ℕ → ℕ → Verdict → List ℕ
+abbrev pub difference_by : List ℕ → List ℕ → ℕ → Outcome → List ℕ
 difference_by file title at Passes = []
 difference_by file title at (Differs line) = wrong_lines file title line
 difference_by file title at (Refused line cause) = refused_lines file title (at + line) cause
 
 abbrev pub difference : List ℕ → Judged → List ℕ
-difference file judged = difference_by file judged.title.now judged.line judged.verdict
+difference file judged = difference_by file judged.title.now judged.line judged.outcome
 
 abbrev pub differences : List ℕ → List Judged → List ℕ
 differences file all = flat_map (difference file) all
 
 -- a case differs if it does not pass
-abbrev pub differs : Verdict → Bool
+abbrev pub differs : Outcome → Bool
 differs Passes = false
 differs (Differs line) = true
 differs (Refused line cause) = true
 
 abbrev pub count_differing : List Judged → ℕ
-count_differing all = length (filter (λ j. differs j.verdict) all)
+count_differing all = length (filter (λ j. differs j.outcome) all)
 
 -- `C cases, D differ`
 abbrev pub count_line : ℕ → ℕ → List ℕ

@@ -7,6 +7,6 @@ mod playing;
 mod reporting;
 
 pub use answers::test;
-pub use judged::Judged;
+pub use judged::{Judged, Outcome};
 pub use playing::play;
 pub use reporting::report;

@@ -6,8 +6,7 @@ ghost use Rattle.command_test.specs.Report.{count_differing, count_line, differe
 ghost use Rattle.command_test.specs.Report.{refused_text, wrong_text};
 ghost use Rattle.command_test.specs.Report.{report, status_of, differences, wrong_lines};
 
-use crate::judged::Judged;
-use case_play::Verdict;
+use crate::judged::{Judged, Outcome};
 use command_files::Status;
 use scenario_words::{Cause, cause_words};
 use std::alloc::{AllocError, Global};
@@ -44,29 +43,29 @@ fn differences(alloc: Global, file: &str, all: &[Judged]) -> Result<String, Allo
     Ok(text)
 }
 
-fn differs(verdict: Verdict) -> bool
-    ensures { result ≡ differs verdict }
+fn differs(outcome: Outcome) -> bool
+    ensures { result ≡ differs outcome }
 {
-    match verdict {
-        Verdict::Passes => false,
-        Verdict::Differs(_) | Verdict::Refused { .. } => true,
+    match outcome {
+        Outcome::Passes => false,
+        Outcome::Differs(_) | Outcome::Refused { .. } => true,
     }
 }
 
 fn count_differing(all: &[Judged]) -> usize
     ensures { result ≡ count_differing all.now }
 {
-    all.iter().filter(|judged| differs(judged.verdict)).count()
+    all.iter().filter(|judged| differs(judged.outcome)).count()
 }
 
 /// What is printed of a case: nothing of one that passes.
 fn difference(alloc: Global, file: &str, judged: &Judged) -> Result<String, AllocError>
     ensures { IfOk result (λ text. string_bytes text ≡ difference file.now judged.now) }
 {
-    match judged.verdict {
-        Verdict::Passes => Ok(String::new(alloc)),
-        Verdict::Differs(line) => wrong_lines(alloc, file, judged.title, line),
-        Verdict::Refused { line, cause } => {
+    match judged.outcome {
+        Outcome::Passes => Ok(String::new(alloc)),
+        Outcome::Differs(line) => wrong_lines(alloc, file, judged.title, line),
+        Outcome::Refused { line, cause } => {
             let number = judged.line as u128 + line as u128;
             refused_lines(alloc, file, judged.title, number, cause)
         }

@@ -2,5 +2,5 @@
 use Rattle.case_play.proofs.Judged.{IsWalked}
 use Rattle.case_play.proofs.items.first_difference.Given as goal
 
-abbrev pub invariant-loop-item : goal.invariant-loop-item
-invariant-loop-item l = IsWalked l.scenario l.items l.item-index l.walk
+abbrev pub invariant-loop-place : goal.invariant-loop-place
+invariant-loop-place l = IsWalked l.scenario l.items l.place l.walk

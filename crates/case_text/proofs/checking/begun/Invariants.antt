@@ -1,5 +1,5 @@
 use Rattle.std.proofs.Common.{◌≡◌, drop}
-use Rattle.case_text.specs.Cases.{begun}
+use Rattle.case_text.specs.Checks.{begun}
 use Rattle.case_text.proofs.checking.begun.Given as goal
 
 -- what is left decides

@@ -1,5 +1,5 @@
 use Rattle.std.proofs.Common.{◌≡◌, take, drop, []}
-use Rattle.case_text.specs.Cases.{checked}
+use Rattle.case_text.specs.Checks.{checked}
 use Rattle.case_text.proofs.checking.checked.Given as goal
 
 -- what is left decides

@@ -1,5 +1,5 @@
 use Rattle.std.proofs.Common.{◌≡◌, drop, false}
-use Rattle.case_text.specs.Cases.{stray}
+use Rattle.case_text.specs.Checks.{stray}
 use Rattle.case_text.proofs.checking.stray.Given as goal
 
 -- what is left decides

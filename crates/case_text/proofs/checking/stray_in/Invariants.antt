@@ -1,5 +1,5 @@
 use Rattle.std.proofs.Common.{◌≡◌, drop}
-use Rattle.case_text.specs.Cases.{stray_in}
+use Rattle.case_text.specs.Checks.{stray_in}
 use Rattle.case_text.proofs.checking.stray_in.Given as goal
 
 -- what is left decides

@@ -6,8 +6,8 @@ use Rattle.command_test.proofs.playing.play.Goals as goal
 pub loop-case-preserved : goal.loop-case-preserved
 loop-case-preserved c =
     one_more c.args.cases.now c.loop-case.all.items c.push.new.self.items c.loop-case.case-index c.case-item.result
-    (record { title = c.as_str.result; line = c.case-item.result.line; verdict = c.in_ok-verdict.verdict })
+    c.in_ok-judged.judged
     c.loop-case.invariant
     (slice_get_read c.args.cases.now (length c.args.cases.now) c.loop-case.case-index c.case-item.result refl
     c.loop-case-test.true c.case-item.is)
-    c.as_str.ensures refl c.in_ok-verdict.ensures c.in_ok-push.ensures.items
+    c.in_ok-judged.ensures c.in_ok-push.ensures.items

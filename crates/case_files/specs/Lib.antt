@@ -1,0 +1,10 @@
+pub mod FaultWords
+pub mod EntryWords
+pub mod Files
+pub mod Findings
+pub mod Answers
+pub mod Arrivals
+pub mod Trials
+pub mod Trying
+pub mod Verdicts
+pub mod Laws

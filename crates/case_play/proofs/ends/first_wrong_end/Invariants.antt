@@ -1,8 +1,0 @@
--- What is stated below the items before this one holds.
-use Rattle.case_text.specs.declared.item.Item.{Item}
-use Rattle.case_play.specs.Ends.{EndsHold}
-use Rattle.case_play.proofs.Each.{HoldsTo}
-use Rattle.case_play.proofs.ends.first_wrong_end.Given as goal
-
-abbrev pub invariant-loop-item : goal.invariant-loop-item
-invariant-loop-item l = HoldsTo (λ (item : Item). EndsHold l.scenario l.entries item.answers) l.items l.item-index
