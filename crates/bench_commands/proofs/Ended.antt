@@ -210,7 +210,8 @@ within_job holds faults (jobs.Run image workers batch trace) before after h = ab
 within_job holds faults (jobs.Check image trace) before after h = absurd h
 within_job holds faults (jobs.Show image trace device from to) before after h = absurd h
 within_job holds faults (jobs.Pcap image trace output) before after h = absurd h
-within_job holds faults (jobs.Test file) before after h = absurd h
+within_job holds faults (jobs.Titles files only) before after h = absurd h
+within_job holds faults (jobs.Test files only tap junit) before after h = absurd h
 
 within_cut : (holds : List ℕ → List ℕ → Type 0) (faults : StreamFaults) (job : Job) (before after : Streams)
     (fault : Fault) → IsCutJob holds faults job before after fault
@@ -223,7 +224,8 @@ within_cut holds faults (jobs.Run image workers batch trace) before after fault 
 within_cut holds faults (jobs.Check image trace) before after fault h = absurd h
 within_cut holds faults (jobs.Show image trace device from to) before after fault h = absurd h
 within_cut holds faults (jobs.Pcap image trace output) before after fault h = absurd h
-within_cut holds faults (jobs.Test file) before after fault h = absurd h
+within_cut holds faults (jobs.Titles files only) before after fault h = absurd h
+within_cut holds faults (jobs.Test files only tap junit) before after fault h = absurd h
 
 within_asked : (holds : List ℕ → List ℕ → Type 0) (faults : StreamFaults) (asked : Asked) (before after : Streams)
     → IsDebugged holds faults asked before after → WhereKnown (IsWithin most_bytes) before.input after.input

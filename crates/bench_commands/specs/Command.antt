@@ -1,5 +1,5 @@
 -- What a command comes to: the words were answered, or refused, and the status says which.
-use Rattle.std.specs.Prelude.{ℕ, ◌≡◌, ◌⊎◌, List, [], Option, option_map}
+use Rattle.std.specs.Prelude.{ℕ, ◌≡◌, ◌⊎◌, List, [], Option, map, option_map}
 use Rattle.std.specs.Io.KnownBytes.{Appends}
 use Rattle.std.specs.String.{string_bytes}
 use Rattle.command_line.specs.Words.{IsReadAs}
@@ -20,7 +20,7 @@ use Rattle.command_live.specs.Live.{IsLiveDone, IsLiveFault}
 use Rattle.command_files.specs.Refusals.{IsTold}
 use Rattle.command_files.specs.Status.{text_status}
 use Rattle.command_scenarios.specs.Texts.{IsTextFault}
-use Rattle.command_test.specs.Jobs.{IsTestDone, IsTestFault}
+use Rattle.command_test.specs.Jobs.{IsTestDone, IsTestFault, IsTitlesDone}
 use Rattle.command_traces.specs.Traces.{IsPcapDone, IsPcapRefused, IsShowDone, IsShowRefused}
 use Rattle.command_files.specs.World.{FilesKnown, IsAside, StreamFaults, Streams, World}
 use Rattle.command_files.specs.declared.answer.Answer.{Answer}
@@ -47,7 +47,11 @@ IsDone holds (jobs.Pcap image trace output) answer =
     IsPcapDone holds (record { image = image.now; trace = trace.now }) output.now answer
 IsDone holds (jobs.Debug image trace) answer =
     IsDebugRefused holds (record { image = image.now; trace = trace.now }) answer
-IsDone holds (jobs.Test file) answer = IsTestDone holds file.now answer
+IsDone holds (jobs.Titles files only) answer =
+    IsTitlesDone holds (map (λ p. p.now) files.items) (option_map (λ w. w.now) only) answer
+IsDone holds (jobs.Test files only tap junit) answer =
+    IsTestDone holds (map (λ p. p.now) files.items) (option_map (λ w. w.now) only) tap (option_map (λ p. p.now) junit)
+    answer
 
 -- a job is refused for this fault
 abbrev pub IsRefusedJob : (List ℕ → List ℕ → Type 0) → (List ℕ → Type 0) → Job → Fault → Type 0
@@ -65,7 +69,10 @@ IsRefusedJob holds fails (jobs.Pcap image trace output) fault =
     IsPcapRefused holds fails (record { image = image.now; trace = trace.now }) fault
 IsRefusedJob holds fails (jobs.Debug image trace) fault =
     IsCheckRefused holds fails (record { image = image.now; trace = trace.now }) fault
-IsRefusedJob holds fails (jobs.Test file) fault = IsTestFault holds fails file.now fault
+IsRefusedJob holds fails (jobs.Titles files only) fault =
+    IsTestFault holds fails (map (λ p. p.now) files.items) (option_map (λ w. w.now) only) fault
+IsRefusedJob holds fails (jobs.Test files only tap junit) fault =
+    IsTestFault holds fails (map (λ p. p.now) files.items) (option_map (λ w. w.now) only) fault
 
 -- what words are answered with; a text on how to use the program is printed as it is
 abbrev pub IsAnswerTo : (List ℕ → List ℕ → Type 0) → Asked → Answer → Type 0

@@ -12,7 +12,7 @@ use command_files::{Answer, Input, Output, Refusal, Status, deliver, tell};
 use command_line::{Asked, Job, read};
 use command_live::live;
 use command_scenarios::{asm, check, dis, run};
-use command_test::test;
+use command_test::{test, titles};
 use command_traces::{pcap, show};
 use std::alloc::Global;
 use std::net::Net;
@@ -198,6 +198,14 @@ fn answer_to<'a, R: Threads + Wait + Sync, F: Files, I: Input, O: Output, E: Out
             output: path,
         } => Ok(Some(pcap(alloc, image, trace, path, files)?)),
         Job::Debug { image, trace } => debug(alloc, image, trace, files, input, output, errors),
-        Job::Test { file } => Ok(Some(test(alloc, file, files)?)),
+        Job::Titles { files: paths, only } => {
+            Ok(Some(titles(alloc, paths.as_slice(), only, files)?))
+        }
+        Job::Test {
+            files: paths,
+            only,
+            tap,
+            junit,
+        } => Ok(Some(test(alloc, paths.as_slice(), only, tap, junit, files)?)),
     }
 }

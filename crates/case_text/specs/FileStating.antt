@@ -19,13 +19,13 @@ use Rattle.case_text.specs.Stating.{fault, only_name, stalled}
 abbrev pub any_number : List ℕ → Result ℕ Cause
 any_number w = number_of 0 18446744073709551615 w
 
--- words with a space between one and the next
-abbrev pub spaced : List ℕ → List (List ℕ) → List ℕ
-spaced w ws = w ++ flat_map (λ v. 32 ∷ v) ws
+-- a word and those after it, with a space before each of these
+abbrev pub phrase : List ℕ → List (List ℕ) → List ℕ
+phrase w ws = w ++ flat_map (λ v. 32 ∷ v) ws
 
 -- the words of a fault, which are text
 abbrev pub fault_words : List (List ℕ) → Result (List ℕ) Cause
-fault_words ws = first_of ws >>= (λ w. utf8_or_token (Some (spaced w.0 w.1)))
+fault_words ws = first_of ws >>= (λ w. utf8_or_token (Some (phrase w.0 w.1)))
 
 -- ---- of a file
 

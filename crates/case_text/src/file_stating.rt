@@ -5,7 +5,7 @@ ghost use Rattle.scenario_words.specs.Words.{words};
 ghost use Rattle.scenario_words.specs.Reading.{Gives};
 ghost use Rattle.case_text.specs.FileStating.{fault_words, file_fault_by, file_stated_by, file_stated_of, not_a_run};
 ghost use Rattle.case_text.specs.FileStating.{ok_at, ok_by, ok_scenario, recorded_fault, recorded_stated_by};
-ghost use Rattle.case_text.specs.FileStating.{recorded_stated_of, spaced};
+ghost use Rattle.case_text.specs.FileStating.{recorded_stated_of, phrase};
 
 use crate::bytes_words::digits_of_line;
 use crate::file_stated::FileStated;
@@ -18,7 +18,7 @@ use std::alloc::{AllocError, Global};
 
 /// A word, and each word of a line with a space before it.
 fn put_words(alloc: Global, word: &[u8], line: &[u8]) -> Result<Vec<u8>, AllocError>
-    ensures { IfOk result (λ v. v.items ≡ spaced word.now (words line.now)) }
+    ensures { IfOk result (λ v. v.items ≡ phrase word.now (words line.now)) }
 {
     let mut all = Vec::new(alloc);
     all.extend_from_slice(word)?;

@@ -1,6 +1,6 @@
 -- What the words ask for: a subcommand whose value is missing asks for nothing.
 use Rattle.std.proofs.Common.{◌≡◌, ◌≢◌, ◌⊎◌, ◌↔◌, IsTrue, Bool, true, false, not, ◌&&◌, List, [], None, codes, rules}
-use Rattle.std.proofs.Common.{Some, refl, inl, inr, sym, ap, subst, ◌∙◌}
+use Rattle.std.proofs.Common.{Option, Some, refl, inl, inr, sym, ap, subst, ◌∙◌}
 use Rattle.clap.specs.Words.{App, HasKind, HasMatchesOf, IsAmong, Row, Text as Word, fault_of, first_of, is_simple}
 use Rattle.clap.specs.Words.{is_simple_and_free, kind_of, subcommand_of, subcommand_rows_of}
 use Rattle.clap.specs.declared.parser.matches.ArgMatches.{ArgMatches}
@@ -11,9 +11,9 @@ use Rattle.command_line.specs.declared.words.Job.TheVariants as jobs
 use Rattle.command_line.specs.declared.words.Live.{Live}
 use Rattle.command_line.specs.declared.words.Asked.{Asked}
 use Rattle.command_line.specs.declared.words.Asked.TheVariants as asked
-use Rattle.command_line.specs.Words.{AsksFor, AsksNothing, AsksToLive, IsReadAs, IsRefusedAs, MayAskFor}
-use Rattle.command_line.specs.Words.{bench_app, refusals}
-use Rattle.command_line.specs.Inside.{LacksLive, LacksRun}
+use Rattle.command_line.specs.Words.{AsksFor, AsksToLive, IsReadAs, IsRefusedAs, MayAskFor, bench_app, is_set}
+use Rattle.command_line.specs.Words.{refusals}
+use Rattle.command_line.specs.Inside.{IsTakenAs, LacksLive, LacksRun, LacksTest}
 
 pub no_one : (rows : List Row) (job : Job) → first_of (codes "HEX") rows ≡ None → AsksFor (codes "one", rows) job → ⊥
 no_one rows (jobs.One hex) none asks = search rules
@@ -24,7 +24,8 @@ no_one rows (jobs.Check image trace) none asks = search rules
 no_one rows (jobs.Show image trace device from to) none asks = search rules
 no_one rows (jobs.Pcap image trace output) none asks = search rules
 no_one rows (jobs.Debug image trace) none asks = search rules
-no_one rows (jobs.Test file) none asks = search rules
+no_one rows (jobs.Titles files only) none asks = search rules
+no_one rows (jobs.Test files only tap junit) none asks = search rules
 
 pub no_asm : (rows : List Row) (job : Job) → (first_of (codes "IN") rows ≡ None) ⊎ (first_of (codes "OUT") rows ≡ None)
     → AsksFor (codes "asm", rows) job → ⊥
@@ -37,7 +38,8 @@ no_asm rows (jobs.Check image trace) none asks = search rules
 no_asm rows (jobs.Show image trace device from to) none asks = search rules
 no_asm rows (jobs.Pcap image trace output) none asks = search rules
 no_asm rows (jobs.Debug image trace) none asks = search rules
-no_asm rows (jobs.Test file) none asks = search rules
+no_asm rows (jobs.Titles files only) none asks = search rules
+no_asm rows (jobs.Test files only tap junit) none asks = search rules
 
 pub no_dis : (rows : List Row) (job : Job) → first_of (codes "IN") rows ≡ None → AsksFor (codes "dis", rows) job → ⊥
 no_dis rows (jobs.One hex) none asks = search rules
@@ -48,7 +50,8 @@ no_dis rows (jobs.Check image trace) none asks = search rules
 no_dis rows (jobs.Show image trace device from to) none asks = search rules
 no_dis rows (jobs.Pcap image trace output) none asks = search rules
 no_dis rows (jobs.Debug image trace) none asks = search rules
-no_dis rows (jobs.Test file) none asks = search rules
+no_dis rows (jobs.Titles files only) none asks = search rules
+no_dis rows (jobs.Test files only tap junit) none asks = search rules
 
 pub no_run : (rows : List Row) (job : Job) → LacksRun rows → AsksFor (codes "run", rows) job → ⊥
 no_run rows (jobs.One hex) lacks asks = search rules
@@ -61,7 +64,8 @@ no_run rows (jobs.Check image trace) lacks asks = search rules
 no_run rows (jobs.Show image trace device from to) lacks asks = search rules
 no_run rows (jobs.Pcap image trace output) lacks asks = search rules
 no_run rows (jobs.Debug image trace) lacks asks = search rules
-no_run rows (jobs.Test file) lacks asks = search rules
+no_run rows (jobs.Titles files only) lacks asks = search rules
+no_run rows (jobs.Test files only tap junit) lacks asks = search rules
 
 pub no_check : (rows : List Row) (job : Job) → (first_of (codes "IMAGE") rows ≡ None)
     ⊎ (first_of (codes "TRACE") rows ≡ None) → AsksFor (codes "check", rows) job → ⊥
@@ -74,7 +78,8 @@ no_check rows (jobs.Check image trace) (inr none) asks = search rules
 no_check rows (jobs.Show image trace device from to) none asks = search rules
 no_check rows (jobs.Pcap image trace output) none asks = search rules
 no_check rows (jobs.Debug image trace) none asks = search rules
-no_check rows (jobs.Test file) none asks = search rules
+no_check rows (jobs.Titles files only) none asks = search rules
+no_check rows (jobs.Test files only tap junit) none asks = search rules
 
 pub no_show : (rows : List Row) (job : Job) → (first_of (codes "IMAGE") rows ≡ None)
     ⊎ (first_of (codes "TRACE") rows ≡ None) → AsksFor (codes "show", rows) job → ⊥
@@ -87,7 +92,8 @@ no_show rows (jobs.Show image trace device from to) (inl none) asks = search rul
 no_show rows (jobs.Show image trace device from to) (inr none) asks = search rules
 no_show rows (jobs.Pcap image trace output) none asks = search rules
 no_show rows (jobs.Debug image trace) none asks = search rules
-no_show rows (jobs.Test file) none asks = search rules
+no_show rows (jobs.Titles files only) none asks = search rules
+no_show rows (jobs.Test files only tap junit) none asks = search rules
 
 pub no_debug : (rows : List Row) (job : Job) → (first_of (codes "IMAGE") rows ≡ None)
     ⊎ (first_of (codes "TRACE") rows ≡ None) → AsksFor (codes "debug", rows) job → ⊥
@@ -100,7 +106,8 @@ no_debug rows (jobs.Show image trace device from to) none asks = search rules
 no_debug rows (jobs.Pcap image trace output) none asks = search rules
 no_debug rows (jobs.Debug image trace) (inl none) asks = search rules
 no_debug rows (jobs.Debug image trace) (inr none) asks = search rules
-no_debug rows (jobs.Test file) none asks = search rules
+no_debug rows (jobs.Titles files only) none asks = search rules
+no_debug rows (jobs.Test files only tap junit) none asks = search rules
 
 pub no_pcap : (rows : List Row) (job : Job) → (first_of (codes "IMAGE") rows ≡ None)
     ⊎ ((first_of (codes "TRACE") rows ≡ None) ⊎ (first_of (codes "OUT") rows ≡ None))
@@ -115,19 +122,33 @@ no_pcap rows (jobs.Pcap image trace output) (inl none) asks = search rules
 no_pcap rows (jobs.Pcap image trace output) (inr (inl none)) asks = search rules
 no_pcap rows (jobs.Pcap image trace output) (inr (inr none)) asks = search rules
 no_pcap rows (jobs.Debug image trace) none asks = search rules
-no_pcap rows (jobs.Test file) none asks = search rules
+no_pcap rows (jobs.Titles files only) none asks = search rules
+no_pcap rows (jobs.Test files only tap junit) none asks = search rules
 
-pub no_test : (rows : List Row) (job : Job) → first_of (codes "FILE") rows ≡ None
-    → AsksFor (codes "test", rows) job → ⊥
-no_test rows (jobs.One hex) none asks = search rules
-no_test rows (jobs.Asm input output) none asks = search rules
-no_test rows (jobs.Dis input) none asks = search rules
-no_test rows (jobs.Run image workers batch trace) none asks = search rules
-no_test rows (jobs.Check image trace) none asks = search rules
-no_test rows (jobs.Show image trace device from to) none asks = search rules
-no_test rows (jobs.Pcap image trace output) none asks = search rules
-no_test rows (jobs.Debug image trace) none asks = search rules
-no_test rows (jobs.Test file) none asks = search rules
+-- words that exclude each other ask for no titles, and for no cases that are played
+titles_alone : (list tap : Bool) (junit : Option Word) → (list ≡ true) × ((tap ≡ true) ⊎ (junit ≢ None))
+    → tap ≡ false → junit ≡ None → ⊥
+titles_alone list tap junit (lists, inl taps) no_tap no_junit = cc
+titles_alone list tap junit (lists, inr some) no_tap no_junit = some no_junit
+
+pub no_test : (rows : List Row) (job : Job) → LacksTest rows → AsksFor (codes "test", rows) job → ⊥
+no_test rows (jobs.One hex) lacks asks = search rules
+no_test rows (jobs.Asm input output) lacks asks = search rules
+no_test rows (jobs.Dis input) lacks asks = search rules
+no_test rows (jobs.Run image workers batch trace) lacks asks = search rules
+no_test rows (jobs.Check image trace) lacks asks = search rules
+no_test rows (jobs.Show image trace device from to) lacks asks = search rules
+no_test rows (jobs.Pcap image trace output) lacks asks = search rules
+no_test rows (jobs.Debug image trace) lacks asks = search rules
+no_test rows (jobs.Titles files only) (inl none) asks = cc
+no_test rows (jobs.Titles files only) (inr both) asks =
+    titles_alone (is_set (codes "list") rows) (is_set (codes "tap") rows) (first_of (codes "junit") rows) both asks.2
+    asks.3
+no_test rows (jobs.Test files only tap junit) (inl none) asks = cc
+no_test rows (jobs.Test files only tap junit) (inr both) asks =
+    let lists : is_set (codes "list") rows ≡ true = both.0 in
+    let plays : is_set (codes "list") rows ≡ false = asks.1 in
+    cc
 
 -- the words of a device on the network
 lacks_live : (rows : List Row) (live : Live) → LacksLive rows → AsksToLive (codes "live", rows) live → ⊥
@@ -146,7 +167,8 @@ live_alone rows (jobs.Check image trace) asks = search rules
 live_alone rows (jobs.Show image trace device from to) asks = search rules
 live_alone rows (jobs.Pcap image trace output) asks = search rules
 live_alone rows (jobs.Debug image trace) asks = search rules
-live_alone rows (jobs.Test file) asks = search rules
+live_alone rows (jobs.Titles files only) asks = search rules
+live_alone rows (jobs.Test files only tap junit) asks = search rules
 
 pub not_live : (rows : List Row) (wanted : Asked) → LacksLive rows → MayAskFor (codes "live", rows) wanted → ⊥
 not_live rows (asked.Job job) lacks asks = live_alone rows job asks
@@ -200,22 +222,28 @@ same_subcommand app words m same matches =
     let simple : is_simple app ≡ true = ap is_simple same in
     subst (λ a. subcommand_rows_of m ≡ subcommand_of a words) same (matches simple).1
 
--- what is made of words that were taken
-pub asked_as : (app : App) (words : List Word) (m : ArgMatches) (wanted : Asked) → app ≡ bench_app
-    → HasMatchesOf app words m → (is_simple_and_free app ≡ true → fault_of app words ≡ [])
-    → (p : Word × List Row) × (subcommand_rows_of m ≡ Some p) × MayAskFor p wanted → IsReadAs words wanted
-asked_as app words m (asked.Job job) same matches kinds (p, at, asks) = (
-  taken_whole app words same kinds,
-  record { found = p; entered = sym (same_subcommand app words m same matches) ∙ at; asks = asks },
-)
-asked_as app words m (asked.Live live) same matches kinds (p, at, asks) = (
-  taken_whole app words same kinds,
-  record { found = p; entered = sym (same_subcommand app words m same matches) ∙ at; asks = asks },
-)
-asked_as app words m (asked.Text text is_mistake) same matches kinds (p, at, asks) = absurd asks
+-- what the subcommand that was found asks for
+pub taken_for : (found : Option (Word × List Row)) (wanted : Asked)
+    → (p : Word × List Row) × (found ≡ Some p) × MayAskFor p wanted → IsTakenAs found wanted
+taken_for found (asked.Job job) asks = asks
+taken_for found (asked.Live live) asks = asks
+taken_for found (asked.Text text is_mistake) (p, at, asks) = absurd asks
 
-pub asked_nothing : (app : App) (words : List Word) (m : ArgMatches) → app ≡ bench_app → HasMatchesOf app words m
-    → ((p : Word × List Row) (wanted : Asked) → subcommand_rows_of m ≡ Some p → MayAskFor p wanted → ⊥)
-    → AsksNothing words
-asked_nothing app words m same matches none =
-    λ wanted is. none is.found wanted (same_subcommand app words m same matches ∙ is.entered) is.asks
+-- what words that were taken ask for
+pub read_as : (app : App) (words : List Word) (m : ArgMatches) (wanted : Asked) → app ≡ bench_app
+    → HasMatchesOf app words m → (is_simple_and_free app ≡ true → fault_of app words ≡ [])
+    → IsTakenAs (subcommand_rows_of m) wanted → IsReadAs words wanted
+read_as app words m (asked.Job job) same matches kinds (p, at, asks) = (
+  taken_whole app words same kinds,
+  record { found = p; entered = sym (same_subcommand app words m same matches) ∙ at; asks = asks },
+)
+read_as app words m (asked.Live live) same matches kinds (p, at, asks) = (
+  taken_whole app words same kinds,
+  record { found = p; entered = sym (same_subcommand app words m same matches) ∙ at; asks = asks },
+)
+read_as app words m (asked.Text text is_mistake) same matches kinds (mistake, none) =
+    inr (
+      taken_whole app words same kinds,
+      mistake,
+      λ wanted is. none is.found wanted (same_subcommand app words m same matches ∙ is.entered) is.asks,
+    )

@@ -1,8 +1,11 @@
 -- The commands one by one, and what they lack, as clauses of private functions name them. No promise rests on it.
-use Rattle.std.specs.Prelude.{◌≡◌, ◌⊎◌, List, None, codes}
-use Rattle.clap.specs.Words.{App, Row, Rule, first_of, new_app, one_of, with_rule, with_subcommand}
-use Rattle.command_line.specs.Words.{IsNoNumber, file, flag, needed, needed_number, number, optional_number}
-use Rattle.command_line.specs.Words.{with_settings}
+use Rattle.std.specs.Prelude.{◌≡◌, ◌≢◌, ◌⊎◌, true, List, Option, None, Some, codes}
+use Rattle.clap.specs.Words.{App, Row, Rule, Text as Word, all_of, first_of, new_app, one_of, with_rule}
+use Rattle.clap.specs.Words.{with_subcommand}
+use Rattle.command_line.specs.declared.words.Asked.{Asked}
+use Rattle.command_line.specs.declared.words.Asked.TheVariants as asked
+use Rattle.command_line.specs.Words.{AsksFor, AsksToLive, IsNoNumber, MayAskFor, flag, is_set, needed, needed_number}
+use Rattle.command_line.specs.Words.{number, optional_number, several, text_option, with_settings}
 
 -- `one HEX`
 abbrev pub one_app : App
@@ -28,7 +31,7 @@ batch = number (codes "batch") 4294967295 (codes "16")
 abbrev pub run_app : App
 run_app =
     with_rule (with_rule (with_rule (with_rule (new_app (codes "run")) (needed (codes "IMAGE"))) workers) batch)
-    (file (codes "trace"))
+    (text_option (codes "trace"))
 
 -- `check IMAGE TRACE`
 abbrev pub check_app : App
@@ -61,15 +64,25 @@ with_port a =
     with_rule (with_rule (with_rule a (needed (codes "IMAGE"))) (needed_number (codes "DEVICE") 0 65535))
     (needed_number (codes "PORT") 0 65535)
 
+-- `TURNS [--save FILE]`
+abbrev pub with_turns : App → App
+with_turns a = with_rule (with_rule a (needed_number (codes "TURNS") 1 100000)) (text_option (codes "save"))
+
 -- `live IMAGE DEVICE PORT TURNS [--save FILE] [--show]`
 abbrev pub live_app : App
-live_app =
-    with_rule (with_rule (with_rule (with_port (new_app (codes "live"))) (needed_number (codes "TURNS") 1 100000))
-    (file (codes "save"))) (flag (codes "show"))
+live_app = with_rule (with_turns (with_port (new_app (codes "live")))) (flag (codes "show"))
 
--- `test FILE`
+-- `FILE .. [--only WORDS]`
+abbrev pub with_cases : App → App
+with_cases a = with_rule (with_rule a (several (codes "FILE"))) (text_option (codes "only"))
+
+-- `[--list] [--tap]`
+abbrev pub with_forms : App → App
+with_forms a = with_rule (with_rule a (flag (codes "list"))) (flag (codes "tap"))
+
+-- `test FILE .. [--only WORDS] [--list] [--tap] [--junit FILE]`
 abbrev pub test_app : App
-test_app = with_rule (new_app (codes "test")) (needed (codes "FILE"))
+test_app = with_rule (with_forms (with_cases (new_app (codes "test")))) (text_option (codes "junit"))
 
 -- the program, which is `bench_app`
 abbrev pub whole_app : App
@@ -91,3 +104,19 @@ LacksLive rows =
     (first_of (codes "IMAGE") rows ≡ None)
     ⊎ (IsNoNumber 16 (one_of (codes "DEVICE") rows) ⊎ (IsNoNumber 16 (one_of (codes "PORT") rows)
     ⊎ IsNoNumber 32 (one_of (codes "TURNS") rows)))
+
+-- `--list` stands beside `--tap` or `--junit`, of which each wants cases that are played
+abbrev pub ListsAndPlays : List Row → Type 0
+ListsAndPlays rows =
+    (is_set (codes "list") rows ≡ true) × ((is_set (codes "tap") rows ≡ true) ⊎ (first_of (codes "junit") rows ≢ None))
+
+-- `test` has no file, or words that exclude each other
+abbrev pub LacksTest : List Row → Type 0
+LacksTest rows = (all_of (codes "FILE") rows ≡ None) ⊎ ListsAndPlays rows
+
+-- what words that were taken ask for, by the subcommand that was found; a text where they ask for nothing
+abbrev pub IsTakenAs : Option (Word × List Row) → Asked → Type 0
+IsTakenAs found (asked.Job job) = (p : Word × List Row) × (found ≡ Some p) × AsksFor p job
+IsTakenAs found (asked.Live live) = (p : Word × List Row) × (found ≡ Some p) × AsksToLive p live
+IsTakenAs found (asked.Text text is_mistake) =
+    (is_mistake ≡ true) × ((p : Word × List Row) (wanted : Asked) → found ≡ Some p → MayAskFor p wanted → ⊥)

@@ -1,10 +1,11 @@
 -- The words of the command line: which `clap` takes, and what they then ask for.
 use Rattle.std.specs.Prelude.{◌≡◌, ◌≢◌, ◌↔◌, ◌⊎◌, ◌<◌, ◌^◌, ℕ, pos, Bool, true, false, IsTrue, List, [], ◌∷◌, Option}
-use Rattle.std.specs.Prelude.{None, Some, fold, option_map, codes}
+use Rattle.std.specs.Prelude.{None, Some, fold, map, option_map, codes}
+use Rattle.std.specs.Str.{bytes_eq}
 use Rattle.std.specs.Str.Parse.{IsNumeral, digits_value, without_leading_plus}
-use Rattle.clap.specs.Words.{App, IsAmong, Row, Rule, Text as Word, fault_of, first_of, new_app, new_rule, one_of}
-use Rattle.clap.specs.Words.{subcommand_of, with_rule, with_subcommand}
-use Rattle.clap.specs.declared.builder.action.ArgAction.TheVariants.{SetTrue}
+use Rattle.clap.specs.Words.{App, IsAmong, Row, Rule, Text as Word, all_of, fault_of, first_of, new_app, new_rule}
+use Rattle.clap.specs.Words.{one_of, subcommand_of, with_rule, with_subcommand}
+use Rattle.clap.specs.declared.builder.action.ArgAction.TheVariants.{Append, SetTrue}
 use Rattle.clap.specs.declared.builder.value_parser.ValueParser.TheVariants as parsers
 use Rattle.clap.specs.declared.error.kind.ErrorKind.{ErrorKind}
 use Rattle.clap.specs.declared.error.kind.ErrorKind.TheVariants.{DisplayHelp, DisplayVersion}
@@ -20,9 +21,13 @@ use Rattle.command_line.specs.declared.words.Asked.TheVariants as asked
 abbrev pub needed : Word → Rule
 needed name = record (new_rule name) { required = true }
 
--- `--NAME FILE`
-abbrev pub file : Word → Rule
-file name = record (new_rule name) { long = Some name; value_names = 1 }
+-- a word that has to be there, and may be there several times
+abbrev pub several : Word → Rule
+several name = record (needed name) { action = Some Append }
+
+-- `--NAME TEXT`
+abbrev pub text_option : Word → Rule
+text_option name = record (new_rule name) { long = Some name; value_names = 1 }
 
 -- a number from `least` to `most` that has to be there
 abbrev pub needed_number : Word → ℕ → ℕ → Rule
@@ -59,7 +64,7 @@ commands =
     ∷ command (codes "dis") (needed (codes "IN") ∷ [])
     -- `run IMAGE [--workers N] [--batch N] [--trace FILE]`
     ∷ command (codes "run") (needed (codes "IMAGE") ∷ number (codes "workers") 65535 (codes "2")
-    ∷ number (codes "batch") 4294967295 (codes "16") ∷ file (codes "trace") ∷ [])
+    ∷ number (codes "batch") 4294967295 (codes "16") ∷ text_option (codes "trace") ∷ [])
     -- `check IMAGE TRACE`
     ∷ command (codes "check") (needed (codes "IMAGE") ∷ needed (codes "TRACE") ∷ [])
     -- `show IMAGE TRACE [--device N] [--from N] [--to N]`
@@ -71,10 +76,11 @@ commands =
     ∷ command (codes "debug") (needed (codes "IMAGE") ∷ needed (codes "TRACE") ∷ [])
     -- `live IMAGE DEVICE PORT TURNS [--save FILE] [--show]`
     ∷ command (codes "live") (needed (codes "IMAGE") ∷ needed_number (codes "DEVICE") 0 65535
-    ∷ needed_number (codes "PORT") 0 65535 ∷ needed_number (codes "TURNS") 1 100000 ∷ file (codes "save")
+    ∷ needed_number (codes "PORT") 0 65535 ∷ needed_number (codes "TURNS") 1 100000 ∷ text_option (codes "save")
     ∷ flag (codes "show") ∷ [])
-    -- `test FILE`
-    ∷ command (codes "test") (needed (codes "FILE") ∷ []) ∷ []
+    -- `test FILE .. [--only WORDS] [--list] [--tap] [--junit FILE]`
+    ∷ command (codes "test") (several (codes "FILE") ∷ text_option (codes "only") ∷ flag (codes "list")
+    ∷ flag (codes "tap") ∷ text_option (codes "junit") ∷ []) ∷ []
 
 -- the program
 abbrev pub bench_app : App
@@ -102,15 +108,26 @@ abbrev pub IsOptionalNumber : ℕ → Option Word → Option ℕ → Type 0
 IsOptionalNumber bits word None = IsNoNumber bits word
 IsOptionalNumber bits word (Some n) = IsNumber bits word n
 
--- whether a flag is given: the word is then `true`
-abbrev pub IsFlag : Option Word → Bool → Type 0
-IsFlag word is_given =
-    (word ≡ Some (codes "true") → is_given ≡ true) × (word ≡ Some (codes "false") → is_given ≡ false)
-    × (word ≡ None → is_given ≡ false)
+-- whether a flag is given: its word is then `true`
+abbrev pub is_true : Option Word → Bool
+is_true None = false
+is_true (Some word) = bytes_eq word (codes "true")
+
+abbrev pub is_set : Word → List Row → Bool
+is_set name rows = is_true (first_of name rows)
 
 -- of a subcommand with its values: the text that has this name
 abbrev pub IsText : Word × List Row → Word → Word → Type 0
 IsText found name text = first_of name found.1 ≡ Some text
+
+-- the texts that have this name, in their order
+abbrev pub AreTexts : Word × List Row → Word → List Word → Type 0
+AreTexts found name texts = all_of name found.1 ≡ Some texts
+
+-- the words of `test`: its files, and how the titles of cases begin
+abbrev pub AsksForCases : Word × List Row → List Word → Option Word → Type 0
+AsksForCases found files only =
+    (found.0 ≡ codes "test") × AreTexts found (codes "FILE") files × (first_of (codes "only") found.1 ≡ only)
 
 -- a subcommand with its values asks for this
 abbrev pub AsksFor : Word × List Row → Job → Type 0
@@ -133,7 +150,14 @@ AsksFor found (jobs.Pcap image trace output) =
     × IsText found (codes "OUT") output.now
 AsksFor found (jobs.Debug image trace) =
     (found.0 ≡ codes "debug") × IsText found (codes "IMAGE") image.now × IsText found (codes "TRACE") trace.now
-AsksFor found (jobs.Test file) = (found.0 ≡ codes "test") × IsText found (codes "FILE") file.now
+AsksFor found (jobs.Titles files only) =
+    AsksForCases found (map (λ p. p.now) files.items) (option_map (λ w. w.now) only)
+    × (is_set (codes "list") found.1 ≡ true) × (is_set (codes "tap") found.1 ≡ false)
+    × (first_of (codes "junit") found.1 ≡ None)
+AsksFor found (jobs.Test files only tap junit) =
+    AsksForCases found (map (λ p. p.now) files.items) (option_map (λ w. w.now) only)
+    × (is_set (codes "list") found.1 ≡ false) × (is_set (codes "tap") found.1 ≡ tap)
+    × (first_of (codes "junit") found.1 ≡ option_map (λ p. p.now) junit)
 
 -- a subcommand with its values asks for this device on the network
 abbrev pub AsksToLive : Word × List Row → Live → Type 0
@@ -142,7 +166,7 @@ AsksToLive found live =
     × IsNumber 16 (one_of (codes "DEVICE") found.1) live.device × IsNumber 16 (one_of (codes "PORT") found.1) live.port
     × IsNumber 32 (one_of (codes "TURNS") found.1) live.turns
     × (first_of (codes "save") found.1 ≡ option_map (λ p. p.now) live.save)
-    × IsFlag (one_of (codes "show") found.1) live.show
+    × (is_set (codes "show") found.1 ≡ live.show)
 
 -- a subcommand with its values asks for one or the other; none asks for a text
 abbrev pub MayAskFor : Word × List Row → Asked → Type 0

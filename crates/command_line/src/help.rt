@@ -123,15 +123,22 @@ Example:
   lwbench live reader.image 0 5683 1000 --show";
 
 pub const TEST: &str =
-    "Reads FILE, which is UTF-8, and plays its cases. For each case of which something does not come as the
-file states it, in their order, prints the case's title with the number of the first line that does not
-hold, and that line; where the text of a case is refused and the case does not say so, the line that is
-refused, and why. Then prints how many cases there are, and how many differ (status 3 if any does):
+    "Reads each FILE, which is UTF-8, and then plays the cases, file by file; with `--only` those whose titles
+begin with WORDS. For each case of which something does not come as the file states it, prints the
+case's title with the number of the first line that does not hold, that line, and what came there; what
+a datagram says stands below it. Where the text of a case is refused and the case does not say so,
+prints the line that is refused, and why. With more than one FILE, the file's name stands before the
+title. Then prints how many cases there are, and how many differ (status 3 if any does):
   TITLE, line N
+  LINE
+  came ANSWER
   TITLE, line N: CAUSE
+  LINE
   C cases, D differ
-A file of which a line cannot be read, or that holds no case, is a fault: nothing of it is played.
-Writes no file.
+With `--list` prints the titles, a line for each, and plays no case. With `--tap` prints what comes of the
+cases as TAP, version 14, in place of this. With `--junit` a JUnit report goes to its FILE besides,
+which is replaced where it exists; no other file is written.
+A file of which a line cannot be read, or that holds no case, is a fault: no case of any file is played.
 
 Example:
   lwbench test reader.cases

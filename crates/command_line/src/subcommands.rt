@@ -1,10 +1,11 @@
 //! The subcommands of the program and their arguments, as `clap` takes them.
 ghost use Rattle.std.specs.Prelude.{◌≡◌, codes, false, true, IfOk};
 ghost use Rattle.clap.specs.Words.{App, app_of, new_app, rule_of, with_rule, with_subcommand};
-ghost use Rattle.command_line.specs.Words.{file, flag, needed, needed_number, optional_number, with_settings};
+ghost use Rattle.command_line.specs.Words.{flag, needed, needed_number, optional_number, several, text_option};
+ghost use Rattle.command_line.specs.Words.{with_settings};
 ghost use Rattle.command_line.specs.Inside.{asm_app, batch, check_app, debug_app, dis_app, live_app, one_app, pcap_app};
-ghost use Rattle.command_line.specs.Inside.{run_app, show_app, test_app, whole_app, with_port, with_range, with_trace};
-ghost use Rattle.command_line.specs.Inside.{workers};
+ghost use Rattle.command_line.specs.Inside.{run_app, show_app, test_app, whole_app, with_cases, with_forms, with_port};
+ghost use Rattle.command_line.specs.Inside.{with_range, with_trace, with_turns, workers};
 
 use crate::help;
 use clap::{Arg, ArgAction, Command, value_parser};
@@ -17,7 +18,7 @@ pub(crate) fn bench<'a>(alloc: Global) -> Result<Command<'a>, AllocError>
     let texts = with_texts(alloc, top(alloc))?;
     let runs = with_runs(alloc, texts)?;
     let traces = with_traces(alloc, runs)?;
-    with_cases(alloc, traces)
+    with_test(alloc, traces)
 }
 
 fn with_texts<'a>(alloc: Global, command: Command<'a>) -> Result<Command<'a>, AllocError>
@@ -47,7 +48,7 @@ fn with_traces<'a>(alloc: Global, command: Command<'a>) -> Result<Command<'a>, A
     with_subcommand(debug, live_command(alloc))
 }
 
-fn with_cases<'a>(alloc: Global, command: Command<'a>) -> Result<Command<'a>, AllocError>
+fn with_test<'a>(alloc: Global, command: Command<'a>) -> Result<Command<'a>, AllocError>
     ensures { IfOk result (λ c. app_of c ≡ with_subcommand (app_of command.entry) test_app.top) }
 {
     with_subcommand(Ok(command), test_command(alloc))
@@ -118,7 +119,9 @@ fn run_command<'a>(alloc: Global) -> Result<Command<'a>, AllocError>
     let image = described(alloc, "run", about, help::RUN).arg(needed(alloc, "IMAGE").help(
         "The scenario, as an image",
     ))?;
-    with_numbers(alloc, image)?.arg(file(alloc, "trace").help("Where the trace of the run goes"))
+    with_numbers(alloc, image)?.arg(text_option(alloc, "trace", "FILE").help(
+        "Where the trace of the run goes",
+    ))
 }
 
 fn with_numbers<'a>(alloc: Global, command: Command<'a>) -> Result<Command<'a>, AllocError>
@@ -209,10 +212,17 @@ fn live_command<'a>(alloc: Global) -> Result<Command<'a>, AllocError>
 {
     let about = "Lets a device answer the datagrams that arrive at a UDP port";
     let device = with_port(alloc, described(alloc, "live", about, help::LIVE))?;
-    device
-        .arg(turns(alloc))?
-        .arg(file(alloc, "save").help("Where the image of what happened goes"))?
-        .arg(flag(alloc, "show").help("Prints what happens while it goes on"))
+    let show = flag(alloc, "show").help("Prints what happens while it goes on");
+    with_turns(alloc, device)?.arg(show)
+}
+
+/// Adds the words for how long a device goes on, and what is left of that.
+fn with_turns<'a>(alloc: Global, command: Command<'a>) -> Result<Command<'a>, AllocError>
+    ensures { IfOk result (λ c. app_of c ≡ with_turns (app_of command.entry)) }
+{
+    command.arg(turns(alloc))?.arg(text_option(alloc, "save", "FILE").help(
+        "Where the image of what happened goes",
+    ))
 }
 
 /// Adds the words for a device and its port.
@@ -228,8 +238,28 @@ fn with_port<'a>(alloc: Global, command: Command<'a>) -> Result<Command<'a>, All
 fn test_command<'a>(alloc: Global) -> Result<Command<'a>, AllocError>
     ensures { IfOk result (λ c. app_of c ≡ test_app) }
 {
-    let about = "Plays the cases of a file, and names those that differ";
-    described(alloc, "test", about, help::TEST).arg(needed(alloc, "FILE").help("The file of cases"))
+    let about = "Plays the cases of files, and says which differ";
+    let cases = with_cases(alloc, described(alloc, "test", about, help::TEST))?;
+    let junit = text_option(alloc, "junit", "FILE").help("Where a JUnit report of them goes");
+    with_forms(alloc, cases)?.arg(junit)
+}
+
+/// Adds the words for what is printed of cases.
+fn with_forms<'a>(alloc: Global, command: Command<'a>) -> Result<Command<'a>, AllocError>
+    ensures { IfOk result (λ c. app_of c ≡ with_forms (app_of command.entry)) }
+{
+    command
+        .arg(flag(alloc, "list").help("Prints the titles of the cases, and plays none"))?
+        .arg(flag(alloc, "tap").help("Prints what comes of them as TAP, version 14"))
+}
+
+/// Adds the words for cases of files.
+fn with_cases<'a>(alloc: Global, command: Command<'a>) -> Result<Command<'a>, AllocError>
+    ensures { IfOk result (λ c. app_of c ≡ with_cases (app_of command.entry)) }
+{
+    command
+        .arg(several(alloc, "FILE").help("A file of cases"))?
+        .arg(text_option(alloc, "only", "WORDS").help("Take only the cases whose titles begin so"))
 }
 
 fn turns<'a>(alloc: Global) -> Arg<'a>
@@ -278,11 +308,11 @@ fn flag<'a>(alloc: Global, name: &'a str) -> Arg<'a>
     Arg::new(alloc, name).long(name).action(ArgAction::SetTrue)
 }
 
-fn file<'a>(alloc: Global, name: &'a str) -> Arg<'a>
-    ensures rule { rule_of result ≡ file name.entry.now }
+fn text_option<'a>(alloc: Global, name: &'a str, value: &'a str) -> Arg<'a>
+    ensures rule { rule_of result ≡ text_option name.entry.now }
     ensures local { result.global ≡ false }
 {
-    Arg::new(alloc, name).long(name).value_name("FILE")
+    Arg::new(alloc, name).long(name).value_name(value)
 }
 
 fn needed<'a>(alloc: Global, name: &'a str) -> Arg<'a>
@@ -290,4 +320,13 @@ fn needed<'a>(alloc: Global, name: &'a str) -> Arg<'a>
     ensures local { result.global ≡ false }
 {
     Arg::new(alloc, name).required(true)
+}
+
+fn several<'a>(alloc: Global, name: &'a str) -> Arg<'a>
+    ensures rule { rule_of result ≡ several name.entry.now }
+    ensures local { result.global ≡ false }
+{
+    Arg::new(alloc, name)
+        .required(true)
+        .action(ArgAction::Append)
 }

@@ -1,10 +1,11 @@
 ghost use Rattle.std.specs.Prelude.{◌≡◌, ◌≢◌, ◌⊎◌, List, None, Some, codes, map, option_map, IfNone, IfOk, IfSome};
 ghost use Rattle.std.specs.String.{string_bytes};
-ghost use Rattle.clap.specs.Words.{Row, Text as Word, first_of, found_of, kind_of, one_of, rows_of, subcommand_rows_of};
+ghost use Rattle.clap.specs.Words.{Row, Text as Word, all_of, first_of, found_of, kind_of, one_of, rows_of};
+ghost use Rattle.clap.specs.Words.{subcommand_rows_of};
 ghost use Rattle.command_line.specs.declared.words.Asked.{Asked as AskedData};
 ghost use Rattle.command_line.specs.declared.words.Job.{Job as JobData};
-ghost use Rattle.command_line.specs.Words.{AsksFor, AsksToLive, IsFlag, IsOptionalNumber, IsReadAs, MayAskFor};
-ghost use Rattle.command_line.specs.Inside.{LacksLive, LacksRun};
+ghost use Rattle.command_line.specs.Words.{AsksFor, AsksToLive, IsOptionalNumber, IsReadAs, MayAskFor, is_set};
+ghost use Rattle.command_line.specs.Inside.{IsTakenAs, LacksLive, LacksRun, LacksTest, ListsAndPlays};
 
 use crate::subcommands::bench;
 use clap::error::ErrorKind;
@@ -16,8 +17,13 @@ pub const NO_TEXT: &str =
     "error: invalid UTF-8 was detected in one or more arguments\n\nUsage: lwbench <COMMAND>\n\n\
      For more information, try '--help'.\n";
 
+/// What is said where titles are asked for and cases are to be played too.
+const LISTS_AND_PLAYS: &str =
+    "error: the argument '--list' cannot be used with '--tap' or '--junit <FILE>'\n\n\
+     Usage: lwbench test [OPTIONS] <FILE>...\n\nFor more information, try '--help'.\n";
+
 /// What the words ask the program to do. It borrows them.
-#[derive(Clone, Copy)]
+#[derive(Drop)]
 pub enum Job<'a> {
     /// The demonstration device takes one datagram.
     One {
@@ -83,10 +89,23 @@ pub enum Job<'a> {
         /// The path of the run's trace file.
         trace: &'a str,
     },
-    /// Which cases of a file differ.
+    /// The titles of cases.
+    Titles {
+        /// The paths of the files of cases.
+        files: Vec<&'a str>,
+        /// How the titles begin; where it is not given, all are printed.
+        only: Option<&'a str>,
+    },
+    /// Which cases differ.
     Test {
-        /// The path of the file of cases.
-        file: &'a str,
+        /// The paths of the files of cases.
+        files: Vec<&'a str>,
+        /// How the titles begin of the cases that are played; where it is not given, all are.
+        only: Option<&'a str>,
+        /// Whether the answer is in the form of TAP.
+        tap: bool,
+        /// Where the JUnit report goes, if anywhere.
+        junit: Option<&'a str>,
     },
 }
 
@@ -124,19 +143,13 @@ pub enum Asked<'a> {
 }
 
 /// What the words ask for, of which the first is the program's name: a job, or a text on how to use the program if
-/// `clap` has an error for them. Which errors there are is said in the terms of `clap`, which reads the words; what its
-/// texts say is not proved.
+/// `clap` has an error for them, or if they exclude each other. Which errors there are is said in the terms of `clap`,
+/// which reads the words; what the texts say is not proved.
 pub fn read<'a>(alloc: Global, words: &'a [String]) -> Result<Asked<'a>, AllocError>
     ensures { IfOk result (IsReadAs (map string_bytes words.now)) }
 {
     match bench(alloc)?.try_get_matches_from(words) {
-        Ok(found) => match asked_of(&found) {
-            Some(asked) => Ok(asked),
-            None => Ok(Asked::Text {
-                text: usage(alloc)?,
-                is_mistake: true,
-            }),
-        },
+        Ok(found) => taken(alloc, &found),
         Err(error) => Ok(Asked::Text {
             text: told(alloc, &error)?,
             is_mistake: error.use_stderr(),
@@ -144,46 +157,72 @@ pub fn read<'a>(alloc: Global, words: &'a [String]) -> Result<Asked<'a>, AllocEr
     }
 }
 
-fn asked_of<'a>(found: &ArgMatches<'a>) -> Option<Asked<'a>>
-    ensures some { IfSome result (λ asked. (p : Word × List Row) × (subcommand_rows_of found.now ≡ Some p)
-        × MayAskFor p asked) }
-    ensures none { IfNone result ((p : Word × List Row) (asked : AskedData) → subcommand_rows_of found.now ≡ Some p
-        → MayAskFor p asked → ⊥) }
+/// What words that `clap` took ask for.
+#[tactic(auto, using(crate::proofs::Asking::taken_for))]
+fn taken<'a>(alloc: Global, found: &ArgMatches<'a>) -> Result<Asked<'a>, AllocError>
+    ensures { IfOk result (IsTakenAs (subcommand_rows_of found.now)) }
+{
+    match asked_of(alloc, found)? {
+        Some(asked) => Ok(asked),
+        None => Ok(Asked::Text {
+            text: usage(alloc, found)?,
+            is_mistake: true,
+        }),
+    }
+}
+
+fn asked_of<'a>(alloc: Global, found: &ArgMatches<'a>) -> Result<Option<Asked<'a>>, AllocError>
+    ensures some { IfOk result (λ o. IfSome o (λ asked. (p : Word × List Row) × (subcommand_rows_of found.now ≡ Some p)
+        × MayAskFor p asked)) }
+    ensures none { IfOk result (λ o. IfNone o ((p : Word × List Row) (asked : AskedData)
+        → subcommand_rows_of found.now ≡ Some p → MayAskFor p asked → ⊥)) }
 {
     match found.subcommand() {
-        Some((name, inner)) => asked_in(name, inner),
-        None => None,
+        Some((name, inner)) => asked_in(alloc, name, inner),
+        None => Ok(None),
     }
 }
 
 #[tactic(auto, using(crate::proofs::Asking::not_live, crate::proofs::Asking::no_job))]
-fn asked_in<'a>(name: &str, found: &ArgMatches<'a>) -> Option<Asked<'a>>
-    ensures some { IfSome result (MayAskFor (name.now, rows_of (found_of found.now))) }
-    ensures none { IfNone result ((asked : AskedData) → MayAskFor (name.now, rows_of (found_of found.now)) asked
-        → ⊥) }
+fn asked_in<'a>(
+    alloc: Global,
+    name: &str,
+    found: &ArgMatches<'a>,
+) -> Result<Option<Asked<'a>>, AllocError>
+    ensures some { IfOk result (λ o. IfSome o (MayAskFor (name.now, rows_of (found_of found.now)))) }
+    ensures none { IfOk result (λ o. IfNone o ((asked : AskedData)
+        → MayAskFor (name.now, rows_of (found_of found.now)) asked → ⊥)) }
 {
     match name {
-        "live" => Some(Asked::Live(live_of(found)?)),
-        _ => Some(Asked::Job(job_in(name, found)?)),
+        "live" => Ok(live_asked(found)),
+        _ => match job_in(alloc, name, found)? {
+            Some(job) => Ok(Some(Asked::Job(job))),
+            None => Ok(None),
+        },
     }
 }
 
 #[tactic(auto, using(crate::proofs::Asking::no_one, crate::proofs::Asking::no_asm, crate::proofs::Asking::no_dis, crate::proofs::Asking::no_run, crate::proofs::Asking::no_check, crate::proofs::Asking::no_show, crate::proofs::Asking::no_pcap, crate::proofs::Asking::no_debug, crate::proofs::Asking::no_test))]
-fn job_in<'a>(name: &str, found: &ArgMatches<'a>) -> Option<Job<'a>>
-    ensures some { IfSome result (AsksFor (name.now, rows_of (found_of found.now))) }
-    ensures none { IfNone result ((job : JobData) → AsksFor (name.now, rows_of (found_of found.now)) job → ⊥) }
+fn job_in<'a>(
+    alloc: Global,
+    name: &str,
+    found: &ArgMatches<'a>,
+) -> Result<Option<Job<'a>>, AllocError>
+    ensures some { IfOk result (λ o. IfSome o (AsksFor (name.now, rows_of (found_of found.now)))) }
+    ensures none { IfOk result (λ o. IfNone o ((job : JobData) → AsksFor (name.now, rows_of (found_of found.now)) job
+        → ⊥)) }
 {
     match name {
-        "one" => one_job(found),
-        "asm" => asm_job(found),
-        "dis" => dis_job(found),
-        "run" => run_job(found),
-        "check" => check_job(found),
-        "show" => show_job(found),
-        "pcap" => pcap_job(found),
-        "debug" => debug_job(found),
-        "test" => test_job(found),
-        _ => None,
+        "one" => Ok(one_job(found)),
+        "asm" => Ok(asm_job(found)),
+        "dis" => Ok(dis_job(found)),
+        "run" => Ok(run_job(found)),
+        "check" => Ok(check_job(found)),
+        "show" => Ok(show_job(found)),
+        "pcap" => Ok(pcap_job(found)),
+        "debug" => Ok(debug_job(found)),
+        "test" => test_job(alloc, found),
+        _ => Ok(None),
     }
 }
 
@@ -277,13 +316,44 @@ fn debug_job<'a>(found: &ArgMatches<'a>) -> Option<Job<'a>>
     })
 }
 
-fn test_job<'a>(found: &ArgMatches<'a>) -> Option<Job<'a>>
-    ensures some { IfSome result (AsksFor (codes "test", rows_of (found_of found.now))) }
-    ensures none { IfNone result (first_of (codes "FILE") (rows_of (found_of found.now)) ≡ None) }
+fn test_job<'a>(alloc: Global, found: &ArgMatches<'a>) -> Result<Option<Job<'a>>, AllocError>
+    ensures some { IfOk result (λ o. IfSome o (AsksFor (codes "test", rows_of (found_of found.now)))) }
+    ensures none { IfOk result (λ o. IfNone o (LacksTest (rows_of (found_of found.now)))) }
 {
-    Some(Job::Test {
-        file: value_of(found, "FILE")?,
-    })
+    match values_of(alloc, found, "FILE")? {
+        Some(files) => Ok(cases_job(found, files)),
+        None => Ok(None),
+    }
+}
+
+/// What is asked of these files of cases: their titles, or which of them differ.
+fn cases_job<'a>(found: &ArgMatches<'a>, files: Vec<&'a str>) -> Option<Job<'a>>
+    requires { all_of (codes "FILE") (rows_of (found_of found.now)) ≡ Some (map (λ p. p.now) files.items) }
+    ensures some { IfSome result (AsksFor (codes "test", rows_of (found_of found.now))) }
+    ensures none { IfNone result (ListsAndPlays (rows_of (found_of found.now))) }
+{
+    let only = value_of(found, "only");
+    let tap = flag(found, "tap");
+    let junit = value_of(found, "junit");
+    if !flag(found, "list") {
+        return Some(Job::Test {
+            files,
+            only,
+            tap,
+            junit,
+        });
+    }
+    if tap || junit.is_some() {
+        return None;
+    }
+    Some(Job::Titles { files, only })
+}
+
+fn live_asked<'a>(found: &ArgMatches<'a>) -> Option<Asked<'a>>
+    ensures some { IfSome result (MayAskFor (codes "live", rows_of (found_of found.now))) }
+    ensures none { IfNone result (LacksLive (rows_of (found_of found.now))) }
+{
+    Some(Asked::Live(live_of(found)?))
 }
 
 fn live_of<'a>(found: &ArgMatches<'a>) -> Option<Live<'a>>
@@ -307,6 +377,32 @@ fn value_of<'a>(found: &ArgMatches<'a>, id: &str) -> Option<&'a str>
     found.get_str(id)
 }
 
+/// The values of an argument that may stand several times.
+fn values_in<'b, 'a>(found: &'b ArgMatches<'a>, id: &str) -> Option<&'b [&'a str]>
+    ensures { option_map (λ s. map (λ v. v.now) s.now) result ≡ all_of id.now (rows_of (found_of found.now)) }
+{
+    found.get_strs(id)
+}
+
+/// A copy of these values.
+fn values_of<'a>(
+    alloc: Global,
+    found: &ArgMatches<'a>,
+    id: &str,
+) -> Result<Option<Vec<&'a str>>, AllocError>
+    ensures { IfOk result (λ o. option_map (λ v. map (λ p. p.now) v.items) o
+        ≡ all_of id.now (rows_of (found_of found.now))) }
+{
+    match values_in(found, id) {
+        Some(values) => {
+            let mut all = Vec::new(alloc);
+            all.extend_from_slice(values)?;
+            Ok(Some(all))
+        }
+        None => Ok(None),
+    }
+}
+
 /// The value of an argument as a number of 16 bits, if there is one.
 fn small_number(found: &ArgMatches, id: &str) -> Option<u16>
     ensures { IsOptionalNumber 16 (one_of id.now (rows_of (found_of found.now))) result }
@@ -323,9 +419,12 @@ fn number(found: &ArgMatches, id: &str) -> Option<u32>
 
 /// Whether a flag is given.
 fn flag(found: &ArgMatches, id: &str) -> bool
-    ensures { IsFlag (one_of id.now (rows_of (found_of found.now))) result }
+    ensures { is_set id.now (rows_of (found_of found.now)) ≡ result }
 {
-    found.get_flag(id)
+    match value_of(found, id) {
+        Some(word) => word == "true",
+        None => false,
+    }
 }
 
 /// The text of what `clap` did not take.
@@ -338,6 +437,10 @@ fn told(alloc: Global, error: &Error) -> Result<String, AllocError>
     error.to_string(alloc)
 }
 
-fn usage(alloc: Global) -> Result<String, AllocError> {
-    bench(alloc)?.render_help()
+/// The text on words that `clap` took, and that ask for nothing.
+fn usage(alloc: Global, found: &ArgMatches) -> Result<String, AllocError> {
+    match found.subcommand_name() {
+        Some("test") => String::from_str(alloc, LISTS_AND_PLAYS),
+        _ => bench(alloc)?.render_help(),
+    }
 }

@@ -1,57 +1,43 @@
 -- What is answered to `test`, and what is refused.
---
--- Two relations say what is known of the files: `holds path bytes`, the file at the path had these bytes when it was
--- read; `fails path`, it could not be read.
-use Rattle.std.specs.Prelude.{⊤, ℕ, ◌≡◌, ◌⊎◌, List, [], Ok, Err}
-use Rattle.std.specs.Str.{IsUtf8}
-use Rattle.std.specs.String.{string_bytes}
-use Rattle.case_text.specs.Cases.{cases_in}
-use Rattle.case_text.specs.declared.case.Case.{Case}
-use Rattle.command_files.specs.Answers.{files_of}
+use Rattle.std.specs.Prelude.{⊤, ℕ, ◌≡◌, ◌≢◌, Bool, List, [], Option}
 use Rattle.command_files.specs.declared.answer.Answer.{Answer}
 use Rattle.command_files.specs.declared.fault.Fault.{Fault}
-use Rattle.command_files.specs.declared.fault.Fault.TheVariants.{Cases, Memory, Read}
-use Rattle.command_test.specs.Playing.{ArePlayed}
-use Rattle.command_test.specs.Report.{count_differing, report, status_of}
-use Rattle.command_test.specs.declared.judged.Judged.{Judged}
+use Rattle.command_files.specs.declared.fault.Fault.TheVariants.{Memory, NoSuchCase}
+use Rattle.command_test.specs.Answers.{IsListOf, IsReportOf}
+use Rattle.command_test.specs.Playing.{choice}
+use Rattle.command_test.specs.Reading.{AreRead, IsFirstRefused}
+use Rattle.command_test.specs.declared.case_file.CaseFile.{CaseFile}
 
--- each of these cases of a file was played; the answer is the report of the verdicts, and makes no file
-pub record IsReportOf (file : List ℕ) (cases : List Case) (answer : Answer) : Type 0 where
-  pub judged : List Judged
-  pub played : ArePlayed cases judged
-  pub text_is : string_bytes answer.text ≡ report file judged
-  pub status_is : answer.status ≡ status_of (count_differing judged)
-  pub made_is : files_of answer.file ≡ []
+-- the files at these paths were read, and some of their cases are chosen
+pub record AreReadWith (holds : List ℕ → List ℕ → Type 0) (paths : List (List ℕ)) (only : Option (List ℕ))
+    (files : List CaseFile) : Type 0 where
+  pub read : AreRead holds paths files
+  pub some : choice only files ≢ []
 
--- `test FILE`: the report of the cases that the file has
-pub record IsTestDone (holds : List ℕ → List ℕ → Type 0) (path : List ℕ) (answer : Answer) : Type 0 where
-  pub bytes : List ℕ
-  pub held : holds path bytes
-  pub cases : List Case
-  pub found : cases_in bytes ≡ Ok cases
-  pub reported : IsReportOf bytes cases answer
+-- `test FILE .. --list`: the titles of the cases
+pub record IsTitlesDone (holds : List ℕ → List ℕ → Type 0) (paths : List (List ℕ)) (only : Option (List ℕ))
+    (answer : Answer) : Type 0 where
+  pub files : List CaseFile
+  pub read : AreReadWith holds paths only files
+  pub listed : IsListOf only files answer
 
--- no memory was left, or this is the first fault of a file that should have cases
-abbrev pub IsCasesFault : List ℕ → Fault → Type 0
-IsCasesFault file Memory = ⊤
-IsCasesFault file (Cases fault) = cases_in file ≡ Err fault
-IsCasesFault file _ = ⊥
+-- `test FILE ..`: the report of the cases
+pub record IsTestDone (holds : List ℕ → List ℕ → Type 0) (paths : List (List ℕ)) (only : Option (List ℕ))
+    (is_tap : Bool) (junit_path : Option (List ℕ)) (answer : Answer) : Type 0 where
+  pub files : List CaseFile
+  pub read : AreReadWith holds paths only files
+  pub reported : IsReportOf only is_tap junit_path files answer
 
--- the file at the path is no text: its bytes are no UTF-8
-pub record IsNoTextAt (holds : List ℕ → List ℕ → Type 0) (path : List ℕ) : Type 0 where
-  pub bytes : List ℕ
-  pub held : holds path bytes
-  pub no_text : IsUtf8 bytes → ⊥
+-- the files were read, and none of their cases is chosen
+pub record HasNoSuchCase (holds : List ℕ → List ℕ → Type 0) (paths : List (List ℕ)) (only : Option (List ℕ))
+    : Type 0 where
+  pub files : List CaseFile
+  pub read : AreRead holds paths files
+  pub none : choice only files ≡ []
 
--- the file at the path has no cases, for this fault
-pub record HasNoCasesAt (holds : List ℕ → List ℕ → Type 0) (path : List ℕ) (fault : Fault) : Type 0 where
-  pub bytes : List ℕ
-  pub held : holds path bytes
-  pub wrong : IsCasesFault bytes fault
-
--- the file at the path could not be read, is no text, or is a text that is refused
-abbrev pub IsTestFault : (List ℕ → List ℕ → Type 0) → (List ℕ → Type 0) → List ℕ → Fault → Type 0
-IsTestFault holds fails path Memory = ⊤
-IsTestFault holds fails path Read = fails path ⊎ IsNoTextAt holds path
-IsTestFault holds fails path (Cases fault) = HasNoCasesAt holds path (Cases fault)
-IsTestFault holds fails path _ = ⊥
+-- no memory was left, or no case is chosen, or one of the files is refused
+abbrev pub IsTestFault : (List ℕ → List ℕ → Type 0) → (List ℕ → Type 0) → List (List ℕ) → Option (List ℕ) → Fault
+    → Type 0
+IsTestFault holds fails paths only Memory = ⊤
+IsTestFault holds fails paths only NoSuchCase = HasNoSuchCase holds paths only
+IsTestFault holds fails paths only fault = IsFirstRefused holds fails paths fault

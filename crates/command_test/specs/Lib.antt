@@ -1,3 +1,10 @@
+pub mod Answers
+pub mod Came
+pub mod Escaping
 pub mod Jobs
+pub mod Junit
 pub mod Playing
+pub mod Reading
 pub mod Report
+pub mod Stated
+pub mod Tap

@@ -1,74 +1,97 @@
 -- What the program prints of cases that were played, and how it then ends.
-use Rattle.std.specs.Prelude.{ℕ, zero, suc, ◌+◌, Bool, true, false, List, [], ◌++◌, Option, None, Some, length, codes}
-use Rattle.std.specs.Prelude.{slice_get}
+use Rattle.std.specs.Prelude.{ℕ, zero, suc, ◌+◌, Bool, true, false, List, [], ◌∷◌, ◌++◌, Option, None, Some, length}
+use Rattle.std.specs.Prelude.{codes, filter, if◌then◌else◌, slice_get}
 use Rattle.std.specs.Fmt.{decimal}
-use Rattle.std.specs.List.{filter, flat_map}
+use Rattle.std.specs.List.{flat_map}
 use Rattle.scenario_words.specs.CauseWords.{cause_words}
 use Rattle.scenario_words.specs.Words.{ended_line, lines}
 use Rattle.scenario_words.specs.declared.cause.Cause.{Cause}
+use Rattle.case_text.specs.Checks.{line_of_case, title_of_case}
+use Rattle.case_play.specs.declared.came.Came.{Came}
+use Rattle.case_play.specs.declared.verdict.Verdict.{Verdict}
+use Rattle.case_play.specs.declared.verdict.Verdict.TheVariants.{Passes, Differs, Refused}
 use Rattle.command_files.specs.declared.status.Status.{Status}
 use Rattle.command_files.specs.declared.status.Status.TheVariants.{Done, NotRun}
+use Rattle.command_test.specs.Came.{came_lines, said_line}
+use Rattle.command_test.specs.Stated.{sent_at}
+use Rattle.command_test.specs.declared.came.Form.TheVariants.{Lines}
 use Rattle.command_test.specs.declared.judged.Judged.{Judged}
-use Rattle.command_test.specs.declared.judged.Outcome.{Outcome}
-use Rattle.command_test.specs.declared.judged.Outcome.TheVariants.{Passes, Differs, Refused}
+use Rattle.command_test.specs.declared.test_case.TestCase.{TestCase}
 
 abbrev pub or_empty : Option (List ℕ) → List ℕ
 or_empty None = []
 or_empty (Some line) = line
 
--- the line of a file that has this number, counted from 1; an empty one where there is none
+-- the line of a text that has this number, counted from 1; an empty one where there is none
 abbrev pub line_at : List ℕ → ℕ → List ℕ
-line_at file zero = []
-line_at file (suc place) = or_empty (slice_get (lines file) place)
+line_at text zero = []
+line_at text (suc place) = or_empty (slice_get (lines text) place)
 
--- `TITLE, line N`, and then this line
-abbrev pub wrong_text : List ℕ → ℕ → List ℕ → List ℕ
-wrong_text title number line = ended_line (title ++ codes ", line " ++ decimal number) ++ ended_line line
+-- the titles of cases, a line for each
+abbrev pub titles_text : List TestCase → List ℕ
+titles_text tests = flat_map (λ test. ended_line (title_of_case test.case.now)) tests
 
--- the same with that line of the file
-abbrev pub wrong_lines : List ℕ → List ℕ → ℕ → List ℕ
-wrong_lines file title number = wrong_text title number (line_at file number)
+-- ---- a case that differs
 
--- `TITLE, line N: CAUSE`, and then this line
-abbrev pub refused_text : List ℕ → ℕ → List ℕ → List ℕ → List ℕ
-refused_text title number cause line =
-    ended_line (title ++ codes ", line " ++ decimal number ++ codes ": " ++ cause) ++ ended_line line
+-- the title of a case; where the cases are those of several files, the path of its file before it
+abbrev pub heading : Bool → TestCase → List ℕ
+heading true test = test.path.now ++ codes ": " ++ title_of_case test.case.now
+heading false test = title_of_case test.case.now
 
--- the same with that line of the file
-abbrev pub refused_lines : List ℕ → List ℕ → ℕ → Cause → List ℕ
-refused_lines file title number cause = refused_text title number (cause_words cause) (line_at file number)
+-- what a datagram says, if there is one
+abbrev pub said_of : Option (List ℕ) → List ℕ
+said_of None = []
+said_of (Some bytes) = said_line bytes
 
--- what is printed of a case of this title, which stands in this line: nothing where it passes; where it
--- differs, the line that does not hold; where its text is refused, that line, which is counted below the title
-abbrev pub difference_by : List ℕ → List ℕ → ℕ → Outcome → List ℕ
-difference_by file title at Passes = []
-difference_by file title at (Differs line) = wrong_lines file title line
-difference_by file title at (Refused line cause) = refused_lines file title (at + line) cause
+-- `TITLE, line N`, this line of the file, what the datagram says that it states, and what came
+abbrev pub differing : Bool → TestCase → ℕ → Came → List ℕ
+differing several test line came =
+    ended_line (heading several test ++ codes ", line " ++ decimal line) ++ ended_line (line_at test.text.now line)
+    ++ said_of (sent_at test.case.now line) ++ came_lines Lines came
 
-abbrev pub difference : List ℕ → Judged → List ℕ
-difference file judged = difference_by file judged.title.now judged.line judged.outcome
+-- `TITLE, line N: CAUSE`, and this line of the file
+abbrev pub refused : Bool → TestCase → ℕ → Cause → List ℕ
+refused several test line cause =
+    ended_line (heading several test ++ codes ", line " ++ decimal line ++ codes ": " ++ cause_words cause)
+    ++ ended_line (line_at test.text.now line)
 
-abbrev pub differences : List ℕ → List Judged → List ℕ
-differences file all = flat_map (difference file) all
+-- the line of the file that is refused, which the verdict counts below the case's title
+abbrev pub refused_line : TestCase → ℕ → ℕ
+refused_line test line = line_of_case test.case.now + line
+
+-- what is printed of a case by its verdict: nothing where it passes; where it differs, the first line that does not
+-- hold; where its text is refused, that line
+abbrev pub difference_by : Bool → TestCase → Verdict → List ℕ
+difference_by several test Passes = []
+difference_by several test (Differs line came) = differing several test line came
+difference_by several test (Refused line cause) = refused several test (refused_line test line) cause
+
+abbrev pub difference : Bool → Judged → List ℕ
+difference several judged = difference_by several judged.test judged.verdict
+
+abbrev pub differences : Bool → List Judged → List ℕ
+differences several all = flat_map (difference several) all
+
+-- ---- all of them
 
 -- a case differs if it does not pass
-abbrev pub differs : Outcome → Bool
+abbrev pub differs : Verdict → Bool
 differs Passes = false
-differs (Differs line) = true
+differs (Differs line came) = true
 differs (Refused line cause) = true
 
 abbrev pub count_differing : List Judged → ℕ
-count_differing all = length (filter (λ j. differs j.outcome) all)
+count_differing all = length (filter (λ j. differs j.verdict) all)
 
 -- `C cases, D differ`
 abbrev pub count_line : ℕ → ℕ → List ℕ
 count_line cases differing = ended_line (decimal cases ++ codes " cases, " ++ decimal differing ++ codes " differ")
 
--- what is printed of the cases of a file: those that differ, in their order, and how many there are
-abbrev pub report : List ℕ → List Judged → List ℕ
-report file all = differences file all ++ count_line (length all) (count_differing all)
+-- what is printed of cases: those that differ, in their order, and how many there are
+abbrev pub report : Bool → List Judged → List ℕ
+report several all = differences several all ++ count_line (length all) (count_differing all)
 
--- the status of a file by how many of its cases differ
+-- the status by how many cases differ
 abbrev pub status_of : ℕ → Status
 status_of zero = Done
 status_of (suc n) = NotRun

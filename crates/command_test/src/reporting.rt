@@ -1,25 +1,45 @@
 //! What is printed of cases that were played, and how the program then ends.
-ghost use Rattle.std.specs.Prelude.{◌≡◌, ◌+◌, ◌≤◌, length, option_map, IfOk, slice_get};
+ghost use Rattle.std.specs.Prelude.{◌≡◌, ◌++◌, codes, IfOk, OnOk};
+ghost use Rattle.std.specs.Fmt.{decimal};
 ghost use Rattle.std.specs.String.{string_bytes};
-ghost use Rattle.scenario_words.specs.Words.{lines};
-ghost use Rattle.command_test.specs.Report.{count_differing, count_line, difference, differs, line_at, refused_lines};
-ghost use Rattle.command_test.specs.Report.{refused_text, wrong_text};
-ghost use Rattle.command_test.specs.Report.{report, status_of, differences, wrong_lines};
+ghost use Rattle.scenario_words.specs.CauseWords.{cause_words};
+ghost use Rattle.scenario_words.specs.Words.{ended_line};
+ghost use Rattle.command_test.specs.Report.{count_differing, count_line, difference, differences, differing, differs};
+ghost use Rattle.command_test.specs.Report.{heading, refused, refused_line, report, said_of, status_of};
+ghost use Rattle.command_test.specs.Report.{titles_text};
+ghost use Rattle.command_test.specs.Stated.{sent_at};
 
-use crate::judged::{Judged, Outcome};
+use crate::came::{Form, put_came, put_said};
+use crate::judged::Judged;
+use crate::lines::line_at;
+use crate::sending::sent_at;
+use crate::test_case::TestCase;
+use case_play::{Came, Verdict};
 use command_files::Status;
 use scenario_words::{Cause, cause_words};
 use std::alloc::{AllocError, Global};
 
-/// What is printed of the cases of a file: those that differ, each with the line that does not hold; and at the end how
-/// many cases there are, and how many of them differ.
-pub fn report(alloc: Global, file: &str, all: &[Judged]) -> Result<String, AllocError>
-    ensures { IfOk result (λ text. string_bytes text ≡ report file.now all.now) }
+/// The titles of cases, a line for each.
+pub(crate) fn titles_text(alloc: Global, tests: &[TestCase]) -> Result<String, AllocError>
+    ensures { IfOk result (λ text. string_bytes text ≡ titles_text tests.now) }
 {
-    let mut text = differences(alloc, file, all)?;
-    let last = count_line(alloc, all.len(), count_differing(all))?;
-    text.push_str(last.as_str())?;
-    Ok(text)
+    let mut out = String::new(alloc);
+    for test in tests {
+        out.push_str(test.case.title().as_str())?;
+        out.push('\n')?;
+    }
+    Ok(out)
+}
+
+/// What is printed of cases: those that differ, each with the line that does not hold and what came; and at the end how
+/// many cases there are, and how many of them differ. `several` says that they are those of several files.
+pub fn report(alloc: Global, several: bool, all: &[Judged]) -> Result<String, AllocError>
+    ensures { IfOk result (λ text. string_bytes text ≡ report several all.now) }
+{
+    let mut out = String::new(alloc);
+    put_differences(alloc, &mut out, several, all)?;
+    put_count_line(&mut out, all.len(), count_differing(all))?;
+    Ok(out)
 }
 
 /// How the program ends.
@@ -32,116 +52,144 @@ pub(crate) fn status_of(all: &[Judged]) -> Status
     }
 }
 
-fn differences(alloc: Global, file: &str, all: &[Judged]) -> Result<String, AllocError>
-    ensures { IfOk result (λ text. string_bytes text ≡ differences file.now all.now) }
+fn put_differences(
+    alloc: Global,
+    out: &mut String,
+    several: bool,
+    all: &[Judged],
+) -> Result<(), AllocError>
+    ensures { OnOk result (string_bytes out.new ≡ string_bytes out.old ++ differences several all.now) }
 {
-    let mut text = String::new(alloc);
     for judged in all {
-        let difference = difference(alloc, file, judged)?;
-        text.push_str(difference.as_str())?;
+        put_difference(alloc, out, several, judged)?;
     }
-    Ok(text)
+    Ok(())
 }
 
-fn differs(outcome: Outcome) -> bool
-    ensures { result ≡ differs outcome }
+pub(crate) fn differs(verdict: &Verdict) -> bool
+    ensures { result ≡ differs verdict.now }
 {
-    match outcome {
-        Outcome::Passes => false,
-        Outcome::Differs(_) | Outcome::Refused { .. } => true,
+    match verdict {
+        Verdict::Passes => false,
+        Verdict::Differs { .. } | Verdict::Refused { .. } => true,
     }
 }
 
 fn count_differing(all: &[Judged]) -> usize
     ensures { result ≡ count_differing all.now }
 {
-    all.iter().filter(|judged| differs(judged.outcome)).count()
+    all.iter().filter(|judged| differs(&judged.verdict)).count()
 }
 
-/// What is printed of a case: nothing of one that passes.
-fn difference(alloc: Global, file: &str, judged: &Judged) -> Result<String, AllocError>
-    ensures { IfOk result (λ text. string_bytes text ≡ difference file.now judged.now) }
+/// Writes what is printed of a case: nothing of one that passes.
+pub(crate) fn put_difference(
+    alloc: Global,
+    out: &mut String,
+    several: bool,
+    judged: &Judged,
+) -> Result<(), AllocError>
+    ensures { OnOk result (string_bytes out.new ≡ string_bytes out.old ++ difference several judged.now) }
 {
-    match judged.outcome {
-        Outcome::Passes => Ok(String::new(alloc)),
-        Outcome::Differs(line) => wrong_lines(alloc, file, judged.title, line),
-        Outcome::Refused { line, cause } => {
-            let number = judged.line as u128 + line as u128;
-            refused_lines(alloc, file, judged.title, number, cause)
+    match &judged.verdict {
+        Verdict::Passes => Ok(()),
+        Verdict::Differs { line, came } => {
+            put_differing(alloc, out, several, &judged.test, *line, came)
+        }
+        Verdict::Refused { line, cause } => {
+            let number = refused_line(&judged.test, *line);
+            put_refused(out, several, &judged.test, number, *cause)
         }
     }
 }
 
-fn wrong_lines(alloc: Global, file: &str, title: &str, number: usize) -> Result<String, AllocError>
-    ensures { IfOk result (λ text. string_bytes text ≡ wrong_lines file.now title.now number) }
+/// The line of the file that is refused, which the verdict counts below the case's title.
+pub(crate) fn refused_line(test: &TestCase, line: usize) -> u128
+    ensures { result ≡ refused_line test.now line }
 {
-    wrong_text(alloc, title, number, line_at(file, number as u128))
+    test.case.line() as u128 + line as u128
 }
 
-fn wrong_text(alloc: Global, title: &str, number: usize, line: &str) -> Result<String, AllocError>
-    ensures { IfOk result (λ text. string_bytes text ≡ wrong_text title.now number line.now) }
+/// Writes the title of a case; where the cases are those of several files, the path of its file before it.
+fn put_heading(out: &mut String, several: bool, test: &TestCase) -> Result<(), AllocError>
+    ensures { OnOk result (string_bytes out.new ≡ string_bytes out.old ++ heading several test.now) }
 {
-    format!(in alloc; "{title}, line {number}\n{line}\n")
+    if several {
+        out.push_str(test.path)?;
+        out.push_str(": ")?;
+        return out.push_str(test.case.title().as_str());
+    }
+    out.push_str(test.case.title().as_str())
 }
 
-fn refused_lines(
+/// Writes what the datagram says that a line of a case states, if it states one.
+fn put_sent(
     alloc: Global,
-    file: &str,
-    title: &str,
+    out: &mut String,
+    test: &TestCase,
+    line: usize,
+) -> Result<(), AllocError>
+    ensures { OnOk result (string_bytes out.new ≡ string_bytes out.old ++ said_of (sent_at test.now.case.now line)) }
+{
+    match sent_at(alloc, test.case, line)? {
+        Some(bytes) => put_said(alloc, out, bytes.as_slice()),
+        None => Ok(()),
+    }
+}
+
+/// Writes `, line N` after a title, and this line of the file.
+fn put_place(out: &mut String, number: usize, line: &str) -> Result<(), AllocError>
+    ensures { OnOk result (string_bytes out.new ≡ string_bytes out.old
+        ++ (ended_line (codes ", line " ++ decimal number) ++ ended_line line.now)) }
+{
+    write!(out, ", line {number}\n{line}\n")
+}
+
+fn put_differing(
+    alloc: Global,
+    out: &mut String,
+    several: bool,
+    test: &TestCase,
+    line: usize,
+    came: &Came,
+) -> Result<(), AllocError>
+    ensures { OnOk result (string_bytes out.new ≡ string_bytes out.old ++ differing several test.now line came.now) }
+{
+    put_heading(out, several, test)?;
+    put_place(out, line, line_at(test.text, line as u128))?;
+    put_sent(alloc, out, test, line)?;
+    put_came(alloc, out, Form::Lines, came)
+}
+
+/// Writes `, line N: CAUSE` after a title, and this line of the file.
+fn put_cause(
+    out: &mut String,
     number: u128,
     cause: Cause,
-) -> Result<String, AllocError>
-    ensures { IfOk result (λ text. string_bytes text ≡ refused_lines file.now title.now number cause) }
-{
-    refused_text(
-        alloc,
-        title,
-        number,
-        cause_words(cause),
-        line_at(file, number),
-    )
-}
-
-fn refused_text(
-    alloc: Global,
-    title: &str,
-    number: u128,
-    cause: &str,
     line: &str,
-) -> Result<String, AllocError>
-    ensures { IfOk result (λ text. string_bytes text ≡ refused_text title.now number cause.now line.now) }
+) -> Result<(), AllocError>
+    ensures { OnOk result (string_bytes out.new ≡ string_bytes out.old
+        ++ (ended_line (codes ", line " ++ decimal number ++ codes ": " ++ cause_words cause) ++ ended_line line.now)) }
 {
-    format!(in alloc; "{title}, line {number}: {cause}\n{line}\n")
+    let words = cause_words(cause);
+    write!(out, ", line {number}: {words}\n{line}\n")
 }
 
-/// The line of this number, counted from 1; an empty one where there is none.
-#[tactic(auto, using(crate::proofs::LinesAt::none_before, crate::proofs::LinesAt::none_past, crate::proofs::LinesAt::there, crate::proofs::LinesAt::not_there))]
-fn line_at(file: &str, number: u128) -> &str
-    ensures { result.now ≡ line_at file.now number }
+fn put_refused(
+    out: &mut String,
+    several: bool,
+    test: &TestCase,
+    line: u128,
+    cause: Cause,
+) -> Result<(), AllocError>
+    ensures { OnOk result (string_bytes out.new ≡ string_bytes out.old ++ refused several test.now line cause) }
 {
-    if number == 0 {
-        return "";
-    }
-    if number - 1 > file.len() as u128 {
-        return "";
-    }
-    let place = (number - 1) as usize;
-    match line_of(file, place) {
-        Some(line) => line,
-        None => "",
-    }
+    put_heading(out, several, test)?;
+    put_cause(out, line, cause, line_at(test.text, line))
 }
 
-/// The line at this place, counted from 0.
-fn line_of(file: &str, place: usize) -> Option<&str>
-    ensures { option_map (λ x. x.now) result ≡ slice_get (lines file.now) place }
+/// Writes the line that counts cases.
+fn put_count_line(out: &mut String, cases: usize, differing: usize) -> Result<(), AllocError>
+    ensures { OnOk result (string_bytes out.new ≡ string_bytes out.old ++ count_line cases differing) }
 {
-    file.split('\n').nth(place)
-}
-
-/// The line that counts cases.
-fn count_line(alloc: Global, cases: usize, differing: usize) -> Result<String, AllocError>
-    ensures { IfOk result (λ text. string_bytes text ≡ count_line cases differing) }
-{
-    format!(in alloc; "{cases} cases, {differing} differ\n")
+    write!(out, "{cases} cases, {differing} differ\n")
 }

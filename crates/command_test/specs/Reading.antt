@@ -1,0 +1,56 @@
+-- Files of cases that were read, or that were refused.
+--
+-- Two relations say what is known of the files: `holds path bytes`, the file at the path had these bytes when it was
+-- read; `fails path`, it could not be read.
+use Rattle.std.specs.Prelude.{⊤, ℕ, ◌≡◌, ◌⊎◌, List, ◌∷◌, ◌++◌, All, Ok, Err, map}
+use Rattle.std.specs.Str.{IsUtf8}
+use Rattle.case_text.specs.Cases.{cases_in}
+use Rattle.command_files.specs.declared.fault.Fault.{Fault}
+use Rattle.command_files.specs.declared.fault.Fault.TheVariants.{Cases, Memory, Read}
+use Rattle.command_test.specs.declared.case_file.CaseFile.{CaseFile}
+
+-- the file at the path had this text, and the text has these cases
+pub record IsCaseFile (holds : List ℕ → List ℕ → Type 0) (file : CaseFile) : Type 0 where
+  pub held : holds file.path.now file.text
+  pub found : cases_in file.text ≡ Ok file.cases.items
+
+-- the files at these paths, in their order
+pub record AreRead (holds : List ℕ → List ℕ → Type 0) (paths : List (List ℕ)) (files : List CaseFile) : Type 0 where
+  pub paths_are : map (λ f. f.path.now) files ≡ paths
+  pub all_are : All (IsCaseFile holds) files
+
+-- no memory was left, or this is the first fault of a text that should have cases
+abbrev pub IsCasesFault : List ℕ → Fault → Type 0
+IsCasesFault text Memory = ⊤
+IsCasesFault text (Cases fault) = cases_in text ≡ Err fault
+IsCasesFault text _ = ⊥
+
+-- the file at the path is no text: its bytes are no UTF-8
+pub record IsNoTextAt (holds : List ℕ → List ℕ → Type 0) (path : List ℕ) : Type 0 where
+  pub bytes : List ℕ
+  pub held : holds path bytes
+  pub no_text : IsUtf8 bytes → ⊥
+
+-- the file at the path has no cases, for this fault
+pub record HasNoCasesAt (holds : List ℕ → List ℕ → Type 0) (path : List ℕ) (fault : Fault) : Type 0 where
+  pub bytes : List ℕ
+  pub held : holds path bytes
+  pub wrong : IsCasesFault bytes fault
+
+-- the file at the path could not be read, is no text, or is a text that is refused
+abbrev pub IsFileRefused : (List ℕ → List ℕ → Type 0) → (List ℕ → Type 0) → List ℕ → Fault → Type 0
+IsFileRefused holds fails path Memory = ⊤
+IsFileRefused holds fails path Read = fails path ⊎ IsNoTextAt holds path
+IsFileRefused holds fails path (Cases fault) = HasNoCasesAt holds path (Cases fault)
+IsFileRefused holds fails path _ = ⊥
+
+-- one of the files is refused so; those before it were read
+pub record IsFirstRefused (holds : List ℕ → List ℕ → Type 0) (fails : List ℕ → Type 0) (paths : List (List ℕ))
+    (fault : Fault) : Type 0 where
+  pub before : List (List ℕ)
+  pub path : List ℕ
+  pub others : List (List ℕ)
+  pub stands : paths ≡ before ++ path ∷ others
+  pub files : List CaseFile
+  pub read : AreRead holds before files
+  pub refused : IsFileRefused holds fails path fault
