@@ -52,7 +52,7 @@ twice : (f : Machine) → living f ≡ living (living f)
 twice f = λ j. record { kept = f.kept; recorded = same_twice f j }
 
 -- a request is a repeat, or none, of those that live
-repeat_living : (f : Machine) (server : ℕ) (m : Message) → repeat_of f server m ≡ repeat_of (living f) server m
+pub repeat_living : (f : Machine) (server : ℕ) (m : Message) → repeat_of f server m ≡ repeat_of (living f) server m
 repeat_living f server m = repeat_same f.kept f.recorded (living f).recorded server m (same_twice f)
 
 taken_living : (f : Machine) (server : ℕ) (reading : Result Message CoapFault) (new : Kept)

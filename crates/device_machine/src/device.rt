@@ -1,4 +1,4 @@
-ghost use Rattle.std.specs.Prelude.{◌≡◌, ◌↔◌, [], IfOk, MatchOption, OnOk, IsTrue, Ok, Err};
+ghost use Rattle.std.specs.Prelude.{◌≡◌, ◌↔◌, [], IfOk, MatchOption, OnOk, IsTrue, Ok, Err, is_some};
 ghost use Rattle.std.specs.Option.{option_copied};
 ghost use Rattle.object_defs.specs.Path.{full_path};
 ghost use Rattle.device_notifications.specs.Outlooks.{outlooks_of};
@@ -6,12 +6,14 @@ ghost use Rattle.device_machine.specs.Template.{start_of};
 ghost use Rattle.device_machine.specs.Memory.{IsLeftBy, KeepsRecords, event_takes_memory};
 ghost use Rattle.device_machine.specs.Held.{IsNextSending, IsSilent};
 ghost use Rattle.device_machine.specs.State.{Machine as FlatState, Shows, value_in};
-ghost use Rattle.device_machine.specs.Reactions.{outputs_of, flat_after, is_refused, passes_end};
+ghost use Rattle.device_machine.specs.Reactions.{outputs_of, flat_after, is_refused, passes_end, repeat_of};
 
 use crate::event::Event;
 use crate::fault::StepFault;
 use crate::machine::Machine;
 use crate::output::Outputs;
+use coap_codec::Message;
+use device_requests::Client;
 use device_template::Template;
 use lwm2m_values::Value;
 use notifier::{Attributes, Observations};
@@ -144,6 +146,23 @@ impl Device {
         let outputs = self.machine.react(event)?;
         self.spent = false;
         Ok(outputs)
+    }
+
+    /// What management requests read and modify; a spent device gives what it was left with.
+    pub fn client(&self) -> &Client
+        ensures shown { (f : FlatState) → Shows self.now f → result.now ≡ f.kept.client }
+        ensures left { result.now ≡ self.now.flat.kept.client }
+    {
+        self.machine.client()
+    }
+
+    /// Whether a request is a repeat: this server sent one of the same type and message ID, whose lifetime has not
+    /// elapsed (RFC 7252 section 4.5).
+    pub fn is_repeat(&self, server: u16, message: &Message) -> bool
+        ensures shown { (f : FlatState) → Shows self.now f → result ≡ is_some (repeat_of f server message.now) }
+        ensures left { result ≡ is_some (repeat_of self.now.flat server message.now) }
+    {
+        self.machine.repeat_of(server, message).is_some()
     }
 
     /// The attributes that servers set; a spent device gives those that it was left with.

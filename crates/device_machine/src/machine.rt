@@ -152,6 +152,13 @@ impl Machine {
         self.client.store()
     }
 
+    /// What management requests read and modify.
+    pub(crate) fn client(&self) -> &Client
+        ensures { result.now ≡ self.now.flat.kept.client }
+    {
+        &self.client
+    }
+
     /// The attributes that servers set.
     pub(crate) fn attributes(&self) -> &Attributes
         ensures { result.now ≡ self.now.flat.kept.client.attributes }

@@ -31,7 +31,7 @@ pub(super) fn again(
 
 impl Machine {
     /// The first receipt of a request that is repeated within its lifetime.
-    pub(super) fn repeat_of(&self, server: u16, message: &Message) -> Option<&Recorded>
+    pub(crate) fn repeat_of(&self, server: u16, message: &Message) -> Option<&Recorded>
         ensures { option_copied result ≡ repeat_of self.now.flat server message.now }
     {
         self.recorded.find(server, message.kind(), message.mid())
