@@ -1,0 +1,6 @@
+pub mod Json
+pub mod Writing
+pub mod Steps
+pub mod Entries
+pub mod Lines
+pub mod Members
