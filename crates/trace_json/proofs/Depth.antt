@@ -15,8 +15,8 @@ use Rattle.serde_json.specs.Read.{max_depth}
 use Rattle.serde_json.specs.View.{items_of}
 use Rattle.trace_json.specs.Entries.{entry_json, head_json}
 use Rattle.trace_json.specs.Steps.{event_json, output_json, value_json}
-use Rattle.trace_json.specs.Writing.{HasExact, IsToldBy}
-use Rattle.trace_json.proofs.Told.{told}
+use Rattle.trace_json.specs.Writing.{HasExact, IsReadAgain}
+use Rattle.trace_json.proofs.ReadAgain.{read_again}
 
 value_depth : (v : Value) → depth (value_json v) ≤ 1
 unfolding value_json
@@ -54,8 +54,8 @@ head_depth : (devices entries : ℕ) → depth (head_json devices entries) ≤ m
 unfolding head_json
 head_depth devices entries = omega arith
 
-pub entry_told : (s : Scenario) (n : ℕ) (e : Entry) → HasExact (entry_json s n e) → IsToldBy (entry_json s n e)
-entry_told s n e exact = told (entry_json s n e) exact (entry_depth s n e)
+pub entry_again : (s : Scenario) (n : ℕ) (e : Entry) → HasExact (entry_json s n e) → IsReadAgain (entry_json s n e)
+entry_again s n e exact = read_again (entry_json s n e) exact (entry_depth s n e)
 
-pub head_told : (devices entries : ℕ) → HasExact (head_json devices entries) → IsToldBy (head_json devices entries)
-head_told devices entries exact = told (head_json devices entries) exact (head_depth devices entries)
+pub head_again : (devices entries : ℕ) → HasExact (head_json devices entries) → IsReadAgain (head_json devices entries)
+head_again devices entries exact = read_again (head_json devices entries) exact (head_depth devices entries)

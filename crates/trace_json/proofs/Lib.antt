@@ -1,4 +1,4 @@
-pub mod Told
+pub mod ReadAgain
 pub mod Written
 pub mod Depth
 pub mod Gathered

@@ -4,7 +4,7 @@ use Rattle.std.specs.List.{AllByRecursion, flat_map}
 use Rattle.serde_json.specs.Data.{Data}
 use Rattle.serde_json.specs.Written.{compact_text}
 use Rattle.scenario_words.specs.Words.{lines}
-use Rattle.trace_json.specs.Writing.{IsToldBy, json_line}
+use Rattle.trace_json.specs.Writing.{IsReadAgain, json_line}
 
 -- the lines of values, one after another
 abbrev pub json_lines : List Data → List ℕ
@@ -14,4 +14,4 @@ json_lines values = flat_map json_line values
 pub record AreLinesOf (values : List Data) (text : List ℕ) : Type 0 where
   pub text_is : text ≡ json_lines values
   pub lines_are : lines text ≡ map compact_text values ++ [] ∷ []
-  pub told : AllByRecursion IsToldBy values
+  pub read_again : AllByRecursion IsReadAgain values

@@ -15,7 +15,7 @@ unfoldable pub json_line : Data → List ℕ
 json_line d = ended_line (compact_text d)
 
 -- the text of a value is one line, and is read as the value
-pub record IsToldBy (d : Data) : Type 0 where
+pub record IsReadAgain (d : Data) : Type 0 where
   pub line : IsLine (compact_text d)
   pub read_is : read (compact_text d) ≡ Some (by_key d)
 

@@ -53,7 +53,8 @@ fn put_change(alloc: Global, out: &mut Writer, path: Path, value: &Value) -> Res
 /// Writes the object of a device that waits for posts.
 #[tactic(auto, unfolding(crate::specs::Steps::event_json))]
 fn put_need(out: &mut Writer, group: u8, count: u32) -> Result<(), AllocError>
-    ensures adds { OnOk result (out.new.tokens ≡ out.old.tokens ++ tokens_of (event_json (Some (steps.Need group count)))) }
+    ensures adds { OnOk result (out.new.tokens ≡ out.old.tokens
+        ++ tokens_of (event_json (Some (steps.Need group count)))) }
     ensures before { out.new.before ≡ out.old.before }
     ensures exact { HasExact (event_json (Some (steps.Need group count))) }
 {

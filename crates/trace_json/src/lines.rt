@@ -7,7 +7,7 @@ ghost use Rattle.json.specs.Print.{print};
 ghost use Rattle.scenario_words.specs.Words.{ended_line};
 ghost use Rattle.trace_text.specs.Seconds.{second_at};
 ghost use Rattle.trace_json.specs.Entries.{entry_json, head_json};
-ghost use Rattle.trace_json.specs.Writing.{IsToldBy, json_line};
+ghost use Rattle.trace_json.specs.Writing.{IsReadAgain, json_line};
 
 use crate::entries::{put_entry, put_head};
 use json::Writer;
@@ -40,7 +40,7 @@ pub(crate) fn text_of(bytes: Vec<u8>) -> String
 }
 
 /// Writes the line that begins a trace.
-#[tactic(auto, using(crate::proofs::Depth::head_told))]
+#[tactic(auto, using(crate::proofs::Depth::head_again))]
 pub(crate) fn put_head_line(
     out: Vec<u8>,
     devices: usize,
@@ -49,7 +49,7 @@ pub(crate) fn put_head_line(
     requires { IsUtf8 out.items }
     ensures line { IfOk result (λ v. v.items ≡ out.items ++ json_line (head_json devices entries)) }
     ensures utf8 { IfOk result (λ v. IsUtf8 v.items) }
-    ensures told { IsToldBy (head_json devices entries) }
+    ensures read_again { IsReadAgain (head_json devices entries) }
 {
     let mut writer = Writer::new(out);
     put_head(&mut writer, devices, entries)?;
@@ -58,7 +58,7 @@ pub(crate) fn put_head_line(
 }
 
 /// Writes the line of an entry, of this number in its trace, with the second of its device before the step.
-#[tactic(auto, using(crate::proofs::Depth::entry_told))]
+#[tactic(auto, using(crate::proofs::Depth::entry_again))]
 fn put_line(
     alloc: Global,
     out: Vec<u8>,
@@ -72,7 +72,7 @@ fn put_line(
     ensures line { IfOk result
         (λ v. v.items ≡ out.items ++ json_line (entry_json scenario.now number entry.now)) }
     ensures utf8 { IfOk result (λ v. IsUtf8 v.items) }
-    ensures told { OnOk result (IsToldBy (entry_json scenario.now number entry.now)) }
+    ensures read_again { OnOk result (IsReadAgain (entry_json scenario.now number entry.now)) }
 {
     let mut writer = Writer::new(out);
     put_entry(alloc, &mut writer, scenario, number, entry, second)?;
@@ -83,7 +83,7 @@ fn put_line(
 /// The line that begins a trace of this many devices and entries.
 pub fn head_line(alloc: Global, devices: usize, entries: usize) -> Result<String, AllocError>
     ensures line { IfOk result (λ t. string_bytes t ≡ json_line (head_json devices entries)) }
-    ensures told { OnOk result (IsToldBy (head_json devices entries)) }
+    ensures read_again { OnOk result (IsReadAgain (head_json devices entries)) }
 {
     let bytes = put_head_line(Vec::new(alloc), devices, entries)?;
     Ok(text_of(bytes))
@@ -135,7 +135,7 @@ impl<'a> JsonLines<'a> {
         ensures line { IfOk result
             (λ v. v.items ≡ out.items ++ json_line (entry_json self.old number entry.now)) }
         ensures utf8 { IfOk result (λ v. IsUtf8 v.items) }
-        ensures told { OnOk result (IsToldBy (entry_json self.old number entry.now)) }
+        ensures read_again { OnOk result (IsReadAgain (entry_json self.old number entry.now)) }
         ensures same { self.new ≡ self.old }
     {
         let second = self.clocks.second_at(entry.device, entry.step as usize);
@@ -146,7 +146,7 @@ impl<'a> JsonLines<'a> {
     /// numbers of its step. Entries may be asked for in any order.
     pub fn entry_line(&mut self, number: usize, entry: &Entry) -> Result<String, AllocError>
         ensures line { IfOk result (λ t. string_bytes t ≡ json_line (entry_json self.old number entry.now)) }
-        ensures told { OnOk result (IsToldBy (entry_json self.old number entry.now)) }
+        ensures read_again { OnOk result (IsReadAgain (entry_json self.old number entry.now)) }
         ensures same { self.new ≡ self.old }
     {
         let bytes = self.put_entry_line(Vec::new(self.alloc), number, entry)?;

@@ -7,7 +7,7 @@ ghost use Rattle.std.specs.List.{AllByRecursion};
 ghost use Rattle.trace_text.specs.Selection.{IsSelectable, IsSelectionFault};
 ghost use Rattle.trace_json.specs.Entries.{selected_json, trace_json};
 ghost use Rattle.trace_json.specs.Lines.{AreLinesOf, json_lines};
-ghost use Rattle.trace_json.specs.Writing.{IsToldBy};
+ghost use Rattle.trace_json.specs.Writing.{IsReadAgain};
 
 use crate::asked::{check, is_asked};
 use crate::lines::{JsonLines, put_head_line, text_of};
@@ -28,8 +28,8 @@ fn put_asked(
     ensures text { IfOk result
         (λ v. v.items ≡ out.items ++ json_lines (selected_json lines.old selection number (entry.now ∷ []))) }
     ensures utf8 { IfOk result (λ v. IsUtf8 v.items) }
-    ensures told { OnOk result
-        (AllByRecursion IsToldBy (selected_json lines.old selection number (entry.now ∷ []))) }
+    ensures read_again { OnOk result
+        (AllByRecursion IsReadAgain (selected_json lines.old selection number (entry.now ∷ []))) }
     ensures same { lines.new ≡ lines.old }
 {
     if !is_asked(selection, number, entry) {
@@ -48,7 +48,7 @@ fn put_trace(
 ) -> Result<Vec<u8>, AllocError>
     ensures text { IfOk result (λ v. v.items ≡ json_lines (trace_json scenario.now selection entries.now)) }
     ensures utf8 { IfOk result (λ v. IsUtf8 v.items) }
-    ensures told { OnOk result (AllByRecursion IsToldBy (trace_json scenario.now selection entries.now)) }
+    ensures read_again { OnOk result (AllByRecursion IsReadAgain (trace_json scenario.now selection entries.now)) }
 {
     let mut lines = JsonLines::new(alloc, scenario)?;
     let mut out = put_head_line(Vec::new(alloc), scenario.rows(), entries.len())?;

@@ -3,8 +3,8 @@ use Rattle.std.specs.List.{AllByRecursion}
 use Rattle.std.proofs.lemmas.Grind.{common_steps}
 use Rattle.trace_json.specs.Entries.{selected_json, trace_json}
 use Rattle.trace_json.specs.Lines.{json_lines}
-use Rattle.trace_json.specs.Writing.{IsToldBy}
-use Rattle.trace_json.proofs.Gathered.{told_grows, text_grows}
+use Rattle.trace_json.specs.Writing.{IsReadAgain}
+use Rattle.trace_json.proofs.Gathered.{again_grows, text_grows}
 use Rattle.trace_json.proofs.trace.put_trace.Goals as goal
 
 pub loop-number-preserved : goal.loop-number-preserved
@@ -21,7 +21,7 @@ loop-number-preserved c =
           ∙ ap (λ s. c.loop-number.out.items ++ json_lines (selected_json s sel n (e ∷ []))) same)
           c.loop-number.invariant.so_far;
       utf8 = c.in_ok-out-2.ensures.utf8;
-      told = told_grows _ _ _ _ _ _ (trace_json c.args.scenario.now sel c.args.entries.now) rest
-          (subst (λ s. AllByRecursion IsToldBy (selected_json s sel n (e ∷ []))) same c.in_ok-out-2.ensures.told)
-          c.loop-number.invariant.told;
+      read_again = again_grows _ _ _ _ _ _ (trace_json c.args.scenario.now sel c.args.entries.now) rest
+          (subst (λ s. AllByRecursion IsReadAgain (selected_json s sel n (e ∷ []))) same c.in_ok-out-2.ensures.read_again)
+          c.loop-number.invariant.read_again;
     }

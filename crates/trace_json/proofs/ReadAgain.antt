@@ -26,7 +26,7 @@ use Rattle.serde_json.specs.Written.{number_text, outline}
 use Rattle.serde_json.proofs.Numbers.{number_of-decimal, number_of-negative}
 use Rattle.serde_json.proofs.Texts.{print-outline}
 use Rattle.trace_json.specs.Json.{by_key, items_by_key, members_by_key}
-use Rattle.trace_json.specs.Writing.{HasExact, IsExact, IsToldBy, ItemsHaveExact, MembersHaveExact}
+use Rattle.trace_json.specs.Writing.{HasExact, IsExact, IsReadAgain, ItemsHaveExact, MembersHaveExact}
 
 -- ---- what is read
 
@@ -131,7 +131,8 @@ letter_high false false false false false false x h some = some
 own_letter : (x : ℕ) → ((x == 34) || (x == 92)) ≡ true → nat_le 32 x ≡ true
 own_letter x h = grind (arith, nat_tests)
 
-byte_clean : (has low : Bool) (x letter : ℕ) → (has ≡ true → nat_le 32 letter ≡ true) → (low ≡ false → nat_le 32 x ≡ true)
+byte_clean : (has low : Bool) (x letter : ℕ) → (has ≡ true → nat_le 32 letter ≡ true)
+    → (low ≡ false → nat_le 32 x ≡ true)
     → clean
     (cond has (92 ∷ letter ∷ [])
     (cond low (92 ∷ 117 ∷ 48 ∷ 48 ∷ digit_char (x / 16) ∷ digit_char (x % 16) ∷ []) (x ∷ []))) ≡ true
@@ -146,7 +147,8 @@ escaped_clean : (x : ℕ) → clean (escape_byte x) ≡ true
 unfolding escape_byte
 escaped_clean x =
     byte_clean (nat_lt 0 (escape_letter x)) (nat_lt x 32) x (escape_letter x)
-    (letter_high ((x == 34) || (x == 92)) (x == 8) (x == 12) (x == 10) (x == 13) (x == 9) x (own_letter x)) (high_byte x)
+    (letter_high ((x == 34) || (x == 92)) (x == 8) (x == 12) (x == 10) (x == 13) (x == 9) x (own_letter x))
+    (high_byte x)
 
 escape_clean : (s : List ℕ) → clean (escape s) ≡ true
 escape_clean [] = refl
@@ -197,5 +199,5 @@ clean_line (b ∷ bs) h =
 
 -- ---- both
 
-pub told : (d : Data) → HasExact d → depth d ≤ max_depth → IsToldBy d
-told d h shallow = record { line = clean_line (compact_text d) (text_clean d); read_is = text_read d h shallow }
+pub read_again : (d : Data) → HasExact d → depth d ≤ max_depth → IsReadAgain d
+read_again d h shallow = record { line = clean_line (compact_text d) (text_clean d); read_is = text_read d h shallow }
