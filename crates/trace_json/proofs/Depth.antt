@@ -10,10 +10,13 @@ use Rattle.scenario_image.specs.declared.step.Step.TheVariants.{Event, Post, Nee
 use Rattle.scenario_image.specs.Scenario.{Scenario}
 use Rattle.trace_file.specs.declared.entry.Entry.{Entry}
 use Rattle.fleet_core.specs.Run.{step_at}
+use Rattle.fleet_core.specs.declared.verdict.Verdict.{Verdict}
+use Rattle.fleet_core.specs.declared.verdict.Verdict.TheVariants.{Run, NotRun}
 use Rattle.serde_json.specs.Data.{depth, items_depth}
 use Rattle.serde_json.specs.Read.{max_depth}
 use Rattle.serde_json.specs.View.{items_of}
 use Rattle.trace_json.specs.Entries.{entry_json, head_json}
+use Rattle.trace_json.specs.Notes.{verdict_json}
 use Rattle.trace_json.specs.Steps.{event_json, output_json, value_json}
 use Rattle.trace_json.specs.Writing.{HasExact, IsReadAgain}
 use Rattle.trace_json.proofs.ReadAgain.{read_again}
@@ -59,3 +62,13 @@ entry_again s n e exact = read_again (entry_json s n e) exact (entry_depth s n e
 
 pub head_again : (devices entries : ℕ) → HasExact (head_json devices entries) → IsReadAgain (head_json devices entries)
 head_again devices entries exact = read_again (head_json devices entries) exact (head_depth devices entries)
+
+-- ---- what is answered where there is no trace
+
+verdict_depth : (v : Verdict) → depth (verdict_json v) ≤ max_depth
+unfolding verdict_json
+verdict_depth Run = omega arith
+verdict_depth (NotRun place) = omega arith
+
+pub verdict_again : (v : Verdict) → HasExact (verdict_json v) → IsReadAgain (verdict_json v)
+verdict_again v exact = read_again (verdict_json v) exact (verdict_depth v)

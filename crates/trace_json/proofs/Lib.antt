@@ -4,3 +4,4 @@ pub mod Depth
 pub mod Gathered
 pub mod Back
 pub mod Again
+pub mod Faults

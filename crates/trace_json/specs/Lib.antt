@@ -4,3 +4,4 @@ pub mod Steps
 pub mod Entries
 pub mod Lines
 pub mod Members
+pub mod Notes

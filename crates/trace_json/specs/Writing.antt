@@ -1,5 +1,5 @@
 -- How values are written, and what makes a text read as its value.
-use Rattle.std.specs.Prelude.{◌≡◌, ℕ, ◌^◌, ◌<◌, pos, negsuc, List, ◌∷◌, Some}
+use Rattle.std.specs.Prelude.{◌≡◌, ℕ, ◌^◌, ◌<◌, pos, negsuc, List, [], ◌∷◌, ◌++◌, Some}
 use Rattle.json.specs.Token.{Token}
 use Rattle.json.specs.Token as token
 use Rattle.json.specs.Tree.{json_tokens}
@@ -8,7 +8,7 @@ use Rattle.serde_json.specs.Data as json
 use Rattle.serde_json.specs.Read.{read}
 use Rattle.serde_json.specs.Written.{compact_text, outline}
 use Rattle.scenario_words.specs.Words.{IsLine, ended_line}
-use Rattle.trace_json.specs.Json.{by_key}
+use Rattle.trace_json.specs.Json.{Field, by_key}
 
 -- the line of a value: its text, which has no space, and LF
 unfoldable pub json_line : Data → List ℕ
@@ -52,3 +52,8 @@ tokens_of d = json_tokens (outline d)
 
 abbrev pub member_tokens : List ℕ → Data → List Token
 member_tokens k d = token.key k ∷ tokens_of d
+
+-- those of the members of an object
+abbrev pub fields_tokens : List Field → List Token
+fields_tokens [] = []
+fields_tokens (f ∷ fs) = member_tokens f.0 f.1 ++ fields_tokens fs

@@ -9,6 +9,7 @@ mod events;
 mod laws;
 mod lines;
 mod members;
+mod notes;
 mod outputs;
 mod trace;
 mod values;
@@ -16,4 +17,5 @@ mod words;
 
 pub use laws::{lines_are_counted, lines_have_entries, lines_tell_entries};
 pub use lines::{JsonLines, head_line};
+pub use notes::{FaultParts, fault_line, verdict_line};
 pub use trace::selected_lines;

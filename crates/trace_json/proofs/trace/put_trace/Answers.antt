@@ -22,6 +22,7 @@ loop-number-preserved c =
           c.loop-number.invariant.so_far;
       utf8 = c.in_ok-out-2.ensures.utf8;
       read_again = again_grows _ _ _ _ _ _ (trace_json c.args.scenario.now sel c.args.entries.now) rest
-          (subst (λ s. AllByRecursion IsReadAgain (selected_json s sel n (e ∷ []))) same c.in_ok-out-2.ensures.read_again)
+          (subst (λ s. AllByRecursion IsReadAgain (selected_json s sel n (e ∷ []))) same
+          c.in_ok-out-2.ensures.read_again)
           c.loop-number.invariant.read_again;
     }
