@@ -1,0 +1,6 @@
+mod Codes
+mod Grants
+mod Lines
+mod Paths
+mod Said
+mod Unread

@@ -1,0 +1,5 @@
+pub mod Formats
+pub mod Inside
+pub mod Missing
+pub mod Reasons
+pub mod Rights
