@@ -1,0 +1,8 @@
+mod Codes
+mod Grants
+mod Lines
+mod Paths
+mod Recognized
+mod Said
+mod Segments
+mod Unread

@@ -1,0 +1,49 @@
+-- What a request has of the options of its message.
+use Rattle.std.proofs.Common.{◌≡◌, true, List, None, Some, Ok, sym}
+use Rattle.std.proofs.Common.{ap, ◌⊎◌, inl, inr}
+use Rattle.coap_codec.specs.Message.{Message}
+use Rattle.object_defs.specs.declared.definition.ObjectDef.{ObjectDef}
+use Rattle.object_defs.specs.declared.path.Path.{Path}
+use Rattle.device_requests.specs.declared.operation.Operation.{Operation}
+use Rattle.device_requests.specs.declared.operation.Operation.TheVariants.{Read, WriteReplace, WritePartial, Create}
+use Rattle.device_requests.specs.declared.operation.Operation.TheVariants.{Execute}
+use Rattle.device_requests.specs.declared.request.Request.{Request}
+use Rattle.device_requests.specs.Options.{accept_of, content_format_of}
+use Rattle.device_requests.specs.Refusals.{Purpose, lacks_format, to_create, to_execute}
+use Rattle.device_requests.specs.Refusals.{to_read, to_write}
+use Rattle.device_requests.specs.Request.{purpose_of, request_of}
+use Rattle.device_requests.proofs.Reading.{said}
+use Rattle.request_reasons.specs.Formats.{format_named}
+
+pub accept_said : (m : Message) (r : Request) → request_of m ≡ Ok r → r.accept ≡ accept_of m.options
+accept_said m r e = sym ((said m r).0 e).accept
+
+pub content_format_said : (m : Message) (r : Request) → request_of m ≡ Ok r
+    → r.content_format ≡ content_format_of m.options
+content_format_said m r e = sym ((said m r).0 e).content_format
+
+-- a format that is not served is named
+pub unserved_named : (catalog : List ObjectDef) (path : Path) (purpose : Purpose)
+    → lacks_format catalog path purpose ≡ true → format_named purpose ≡ None → ⊥
+unserved_named catalog path (to_read None) h e = cc
+unserved_named catalog path (to_read (Some n)) h e = cc
+unserved_named catalog path (to_write mode None payload) h e = cc
+unserved_named catalog path (to_write mode (Some n) payload) h e = cc
+unserved_named catalog path (to_create None payload) h e = cc
+unserved_named catalog path (to_create (Some n) payload) h e = cc
+unserved_named catalog path (to_execute None payload) h e = cc
+unserved_named catalog path (to_execute (Some n) payload) h e = cc
+unserved_named catalog path purpose h e = cc
+
+-- what is read is named by Accept, what is given by Content-Format
+pub read_named : (m : Message) (operation : Operation) → operation ≡ Read
+    → accept_of m.options ≡ format_named (purpose_of m operation)
+read_named m operation h = ap (λ o. format_named (purpose_of m o)) (sym h)
+
+pub given_named : (m : Message) (operation : Operation)
+    → (operation ≡ WriteReplace) ⊎ ((operation ≡ WritePartial) ⊎ ((operation ≡ Create) ⊎ (operation ≡ Execute)))
+    → content_format_of m.options ≡ format_named (purpose_of m operation)
+given_named m operation (inl h) = ap (λ o. format_named (purpose_of m o)) (sym h)
+given_named m operation (inr (inl h)) = ap (λ o. format_named (purpose_of m o)) (sym h)
+given_named m operation (inr (inr (inl h))) = ap (λ o. format_named (purpose_of m o)) (sym h)
+given_named m operation (inr (inr (inr h))) = ap (λ o. format_named (purpose_of m o)) (sym h)
