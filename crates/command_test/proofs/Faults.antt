@@ -23,6 +23,7 @@ reading holds fails path faults.Memory h = tt
 reading holds fails path faults.Read h = inl h
 reading holds fails path (faults.Cases fault) h = absurd h
 reading holds fails path faults.NoSuchCase h = absurd h
+reading holds fails path faults.NoDatagram h = absurd h
 reading holds fails path faults.Hex h = absurd h
 reading holds fails path faults.Write h = absurd h
 reading holds fails path (faults.Layout fault) h = absurd h
@@ -50,6 +51,7 @@ pub wrong : (holds : List ℕ → List ℕ → Type 0) (fails : List ℕ → Typ
 wrong holds fails path text faults.Memory held h = tt
 wrong holds fails path text (faults.Cases fault) held h = record { bytes = text; held = held; wrong = h }
 wrong holds fails path text faults.NoSuchCase held h = absurd h
+wrong holds fails path text faults.NoDatagram held h = absurd h
 wrong holds fails path text faults.Read held h = absurd h
 wrong holds fails path text faults.Hex held h = absurd h
 wrong holds fails path text faults.Write held h = absurd h
@@ -97,6 +99,7 @@ pub unread : (holds : List ℕ → List ℕ → Type 0) (fails : List ℕ → Ty
     (only : Option (List ℕ)) (f : Fault) → IsFirstRefused holds fails paths f → IsTestFault holds fails paths only f
 unread holds fails paths only faults.Memory h = tt
 unread holds fails paths only faults.NoSuchCase h = absurd h.refused
+unread holds fails paths only faults.NoDatagram h = absurd h.refused
 unread holds fails paths only faults.Read h = h
 unread holds fails paths only (faults.Cases fault) h = h
 unread holds fails paths only faults.Hex h = h
