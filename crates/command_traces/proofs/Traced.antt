@@ -15,7 +15,8 @@ use Rattle.trace_pcap.specs.declared.fault.PcapFault.TheVariants as pcap
 use Rattle.trace_pcap.specs.Packets.{has_long, trace_packets}
 use Rattle.udp_capture.specs.Capture.{IsCapture}
 use Rattle.command_files.proofs.Built.{check_image, check_trace, judged_none}
-use Rattle.command_traces.specs.Traces.{pcap_fault, selection_fault, IsCapturedAs, IsNoRun, IsPcapDone, IsPcapFault}
+use Rattle.command_texts.specs.Selections.{selection_fault}
+use Rattle.command_traces.specs.Traces.{pcap_fault, IsCapturedAs, IsNoRun, IsPcapDone, IsPcapFault}
 use Rattle.command_traces.specs.Traces.{IsPcapRefused, IsRunCaptured, IsRunShown, IsShowDone, IsShowFault}
 use Rattle.command_traces.specs.Traces.{IsShowRefused, IsShownAs, packets_line}
 use Rattle.command_files.specs.Answers.{files_of}

@@ -6,7 +6,6 @@ use Rattle.scenario_image.specs.Scenario.{Scenario}
 use Rattle.trace_file.specs.declared.entry.Entry.{Entry}
 use Rattle.fleet_core.specs.Run.{IsRun}
 use Rattle.trace_text.specs.declared.selection.Selection.{Selection}
-use Rattle.trace_text.specs.declared.selection.SelectionFault.{SelectionFault}
 use Rattle.trace_text.specs.declared.selection.SelectionFault.TheVariants as selection
 use Rattle.trace_text.specs.Selection.{IsSelectable, IsSelectionFault, selected_text}
 use Rattle.trace_pcap.specs.declared.fault.PcapFault.{PcapFault}
@@ -66,13 +65,6 @@ IsShowFault sel _ s es = ⊥
 abbrev pub IsShowRefused : (List ℕ → List ℕ → Type 0) → (List ℕ → Type 0) → RunPaths → Selection → Fault → Type 0
 IsShowRefused holds fails paths sel fault =
     IsCheckRefused holds fails paths fault ⊎ IsOverTrace holds paths (IsShowFault sel fault)
-
--- the fault of entries that a trace does not have: a lack of memory is not the trace's fault
-abbrev pub selection_fault : SelectionFault → Fault
-selection_fault selection.NoDevice = faults.NoDevice
-selection_fault selection.PastEnd = faults.PastEnd
-selection_fault selection.Range = faults.Range
-selection_fault selection.Memory = faults.Memory
 
 -- ---- `pcap IMAGE TRACE OUT`
 

@@ -5,16 +5,17 @@ ghost use Rattle.std.specs.String.{string_bytes};
 ghost use Rattle.fleet_core.specs.Run.{IsRun};
 ghost use Rattle.command_traces.specs.Traces.{IsCapturedAs, IsNoRun, IsPcapDone, IsPcapFault, IsPcapRefused};
 ghost use Rattle.command_traces.specs.Traces.{IsRunCaptured, IsRunShown, IsShowDone, IsShowFault, IsShowRefused};
-ghost use Rattle.command_traces.specs.Traces.{IsShownAs, packets_line, pcap_fault, selection_fault};
+ghost use Rattle.command_traces.specs.Traces.{IsShownAs, packets_line, pcap_fault};
 
 use command_files::files::Files;
 use command_files::{Answer, Fault, NewFile, Refusal, Status, load_scenario, load_trace, no_run};
+use command_texts::selection_fault;
 use fleet_core::{Verdict, check};
 use scenario_image::Scenario;
 use std::alloc::{AllocError, Global};
 use trace_file::Entry;
 use trace_pcap::{PcapFault, packet_count, trace_pcap};
-use trace_text::{Selection, SelectionFault, selected_text};
+use trace_text::{Selection, selected_text};
 
 /// The answer that entries are not a run; none where they are one.
 #[tactic(auto, using(crate::proofs::Traced::no_run))]
@@ -80,19 +81,7 @@ fn show_run<'a>(
 {
     match selected_text(alloc, scenario, entries, selection) {
         Ok(text) => Ok(Answer::printed(Status::Done, text)),
-        Err(fault) => Err(unselected(fault)),
-    }
-}
-
-/// The fault of entries that a trace does not have.
-fn unselected(fault: SelectionFault) -> Fault
-    ensures { result ≡ selection_fault fault }
-{
-    match fault {
-        SelectionFault::NoDevice => Fault::NoDevice,
-        SelectionFault::PastEnd => Fault::PastEnd,
-        SelectionFault::Range => Fault::Range,
-        SelectionFault::Memory => Fault::Memory,
+        Err(fault) => Err(selection_fault(fault)),
     }
 }
 
