@@ -59,9 +59,11 @@ abbrev pub with_range : App → App
 with_range a =
     with_rule (with_rule a (optional_number (codes "from") 4294967295)) (optional_number (codes "to") 4294967295)
 
--- `show IMAGE TRACE [--device N] [--from N] [--to N]`
+-- `show IMAGE TRACE [--device N] [--from N] [--to N] [--json]`
 abbrev pub show_app : App
-show_app = with_range (with_rule (with_trace (new_app (codes "show"))) (optional_number (codes "device") 65535))
+show_app =
+    with_rule (with_range (with_rule (with_trace (new_app (codes "show"))) (optional_number (codes "device") 65535)))
+    (flag (codes "json"))
 
 -- `play FILE [--device N] [--from N] [--to N]`
 abbrev pub play_app : App

@@ -79,9 +79,9 @@ commands =
     ∷ number (codes "batch") 4294967295 (codes "16") ∷ text_option (codes "trace") ∷ [])
     -- `check IMAGE TRACE`
     ∷ command (codes "check") (needed (codes "IMAGE") ∷ needed (codes "TRACE") ∷ [])
-    -- `show IMAGE TRACE [--device N] [--from N] [--to N]`
+    -- `show IMAGE TRACE [--device N] [--from N] [--to N] [--json]`
     ∷ command (codes "show") (needed (codes "IMAGE") ∷ needed (codes "TRACE") ∷ optional_number (codes "device") 65535
-    ∷ optional_number (codes "from") 4294967295 ∷ optional_number (codes "to") 4294967295 ∷ [])
+    ∷ optional_number (codes "from") 4294967295 ∷ optional_number (codes "to") 4294967295 ∷ flag (codes "json") ∷ [])
     -- `pcap IMAGE TRACE OUT`
     ∷ command (codes "pcap") (needed (codes "IMAGE") ∷ needed (codes "TRACE") ∷ needed (codes "OUT") ∷ [])
     -- `debug IMAGE TRACE`
@@ -162,10 +162,11 @@ AsksFor found (jobs.Run image workers batch trace) =
     × (first_of (codes "trace") found.1 ≡ option_map (λ p. p.now) trace)
 AsksFor found (jobs.Check image trace) =
     (found.0 ≡ codes "check") × IsText found (codes "IMAGE") image.now × IsText found (codes "TRACE") trace.now
-AsksFor found (jobs.Show image trace device from to) =
+AsksFor found (jobs.Show image trace device from to json) =
     (found.0 ≡ codes "show") × IsText found (codes "IMAGE") image.now × IsText found (codes "TRACE") trace.now
     × IsOptionalNumber 16 (one_of (codes "device") found.1) device
     × IsOptionalNumber 32 (one_of (codes "from") found.1) from × IsOptionalNumber 32 (one_of (codes "to") found.1) to
+    × (is_set (codes "json") found.1 ≡ json)
 AsksFor found (jobs.Pcap image trace output) =
     (found.0 ≡ codes "pcap") × IsText found (codes "IMAGE") image.now × IsText found (codes "TRACE") trace.now
     × IsText found (codes "OUT") output.now

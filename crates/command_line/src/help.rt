@@ -115,8 +115,9 @@ second before the step, and the step; and a line for each output. Below a datagr
   => send SERVER HEX
   => act NAME
 With `--device` only entries of this device are printed; with `--from` and `--to` only entries that have
-these numbers or numbers between them. Where the trace is not a run of the scenario, prints the least
-place, from 0, at which it is not (status 3):
+these numbers or numbers between them. With `--json` an object in JSON is printed for each of them, in a
+line of its own, and before them one for the whole trace. Where the trace is not a run of the scenario,
+prints the least place, from 0, at which it is not (status 3):
   not a run at N
 Writes no file.
 

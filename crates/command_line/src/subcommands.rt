@@ -223,12 +223,12 @@ fn check_command<'a>(alloc: Global) -> Result<Command<'a>, AllocError>
 fn show_command<'a>(alloc: Global) -> Result<Command<'a>, AllocError>
     ensures { IfOk result (λ c. app_of c ≡ show_app) }
 {
-    let about = "Prints the trace of a run as text";
+    let about = "Prints the trace of a run, as text or as JSON Lines";
     let run = with_trace(alloc, described(alloc, "show", about, help::SHOW))?;
     let of_device = run.arg(optional_small(alloc, "device").help(
         "Print only the entries of this device",
     ))?;
-    with_range(alloc, of_device)
+    with_range(alloc, of_device)?.arg(flag(alloc, "json").help("Prints JSON Lines, for scripts"))
 }
 
 /// Adds the words for a part of a trace.

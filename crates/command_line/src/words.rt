@@ -83,7 +83,7 @@ pub enum Job<'a> {
         /// The path of the trace file.
         trace: &'a str,
     },
-    /// The text of a run's trace, or of a part of it.
+    /// A run's trace, or a part of it, as text or as JSON Lines.
     Show {
         /// The path of the scenario's image.
         image: &'a str,
@@ -95,6 +95,8 @@ pub enum Job<'a> {
         from: Option<u32>,
         /// The number of the last entry that may be shown; where it is not given, that of the last of all.
         to: Option<u32>,
+        /// Whether an object in JSON is printed for each entry.
+        json: bool,
     },
     /// The datagrams of a run, as a capture of packets.
     Pcap {
@@ -343,6 +345,7 @@ fn show_job<'a>(found: &ArgMatches<'a>) -> Option<Job<'a>>
         device: small_number(found, "device"),
         from: number(found, "from"),
         to: number(found, "to"),
+        json: flag(found, "json"),
     })
 }
 
