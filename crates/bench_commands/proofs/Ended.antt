@@ -1,6 +1,6 @@
 -- What a command came to, put together from its parts.
 use Rattle.std.proofs.Common.{ℕ, ◌≡◌, ◌⊎◌, List, Option, None, Some, Result, Ok, Err, IfErr, IfOk, OnErr, OnOk}
-use Rattle.std.proofs.Common.{inl, inr, sym, subst, arith, ◌∙◌}
+use Rattle.std.proofs.Common.{inl, inr, refl, sym, subst, arith, ◌∙◌}
 use Rattle.std.specs.Io.KnownBytes.{Appends}
 use Rattle.std.specs.String.{string_bytes}
 use Rattle.command_line.specs.Words.{IsReadAs}
@@ -15,6 +15,7 @@ use Rattle.bench_commands.specs.Command.{IsFinished, IsRefused, IsUnfinished}
 use Rattle.command_files.specs.Files.{Grows, most_bytes}
 use Rattle.command_files.specs.Input.{IsWithin, WhereKnown}
 use Rattle.command_live.specs.Live.{IsLiveDone, IsLiveFault}
+use Rattle.command_words.specs.Inputs.{IsInputRefused, IsInputSaid}
 use Rattle.command_files.specs.Refusals.{IsTold}
 use Rattle.command_files.specs.World.{FilesKnown, IsAside, IsIdle, StreamFaults, Streams, World}
 use Rattle.command_files.specs.declared.answer.Answer.{Answer}
@@ -66,7 +67,7 @@ pub conversed_so : (files : FilesKnown) (faults : StreamFaults) (before after : 
     → IsDebugged files.holds faults asked before.streams after.streams → status ≡ ends.Done → after.made ≡ before.made
     → IsFinished files faults before after words status
 conversed_so files faults before after words asked status read debugged ended none =
-    inr (record { asked = asked; read = read; debugged = debugged; ended = ended }, none)
+    inr (inl (record { asked = asked; read = read; debugged = debugged; ended = ended }, none))
 
 -- a session was concluded
 lived : (files : FilesKnown) (faults : StreamFaults) (before after : World) (words : List (List ℕ)) (live : Live)
@@ -115,7 +116,7 @@ live_lost : (files : FilesKnown) (faults : StreamFaults) (before after : World) 
     → IsAside before.streams after.streams → after.made ≡ before.made
     → IsUnfinished files faults before after words fault
 live_lost files faults before after words live fault read lost aside none =
-    inr (inr (record { live = live; read = read; lost = so lost }, aside), none)
+    inr (inl (inr (record { live = live; read = read; lost = so lost }, aside), none))
   where
     so : IsLiveFault files (aside_faults faults) (aside_streams before.streams.output)
         (aside_streams after.streams.output) live fault
@@ -166,7 +167,18 @@ pub unanswered : (files : FilesKnown) (faults : StreamFaults) (before after : Wo
 unanswered files faults before after words asked fault read (inl (refused, idle)) none =
     inl (inl (inr (record { asked = asked; read = read; refused = refused }), none, idle.1), (idle.0, idle.2))
 unanswered files faults before after words asked fault read (inr cut) none =
-    inr (inl (record { asked = asked; read = read; cut = cut }), none)
+    inr (inl (inl (record { asked = asked; read = read; cut = cut }), none))
+
+-- a delivery is the same beside an input and standard error
+undelivered_so : (files : FilesKnown) (faults : StreamFaults) (before after : World) (between : Option (List ℕ))
+    (answer : Answer) (fault : Fault) → between ≡ before.streams.output
+    → IsUndelivered files (aside_faults faults) (record { made = before.made; streams = aside_streams between })
+    (record { made = after.made; streams = aside_streams after.streams.output }) answer fault
+    → IsUndelivered files faults before after answer fault
+undelivered_so files faults before after between answer fault silent (inl none) =
+    inl (record { failed = none.failed; none = none.none; silent = none.silent ∙ silent })
+undelivered_so files faults before after between answer fault silent (inr unprinted) =
+    inr (record { failed = unprinted.failed; made = unprinted.made })
 
 -- a delivery that may have gone well, of an answer for which nothing was read or printed
 pub undelivered_if : (files : FilesKnown) (faults : StreamFaults) (before after : World) (between : Option (List ℕ))
@@ -181,15 +193,77 @@ pub undelivered_if : (files : FilesKnown) (faults : StreamFaults) (before after 
 undelivered_if files faults before after between words asked answer (Ok status) read right aside silent lost = tt
 undelivered_if files faults before after between words asked answer (Err r) read right aside silent lost =
     inl (
-      inr (record { asked = asked; read = read; answer = answer; right = right; undelivered = so lost }),
+      inr (record {
+        asked = asked;
+        read = read;
+        answer = answer;
+        right = right;
+        undelivered = undelivered_so files faults before after between answer r.fault silent lost;
+      }),
       aside,
     )
-  where
-    so : IsUndelivered files (aside_faults faults) (record { made = before.made; streams = aside_streams between })
-        (record { made = after.made; streams = aside_streams after.streams.output }) answer r.fault
-        → IsUndelivered files faults before after answer r.fault
-    so (inl none) = inl (record { failed = none.failed; none = none.none; silent = none.silent ∙ silent })
-    so (inr unprinted) = inr (record { failed = unprinted.failed; made = unprinted.made })
+
+-- ---- a log
+
+pub log_said_if : {E : Type 0}
+    → (files : FilesKnown) (faults : StreamFaults) (before after : World) (words : List (List ℕ)) (server : ℕ)
+    (answer : Answer) (delivered : Result Status E) → IsReadAs words (asked.Log server)
+    → IsInputSaid before.streams.input after.streams.input server answer
+    → WhereKnown (IsWithin most_bytes) before.streams.input after.streams.input
+    → after.streams.errors ≡ before.streams.errors
+    → IfOk delivered (λ status. status ≡ answer.status)
+    → OnOk delivered (Grows before.made after.made (files_of answer.file))
+    → OnOk delivered (Appends before.streams.output after.streams.output (string_bytes answer.text))
+    → IfOk delivered (IsFinished files faults before after words)
+log_said_if files faults before after words server answer (Ok status) read said within silent ended made printed =
+    inr (inr (
+      record {
+        server = server;
+        read = read;
+        answer = answer;
+        said = said;
+        within = within;
+        made = made;
+        printed = printed;
+        ended = ended;
+      },
+      silent,
+    ))
+log_said_if files faults before after words server answer (Err e) read said within silent ended made printed = tt
+
+pub log_unprinted_if : (files : FilesKnown) (faults : StreamFaults) (before after : World) (words : List (List ℕ))
+    (server : ℕ) (answer : Answer) (delivered : Result Status Refusal) → IsReadAs words (asked.Log server)
+    → IsInputSaid before.streams.input after.streams.input server answer
+    → WhereKnown (IsWithin most_bytes) before.streams.input after.streams.input
+    → after.streams.errors ≡ before.streams.errors
+    → IfErr delivered (λ r. IsUndelivered files (aside_faults faults)
+    (record { made = before.made; streams = aside_streams before.streams.output })
+    (record { made = after.made; streams = aside_streams after.streams.output }) answer r.fault)
+    → IfErr delivered (λ r. IsUnfinished files faults before after words r.fault)
+log_unprinted_if files faults before after words server answer (Ok status) read said within silent lost = tt
+log_unprinted_if files faults before after words server answer (Err r) read said within silent lost =
+    let so = undelivered_so files faults before after before.streams.output answer r.fault refl lost in
+    inr (inr (
+      record {
+        server = server;
+        read = read;
+        lost = inr (record { answer = answer; said = said; undelivered = so });
+        within = within;
+      },
+      silent,
+    ))
+
+pub log_refused : (files : FilesKnown) (faults : StreamFaults) (before after : World) (words : List (List ℕ))
+    (server : ℕ) (fault : Fault) → IsReadAs words (asked.Log server)
+    → IsInputRefused faults.input_fails before.streams.input after.streams.input fault
+    → WhereKnown (IsWithin most_bytes) before.streams.input after.streams.input
+    → after.made ≡ before.made → after.streams.output ≡ before.streams.output
+    → after.streams.errors ≡ before.streams.errors → IsUnfinished files faults before after words fault
+log_refused files faults before after words server fault read refused within none unprinted silent =
+    inr (inr (
+      record { server = server; read = read; lost = inl (refused, none, unprinted); within = within },
+      silent,
+    ))
 
 -- ---- what was read
 
@@ -204,6 +278,9 @@ within_job : (holds : List ℕ → List ℕ → Type 0) (faults : StreamFaults) 
     → IsDebuggedJob holds faults job before after → WhereKnown (IsWithin most_bytes) before.input after.input
 within_job holds faults (jobs.Debug image trace) before after h = h.conversation.within
 within_job holds faults (jobs.One hex) before after h = absurd h
+within_job holds faults (jobs.Say hex server) before after h = absurd h
+within_job holds faults (jobs.Spell statement) before after h = absurd h
+within_job holds faults (jobs.Play file device from to) before after h = absurd h
 within_job holds faults (jobs.Asm input output) before after h = absurd h
 within_job holds faults (jobs.Dis input) before after h = absurd h
 within_job holds faults (jobs.Run image workers batch trace) before after h = absurd h
@@ -218,6 +295,9 @@ within_cut : (holds : List ℕ → List ℕ → Type 0) (faults : StreamFaults) 
     → WhereKnown (IsWithin most_bytes) before.input after.input
 within_cut holds faults (jobs.Debug image trace) before after fault h = h.cut.within
 within_cut holds faults (jobs.One hex) before after fault h = absurd h
+within_cut holds faults (jobs.Say hex server) before after fault h = absurd h
+within_cut holds faults (jobs.Spell statement) before after fault h = absurd h
+within_cut holds faults (jobs.Play file device from to) before after fault h = absurd h
 within_cut holds faults (jobs.Asm input output) before after fault h = absurd h
 within_cut holds faults (jobs.Dis input) before after fault h = absurd h
 within_cut holds faults (jobs.Run image workers batch trace) before after fault h = absurd h
@@ -231,6 +311,7 @@ within_asked : (holds : List ℕ → List ℕ → Type 0) (faults : StreamFaults
     → IsDebugged holds faults asked before after → WhereKnown (IsWithin most_bytes) before.input after.input
 within_asked holds faults (asked.Job job) before after h = within_job holds faults job before after h
 within_asked holds faults (asked.Live live) before after h = absurd h
+within_asked holds faults (asked.Log server) before after h = absurd h
 within_asked holds faults (asked.Text help is_mistake) before after h = absurd h
 
 within_lost : (holds : List ℕ → List ℕ → Type 0) (faults : StreamFaults) (asked : Asked) (before after : Streams)
@@ -238,6 +319,7 @@ within_lost : (holds : List ℕ → List ℕ → Type 0) (faults : StreamFaults)
     → WhereKnown (IsWithin most_bytes) before.input after.input
 within_lost holds faults (asked.Job job) before after fault h = within_cut holds faults job before after fault h
 within_lost holds faults (asked.Live live) before after fault h = absurd h
+within_lost holds faults (asked.Log server) before after fault h = absurd h
 within_lost holds faults (asked.Text help is_mistake) before after fault h = absurd h
 
 -- ---- the end
@@ -249,8 +331,9 @@ finished files faults before after words status done = record { ended = inl done
     so : IsFinished files faults before after words status
         → WhereKnown (IsWithin most_bytes) before.streams.input after.streams.input
     so (inl (answered, aside)) = unread before.streams.input after.streams.input aside.0
-    so (inr (conversed, none)) =
+    so (inr (inl (conversed, none))) =
         within_asked files.holds faults conversed.asked before.streams after.streams conversed.debugged
+    so (inr (inr (said, silent))) = said.within
 
 pub faulted : (files : FilesKnown) (faults : StreamFaults) (before between after : World) (about : Option (List ℕ))
     (words : List (List ℕ)) (fault : Fault) (status : Status) → status ≡ ends.Fault
@@ -282,6 +365,7 @@ faulted files faults before between after about words fault status ended undone 
     so : IsUnfinished files faults before between words fault
         → WhereKnown (IsWithin most_bytes) before.streams.input between.streams.input
     so (inl (undone, aside)) = unread before.streams.input between.streams.input aside.0
-    so (inr (inl lost, none)) =
+    so (inr (inl (inl lost, none))) =
         within_lost files.holds faults lost.asked before.streams between.streams fault lost.cut
-    so (inr (inr (lost, aside), none)) = unread before.streams.input between.streams.input aside.0
+    so (inr (inr (lost, silent))) = lost.within
+    so (inr (inl (inr (lost, aside), none))) = unread before.streams.input between.streams.input aside.0

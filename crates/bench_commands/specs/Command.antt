@@ -19,9 +19,13 @@ use Rattle.command_demo.specs.One.{IsOneDone, IsOneFault}
 use Rattle.command_live.specs.Live.{IsLiveDone, IsLiveFault}
 use Rattle.command_files.specs.Refusals.{IsTold}
 use Rattle.command_files.specs.Status.{text_status}
-use Rattle.command_scenarios.specs.Texts.{IsTextFault}
+use Rattle.command_play.specs.Play.{IsPlayDone, IsPlayFault}
+use Rattle.command_texts.specs.Texts.{IsTextFault}
 use Rattle.command_test.specs.Jobs.{IsTestDone, IsTestFault, IsTitlesDone}
 use Rattle.command_traces.specs.Traces.{IsPcapDone, IsPcapRefused, IsShowDone, IsShowRefused}
+use Rattle.command_words.specs.Inputs.{IsInputRefused, IsInputSaid}
+use Rattle.command_words.specs.Saying.{IsSayDone, IsSayFault}
+use Rattle.command_words.specs.Spelling.{IsSpellDone, IsSpellFault}
 use Rattle.command_files.specs.World.{FilesKnown, IsAside, StreamFaults, Streams, World}
 use Rattle.command_files.specs.declared.answer.Answer.{Answer}
 use Rattle.command_files.specs.declared.fault.Fault.{Fault}
@@ -34,6 +38,10 @@ use Rattle.command_files.specs.declared.status.Status.TheVariants as ends
 -- what a job is answered with
 abbrev pub IsDone : (List ℕ → List ℕ → Type 0) → Job → Answer → Type 0
 IsDone holds (jobs.One hex) answer = IsOneDone hex.now answer
+IsDone holds (jobs.Say hex server) answer = IsSayDone hex.now server answer
+IsDone holds (jobs.Spell statement) answer = IsSpellDone (map (λ w. w.now) statement.items) answer
+IsDone holds (jobs.Play file device from to) answer =
+    IsPlayDone holds file.now (record { device = device; from = from; to = to }) answer
 IsDone holds (jobs.Asm input output) answer = IsAsmDone holds (record { text = input.now; image = output.now }) answer
 IsDone holds (jobs.Dis input) answer = IsDisDone holds input.now answer
 IsDone holds (jobs.Run image workers batch trace) answer =
@@ -56,6 +64,10 @@ IsDone holds (jobs.Test files only tap junit) answer =
 -- a job is refused for this fault
 abbrev pub IsRefusedJob : (List ℕ → List ℕ → Type 0) → (List ℕ → Type 0) → Job → Fault → Type 0
 IsRefusedJob holds fails (jobs.One hex) fault = IsOneFault hex.now fault
+IsRefusedJob holds fails (jobs.Say hex server) fault = IsSayFault hex.now fault
+IsRefusedJob holds fails (jobs.Spell statement) fault = IsSpellFault (map (λ w. w.now) statement.items) fault
+IsRefusedJob holds fails (jobs.Play file device from to) fault =
+    IsPlayFault holds fails file.now (record { device = device; from = from; to = to }) fault
 IsRefusedJob holds fails (jobs.Asm input output) fault = IsTextFault holds fails input.now fault
 IsRefusedJob holds fails (jobs.Dis input) fault = IsImageFault holds fails input.now fault
 IsRefusedJob holds fails (jobs.Run image workers batch trace) fault =
@@ -78,6 +90,7 @@ IsRefusedJob holds fails (jobs.Test files only tap junit) fault =
 abbrev pub IsAnswerTo : (List ℕ → List ℕ → Type 0) → Asked → Answer → Type 0
 IsAnswerTo holds (asked.Job job) answer = IsDone holds job answer
 IsAnswerTo holds (asked.Live live) answer = ⊥
+IsAnswerTo holds (asked.Log server) answer = ⊥
 IsAnswerTo holds (asked.Text help is_mistake) answer =
     (answer.status ≡ text_status is_mistake) × (string_bytes answer.text ≡ string_bytes help)
     × (files_of answer.file ≡ [])
@@ -85,6 +98,7 @@ IsAnswerTo holds (asked.Text help is_mistake) answer =
 abbrev pub IsRefused : (List ℕ → List ℕ → Type 0) → (List ℕ → Type 0) → Asked → Fault → Type 0
 IsRefused holds fails (asked.Job job) fault = IsRefusedJob holds fails job fault
 IsRefused holds fails (asked.Live live) fault = ⊥
+IsRefused holds fails (asked.Log server) fault = ⊥
 IsRefused holds fails (asked.Text help is_mistake) fault = ⊥
 
 -- ---- what is not answered at once
@@ -104,11 +118,13 @@ IsCutJob holds faults _ before after fault = ⊥
 abbrev pub IsDebugged : (List ℕ → List ℕ → Type 0) → StreamFaults → Asked → Streams → Streams → Type 0
 IsDebugged holds faults (asked.Job job) before after = IsDebuggedJob holds faults job before after
 IsDebugged holds faults (asked.Live live) before after = ⊥
+IsDebugged holds faults (asked.Log server) before after = ⊥
 IsDebugged holds faults (asked.Text help is_mistake) before after = ⊥
 
 abbrev pub IsDebugCut : (List ℕ → List ℕ → Type 0) → StreamFaults → Asked → Streams → Streams → Fault → Type 0
 IsDebugCut holds faults (asked.Job job) before after fault = IsCutJob holds faults job before after fault
 IsDebugCut holds faults (asked.Live live) before after fault = ⊥
+IsDebugCut holds faults (asked.Log server) before after fault = ⊥
 IsDebugCut holds faults (asked.Text help is_mistake) before after fault = ⊥
 
 -- ---- a command
@@ -176,22 +192,58 @@ pub record IsLiveLost (files : FilesKnown) (faults : StreamFaults) (before after
   pub read : IsReadAs words (asked.Live live)
   pub lost : IsLiveFault files faults before.streams after.streams live fault
 
+-- the words ask for what a log says, which standard input has; all of it was read, and that was printed
+pub record IsLogAnswered (before after : World) (words : List (List ℕ)) (status : Status) : Type 0 where
+  pub server : ℕ
+  pub read : IsReadAs words (asked.Log server)
+  pub answer : Answer
+  pub said : IsInputSaid before.streams.input after.streams.input server answer
+  pub within : WhereKnown (IsWithin most_bytes) before.streams.input after.streams.input
+  pub made : Grows before.made after.made (files_of answer.file)
+  pub printed : Appends before.streams.output after.streams.output (string_bytes answer.text)
+  pub ended : status ≡ answer.status
+
+-- a log could not be read, or a line of it is not hex, and nothing was made and nothing printed
+abbrev pub IsLogRefused : StreamFaults → World → World → Fault → Type 0
+IsLogRefused faults before after fault =
+    IsInputRefused faults.input_fails before.streams.input after.streams.input fault × (after.made ≡ before.made)
+    × (after.streams.output ≡ before.streams.output)
+
+-- a log was read, and what it says not printed
+pub record IsLogUnprinted (files : FilesKnown) (faults : StreamFaults) (before after : World) (server : ℕ)
+    (fault : Fault) : Type 0 where
+  pub answer : Answer
+  pub said : IsInputSaid before.streams.input after.streams.input server answer
+  pub undelivered : IsUndelivered files faults before after answer fault
+
+-- the words ask for what a log says, and this fault kept it from being said
+pub record IsLogLost (files : FilesKnown) (faults : StreamFaults) (before after : World) (words : List (List ℕ))
+    (fault : Fault) : Type 0 where
+  pub server : ℕ
+  pub read : IsReadAs words (asked.Log server)
+  pub lost : IsLogRefused faults before after fault ⊎ IsLogUnprinted files faults before after server fault
+  pub within : WhereKnown (IsWithin most_bytes) before.streams.input after.streams.input
+
 -- the words were answered, or a session was concluded, and nothing was read from standard input, and standard error got
--- nothing; or a conversation came to its end, and no file was made
+-- nothing; or a conversation came to its end, and no file was made; or a log was answered, and standard error got
+-- nothing
 abbrev pub IsFinished : FilesKnown → StreamFaults → World → World → List (List ℕ) → Status → Type 0
 IsFinished files faults before after words status =
     ((IsAnswered files before after words status ⊎ IsLived files before after words status)
     × IsAside before.streams after.streams)
-    ⊎ (IsConversed files faults before after words status × (after.made ≡ before.made))
+    ⊎ ((IsConversed files faults before after words status × (after.made ≡ before.made))
+    ⊎ (IsLogAnswered before after words status × (after.streams.errors ≡ before.streams.errors)))
 
 -- there was no answer, or it was lost, and nothing was read from standard input, and standard error got nothing; or a
--- conversation was cut short, or a session lost likewise, and no file was made
+-- conversation was cut short, or a session lost likewise, and no file was made; or a log was not answered, and standard
+-- error got nothing
 abbrev pub IsUnfinished : FilesKnown → StreamFaults → World → World → List (List ℕ) → Fault → Type 0
 IsUnfinished files faults before after words fault =
     (IsUndone files faults before after words fault × IsAside before.streams after.streams)
-    ⊎ ((IsConversationLost files faults before after words fault
+    ⊎ (((IsConversationLost files faults before after words fault
     ⊎ (IsLiveLost files faults before after words fault × IsAside before.streams after.streams))
     × (after.made ≡ before.made))
+    ⊎ (IsLogLost files faults before after words fault × (after.streams.errors ≡ before.streams.errors)))
 
 -- what the words ask for was not done, and that was told
 pub record IsFaulted (files : FilesKnown) (faults : StreamFaults) (before after : World) (words : List (List ℕ))

@@ -4,6 +4,8 @@
 //! | Commands | Crate |
 //! |---|---|
 //! | `one` | `command_demo` |
+//! | `say`, `spell` | `command_words` |
+//! | `play` | `command_play` |
 //! | `asm`, `dis`, `run`, `check` | `command_scenarios` |
 //! | `show`, `pcap` | `command_traces` |
 //! | `debug` | `command_debug` |
@@ -11,7 +13,7 @@
 //! | `live` | `command_live` |
 //!
 //! What they share is in `command_files`. What each is answered with stands in specs/Command.antt (`IsDone`,
-//! `IsDebugged`, `IsLived`), and why it is refused (`IsRefusedJob`).
+//! `IsDebugged`, `IsLived`, `IsLogAnswered`), and why it is refused (`IsRefusedJob`).
 #![tactic(auto)]
 
 mod program;

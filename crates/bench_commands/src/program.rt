@@ -11,9 +11,11 @@ use command_files::files::Files;
 use command_files::{Answer, Input, Output, Refusal, Status, deliver, tell};
 use command_line::{Asked, Job, read};
 use command_live::live;
+use command_play::play;
 use command_scenarios::{asm, check, dis, run};
 use command_test::{test, titles};
 use command_traces::{pcap, show};
+use command_words::{say, say_input, spell};
 use std::alloc::Global;
 use std::net::Net;
 use std::rt::Clock;
@@ -28,6 +30,8 @@ use trace_text::Selection;
 ///   `output`; nothing is read, and `errors` gets nothing. `IsDone` says what each command is answered with: for `run`,
 ///   that as many workers as were asked for made a run in batches of at most as many steps, both from 1 to 64, and its
 ///   trace file, if that was asked for.
+/// - `say -`: all of `input` is a log, of which exactly what it says is printed on `output`; no file is made, and
+///   `errors` gets nothing.
 /// - `debug` over a run: the lines of `input` are answered in turn until one asks for the end or the input ends.
 ///   Exactly these answers go to `output`, and exactly the notes on these lines to `errors`; no file is made, and the
 ///   status is 0.
@@ -73,7 +77,7 @@ pub fn command<R: Threads + Wait + Sync + Net + Clock, F: Files, I: Input, O: Ou
     }
 }
 
-#[tactic(auto, using(crate::proofs::Ended::answered_if, crate::proofs::Ended::no_memory, crate::proofs::Ended::unanswered, crate::proofs::Ended::undelivered_if, crate::proofs::Ended::conversed_so))]
+#[tactic(auto, using(crate::proofs::Ended::answered_if, crate::proofs::Ended::no_memory, crate::proofs::Ended::unanswered, crate::proofs::Ended::undelivered_if, crate::proofs::Ended::conversed_so, crate::proofs::Ended::log_refused))]
 fn perform<'a, R: Threads + Wait + Sync + Net + Clock, F: Files, I: Input, O: Output, E: Output>(
     rt: &R,
     alloc: Global,
@@ -126,6 +130,10 @@ fn perform<'a, R: Threads + Wait + Sync + Net + Clock, F: Files, I: Input, O: Ou
 {
     match read(alloc, words)? {
         Asked::Live(asked) => live(rt, alloc, asked, files, output),
+        Asked::Log { server } => {
+            let answer = say_input(alloc, input, server)?;
+            deliver(&answer, files, output)
+        }
         Asked::Job(job) => match answer_to(rt, alloc, job, files, input, output, errors)? {
             Some(answer) => deliver(&answer, files, output),
             None => Ok(Status::Done),
@@ -170,6 +178,19 @@ fn answer_to<'a, R: Threads + Wait + Sync, F: Files, I: Input, O: Output, E: Out
 {
     match job {
         Job::One { hex } => Ok(Some(one(alloc, hex)?)),
+        Job::Say { hex, server } => Ok(Some(say(alloc, hex, server)?)),
+        Job::Spell { statement } => Ok(Some(spell(alloc, statement.as_slice())?)),
+        Job::Play {
+            file,
+            device,
+            from,
+            to,
+        } => Ok(Some(play(
+            alloc,
+            file,
+            Selection { device, from, to },
+            files,
+        )?)),
         Job::Asm {
             input: text,
             output: path,
