@@ -5,8 +5,10 @@
 mod arrival;
 mod deciding;
 mod laws;
+mod text;
 
 pub use arrival::ArrivalReason;
 pub use deciding::arrival_reason;
 pub use laws::reasons_decide;
 pub use request_reasons::Reason;
+pub use text::{arrival_reason_text, reason_line};
