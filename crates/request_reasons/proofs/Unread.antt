@@ -68,6 +68,11 @@ pub never : (m : Message) (code : Code) → request_of m ≡ Err code → (code 
     → (code ≡ MethodNotAllowed → ⊥) → ⊥
 never m code e = never_by m code (unread m code e)
 
+-- an option that is not recognized
+pub critical : (m : Message) (code : Code) → request_of m ≡ Err code → code ≡ BadOption
+    → has_unrecognized_critical m.options ≡ true
+critical m code e k = subst (λ (x : Code). IsUnread m x) k (unread m code e)
+
 -- a method that has no operation at a path
 pub lacking : (m : Message) (code : Code) (path : Path) (method : ℕ) → request_of m ≡ Err code
     → code ≡ MethodNotAllowed → path_of (segments_of m.options) ≡ Some path → m.code ≡ method
@@ -102,10 +107,10 @@ read_by m path operation code asked e =
 pub first_unread : (client : Client) (server : ℕ) (m : Message) (code : Code) (reason : Reason)
     → request_of m ≡ Err code → IsTold client server m reason
     → position (λ line. line.0) (request_lines client server m) ≡ Some (line_of reason)
-first_unread client server m code Unrecognized e h =
+first_unread client server m code (Unrecognized number fault) e h =
     let is_met : Bool × Code → Bool = λ line. line.0 in
-    position_from-zero is_met (request_lines client server m) ∙ rw h refl
-first_unread client server m code NoPath e h = rw h.0 (rw h.1 refl)
+    position_from-zero is_met (request_lines client server m) ∙ rw h.0 refl
+first_unread client server m code (NoPath fault) e h = rw h.0 (rw h.1 refl)
 first_unread client server m code (NoOperation method path) e h =
     rw h.understood (rw h.goes_to (rw h.means refl))
 first_unread client server m code (Refused path operation rule) e h = absurd (read_by m path operation code h.0 e)

@@ -23,7 +23,9 @@ use Rattle.device_requests.specs.Request.{purpose_of}
 use Rattle.device_requests.specs.Targets.{definition_at}
 use Rattle.request_reasons.specs.Formats.{IsUnserved}
 use Rattle.request_reasons.specs.Missing.{missing_lines}
+use Rattle.request_reasons.specs.Options.{IsUnrecognized}
 use Rattle.request_reasons.specs.Rights.{IsDenied, IsDeniedAll}
+use Rattle.request_reasons.specs.Segments.{IsNoPath}
 use Rattle.request_reasons.specs.declared.reasons.Reason.{Reason}
 use Rattle.request_reasons.specs.declared.reasons.Reason.TheVariants.{Unrecognized, NoPath, NoOperation, Refused, Done}
 use Rattle.request_reasons.specs.declared.reasons.Rule.{Rule}
@@ -43,8 +45,8 @@ line_at rule.State = 7
 line_at rule.Limit = 8
 
 abbrev pub line_of : Reason → ℕ
-line_of Unrecognized = 0
-line_of NoPath = 1
+line_of (Unrecognized number fault) = 0
+line_of (NoPath fault) = 1
 line_of (NoOperation method path) = 1
 line_of (Refused path operation rule) = line_at rule
 line_of (Done path operation) = 9
@@ -84,8 +86,8 @@ success_code Execute = Changed
 success_code Delete = Deleted
 
 abbrev pub code_of : Reason → Code
-code_of Unrecognized = BadOption
-code_of NoPath = NotFound
+code_of (Unrecognized number fault) = BadOption
+code_of (NoPath fault) = NotFound
 code_of (NoOperation method path) = MethodNotAllowed
 code_of (Refused path operation rule) = code_at operation rule
 code_of (Done path operation) = success_code operation
@@ -116,9 +118,11 @@ IsWhy client server path operation purpose rule.Limit = Unit {0}
 
 -- what a reason says of a request is so
 abbrev pub IsTold : Client → ℕ → Message → Reason → Type 0
-IsTold client server m Unrecognized = has_unrecognized_critical m.options ≡ true
-IsTold client server m NoPath =
+IsTold client server m (Unrecognized number fault) =
+    (has_unrecognized_critical m.options ≡ true) × IsUnrecognized m.options number fault
+IsTold client server m (NoPath fault) =
     (has_unrecognized_critical m.options ≡ false) × (path_of (segments_of m.options) ≡ None)
+    × IsNoPath (segments_of m.options) fault
 IsTold client server m (NoOperation method path) = LacksOperation m method path
 IsTold client server m (Refused path operation rule) =
     Asks m path operation × IsWhy client server path operation (purpose_of m operation) rule

@@ -52,8 +52,8 @@ instance_asked (Resource o i r) = i
 instance_asked (Part o i r n) = i
 
 -- what decides the right of a server on an instance, where there are several accounts: whether it owns the instance of
--- Access Control that this is; that no instance of Access Control refers to it; the server's own entry in the lowest one
--- that does; without one, that the server owns that one; else entry 0 there, or that there is none
+-- Access Control that this is; that no instance of Access Control refers to it; the server's own entry in the lowest
+-- one that does; without one, that the server owns that one; else entry 0 there, or that there is none
 abbrev pub IsGrant : Stored → ℕ → ℕ → ℕ → Grant → Type 0
 IsGrant stored server o i (OfControl is_owner) = (o ≡ access_control_object) × (owns stored i server ≡ is_owner)
 IsGrant stored server o i Unreferred = (o ≢ access_control_object) × (control_of stored o i ≡ None)

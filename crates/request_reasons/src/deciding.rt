@@ -12,11 +12,12 @@ ghost use Rattle.request_reasons.specs.Reasons.{IsTold, IsWhy, code_at, code_of,
 ghost use Rattle.request_reasons.specs.Rights.{is_read_of_object};
 
 use crate::format::unserved;
+use crate::options::unrecognized;
 use crate::reasons::{Reason, Rule};
 use crate::right::{denied, denied_all};
 use crate::target::missing_at;
 use crate::targets::{lacks_operation, operations_at};
-use crate::uri_path::path_of;
+use crate::uri_path::{path_fault, path_of};
 use coap_codec::Message;
 use device_requests::{Client, Code, Operation, Request};
 use object_defs::Path;
@@ -33,19 +34,26 @@ fn answered(client: &Client, server: u16, message: &Message) -> Result<Code, All
 }
 
 /// Why a message is refused as it is read.
-fn unread(message: &Message, code: Code) -> Reason
+fn unread(message: &Message, code: Code) -> Result<Reason, AllocError>
     requires { request_of message.now ≡ Err code }
-    ensures told { (client : ClientData) (server : ℕ) → IsTold client server message.now result }
-    ensures code { code_of result ≡ code }
+    ensures told { IfOk result
+        (λ r. (client : ClientData) (server : ℕ) → IsTold client server message.now r) }
+    ensures code { IfOk result (λ r. code_of r ≡ code) }
 {
+    let options = message.options().as_slice();
     match code {
-        Code::BadOption => Reason::Unrecognized,
-        Code::NotFound => Reason::NoPath,
-        Code::MethodNotAllowed => match path_of(message.options().as_slice()) {
-            Some(path) => Reason::NoOperation {
+        Code::BadOption => {
+            let (number, fault) = unrecognized(options);
+            Ok(Reason::Unrecognized { number, fault })
+        }
+        Code::NotFound => Ok(Reason::NoPath {
+            fault: path_fault(options)?,
+        }),
+        Code::MethodNotAllowed => match path_of(options) {
+            Some(path) => Ok(Reason::NoOperation {
                 method: message.code(),
                 path,
-            },
+            }),
             None => unreachable!(),
         },
         _ => unreachable!(),
@@ -198,9 +206,9 @@ fn asked(client: &Client, server: u16, message: &Message, request: Request, code
     }
 }
 
-/// Why a device that manages this answers a request of a server as it does: the first rule that refuses it, or that none
-/// does. The rule is the first of the table of docs/device/requests.md whose condition holds (`first`), its code is
-/// that of the answer (`code`), and what is named beside it is what the rule read (`told`). Nothing changes by the
+/// Why a device that manages this answers a request of a server as it does: the first rule that refuses it, or that
+/// none does. The rule is the first of the table of docs/device/requests.md whose condition holds (`first`), its code
+/// is that of the answer (`code`), and what is named beside it is what the rule read (`told`). Nothing changes by the
 /// question.
 pub fn reason(
     alloc: Global,
@@ -214,7 +222,7 @@ pub fn reason(
     ensures told { IfOk result (λ r. IsTold client.now server message.now r) }
 {
     match Request::read(message) {
-        Err(code) => Ok(unread(message, code)),
+        Err(code) => unread(message, code),
         Ok(request) => {
             let code = answered(client, server, message)?;
             Ok(asked(client, server, message, request, code))

@@ -3,14 +3,20 @@
 
 mod deciding;
 mod format;
+mod options;
 mod reasons;
 mod right;
 mod target;
 mod targets;
+mod text;
 mod uri_path;
+mod words;
 
 pub use deciding::reason;
 pub use format::Served;
+pub use options::OptionFault;
 pub use reasons::{Reason, Rule};
 pub use right::{Grant, Letter};
 pub use target::Missing;
+pub use text::reason_text;
+pub use uri_path::PathFault;

@@ -1,8 +1,10 @@
 //! What decides an answer.
 
 use crate::format::Served;
+use crate::options::OptionFault;
 use crate::right::{Grant, Letter};
 use crate::target::Missing;
+use crate::uri_path::PathFault;
 use device_requests::Operation;
 use object_defs::{Ops, Path};
 
@@ -11,9 +13,17 @@ use object_defs::{Ops, Path};
 #[derive(Debug, Drop)]
 pub enum Reason {
     /// Rule 3: an option that must be understood is not recognized.
-    Unrecognized,
+    Unrecognized {
+        /// Its number.
+        number: u16,
+        /// Why it is not.
+        fault: OptionFault,
+    },
     /// Rule 4: the Uri-Path is not a path.
-    NoPath,
+    NoPath {
+        /// Why it is not.
+        fault: PathFault,
+    },
     /// Rule 5: the method has no operation at this kind of path.
     NoOperation {
         /// The method, by its code.

@@ -33,8 +33,8 @@ pub enum Letter {
     C,
 }
 
-/// What decides the right of a server on an instance, in a device with several accounts: the first of these that applies
-/// (docs/device/access.md).
+/// What decides the right of a server on an instance, in a device with several accounts: the first of these that
+/// applies (docs/device/access.md).
 #[derive(Clone, Copy, Debug, PartialEq, Eq)]
 pub enum Grant {
     /// The instance is one of Access Control itself: its owner has R and W, every other server R.

@@ -1,6 +1,7 @@
-use Rattle.std.proofs.Common.{sym, ap, ◌∙◌}
+use Rattle.std.proofs.Common.{sym, ap, subst, ◌∙◌}
 use Rattle.device_requests.specs.Options.{path_of, segments_of}
-use Rattle.request_reasons.proofs.Unread.{lacking, never}
+use Rattle.request_reasons.specs.Options.{IsUnrecognized}
+use Rattle.request_reasons.proofs.Unread.{critical, lacking, never}
 use Rattle.request_reasons.proofs.deciding.unread.Goals as goal
 
 pub unreachable-requires-in_default : goal.unreachable-requires-in_default
@@ -8,8 +9,16 @@ unreachable-requires-in_default c =
     never c.args.message.now c.args.code c.requires c.in_default.not-BadOption c.in_default.not-NotFound
     c.in_default.not-MethodNotAllowed
 
+pub returns-in-BadOption-clause-told : goal.returns-in-BadOption-clause-told
+returns-in-BadOption-clause-told c client server =
+    let options = c.as_slice-options.ensures ∙ c.options.ensures.value in
+    let found = c.unrecognized-number.result in (
+      critical c.args.message.now c.args.code c.requires c.in-BadOption.is,
+      subst (λ os. IsUnrecognized os found.0 found.1) options c.unrecognized-number.ensures,
+    )
+
 pub returns-in-Some-clause-told : goal.returns-in-Some-clause-told
 returns-in-Some-clause-told c client server =
-    let options = c.as_slice.ensures ∙ c.options.ensures.value in
+    let options = c.as_slice-options.ensures ∙ c.options.ensures.value in
     lacking c.args.message.now c.args.code c.in-Some.path c.code.result c.requires c.in-MethodNotAllowed.is
     (cc (ap (λ os. path_of (segments_of os)) options)) (sym c.code.ensures)

@@ -1,0 +1,158 @@
+//! A reason in words.
+
+ghost use Rattle.std.specs.Prelude.{◌≡◌, IfOk};
+ghost use Rattle.std.specs.String.{string_bytes};
+ghost use Rattle.request_reasons.specs.Words.{on_all_words, reason_text, rule_number, rule_words, target_text};
+ghost use Rattle.request_reasons.specs.Words.{target_words, unserved_words};
+
+use crate::format::Served;
+use crate::reasons::{Reason, Rule};
+use crate::right::{Grant, Letter};
+use crate::target::Missing;
+use crate::words::{
+    format_words, kind_text, method_text, missing_text, operation_name, operations_text,
+    option_text, path_fault_text, right_words, served_text,
+};
+use device_requests::Operation;
+use object_defs::{Path, path_text};
+use std::alloc::{AllocError, Global};
+
+/// The number of a rule.
+fn rule_number(rule: &Rule) -> u8
+    ensures { result ≡ rule_number rule.now }
+{
+    match rule {
+        Rule::Security => 6,
+        Rule::Target { .. } => 7,
+        Rule::Right { .. } | Rule::RightOnAll { .. } => 8,
+        Rule::Operation { .. } => 9,
+        Rule::Format { .. } => 10,
+        Rule::Payload => 11,
+        Rule::State | Rule::Limit => 12,
+    }
+}
+
+/// Rule 7.
+fn target_words(alloc: Global, path: Path, missing: Missing) -> Result<String, AllocError>
+    ensures { IfOk result (λ text. string_bytes text ≡ target_words path missing) }
+{
+    let place = path_text(alloc, path)?;
+    let what = missing_text(alloc, path, missing)?;
+    format!(in alloc; "{place} does not exist, {what}")
+}
+
+/// Rule 8 of a Read of an object.
+fn on_all_words(
+    alloc: Global,
+    server: u16,
+    path: Path,
+    count: usize,
+    first: Path,
+    grant: Grant,
+) -> Result<String, AllocError>
+    ensures { IfOk result (λ text. string_bytes text ≡ on_all_words server path count first grant) }
+{
+    let denied = right_words(alloc, server, Letter::R, first, grant)?;
+    let place = path_text(alloc, path)?;
+    format!(in alloc; "{denied}, as on each instance of {place} ({count} in all)")
+}
+
+/// Rule 10.
+fn unserved_words(
+    alloc: Global,
+    path: Path,
+    number: u16,
+    served: Served,
+) -> Result<String, AllocError>
+    ensures { IfOk result (λ text. string_bytes text ≡ unserved_words path number served) }
+{
+    let format = format_words(alloc, number)?;
+    let place = path_text(alloc, path)?;
+    let others = served_text(served);
+    format!(in alloc; "{format} is not served at {place}, {others}")
+}
+
+/// What a rule read.
+fn rule_words(
+    alloc: Global,
+    operation: Operation,
+    path: Path,
+    rule: &Rule,
+) -> Result<String, AllocError>
+    ensures { IfOk result (λ text. string_bytes text ≡ rule_words operation path rule.now) }
+{
+    let object = path.object();
+    match rule {
+        Rule::Security => String::from_str(alloc, "object 0 is closed to servers"),
+        Rule::Target { missing } => target_words(alloc, path, *missing),
+        Rule::Right {
+            server,
+            letter,
+            instance,
+            grant,
+        } => {
+            let place = Path::Instance(object, *instance);
+            right_words(alloc, *server, *letter, place, *grant)
+        }
+        Rule::RightOnAll {
+            server,
+            count,
+            instance,
+            grant,
+        } => {
+            let first = Path::Instance(object, *instance);
+            on_all_words(alloc, *server, path, *count, first, *grant)
+        }
+        Rule::Operation { operations } => operations_text(alloc, operation, path, *operations),
+        Rule::Format { number, served } => unserved_words(alloc, path, *number, *served),
+        Rule::Payload => String::from_str(alloc, "the payload is not valid"),
+        Rule::State => String::from_str(alloc, "the firmware does not take it now"),
+        Rule::Limit => String::from_str(alloc, "it would be more than the limits allow"),
+    }
+}
+
+/// A path, and what it names.
+fn target_text(alloc: Global, path: Path) -> Result<String, AllocError>
+    ensures { IfOk result (λ text. string_bytes text ≡ target_text path) }
+{
+    let place = path_text(alloc, path)?;
+    let kind = kind_text(path);
+    format!(in alloc; "{place}, {kind}")
+}
+
+/// A reason in words, in one line without its end: the rule by its number, the operation, and what the rule read; of
+/// what is not refused the operation and its target, as in `Read of /3/0/9, a resource`.
+pub fn reason_text(alloc: Global, reason: &Reason) -> Result<String, AllocError>
+    ensures { IfOk result (λ text. string_bytes text ≡ reason_text reason.now) }
+{
+    match reason {
+        Reason::Unrecognized { number, fault } => {
+            let why = option_text(alloc, *number, *fault)?;
+            format!(in alloc; "rule 3: {why}")
+        }
+        Reason::NoPath { fault } => {
+            let why = path_fault_text(alloc, fault)?;
+            format!(in alloc; "rule 4: {why}")
+        }
+        Reason::NoOperation { method, path } => {
+            let method = method_text(alloc, *method, *path)?;
+            let target = target_text(alloc, *path)?;
+            format!(in alloc; "rule 5: {method} has no operation at {target}")
+        }
+        Reason::Refused {
+            path,
+            operation,
+            rule,
+        } => {
+            let number = rule_number(rule);
+            let name = operation_name(*operation);
+            let why = rule_words(alloc, *operation, *path, rule)?;
+            format!(in alloc; "rule {number} of {name}: {why}")
+        }
+        Reason::Done { path, operation } => {
+            let name = operation_name(*operation);
+            let target = target_text(alloc, *path)?;
+            format!(in alloc; "{name} of {target}")
+        }
+    }
+}
