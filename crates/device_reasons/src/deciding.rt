@@ -1,8 +1,9 @@
 //! Which condition decides how a datagram is handled.
 
-ghost use Rattle.std.specs.Prelude.{◌≡◌, ◌⊎◌, ℕ, List, true, IfOk};
+ghost use Rattle.std.specs.Prelude.{◌≡◌, ◌⊎◌, ℕ, List, true, false, IfOk, IsOk};
 ghost use Rattle.coap_codec.specs.declared.kind.Kind.TheVariants.{Con, Non};
 ghost use Rattle.device_machine.specs.Reactions.{is_request};
+ghost use Rattle.device_requests.specs.Client.{has_account};
 ghost use Rattle.device_machine.specs.State.{Machine as FlatState, Shows};
 ghost use Rattle.device_reasons.specs.Reasons.{IsArrivalReason, IsMalformed, IsMessage};
 
@@ -83,14 +84,17 @@ fn message_reason(
 
 /// Why a device handles bytes that come from a server as it does: the first condition of the table of
 /// docs/device/requests.md that holds. For every flat state that the device shows, that is the one whose reaction the
-/// device has (`reasons_decide`). Nothing changes by the question.
+/// device has (`reasons_decide`). Nothing changes by the question. Of a spent device nothing is promised.
 pub fn arrival_reason(
     alloc: Global,
     device: &Device,
     server: u16,
     bytes: &[u8],
 ) -> Result<ArrivalReason, AllocError>
-    ensures { (f : FlatState) → Shows device.now f → IfOk result (λ r. IsArrivalReason f server bytes.now r) }
+    ensures reason { (f : FlatState) → Shows device.now f → IfOk result (λ r. IsArrivalReason f server bytes.now r) }
+
+    // That a server is a stranger takes no memory.
+    ensures stranger { (f : FlatState) → Shows device.now f → has_account f.kept.client server ≡ false → IsOk result }
 {
     if !device.client().has_account(server) {
         return Ok(ArrivalReason::Stranger { server });

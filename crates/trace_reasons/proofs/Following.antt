@@ -9,10 +9,10 @@ use Rattle.lemmas.proofs.Lists.{take_one_more}
 use Rattle.device_machine.specs.State.{Device}
 use Rattle.scenario_image.specs.Scenario.{Scenario}
 use Rattle.trace_file.specs.declared.entry.Entry.{Entry}
-use Rattle.fleet_core.specs.Board.{ShowsAfter}
+use Rattle.fleet_core.specs.Board.{AreStarted, ShowsAfter}
 use Rattle.fleet_core.specs.Run.{Fits, IsRun, made_by, step_at}
 use Rattle.fleet_core.proofs.Posts.{made_other, made_same}
-use Rattle.fleet_core.proofs.Taken.{row_below}
+use Rattle.fleet_core.proofs.Taken.{row_below, shows_first}
 use Rattle.trace_text.specs.Selection.{is_wanted}
 use Rattle.trace_text.proofs.Shown.{follows}
 use Rattle.trace_reasons.specs.Beside.{AreBeside}
@@ -33,6 +33,12 @@ set_elsewhere (z ∷ zs) (suc i) zero y h = refl
 set_elsewhere (z ∷ zs) (suc i) (suc j) y h = set_elsewhere zs i j y (λ e. h (ap suc e))
 
 -- ---- an entry of a run
+
+-- before the first entry
+pub none_made : (s : Scenario) (wanted : Option ℕ) (devices : List Device) → length devices ≡ length s.rows
+    → AreStarted s devices → AreBeside s wanted [] devices
+none_made s wanted devices count started =
+    record { count = count; each = λ d x is at. shows_first s devices d x started at }
 
 -- an entry, with the devices beside those before it
 pub record IsNext (s : Scenario) (wanted : Option ℕ) (es : List Entry) (i : ℕ) (e : Entry)
@@ -57,7 +63,7 @@ has_row s wanted es i e devices next =
 
 pub has_step : (s : Scenario) (wanted : Option ℕ) (es : List Entry) (i : ℕ) (e : Entry) (devices : List Device)
     → IsNext s wanted es i e devices → IsSome (step_at s e.device e.step)
-has_step s wanted es i e devices next = rw next.fits.stands (search rules)
+has_step s wanted es i e devices next = subst IsSome (sym next.fits.stands) tt
 
 -- the device that is asked for shows the state before it
 pub shows_here : (s : Scenario) (wanted : Option ℕ) (es : List Entry) (i : ℕ) (e : Entry) (devices : List Device)
