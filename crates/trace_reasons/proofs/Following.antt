@@ -6,16 +6,20 @@ use Rattle.std.proofs.lemmas.Bool.{cases_eq}
 use Rattle.std.proofs.lemmas.List.{length-set}
 use Rattle.std.proofs.lemmas.Option.{slice_get_read}
 use Rattle.lemmas.proofs.Lists.{take_one_more}
-use Rattle.device_machine.specs.State.{Device}
-use Rattle.scenario_image.specs.Scenario.{Scenario}
+use Rattle.device_machine.specs.State.{Device, Machine, Shows}
+use Rattle.scenario_image.specs.declared.step.Step.{Step}
+use Rattle.scenario_image.specs.Play.{state_at}
+use Rattle.scenario_image.specs.Scenario.{IsValid, Scenario}
 use Rattle.trace_file.specs.declared.entry.Entry.{Entry}
 use Rattle.fleet_core.specs.Board.{AreStarted, ShowsAfter}
 use Rattle.fleet_core.specs.Run.{Fits, IsRun, made_by, step_at}
 use Rattle.fleet_core.proofs.Posts.{made_other, made_same}
 use Rattle.fleet_core.proofs.Taken.{row_below, shows_first}
+use Rattle.fleet_core.proofs.Valid.{IsStep, step_is}
 use Rattle.trace_text.specs.Selection.{is_wanted}
 use Rattle.trace_text.proofs.Shown.{follows}
 use Rattle.trace_reasons.specs.Beside.{AreBeside}
+use Rattle.trace_reasons.specs.Text.{AreReasonLines, AreReasonsAt}
 
 -- ---- one element of a list is set
 
@@ -63,7 +67,7 @@ has_row s wanted es i e devices next =
 
 pub has_step : (s : Scenario) (wanted : Option ℕ) (es : List Entry) (i : ℕ) (e : Entry) (devices : List Device)
     → IsNext s wanted es i e devices → IsSome (step_at s e.device e.step)
-has_step s wanted es i e devices next = subst IsSome (sym next.fits.stands) tt
+has_step s wanted es i e devices next = rw next.fits.stands refl
 
 -- the device that is asked for shows the state before it
 pub shows_here : (s : Scenario) (wanted : Option ℕ) (es : List Entry) (i : ℕ) (e : Entry) (devices : List Device)
@@ -74,6 +78,21 @@ shows_here s wanted es i e devices d x next is own read =
     let at : slice_get devices e.device ≡ Some x =
     slice_get_read devices (length devices) e.device x refl (has_row s wanted es i e devices next) here in
     subst (λ k. ShowsAfter s e.device k x) (sym next.fits.count) (next.beside.each e.device x is at)
+
+-- the lines of a step's reason, where a device shows the state right before it
+pub reasons_at : (s : Scenario) (d k : ℕ) (step : Step) (x : Device) (lines : List ℕ) → IsValid s
+    → step_at s d k ≡ Some step → ShowsAfter s d k x → ((f : Machine) → Shows x f → AreReasonLines f step lines)
+    → AreReasonsAt s d k lines
+reasons_at s d k step x lines valid at shows why =
+    let is : IsStep s d k step = step_is s d k step valid at in
+    record {
+      class = is.class;
+      steps = is.steps;
+      row = is.row;
+      step = step;
+      stands = is.stands;
+      why = why (state_at is.class is.steps k) (shows is.class is.steps is.row);
+    }
 
 -- ---- with one entry more
 

@@ -1,5 +1,5 @@
 -- The text of the selected entries, with one entry more.
-use Rattle.std.proofs.Common.{◌≡◌, ℕ, ◌+◌, ◌<◌, true, false, cond, List, [], ◌∷◌, ◌++◌, length, take, Some}
+use Rattle.std.proofs.Common.{◌≡◌, ℕ, ◌+◌, ◌<◌, Bool, true, false, ◌&&◌, cond, List, [], ◌∷◌, ◌++◌, length, take, Some}
 use Rattle.std.proofs.Common.{slice_get, append_assoc, refl, sym, ap, subst, ◌∙◌, arith}
 use Rattle.std.proofs.lemmas.List.{append-nil, length-take-le}
 use Rattle.std.proofs.lemmas.List.Elements.{filter-append}
@@ -7,7 +7,7 @@ use Rattle.std.proofs.lemmas.Option.{slice_get_within}
 use Rattle.lemmas.proofs.Lists.{take_one_more}
 use Rattle.scenario_image.specs.Scenario.{Scenario}
 use Rattle.trace_file.specs.declared.entry.Entry.{Entry}
-use Rattle.trace_text.specs.Selection.{is_selected, numbered_entries, selected}
+use Rattle.trace_text.specs.Selection.{is_from, is_selected, is_up_to, is_wanted, numbered_entries, selected}
 use Rattle.trace_text.specs.declared.selection.Selection.{Selection}
 use Rattle.trace_reasons.specs.Text.{AreEntries, IsEntryText, IsReasonedText}
 
@@ -62,3 +62,27 @@ text_hidden s sel es i e text at is so_far =
     ∙ ap (λ b. selected sel (numbered_entries 0 (take i es)) ++ cond b ((i, e) ∷ []) []) is
     ∙ append-nil (selected sel (numbered_entries 0 (take i es))) in
     subst (λ ps. AreEntries s ps text) (sym more) so_far
+
+-- what is asked for, by the device and by the number
+selected_is : (sel : Selection) (i : ℕ) (e : Entry) (between : Bool) → is_wanted sel.device e.device ≡ true
+    → between ≡ (is_from sel.from i && is_up_to sel.to i) → is_selected sel i e ≡ between
+selected_is sel i e between wanted is = rw wanted (sym is)
+
+-- an entry of a device that is asked for
+pub text_next : (s : Scenario) (sel : Selection) (es : List Entry) (i : ℕ) (e : Entry) (text first : List ℕ)
+    (between : Bool) → slice_get es i ≡ Some e → is_wanted sel.device e.device ≡ true
+    → between ≡ (is_from sel.from i && is_up_to sel.to i) → (between ≡ true → IsEntryText s i e first)
+    → (between ≡ false → first ≡ []) → IsReasonedText s sel (take i es) text
+    → IsReasonedText s sel (take (i + 1) es) (text ++ first)
+text_next s sel es i e text first true at wanted is shown hidden so_far =
+    text_shown s sel es i e text first at (selected_is sel i e true wanted is) so_far (shown refl)
+text_next s sel es i e text first false at wanted is shown hidden so_far =
+    let same : text ++ first ≡ text = ap (λ t. text ++ t) (hidden refl) ∙ append-nil text in
+    subst (IsReasonedText s sel (take (i + 1) es)) (sym same)
+    (text_hidden s sel es i e text at (selected_is sel i e false wanted is) so_far)
+
+-- one of another device
+pub text_past : (s : Scenario) (sel : Selection) (es : List Entry) (i : ℕ) (e : Entry) (text : List ℕ)
+    → slice_get es i ≡ Some e → is_wanted sel.device e.device ≡ false → IsReasonedText s sel (take i es) text
+    → IsReasonedText s sel (take (i + 1) es) text
+text_past s sel es i e text at other so_far = text_hidden s sel es i e text at (rw other refl) so_far

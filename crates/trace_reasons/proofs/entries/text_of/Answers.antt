@@ -1,6 +1,10 @@
-use Rattle.std.proofs.Common.{sym, arith, ◌∙◌}
+use Rattle.std.proofs.Common.{◌≡◌, ◌+◌, ◌++◌, take, slice_set, sym, ap, subst, arith, ◌∙◌}
+use Rattle.std.specs.String.{string_bytes}
+use Rattle.trace_reasons.specs.Beside.{AreBeside}
+use Rattle.trace_reasons.specs.Text.{IsReasonedText}
 use Rattle.trace_reasons.proofs.Following.{IsNext, beside_next, beside_other, has_row, has_step, next_at, none_made}
 use Rattle.trace_reasons.proofs.Following.{shows_here}
+use Rattle.trace_reasons.proofs.Selecting.{text_next, text_past}
 use Rattle.trace_reasons.proofs.entries.text_of.Goals as goal
 use Rattle.trace_reasons.proofs.entries.text_of.Goals.{then-is_wanted+in_ok-text+in_ok-push_str, else-is_wanted}
 
@@ -40,19 +44,42 @@ pass-requires-clause-shows c =
 
 pub loop-number-preserved : goal.loop-number-preserved
 loop-number-preserved c =
+    let s = c.args.scenario.now in
+    let sel = c.args.selection in
+    let es = c.args.entries.now in
+    let i = c.loop-number.number in
+    let e = c.index-entries-number.result in
+    let text = string_bytes c.loop-number.out in
+    let next : IsNext s sel.device es i e c.loop-number.devices.items =
+    next_at s sel.device es i e c.loop-number.devices.items c.requires c.loop-number-test.true
+    c.index-entries-number.is c.loop-number.invariant.beside in
     elim c.if-is_wanted.branch [
       | then-is_wanted+in_ok-text+in_ok-push_str w ↦
-        let a = w.transcript-is in
-        let b = w.devices-is in
-        let d = w.out-is in
-        let e = w.in_ok-text.ensures in
-        let f = w.in_ok-push_str.ensures.bytes in
-        let g = w.index_mut-device.ensures in
-        ?
+          let transcript : c.if-is_wanted.transcript ≡ w.pass.new.transcript = w.transcript-is in
+          let devices : c.if-is_wanted.devices.items
+          ≡ slice_set c.loop-number.devices.items w.from.result w.pass.new.device = ap (λ v. v.items) w.devices-is in
+          let out : string_bytes c.if-is_wanted.out ≡ string_bytes w.push_str.new.self =
+          ap (λ t. string_bytes t) w.out-is in
+          let first = string_bytes w.in_ok-text.text in
+          let more : string_bytes c.if-is_wanted.out ≡ text ++ first =
+          out ∙ w.in_ok-push_str.ensures.bytes ∙ ap (λ t. text ++ t) w.as_str.ensures.value in
+          record {
+            scenario = transcript ∙ w.in_ok-text.ensures.same ∙ c.loop-number.invariant.scenario;
+            so_far = subst (IsReasonedText s sel (take (i + 1) es)) (sym more)
+                (text_next s sel es i e text first w.is_between-is_shown.result next.at
+                (sym c.is_wanted.ensures ∙ w.if-is_wanted.true) w.is_between-is_shown.ensures
+                w.in_ok-text.ensures.shown w.in_ok-text.ensures.hidden c.loop-number.invariant.so_far);
+            beside = subst (AreBeside s sel.device (take (i + 1) es)) (sym devices)
+                (beside_next s sel.device es i e c.loop-number.devices.items w.from.result w.pass.new.device next
+                w.from.ensures w.in_ok-text.ensures.shows);
+          }
       | else-is_wanted w ↦
-        let a = w.transcript-is in
-        let b = w.devices-is in
-        let d = w.out-is in
-        let no = w.if-is_wanted.false in
-        ?
+          let other = sym c.is_wanted.ensures ∙ w.if-is_wanted.false in
+          record {
+            scenario = w.transcript-is ∙ c.loop-number.invariant.scenario;
+            so_far = subst (IsReasonedText s sel (take (i + 1) es)) (sym (ap (λ t. string_bytes t) w.out-is))
+                (text_past s sel es i e text next.at other c.loop-number.invariant.so_far);
+            beside = subst (AreBeside s sel.device (take (i + 1) es)) (sym (ap (λ v. v.items) w.devices-is))
+                (beside_other s sel.device es i e c.loop-number.devices.items next other);
+          }
     ]

@@ -53,6 +53,6 @@ returns-clause-text c =
     (string_bytes c.in_ok-whole.whole) c.in_ok-whole.ensures.text c.in_ok-text.ensures.same)
     (c.as_str-2.ensures.value ∙ head_is c.args.transcript.now c.args.number c.args.entry.now
     (string_bytes c.in_ok-text.text) c.from_vec.result c.in_ok-text.ensures.text
-    (c.from_vec.ensures ∙ c.new.ensures.items)) c.in-Some.ensures.cases
+    (c.from_vec.ensures ∙ c.new.ensures.items)) (c.in-Some.ensures.cases.1.1 ∙ ap (λ r. c.as_str-2.result.now ++ r) (sym c.in-Some.ensures.cases.2))
     (c.in_ok-push_str.ensures.bytes ∙ ap (λ x. x ++ c.args.lines.now) (sym c.as_str-2.ensures.value))
     c.in_ok-push_str-2.ensures.bytes
