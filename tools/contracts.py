@@ -28,6 +28,7 @@ SURFACE = {
     "debugger": "Debugger",
     "live_link": "serve Wire Seconds UdpWire",
     "trace_text": "trace_text",
+    "trace_json": "selected_lines JsonLines head_line verdict_line fault_line",
     "trace_pcap": "trace_pcap",
     "bench_commands": "command",
     "lwbench": "main",

@@ -40,8 +40,8 @@ IsDone holds (jobs.Run image workers batch trace) answer =
     IsRunDone holds image.now (record { workers = workers; batch = batch }) (option_map (λ p. p.now) trace) answer
 IsDone holds (jobs.Check image trace) answer =
     IsCheckDone holds (record { image = image.now; trace = trace.now }) answer
-IsDone holds (jobs.Show image trace device from to) answer =
-    IsShowDone holds (record { image = image.now; trace = trace.now })
+IsDone holds (jobs.Show image trace device from to json) answer =
+    IsShowDone holds (record { image = image.now; trace = trace.now }) json
     (record { device = device; from = from; to = to }) answer
 IsDone holds (jobs.Pcap image trace output) answer =
     IsPcapDone holds (record { image = image.now; trace = trace.now }) output.now answer
@@ -62,7 +62,7 @@ IsRefusedJob holds fails (jobs.Run image workers batch trace) fault =
     IsRunRefused holds fails image.now (record { workers = workers; batch = batch }) fault
 IsRefusedJob holds fails (jobs.Check image trace) fault =
     IsCheckRefused holds fails (record { image = image.now; trace = trace.now }) fault
-IsRefusedJob holds fails (jobs.Show image trace device from to) fault =
+IsRefusedJob holds fails (jobs.Show image trace device from to json) fault =
     IsShowRefused holds fails (record { image = image.now; trace = trace.now })
     (record { device = device; from = from; to = to }) fault
 IsRefusedJob holds fails (jobs.Pcap image trace output) fault =

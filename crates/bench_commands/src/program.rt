@@ -188,9 +188,10 @@ fn answer_to<'a, R: Threads + Wait + Sync, F: Files, I: Input, O: Output, E: Out
             device,
             from,
             to,
+            json,
         } => {
             let selection = Selection { device, from, to };
-            Ok(Some(show(alloc, image, trace, selection, files)?))
+            Ok(Some(show(alloc, image, trace, json, selection, files)?))
         }
         Job::Pcap {
             image,

@@ -11,6 +11,7 @@ use Rattle.debugger.specs.Session.{Session}
 use Rattle.debug_answers.specs.Notes.{IsNote}
 use Rattle.debug_answers.specs.Replies.{IsReply}
 use Rattle.command_debug.specs.Conversation.{IsCut, IsEnd, IsLastTurn, IsNextLine, IsNoted, IsTurn}
+use Rattle.command_files.proofs.Lines.{through_all}
 use Rattle.command_files.specs.Fault.{IsReadingFault, IsWritingFault}
 use Rattle.command_files.specs.Input.{IsOfLine, IsWithin, WhereKnown}
 use Rattle.command_files.specs.World.{IsSilent, StreamFaults, Streams}
@@ -62,22 +63,12 @@ spent_by (Some bytes) after line left more is rest fits same =
     subst (λ a. WhereKnown (λ bytes rest. more + length bytes ≡ left + length rest) (Some bytes) a) (sym rest)
     (omega (arith, fits, same, ap length is, parts bytes))
 
--- the first line of bytes, and then what follows it
-joined : (bytes : List ℕ) → take_through 10 bytes ++ drop_through 10 bytes ≡ bytes
-joined [] = refl
-joined (x ∷ xs) = by (eqb x 10) (joined xs)
-  where
-    by : (b : Bool) → take_through 10 xs ++ drop_through 10 xs ≡ xs
-        → cond b (x ∷ []) (x ∷ take_through 10 xs) ++ cond b xs (drop_through 10 xs) ≡ x ∷ xs
-    by true same = refl
-    by false same = ap (λ l. x ∷ l) same
-
 -- a line that was read is all of the next line
 pub line_of_line : (before after : Option (List ℕ)) → DropsThrough before after 10 → WhereKnown IsOfLine before after
 line_of_line None after rest = tt
 line_of_line (Some bytes) after rest =
     subst (λ a. WhereKnown IsOfLine (Some bytes) a) (sym rest)
-    (take_through 10 bytes, sym (joined bytes), omega arith)
+    (take_through 10 bytes, sym (through_all bytes), omega arith)
 
 -- nothing was read: the input is at its end
 pub at_end : (before after : Streams) (line : List ℕ) (left : ℕ)

@@ -3,7 +3,7 @@ use Rattle.std.proofs.Common.{ℕ, ◌≡◌, ◌≢◌, ◌<◌, ◌≤◌, ◌
 use Rattle.std.proofs.Common.{Option, None, Some, IfSome, OnSome, refl, sym, ap, subst, arith, ◌∙◌, rules, append_assoc}
 use Rattle.std.proofs.Common.{length, length-append}
 use Rattle.std.proofs.lemmas.List.Elements.{All-append}
-use Rattle.std.specs.Io.BufRead.{DropsThrough, take_through}
+use Rattle.std.specs.Io.BufRead.{DropsThrough, drop_through, take_through}
 use Rattle.std.specs.Io.KnownBytes.{Consumes, IsAtEnd, Keeps}
 use Rattle.std.proofs.KnownBytes.{Consumes-kept, Consumes-nil, Consumes-trans}
 use Rattle.std.proofs.BufReadLemmas.{Consumes_through, take_through-append}
@@ -77,6 +77,16 @@ end_line a b c line part end kept = (at_end a b c line part end kept).is
 pub end_rest : (a b c : Option (List ℕ)) (line : List ℕ) → IsPart a b line → IsAtEnd b → Keeps b c
     → DropsThrough a c 10
 end_rest a b c line part end kept = (at_end a b c line part end kept).rest
+
+-- the first line of bytes, and then what follows it
+pub through_all : (bytes : List ℕ) → take_through 10 bytes ++ drop_through 10 bytes ≡ bytes
+through_all [] = refl
+through_all (x ∷ xs) = by (eqb x 10) (through_all xs)
+  where
+    by : (b : Bool) → take_through 10 xs ++ drop_through 10 xs ≡ xs
+        → cond b (x ∷ []) (x ∷ take_through 10 xs) ++ cond b xs (drop_through 10 xs) ≡ x ∷ xs
+    by true same = refl
+    by false same = ap (λ l. x ∷ l) same
 
 -- ---- a line that was not read to its end
 

@@ -100,6 +100,7 @@ fault_word faults.Bind = codes "bind"
 fault_word (faults.Session fault) = session_word fault
 fault_word (faults.Cases fault) = case_word fault.why
 fault_word faults.NoSuchCase = codes "no such case"
+fault_word faults.NoDatagram = codes "no datagram"
 
 -- the place of a fault of bytes, in bytes from 0
 abbrev pub place_of : Fault → Option ℕ

@@ -17,6 +17,12 @@ pub record RunPaths : Type 0 where
   pub image : List ℕ
   pub trace : List ℕ
 
+-- the file at the path had bytes of which this holds
+pub record IsHeld (holds : List ℕ → List ℕ → Type 0) (path : List ℕ) (over : List ℕ → Type 0) : Type 0 where
+  pub bytes : List ℕ
+  pub held : holds path bytes
+  pub so : over bytes
+
 -- ---- what is read
 
 -- the file at the path is a scenario's image, in either version
@@ -32,6 +38,12 @@ pub record IsTraceAt (holds : List ℕ → List ℕ → Type 0) (path : List ℕ
   pub file : IsTraceFile bytes es
 
 -- ---- what is refused
+
+-- why bytes are not the image of a scenario: their first fault from the left
+abbrev pub IsNoImage : List ℕ → Fault → Type 0
+IsNoImage bytes faults.Memory = ⊤
+IsNoImage bytes (faults.Layout fault) = HasImageFault bytes fault
+IsNoImage bytes _ = ⊥
 
 -- the file at the path had bytes with this fault
 pub record IsBrokenAt (holds : List ℕ → List ℕ → Type 0) (broken : List ℕ → LayoutFault → Type 0) (path : List ℕ)

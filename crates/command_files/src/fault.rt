@@ -54,6 +54,8 @@ pub enum Fault {
     Cases(CaseFault),
     /// No case has a title that begins with the words that were given.
     NoSuchCase,
+    /// A statement is none that denotes a datagram.
+    NoDatagram,
 }
 
 impl fmt::Display for Fault {
@@ -128,6 +130,7 @@ fn word_of(fault: Fault) -> &'static str
         Fault::Session(fault) => session_word(fault),
         Fault::Cases(fault) => case_word(fault.why),
         Fault::NoSuchCase => "no such case",
+        Fault::NoDatagram => "no datagram",
     }
 }
 

@@ -3,7 +3,7 @@ ghost use Rattle.std.specs.Prelude.{◌≡◌, ◌≢◌, IfErr, IfOk, Some, opt
 ghost use Rattle.byte_layout.specs.declared.fault.LayoutFault.TheVariants.{Memory};
 ghost use Rattle.scenario_image.specs.Image.{IsImage, HasImageFault};
 ghost use Rattle.command_files.specs.Fault.{IsReadingFault};
-ghost use Rattle.command_files.specs.Loading.{IsImageFault, IsScenarioAt, IsTraceAt, IsTraceFault};
+ghost use Rattle.command_files.specs.Loading.{IsImageFault, IsNoImage, IsScenarioAt, IsTraceAt, IsTraceFault};
 
 use crate::fault::Fault;
 use crate::files::{FileFault, Files};
@@ -54,8 +54,21 @@ fn scenario_of(alloc: Global, bytes: &[u8]) -> Result<Scenario, LayoutFault>
     load(alloc, bytes)
 }
 
+/// The scenario whose image these bytes of the file at this path are. A fault names the path.
+#[tactic(auto, using(crate::proofs::Faults::broken_image))]
+pub fn image_of<'a>(alloc: Global, path: &'a str, bytes: &[u8]) -> Result<Scenario, Refusal<'a>>
+    ensures found { IfOk result (IsImage bytes.now) }
+    ensures refused { IfErr result (λ r. IsNoImage bytes.now r.fault) }
+    ensures names_path { IfErr result (λ r. option_map (λ p. p.now) r.about ≡ Some path.entry.now) }
+{
+    match scenario_of(alloc, bytes) {
+        Ok(scenario) => Ok(scenario),
+        Err(fault) => Err(refused_file(path, Fault::from(fault))),
+    }
+}
+
 /// The scenario whose image the file at this path is. A fault names the path.
-#[tactic(auto, using(crate::proofs::Faults::reading_file, crate::proofs::Faults::broken_at, crate::proofs::Built::scenario_at))]
+#[tactic(auto, using(crate::proofs::Faults::reading_file, crate::proofs::Faults::no_image_at, crate::proofs::Built::scenario_at))]
 pub fn load_scenario<'a, F: Files>(
     alloc: Global,
     path: &'a str,
@@ -66,10 +79,7 @@ pub fn load_scenario<'a, F: Files>(
     ensures names_path { IfErr result (λ r. option_map (λ p. p.now) r.about ≡ Some path.entry.now) }
 {
     let bytes = read_file(alloc, path, files)?;
-    match scenario_of(alloc, bytes.as_slice()) {
-        Ok(scenario) => Ok(scenario),
-        Err(fault) => Err(refused_file(path, Fault::from(fault))),
-    }
+    image_of(alloc, path, bytes.as_slice())
 }
 
 /// The entries whose trace file the file at this path is. A fault names the path.

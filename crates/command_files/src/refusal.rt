@@ -88,6 +88,7 @@ fn named(alloc: Global, fault: Fault) -> Result<String, AllocError> {
         Fault::TooLong => String::from_str(alloc, "a datagram is too long for a packet"),
         Fault::Bind => String::from_str(alloc, "cannot bind the port"),
         Fault::NoSuchCase => String::from_str(alloc, "no title begins with these words"),
+        Fault::NoDatagram => String::from_str(alloc, "it denotes no datagram"),
         Fault::Session(ScenarioFault::Limit) => {
             String::from_str(alloc, "the session has more steps than a scenario may have")
         }

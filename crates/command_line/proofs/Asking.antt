@@ -1,7 +1,7 @@
 -- What the words ask for: a subcommand whose value is missing asks for nothing.
 use Rattle.std.proofs.Common.{◌≡◌, ◌≢◌, ◌⊎◌, ◌↔◌, IsTrue, Bool, true, false, not, ◌&&◌, List, [], None, codes, rules}
-use Rattle.std.proofs.Common.{Option, Some, refl, inl, inr, sym, ap, subst, ◌∙◌}
-use Rattle.clap.specs.Words.{App, HasKind, HasMatchesOf, IsAmong, Row, Text as Word, fault_of, first_of, is_simple}
+use Rattle.std.proofs.Common.{ℕ, Option, Some, refl, inl, inr, sym, ap, subst, ◌∙◌}
+use Rattle.clap.specs.Words.{App, HasKind, HasMatchesOf, IsAmong, Row, Text as Word, all_of, fault_of, first_of, is_simple}
 use Rattle.clap.specs.Words.{is_simple_and_free, kind_of, subcommand_of, subcommand_rows_of}
 use Rattle.clap.specs.declared.parser.matches.ArgMatches.{ArgMatches}
 use Rattle.clap.specs.declared.error.Error.{Error}
@@ -11,31 +11,68 @@ use Rattle.command_line.specs.declared.words.Job.TheVariants as jobs
 use Rattle.command_line.specs.declared.words.Live.{Live}
 use Rattle.command_line.specs.declared.words.Asked.{Asked}
 use Rattle.command_line.specs.declared.words.Asked.TheVariants as asked
-use Rattle.command_line.specs.Words.{AsksFor, AsksToLive, IsReadAs, IsRefusedAs, MayAskFor, bench_app, is_set}
+use Rattle.command_line.specs.Words.{AsksFor, AsksForLog, AsksToLive, IsReadAs, IsRefusedAs, MayAskFor, bench_app, is_set}
 use Rattle.command_line.specs.Words.{refusals}
-use Rattle.command_line.specs.Inside.{IsTakenAs, LacksLive, LacksRun, LacksTest}
+use Rattle.command_line.specs.Inside.{IsTakenAs, LacksLive, LacksRun, LacksSay, LacksTest}
 
 pub no_one : (rows : List Row) (job : Job) → first_of (codes "HEX") rows ≡ None → AsksFor (codes "one", rows) job → ⊥
 no_one rows (jobs.One hex) none asks = search rules
+no_one rows (jobs.Say hex server) none asks = search rules
+no_one rows (jobs.Spell statement) none asks = search rules
+no_one rows (jobs.Play file device from to) none asks = search rules
 no_one rows (jobs.Asm input output) none asks = search rules
 no_one rows (jobs.Dis input) none asks = search rules
 no_one rows (jobs.Run image workers batch trace) none asks = search rules
 no_one rows (jobs.Check image trace) none asks = search rules
-no_one rows (jobs.Show image trace device from to) none asks = search rules
+no_one rows (jobs.Show image trace device from to json) none asks = search rules
 no_one rows (jobs.Pcap image trace output) none asks = search rules
 no_one rows (jobs.Debug image trace) none asks = search rules
 no_one rows (jobs.Titles files only) none asks = search rules
 no_one rows (jobs.Test files only tap junit) none asks = search rules
 
+pub no_spell : (rows : List Row) (job : Job) → all_of (codes "STATEMENT") rows ≡ None
+    → AsksFor (codes "spell", rows) job → ⊥
+no_spell rows (jobs.One hex) none asks = search rules
+no_spell rows (jobs.Say hex server) none asks = search rules
+no_spell rows (jobs.Spell statement) none asks = cc
+no_spell rows (jobs.Play file device from to) none asks = search rules
+no_spell rows (jobs.Asm input output) none asks = search rules
+no_spell rows (jobs.Dis input) none asks = search rules
+no_spell rows (jobs.Run image workers batch trace) none asks = search rules
+no_spell rows (jobs.Check image trace) none asks = search rules
+no_spell rows (jobs.Show image trace device from to json) none asks = search rules
+no_spell rows (jobs.Pcap image trace output) none asks = search rules
+no_spell rows (jobs.Debug image trace) none asks = search rules
+no_spell rows (jobs.Titles files only) none asks = search rules
+no_spell rows (jobs.Test files only tap junit) none asks = search rules
+
+pub no_play : (rows : List Row) (job : Job) → first_of (codes "FILE") rows ≡ None → AsksFor (codes "play", rows) job → ⊥
+no_play rows (jobs.One hex) none asks = search rules
+no_play rows (jobs.Say hex server) none asks = search rules
+no_play rows (jobs.Spell statement) none asks = search rules
+no_play rows (jobs.Play file device from to) none asks = search rules
+no_play rows (jobs.Asm input output) none asks = search rules
+no_play rows (jobs.Dis input) none asks = search rules
+no_play rows (jobs.Run image workers batch trace) none asks = search rules
+no_play rows (jobs.Check image trace) none asks = search rules
+no_play rows (jobs.Show image trace device from to json) none asks = search rules
+no_play rows (jobs.Pcap image trace output) none asks = search rules
+no_play rows (jobs.Debug image trace) none asks = search rules
+no_play rows (jobs.Titles files only) none asks = search rules
+no_play rows (jobs.Test files only tap junit) none asks = search rules
+
 pub no_asm : (rows : List Row) (job : Job) → (first_of (codes "IN") rows ≡ None) ⊎ (first_of (codes "OUT") rows ≡ None)
     → AsksFor (codes "asm", rows) job → ⊥
 no_asm rows (jobs.One hex) none asks = search rules
+no_asm rows (jobs.Say hex server) none asks = search rules
+no_asm rows (jobs.Spell statement) none asks = search rules
+no_asm rows (jobs.Play file device from to) none asks = search rules
 no_asm rows (jobs.Asm input output) (inl none) asks = search rules
 no_asm rows (jobs.Asm input output) (inr none) asks = search rules
 no_asm rows (jobs.Dis input) none asks = search rules
 no_asm rows (jobs.Run image workers batch trace) none asks = search rules
 no_asm rows (jobs.Check image trace) none asks = search rules
-no_asm rows (jobs.Show image trace device from to) none asks = search rules
+no_asm rows (jobs.Show image trace device from to json) none asks = search rules
 no_asm rows (jobs.Pcap image trace output) none asks = search rules
 no_asm rows (jobs.Debug image trace) none asks = search rules
 no_asm rows (jobs.Titles files only) none asks = search rules
@@ -43,11 +80,14 @@ no_asm rows (jobs.Test files only tap junit) none asks = search rules
 
 pub no_dis : (rows : List Row) (job : Job) → first_of (codes "IN") rows ≡ None → AsksFor (codes "dis", rows) job → ⊥
 no_dis rows (jobs.One hex) none asks = search rules
+no_dis rows (jobs.Say hex server) none asks = search rules
+no_dis rows (jobs.Spell statement) none asks = search rules
+no_dis rows (jobs.Play file device from to) none asks = search rules
 no_dis rows (jobs.Asm input output) none asks = search rules
 no_dis rows (jobs.Dis input) none asks = search rules
 no_dis rows (jobs.Run image workers batch trace) none asks = search rules
 no_dis rows (jobs.Check image trace) none asks = search rules
-no_dis rows (jobs.Show image trace device from to) none asks = search rules
+no_dis rows (jobs.Show image trace device from to json) none asks = search rules
 no_dis rows (jobs.Pcap image trace output) none asks = search rules
 no_dis rows (jobs.Debug image trace) none asks = search rules
 no_dis rows (jobs.Titles files only) none asks = search rules
@@ -55,13 +95,16 @@ no_dis rows (jobs.Test files only tap junit) none asks = search rules
 
 pub no_run : (rows : List Row) (job : Job) → LacksRun rows → AsksFor (codes "run", rows) job → ⊥
 no_run rows (jobs.One hex) lacks asks = search rules
+no_run rows (jobs.Say hex server) lacks asks = search rules
+no_run rows (jobs.Spell statement) lacks asks = search rules
+no_run rows (jobs.Play file device from to) lacks asks = search rules
 no_run rows (jobs.Asm input output) lacks asks = search rules
 no_run rows (jobs.Dis input) lacks asks = search rules
 no_run rows (jobs.Run image workers batch trace) (inl none) asks = search rules
 no_run rows (jobs.Run image workers batch trace) (inr (inl none)) asks = none workers asks.2
 no_run rows (jobs.Run image workers batch trace) (inr (inr none)) asks = none batch asks.3
 no_run rows (jobs.Check image trace) lacks asks = search rules
-no_run rows (jobs.Show image trace device from to) lacks asks = search rules
+no_run rows (jobs.Show image trace device from to json) lacks asks = search rules
 no_run rows (jobs.Pcap image trace output) lacks asks = search rules
 no_run rows (jobs.Debug image trace) lacks asks = search rules
 no_run rows (jobs.Titles files only) lacks asks = search rules
@@ -70,12 +113,15 @@ no_run rows (jobs.Test files only tap junit) lacks asks = search rules
 pub no_check : (rows : List Row) (job : Job) → (first_of (codes "IMAGE") rows ≡ None)
     ⊎ (first_of (codes "TRACE") rows ≡ None) → AsksFor (codes "check", rows) job → ⊥
 no_check rows (jobs.One hex) none asks = search rules
+no_check rows (jobs.Say hex server) none asks = search rules
+no_check rows (jobs.Spell statement) none asks = search rules
+no_check rows (jobs.Play file device from to) none asks = search rules
 no_check rows (jobs.Asm input output) none asks = search rules
 no_check rows (jobs.Dis input) none asks = search rules
 no_check rows (jobs.Run image workers batch trace) none asks = search rules
 no_check rows (jobs.Check image trace) (inl none) asks = search rules
 no_check rows (jobs.Check image trace) (inr none) asks = search rules
-no_check rows (jobs.Show image trace device from to) none asks = search rules
+no_check rows (jobs.Show image trace device from to json) none asks = search rules
 no_check rows (jobs.Pcap image trace output) none asks = search rules
 no_check rows (jobs.Debug image trace) none asks = search rules
 no_check rows (jobs.Titles files only) none asks = search rules
@@ -84,12 +130,15 @@ no_check rows (jobs.Test files only tap junit) none asks = search rules
 pub no_show : (rows : List Row) (job : Job) → (first_of (codes "IMAGE") rows ≡ None)
     ⊎ (first_of (codes "TRACE") rows ≡ None) → AsksFor (codes "show", rows) job → ⊥
 no_show rows (jobs.One hex) none asks = search rules
+no_show rows (jobs.Say hex server) none asks = search rules
+no_show rows (jobs.Spell statement) none asks = search rules
+no_show rows (jobs.Play file device from to) none asks = search rules
 no_show rows (jobs.Asm input output) none asks = search rules
 no_show rows (jobs.Dis input) none asks = search rules
 no_show rows (jobs.Run image workers batch trace) none asks = search rules
 no_show rows (jobs.Check image trace) none asks = search rules
-no_show rows (jobs.Show image trace device from to) (inl none) asks = search rules
-no_show rows (jobs.Show image trace device from to) (inr none) asks = search rules
+no_show rows (jobs.Show image trace device from to json) (inl none) asks = search rules
+no_show rows (jobs.Show image trace device from to json) (inr none) asks = search rules
 no_show rows (jobs.Pcap image trace output) none asks = search rules
 no_show rows (jobs.Debug image trace) none asks = search rules
 no_show rows (jobs.Titles files only) none asks = search rules
@@ -98,11 +147,14 @@ no_show rows (jobs.Test files only tap junit) none asks = search rules
 pub no_debug : (rows : List Row) (job : Job) → (first_of (codes "IMAGE") rows ≡ None)
     ⊎ (first_of (codes "TRACE") rows ≡ None) → AsksFor (codes "debug", rows) job → ⊥
 no_debug rows (jobs.One hex) none asks = search rules
+no_debug rows (jobs.Say hex server) none asks = search rules
+no_debug rows (jobs.Spell statement) none asks = search rules
+no_debug rows (jobs.Play file device from to) none asks = search rules
 no_debug rows (jobs.Asm input output) none asks = search rules
 no_debug rows (jobs.Dis input) none asks = search rules
 no_debug rows (jobs.Run image workers batch trace) none asks = search rules
 no_debug rows (jobs.Check image trace) none asks = search rules
-no_debug rows (jobs.Show image trace device from to) none asks = search rules
+no_debug rows (jobs.Show image trace device from to json) none asks = search rules
 no_debug rows (jobs.Pcap image trace output) none asks = search rules
 no_debug rows (jobs.Debug image trace) (inl none) asks = search rules
 no_debug rows (jobs.Debug image trace) (inr none) asks = search rules
@@ -113,11 +165,14 @@ pub no_pcap : (rows : List Row) (job : Job) → (first_of (codes "IMAGE") rows �
     ⊎ ((first_of (codes "TRACE") rows ≡ None) ⊎ (first_of (codes "OUT") rows ≡ None))
     → AsksFor (codes "pcap", rows) job → ⊥
 no_pcap rows (jobs.One hex) none asks = search rules
+no_pcap rows (jobs.Say hex server) none asks = search rules
+no_pcap rows (jobs.Spell statement) none asks = search rules
+no_pcap rows (jobs.Play file device from to) none asks = search rules
 no_pcap rows (jobs.Asm input output) none asks = search rules
 no_pcap rows (jobs.Dis input) none asks = search rules
 no_pcap rows (jobs.Run image workers batch trace) none asks = search rules
 no_pcap rows (jobs.Check image trace) none asks = search rules
-no_pcap rows (jobs.Show image trace device from to) none asks = search rules
+no_pcap rows (jobs.Show image trace device from to json) none asks = search rules
 no_pcap rows (jobs.Pcap image trace output) (inl none) asks = search rules
 no_pcap rows (jobs.Pcap image trace output) (inr (inl none)) asks = search rules
 no_pcap rows (jobs.Pcap image trace output) (inr (inr none)) asks = search rules
@@ -133,11 +188,14 @@ titles_alone list tap junit (lists, inr some) no_tap no_junit = some no_junit
 
 pub no_test : (rows : List Row) (job : Job) → LacksTest rows → AsksFor (codes "test", rows) job → ⊥
 no_test rows (jobs.One hex) lacks asks = search rules
+no_test rows (jobs.Say hex server) lacks asks = search rules
+no_test rows (jobs.Spell statement) lacks asks = search rules
+no_test rows (jobs.Play file device from to) lacks asks = search rules
 no_test rows (jobs.Asm input output) lacks asks = search rules
 no_test rows (jobs.Dis input) lacks asks = search rules
 no_test rows (jobs.Run image workers batch trace) lacks asks = search rules
 no_test rows (jobs.Check image trace) lacks asks = search rules
-no_test rows (jobs.Show image trace device from to) lacks asks = search rules
+no_test rows (jobs.Show image trace device from to json) lacks asks = search rules
 no_test rows (jobs.Pcap image trace output) lacks asks = search rules
 no_test rows (jobs.Debug image trace) lacks asks = search rules
 no_test rows (jobs.Titles files only) (inl none) asks = cc
@@ -160,11 +218,14 @@ lacks_live rows live (inr (inr (inr none))) asks = none live.turns asks.4
 -- they ask for no job
 live_alone : (rows : List Row) (job : Job) → AsksFor (codes "live", rows) job → ⊥
 live_alone rows (jobs.One hex) asks = search rules
+live_alone rows (jobs.Say hex server) asks = search rules
+live_alone rows (jobs.Spell statement) asks = search rules
+live_alone rows (jobs.Play file device from to) asks = search rules
 live_alone rows (jobs.Asm input output) asks = search rules
 live_alone rows (jobs.Dis input) asks = search rules
 live_alone rows (jobs.Run image workers batch trace) asks = search rules
 live_alone rows (jobs.Check image trace) asks = search rules
-live_alone rows (jobs.Show image trace device from to) asks = search rules
+live_alone rows (jobs.Show image trace device from to json) asks = search rules
 live_alone rows (jobs.Pcap image trace output) asks = search rules
 live_alone rows (jobs.Debug image trace) asks = search rules
 live_alone rows (jobs.Titles files only) asks = search rules
@@ -172,15 +233,44 @@ live_alone rows (jobs.Test files only tap junit) asks = search rules
 
 pub not_live : (rows : List Row) (wanted : Asked) → LacksLive rows → MayAskFor (codes "live", rows) wanted → ⊥
 not_live rows (asked.Job job) lacks asks = live_alone rows job asks
+not_live rows (asked.Log server) lacks asks = search rules
 not_live rows (asked.Live live) lacks asks = lacks_live rows live lacks asks
 not_live rows (asked.Text text is_mistake) lacks asks = absurd asks
 
--- other words ask for no device on the network
-pub no_job : (name : Word) (rows : List Row) (wanted : Asked) → (name ≢ codes "live")
+-- the words of `say`
+lacks_hex : (rows : List Row) (job : Job) → LacksSay rows → AsksFor (codes "say", rows) job → ⊥
+lacks_hex rows (jobs.One hex) lacks asks = search rules
+lacks_hex rows (jobs.Say hex server) (inl none) asks = search rules
+lacks_hex rows (jobs.Say hex server) (inr none) asks = none server asks.3
+lacks_hex rows (jobs.Spell statement) lacks asks = search rules
+lacks_hex rows (jobs.Play file device from to) lacks asks = search rules
+lacks_hex rows (jobs.Asm input output) lacks asks = search rules
+lacks_hex rows (jobs.Dis input) lacks asks = search rules
+lacks_hex rows (jobs.Run image workers batch trace) lacks asks = search rules
+lacks_hex rows (jobs.Check image trace) lacks asks = search rules
+lacks_hex rows (jobs.Show image trace device from to json) lacks asks = search rules
+lacks_hex rows (jobs.Pcap image trace output) lacks asks = search rules
+lacks_hex rows (jobs.Debug image trace) lacks asks = search rules
+lacks_hex rows (jobs.Titles files only) lacks asks = search rules
+lacks_hex rows (jobs.Test files only tap junit) lacks asks = search rules
+
+lacks_log : (rows : List Row) (server : ℕ) → LacksSay rows → AsksForLog (codes "say", rows) server → ⊥
+lacks_log rows server (inl none) asks = search rules
+lacks_log rows server (inr none) asks = none server asks.2
+
+pub not_say : (rows : List Row) (wanted : Asked) → LacksSay rows → MayAskFor (codes "say", rows) wanted → ⊥
+not_say rows (asked.Job job) lacks asks = lacks_hex rows job lacks asks
+not_say rows (asked.Log server) lacks asks = lacks_log rows server lacks asks
+not_say rows (asked.Live live) lacks asks = search rules
+not_say rows (asked.Text text is_mistake) lacks asks = absurd asks
+
+-- other words ask for no device on the network, and for no log
+pub no_job : (name : Word) (rows : List Row) (wanted : Asked) → (name ≢ codes "live") → (name ≢ codes "say")
     → ((job : Job) → AsksFor (name, rows) job → ⊥) → MayAskFor (name, rows) wanted → ⊥
-no_job name rows (asked.Job job) other none asks = none job asks
-no_job name rows (asked.Live live) other none asks = absurd (other asks.0)
-no_job name rows (asked.Text text is_mistake) other none asks = absurd asks
+no_job name rows (asked.Job job) other another none asks = none job asks
+no_job name rows (asked.Log server) other another none asks = absurd (another asks.0)
+no_job name rows (asked.Live live) other another none asks = absurd (other asks.0)
+no_job name rows (asked.Text text is_mistake) other another none asks = absurd asks
 
 -- the second of two, where the first is not
 pub second_of : {A B : Type 0} → A ⊎ B → (A → ⊥) → B
@@ -226,6 +316,7 @@ same_subcommand app words m same matches =
 pub taken_for : (found : Option (Word × List Row)) (wanted : Asked)
     → (p : Word × List Row) × (found ≡ Some p) × MayAskFor p wanted → IsTakenAs found wanted
 taken_for found (asked.Job job) asks = asks
+taken_for found (asked.Log server) asks = asks
 taken_for found (asked.Live live) asks = asks
 taken_for found (asked.Text text is_mistake) (p, at, asks) = absurd asks
 
@@ -234,6 +325,10 @@ pub read_as : (app : App) (words : List Word) (m : ArgMatches) (wanted : Asked) 
     → HasMatchesOf app words m → (is_simple_and_free app ≡ true → fault_of app words ≡ [])
     → IsTakenAs (subcommand_rows_of m) wanted → IsReadAs words wanted
 read_as app words m (asked.Job job) same matches kinds (p, at, asks) = (
+  taken_whole app words same kinds,
+  record { found = p; entered = sym (same_subcommand app words m same matches) ∙ at; asks = asks },
+)
+read_as app words m (asked.Log server) same matches kinds (p, at, asks) = (
   taken_whole app words same kinds,
   record { found = p; entered = sym (same_subcommand app words m same matches) ∙ at; asks = asks },
 )

@@ -4,12 +4,25 @@ use Rattle.clap.specs.Words.{App, Row, Rule, Text as Word, all_of, first_of, new
 use Rattle.clap.specs.Words.{with_subcommand}
 use Rattle.command_line.specs.declared.words.Asked.{Asked}
 use Rattle.command_line.specs.declared.words.Asked.TheVariants as asked
-use Rattle.command_line.specs.Words.{AsksFor, AsksToLive, IsNoNumber, MayAskFor, flag, is_set, needed, needed_number}
-use Rattle.command_line.specs.Words.{number, optional_number, several, text_option, with_settings}
+use Rattle.command_line.specs.Words.{AsksFor, AsksForLog, AsksToLive, IsNoNumber, MayAskFor, flag, is_set, needed}
+use Rattle.command_line.specs.Words.{needed_number, number, number_from, optional_number, several, text_option}
+use Rattle.command_line.specs.Words.{with_settings}
 
 -- `one HEX`
 abbrev pub one_app : App
 one_app = with_rule (new_app (codes "one")) (needed (codes "HEX"))
+
+-- `--server S`
+abbrev pub server : Rule
+server = number_from (codes "server") 1 65534 (codes "1")
+
+-- `say HEX [--server S]`
+abbrev pub say_app : App
+say_app = with_rule (with_rule (new_app (codes "say")) (needed (codes "HEX"))) server
+
+-- `spell STATEMENT ..`
+abbrev pub spell_app : App
+spell_app = with_rule (new_app (codes "spell")) (several (codes "STATEMENT"))
 
 -- `asm IN OUT`
 abbrev pub asm_app : App
@@ -46,9 +59,17 @@ abbrev pub with_range : App → App
 with_range a =
     with_rule (with_rule a (optional_number (codes "from") 4294967295)) (optional_number (codes "to") 4294967295)
 
--- `show IMAGE TRACE [--device N] [--from N] [--to N]`
+-- `show IMAGE TRACE [--device N] [--from N] [--to N] [--json]`
 abbrev pub show_app : App
-show_app = with_range (with_rule (with_trace (new_app (codes "show"))) (optional_number (codes "device") 65535))
+show_app =
+    with_rule (with_range (with_rule (with_trace (new_app (codes "show"))) (optional_number (codes "device") 65535)))
+    (flag (codes "json"))
+
+-- `play FILE [--device N] [--from N] [--to N]`
+abbrev pub play_app : App
+play_app =
+    with_range (with_rule (with_rule (new_app (codes "play")) (needed (codes "FILE")))
+    (optional_number (codes "device") 65535))
 
 -- `pcap IMAGE TRACE OUT`
 abbrev pub pcap_app : App
@@ -88,15 +109,20 @@ test_app = with_rule (with_forms (with_cases (new_app (codes "test")))) (text_op
 abbrev pub whole_app : App
 whole_app =
     with_subcommand (with_subcommand (with_subcommand (with_subcommand (with_subcommand (with_subcommand
-    (with_subcommand (with_subcommand (with_subcommand (with_subcommand (with_settings (new_app (codes "lwbench")))
-    one_app.top) asm_app.top) dis_app.top) run_app.top) check_app.top) show_app.top) pcap_app.top) debug_app.top)
-    live_app.top) test_app.top
+    (with_subcommand (with_subcommand (with_subcommand (with_subcommand (with_subcommand (with_subcommand
+    (with_subcommand (with_settings (new_app (codes "lwbench"))) one_app.top) say_app.top) spell_app.top) play_app.top)
+    asm_app.top) dis_app.top) run_app.top) check_app.top) show_app.top) pcap_app.top) debug_app.top) live_app.top)
+    test_app.top
 
 -- a value that a run needs is not there
 abbrev pub LacksRun : List Row → Type 0
 LacksRun rows =
     (first_of (codes "IMAGE") rows ≡ None)
     ⊎ (IsNoNumber 16 (one_of (codes "workers") rows) ⊎ IsNoNumber 32 (one_of (codes "batch") rows))
+
+-- a value that `say` needs is not there
+abbrev pub LacksSay : List Row → Type 0
+LacksSay rows = (first_of (codes "HEX") rows ≡ None) ⊎ IsNoNumber 16 (one_of (codes "server") rows)
 
 -- a value that a device on the network needs is not there
 abbrev pub LacksLive : List Row → Type 0
@@ -117,6 +143,7 @@ LacksTest rows = (all_of (codes "FILE") rows ≡ None) ⊎ ListsAndPlays rows
 -- what words that were taken ask for, by the subcommand that was found; a text where they ask for nothing
 abbrev pub IsTakenAs : Option (Word × List Row) → Asked → Type 0
 IsTakenAs found (asked.Job job) = (p : Word × List Row) × (found ≡ Some p) × AsksFor p job
+IsTakenAs found (asked.Log server) = (p : Word × List Row) × (found ≡ Some p) × AsksForLog p server
 IsTakenAs found (asked.Live live) = (p : Word × List Row) × (found ≡ Some p) × AsksToLive p live
 IsTakenAs found (asked.Text text is_mistake) =
     (is_mistake ≡ true) × ((p : Word × List Row) (wanted : Asked) → found ≡ Some p → MayAskFor p wanted → ⊥)

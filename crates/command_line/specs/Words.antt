@@ -46,6 +46,11 @@ flag name = record (new_rule name) { long = Some name; action = Some SetTrue }
 abbrev pub number : Word → ℕ → Word → Rule
 number name most default = record (optional_number name most) { defaults = default ∷ [] }
 
+-- the same, a number from `least` to `most`
+abbrev pub number_from : Word → ℕ → ℕ → Word → Rule
+number_from name least most default =
+    record (number name most default) { parser = Some (parsers.Signed (pos least) (pos most)) }
+
 -- a subcommand has to be there, and there is a version
 abbrev pub with_settings : App → App
 with_settings a = record a { top = record a.top { subcommand_required = true; has_version = true } }
@@ -58,6 +63,13 @@ abbrev pub commands : List App
 commands =
     -- `one HEX`
     command (codes "one") (needed (codes "HEX") ∷ [])
+    -- `say HEX [--server S]`
+    ∷ command (codes "say") (needed (codes "HEX") ∷ number_from (codes "server") 1 65534 (codes "1") ∷ [])
+    -- `spell STATEMENT ..`
+    ∷ command (codes "spell") (several (codes "STATEMENT") ∷ [])
+    -- `play FILE [--device N] [--from N] [--to N]`
+    ∷ command (codes "play") (needed (codes "FILE") ∷ optional_number (codes "device") 65535
+    ∷ optional_number (codes "from") 4294967295 ∷ optional_number (codes "to") 4294967295 ∷ [])
     -- `asm IN OUT`
     ∷ command (codes "asm") (needed (codes "IN") ∷ needed (codes "OUT") ∷ [])
     -- `dis IN`
@@ -67,9 +79,9 @@ commands =
     ∷ number (codes "batch") 4294967295 (codes "16") ∷ text_option (codes "trace") ∷ [])
     -- `check IMAGE TRACE`
     ∷ command (codes "check") (needed (codes "IMAGE") ∷ needed (codes "TRACE") ∷ [])
-    -- `show IMAGE TRACE [--device N] [--from N] [--to N]`
+    -- `show IMAGE TRACE [--device N] [--from N] [--to N] [--json]`
     ∷ command (codes "show") (needed (codes "IMAGE") ∷ needed (codes "TRACE") ∷ optional_number (codes "device") 65535
-    ∷ optional_number (codes "from") 4294967295 ∷ optional_number (codes "to") 4294967295 ∷ [])
+    ∷ optional_number (codes "from") 4294967295 ∷ optional_number (codes "to") 4294967295 ∷ flag (codes "json") ∷ [])
     -- `pcap IMAGE TRACE OUT`
     ∷ command (codes "pcap") (needed (codes "IMAGE") ∷ needed (codes "TRACE") ∷ needed (codes "OUT") ∷ [])
     -- `debug IMAGE TRACE`
@@ -132,6 +144,15 @@ AsksForCases found files only =
 -- a subcommand with its values asks for this
 abbrev pub AsksFor : Word × List Row → Job → Type 0
 AsksFor found (jobs.One hex) = (found.0 ≡ codes "one") × IsText found (codes "HEX") hex.now
+AsksFor found (jobs.Say hex server) =
+    (found.0 ≡ codes "say") × IsText found (codes "HEX") hex.now × (hex.now ≢ codes "-")
+    × IsNumber 16 (one_of (codes "server") found.1) server
+AsksFor found (jobs.Spell statement) =
+    (found.0 ≡ codes "spell") × AreTexts found (codes "STATEMENT") (map (λ w. w.now) statement.items)
+AsksFor found (jobs.Play file device from to) =
+    (found.0 ≡ codes "play") × IsText found (codes "FILE") file.now
+    × IsOptionalNumber 16 (one_of (codes "device") found.1) device
+    × IsOptionalNumber 32 (one_of (codes "from") found.1) from × IsOptionalNumber 32 (one_of (codes "to") found.1) to
 AsksFor found (jobs.Asm input output) =
     (found.0 ≡ codes "asm") × IsText found (codes "IN") input.now × IsText found (codes "OUT") output.now
 AsksFor found (jobs.Dis input) = (found.0 ≡ codes "dis") × IsText found (codes "IN") input.now
@@ -141,10 +162,11 @@ AsksFor found (jobs.Run image workers batch trace) =
     × (first_of (codes "trace") found.1 ≡ option_map (λ p. p.now) trace)
 AsksFor found (jobs.Check image trace) =
     (found.0 ≡ codes "check") × IsText found (codes "IMAGE") image.now × IsText found (codes "TRACE") trace.now
-AsksFor found (jobs.Show image trace device from to) =
+AsksFor found (jobs.Show image trace device from to json) =
     (found.0 ≡ codes "show") × IsText found (codes "IMAGE") image.now × IsText found (codes "TRACE") trace.now
     × IsOptionalNumber 16 (one_of (codes "device") found.1) device
     × IsOptionalNumber 32 (one_of (codes "from") found.1) from × IsOptionalNumber 32 (one_of (codes "to") found.1) to
+    × (is_set (codes "json") found.1 ≡ json)
 AsksFor found (jobs.Pcap image trace output) =
     (found.0 ≡ codes "pcap") × IsText found (codes "IMAGE") image.now × IsText found (codes "TRACE") trace.now
     × IsText found (codes "OUT") output.now
@@ -168,9 +190,16 @@ AsksToLive found live =
     × (first_of (codes "save") found.1 ≡ option_map (λ p. p.now) live.save)
     × (is_set (codes "show") found.1 ≡ live.show)
 
--- a subcommand with its values asks for one or the other; none asks for a text
+-- a subcommand with its values asks what the log says that standard input has: HEX is `-`
+abbrev pub AsksForLog : Word × List Row → ℕ → Type 0
+AsksForLog found server =
+    (found.0 ≡ codes "say") × IsText found (codes "HEX") (codes "-")
+    × IsNumber 16 (one_of (codes "server") found.1) server
+
+-- a subcommand with its values asks for one of these; none asks for a text
 abbrev pub MayAskFor : Word × List Row → Asked → Type 0
 MayAskFor found (asked.Job job) = AsksFor found job
+MayAskFor found (asked.Log server) = AsksForLog found server
 MayAskFor found (asked.Live live) = AsksToLive found live
 MayAskFor found (asked.Text text is_mistake) = ⊥
 
@@ -197,6 +226,7 @@ AsksNothing words = (wanted : Asked) → IsAsked words wanted → ⊥
 -- what the words ask for; or a text, where `clap` refuses them or they ask for nothing
 abbrev pub IsReadAs : List Word → Asked → Type 0
 IsReadAs words (asked.Job job) = (refusals words ≡ []) × IsAsked words (asked.Job job)
+IsReadAs words (asked.Log server) = (refusals words ≡ []) × IsAsked words (asked.Log server)
 IsReadAs words (asked.Live live) = (refusals words ≡ []) × IsAsked words (asked.Live live)
 IsReadAs words (asked.Text text is_mistake) =
     IsRefusedAs (refusals words) is_mistake ⊎ ((refusals words ≡ []) × (is_mistake ≡ true) × AsksNothing words)

@@ -24,6 +24,49 @@ Example:
   lwbench one 40010001B13301300139
   send 1 60450001C0FF313030";
 
+pub const SAY: &str =
+    "Reads no file. Prints the statement that denotes the datagram, as a scenario's text has it, and below it
+what the datagram says. An Empty ACK is `ack S MID`:
+  STATEMENT
+      # WORDS
+Where HEX is `-`, reads lines of hex from standard input to its end, and prints this for each line that is
+not empty; spaces around a line are dropped. A line that is not hex is a fault, and nothing is printed.
+Writes no file.
+
+Example:
+  lwbench say 40010001B13301300139
+  read 1 con 1 - /3/0/9 any
+      # CON 0.01 GET, message 1, /3/0/9";
+
+pub const SPELL: &str =
+    "Reads no file. The words, joined by spaces, are a statement of a scenario's text that denotes a datagram,
+a mnemonic or `recv S HEX`, or `ack S MID`, an Empty ACK. Prints the bytes of the datagram, in hex.
+Writes no file.
+
+Example:
+  lwbench spell read 1 con 1 - /3/0/9 any
+  40010001B13301300139";
+
+pub const PLAY: &str =
+    "Reads FILE: what begins with LWSC is a scenario's image, any other file its text. Makes the serial run, in
+which the lowest device that can step always steps, as worker 0. Prints its entries as `show` does, all or
+those that `--device`, `--from` and `--to` ask for, and then how the run ended, as `run` does. The status
+is 0 also where it stalled:
+  N worker 0 device D step K second S: STEP
+  => send SERVER HEX
+  => act NAME
+  done E
+  stalled E waiting D ..
+Writes no file.
+
+Example:
+  lwbench play reader.txt
+  0 worker 0 device 0 step 0 second 0: read 1 con 1 - /3/0/9 any
+      # CON 0.01 GET, message 1, /3/0/9
+  => send 1 60450001C0FF313030
+      # ACK 2.05 Content, message 1, text/plain \"100\"
+  done 1";
+
 pub const ASM: &str =
     "Reads IN, which is UTF-8. Writes OUT, which is replaced where it exists. Then prints
   ok C classes D devices S steps
@@ -72,8 +115,9 @@ second before the step, and the step; and a line for each output. Below a datagr
   => send SERVER HEX
   => act NAME
 With `--device` only entries of this device are printed; with `--from` and `--to` only entries that have
-these numbers or numbers between them. Where the trace is not a run of the scenario, prints the least
-place, from 0, at which it is not (status 3):
+these numbers or numbers between them. With `--json` an object in JSON is printed for each of them, in a
+line of its own, and before them one for the whole trace. Where the trace is not a run of the scenario,
+prints the least place, from 0, at which it is not (status 3):
   not a run at N
 Writes no file.
 

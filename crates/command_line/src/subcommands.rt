@@ -4,7 +4,8 @@ ghost use Rattle.clap.specs.Words.{App, app_of, new_app, rule_of, with_rule, wit
 ghost use Rattle.command_line.specs.Words.{flag, needed, needed_number, optional_number, several, text_option};
 ghost use Rattle.command_line.specs.Words.{with_settings};
 ghost use Rattle.command_line.specs.Inside.{asm_app, batch, check_app, debug_app, dis_app, live_app, one_app, pcap_app};
-ghost use Rattle.command_line.specs.Inside.{run_app, show_app, test_app, whole_app, with_cases, with_forms, with_port};
+ghost use Rattle.command_line.specs.Inside.{play_app, run_app, say_app, server, show_app, spell_app, test_app};
+ghost use Rattle.command_line.specs.Inside.{whole_app, with_cases, with_forms, with_port};
 ghost use Rattle.command_line.specs.Inside.{with_range, with_trace, with_turns, workers};
 
 use crate::help;
@@ -15,18 +16,28 @@ use std::alloc::{AllocError, Global};
 pub(crate) fn bench<'a>(alloc: Global) -> Result<Command<'a>, AllocError>
     ensures { IfOk result (λ c. app_of c ≡ whole_app) }
 {
-    let texts = with_texts(alloc, top(alloc))?;
+    let datagrams = with_datagrams(alloc, top(alloc))?;
+    let texts = with_texts(alloc, datagrams)?;
     let runs = with_runs(alloc, texts)?;
     let traces = with_traces(alloc, runs)?;
     with_test(alloc, traces)
 }
 
-fn with_texts<'a>(alloc: Global, command: Command<'a>) -> Result<Command<'a>, AllocError>
+fn with_datagrams<'a>(alloc: Global, command: Command<'a>) -> Result<Command<'a>, AllocError>
     ensures { IfOk result (λ c. app_of c ≡ with_subcommand (with_subcommand
-        (with_subcommand (app_of command.entry) one_app.top) asm_app.top) dis_app.top) }
+        (with_subcommand (app_of command.entry) one_app.top) say_app.top) spell_app.top) }
 {
     let one = with_subcommand(Ok(command), one_command(alloc));
-    let asm = with_subcommand(one, asm_command(alloc));
+    let say = with_subcommand(one, say_command(alloc));
+    with_subcommand(say, spell_command(alloc))
+}
+
+fn with_texts<'a>(alloc: Global, command: Command<'a>) -> Result<Command<'a>, AllocError>
+    ensures { IfOk result (λ c. app_of c ≡ with_subcommand (with_subcommand
+        (with_subcommand (app_of command.entry) play_app.top) asm_app.top) dis_app.top) }
+{
+    let play = with_subcommand(Ok(command), play_command(alloc));
+    let asm = with_subcommand(play, asm_command(alloc));
     with_subcommand(asm, dis_command(alloc))
 }
 
@@ -92,6 +103,52 @@ fn one_command<'a>(alloc: Global) -> Result<Command<'a>, AllocError>
     described(alloc, "one", about, help::ONE).arg(needed(alloc, "HEX").help(
         "The bytes of the datagram, in hex",
     ))
+}
+
+fn say_command<'a>(alloc: Global) -> Result<Command<'a>, AllocError>
+    ensures { IfOk result (λ c. app_of c ≡ say_app) }
+{
+    let about = "Prints what a datagram says, and the statement that denotes it";
+    let hex = needed(alloc, "HEX").help(
+        "The bytes of the datagram, in hex; -: the lines of standard input",
+    );
+    described(alloc, "say", about, help::SAY)
+        .arg(hex)?
+        .arg(server(alloc))
+}
+
+fn server<'a>(alloc: Global) -> Arg<'a>
+    ensures rule { rule_of result ≡ server }
+    ensures local { result.global ≡ false }
+{
+    Arg::new(alloc, "server")
+        .long("server")
+        .value_name("S")
+        .value_parser(value_parser!(u16).range(1..=65_534))
+        .default_value("1")
+        .help("The server that sends it, 1 to 65534")
+}
+
+fn spell_command<'a>(alloc: Global) -> Result<Command<'a>, AllocError>
+    ensures { IfOk result (λ c. app_of c ≡ spell_app) }
+{
+    let about = "Prints the datagram of a statement, in hex";
+    described(alloc, "spell", about, help::SPELL).arg(several(alloc, "STATEMENT").help(
+        "The words of a mnemonic, of `recv` or of `ack`",
+    ))
+}
+
+fn play_command<'a>(alloc: Global) -> Result<Command<'a>, AllocError>
+    ensures { IfOk result (λ c. app_of c ≡ play_app) }
+{
+    let about = "Prints the serial run of a scenario as text";
+    let file = described(alloc, "play", about, help::PLAY).arg(needed(alloc, "FILE").help(
+        "The scenario, as text or as an image",
+    ))?;
+    let of_device = file.arg(optional_small(alloc, "device").help(
+        "Print only the entries of this device",
+    ))?;
+    with_range(alloc, of_device)
 }
 
 fn asm_command<'a>(alloc: Global) -> Result<Command<'a>, AllocError>
@@ -166,12 +223,12 @@ fn check_command<'a>(alloc: Global) -> Result<Command<'a>, AllocError>
 fn show_command<'a>(alloc: Global) -> Result<Command<'a>, AllocError>
     ensures { IfOk result (λ c. app_of c ≡ show_app) }
 {
-    let about = "Prints the trace of a run as text";
+    let about = "Prints the trace of a run, as text or as JSON Lines";
     let run = with_trace(alloc, described(alloc, "show", about, help::SHOW))?;
     let of_device = run.arg(optional_small(alloc, "device").help(
         "Print only the entries of this device",
     ))?;
-    with_range(alloc, of_device)
+    with_range(alloc, of_device)?.arg(flag(alloc, "json").help("Prints JSON Lines, for scripts"))
 }
 
 /// Adds the words for a part of a trace.

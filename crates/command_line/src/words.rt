@@ -5,7 +5,7 @@ ghost use Rattle.clap.specs.Words.{subcommand_rows_of};
 ghost use Rattle.command_line.specs.declared.words.Asked.{Asked as AskedData};
 ghost use Rattle.command_line.specs.declared.words.Job.{Job as JobData};
 ghost use Rattle.command_line.specs.Words.{AsksFor, AsksToLive, IsOptionalNumber, IsReadAs, MayAskFor, is_set};
-ghost use Rattle.command_line.specs.Inside.{IsTakenAs, LacksLive, LacksRun, LacksTest, ListsAndPlays};
+ghost use Rattle.command_line.specs.Inside.{IsTakenAs, LacksLive, LacksRun, LacksSay, LacksTest, ListsAndPlays};
 
 use crate::subcommands::bench;
 use clap::error::ErrorKind;
@@ -29,6 +29,29 @@ pub enum Job<'a> {
     One {
         /// The bytes of the datagram, in hex.
         hex: &'a str,
+    },
+    /// What a datagram says.
+    Say {
+        /// The bytes of the datagram, in hex.
+        hex: &'a str,
+        /// The server that sends it.
+        server: u16,
+    },
+    /// The datagram of a statement.
+    Spell {
+        /// The words of the statement.
+        statement: Vec<&'a str>,
+    },
+    /// The text of a scenario's serial run, or of a part of it.
+    Play {
+        /// The path of the scenario's text or image.
+        file: &'a str,
+        /// The device whose entries are shown; where it is not given, all are.
+        device: Option<u16>,
+        /// The number of the first entry that may be shown; where it is not given, 0.
+        from: Option<u32>,
+        /// The number of the last entry that may be shown; where it is not given, that of the last of all.
+        to: Option<u32>,
     },
     /// The image of a scenario, from its text.
     Asm {
@@ -60,7 +83,7 @@ pub enum Job<'a> {
         /// The path of the trace file.
         trace: &'a str,
     },
-    /// The text of a run's trace, or of a part of it.
+    /// A run's trace, or a part of it, as text or as JSON Lines.
     Show {
         /// The path of the scenario's image.
         image: &'a str,
@@ -72,6 +95,8 @@ pub enum Job<'a> {
         from: Option<u32>,
         /// The number of the last entry that may be shown; where it is not given, that of the last of all.
         to: Option<u32>,
+        /// Whether an object in JSON is printed for each entry.
+        json: bool,
     },
     /// The datagrams of a run, as a capture of packets.
     Pcap {
@@ -131,6 +156,11 @@ pub struct Live<'a> {
 pub enum Asked<'a> {
     /// Something to do, whose answer is printed at its end.
     Job(Job<'a>),
+    /// What the datagrams say that are the lines of standard input, in hex.
+    Log {
+        /// The server that sends them.
+        server: u16,
+    },
     /// A device on the network, of which is printed while it goes on.
     Live(Live<'a>),
     /// A text to print: help, or what is wrong with the words.
@@ -183,7 +213,7 @@ fn asked_of<'a>(alloc: Global, found: &ArgMatches<'a>) -> Result<Option<Asked<'a
     }
 }
 
-#[tactic(auto, using(crate::proofs::Asking::not_live, crate::proofs::Asking::no_job))]
+#[tactic(auto, using(crate::proofs::Asking::not_live, crate::proofs::Asking::not_say, crate::proofs::Asking::no_job))]
 fn asked_in<'a>(
     alloc: Global,
     name: &str,
@@ -195,6 +225,7 @@ fn asked_in<'a>(
 {
     match name {
         "live" => Ok(live_asked(found)),
+        "say" => Ok(say_asked(found)),
         _ => match job_in(alloc, name, found)? {
             Some(job) => Ok(Some(Asked::Job(job))),
             None => Ok(None),
@@ -202,18 +233,21 @@ fn asked_in<'a>(
     }
 }
 
-#[tactic(auto, using(crate::proofs::Asking::no_one, crate::proofs::Asking::no_asm, crate::proofs::Asking::no_dis, crate::proofs::Asking::no_run, crate::proofs::Asking::no_check, crate::proofs::Asking::no_show, crate::proofs::Asking::no_pcap, crate::proofs::Asking::no_debug, crate::proofs::Asking::no_test))]
+#[tactic(auto, using(crate::proofs::Asking::no_one, crate::proofs::Asking::no_spell, crate::proofs::Asking::no_play, crate::proofs::Asking::no_asm, crate::proofs::Asking::no_dis, crate::proofs::Asking::no_run, crate::proofs::Asking::no_check, crate::proofs::Asking::no_show, crate::proofs::Asking::no_pcap, crate::proofs::Asking::no_debug, crate::proofs::Asking::no_test))]
 fn job_in<'a>(
     alloc: Global,
     name: &str,
     found: &ArgMatches<'a>,
 ) -> Result<Option<Job<'a>>, AllocError>
+    requires { name.now ≢ codes "say" }
     ensures some { IfOk result (λ o. IfSome o (AsksFor (name.now, rows_of (found_of found.now)))) }
     ensures none { IfOk result (λ o. IfNone o ((job : JobData) → AsksFor (name.now, rows_of (found_of found.now)) job
         → ⊥)) }
 {
     match name {
         "one" => Ok(one_job(found)),
+        "spell" => spell_job(alloc, found),
+        "play" => Ok(play_job(found)),
         "asm" => Ok(asm_job(found)),
         "dis" => Ok(dis_job(found)),
         "run" => Ok(run_job(found)),
@@ -232,6 +266,28 @@ fn one_job<'a>(found: &ArgMatches<'a>) -> Option<Job<'a>>
 {
     Some(Job::One {
         hex: value_of(found, "HEX")?,
+    })
+}
+
+fn spell_job<'a>(alloc: Global, found: &ArgMatches<'a>) -> Result<Option<Job<'a>>, AllocError>
+    ensures some { IfOk result (λ o. IfSome o (AsksFor (codes "spell", rows_of (found_of found.now)))) }
+    ensures none { IfOk result (λ o. IfNone o (all_of (codes "STATEMENT") (rows_of (found_of found.now)) ≡ None)) }
+{
+    match values_of(alloc, found, "STATEMENT")? {
+        Some(statement) => Ok(Some(Job::Spell { statement })),
+        None => Ok(None),
+    }
+}
+
+fn play_job<'a>(found: &ArgMatches<'a>) -> Option<Job<'a>>
+    ensures some { IfSome result (AsksFor (codes "play", rows_of (found_of found.now))) }
+    ensures none { IfNone result (first_of (codes "FILE") (rows_of (found_of found.now)) ≡ None) }
+{
+    Some(Job::Play {
+        file: value_of(found, "FILE")?,
+        device: small_number(found, "device"),
+        from: number(found, "from"),
+        to: number(found, "to"),
     })
 }
 
@@ -289,6 +345,7 @@ fn show_job<'a>(found: &ArgMatches<'a>) -> Option<Job<'a>>
         device: small_number(found, "device"),
         from: number(found, "from"),
         to: number(found, "to"),
+        json: flag(found, "json"),
     })
 }
 
@@ -347,6 +404,19 @@ fn cases_job<'a>(found: &ArgMatches<'a>, files: Vec<&'a str>) -> Option<Job<'a>>
         return None;
     }
     Some(Job::Titles { files, only })
+}
+
+/// What is asked of a datagram, or of a log where `-` stands for its hex.
+fn say_asked<'a>(found: &ArgMatches<'a>) -> Option<Asked<'a>>
+    ensures some { IfSome result (MayAskFor (codes "say", rows_of (found_of found.now))) }
+    ensures none { IfNone result (LacksSay (rows_of (found_of found.now))) }
+{
+    let hex = value_of(found, "HEX")?;
+    let server = small_number(found, "server")?;
+    if hex == "-" {
+        return Some(Asked::Log { server });
+    }
+    Some(Asked::Job(Job::Say { hex, server }))
 }
 
 fn live_asked<'a>(found: &ArgMatches<'a>) -> Option<Asked<'a>>

@@ -1,33 +1,29 @@
 -- What is done and what is refused, put together from its parts.
-use Rattle.std.proofs.Common.{ℕ, ◌≡◌, ◌<◌, ◌≤◌, ◌⊎◌, List, [], ◌∷◌, Ok, Option, None, Some, length, arith, inl, inr}
+use Rattle.std.proofs.Common.{ℕ, ◌≡◌, ◌<◌, ◌≤◌, ◌⊎◌, List, [], ◌∷◌, Option, None, Some, length, arith, inl, inr}
 use Rattle.std.proofs.Common.{subst}
 use Rattle.std.proofs.lemmas.Bool.{cases_lt}
 use Rattle.std.specs.String.{string_bytes}
 use Rattle.scenario_image.specs.Scenario.{Scenario}
 use Rattle.scenario_image.specs.Image.{IsImageIn}
 use Rattle.scenario_asm.specs.Canonical as canonical
-use Rattle.scenario_asm.specs.Text.{assembled}
-use Rattle.scenario_asm.proofs.Denoting.{so_denotes}
 use Rattle.trace_file.specs.declared.entry.Entry.{Entry}
 use Rattle.trace_file.specs.Layout.{IsTraceFile}
 use Rattle.fleet_workers.specs.declared.fleet.FleetRun.{FleetRun}
 use Rattle.fleet_workers.specs.Blocks.{anyone}
 use Rattle.fleet_workers.specs.Fleet.{IsFleetRun, AreByBlocks, AreWorkers, left_by}
-use Rattle.command_scenarios.specs.Runs.{end_line, end_status}
+use Rattle.command_scenarios.specs.Runs.{end_status}
+use Rattle.command_texts.specs.Endings.{end_line}
 use Rattle.command_files.specs.Verdicts.{IsJudged, IsCheckDone}
 use Rattle.command_files.specs.Files.{Made}
 use Rattle.command_scenarios.specs.RunAnswer.{IsSavedAs, IsRunBy, IsRunAnswer, IsRunFault, IsWrongBatch, RunOptions}
 use Rattle.command_files.specs.Loading.{IsScenarioAt, IsTraceAt, IsImageFault, RunPaths}
 use Rattle.command_scenarios.specs.Jobs.{IsAsmDone, IsDisDone, IsRunDone, IsRunRefused, TextPaths}
-use Rattle.command_scenarios.specs.Texts.{IsTextAt, count_line}
+use Rattle.command_scenarios.specs.Texts.{count_line}
+use Rattle.command_texts.specs.Texts.{IsTextAt}
 use Rattle.command_files.specs.declared.fault.Fault.{Fault}
 use Rattle.command_files.specs.Answers.{files_of}
 use Rattle.command_files.specs.declared.answer.Answer.{Answer}
 use Rattle.command_files.specs.declared.status.Status.TheVariants.{Done}
-
-pub text_at : (holds : List ℕ → List ℕ → Type 0) (path bytes : List ℕ) (s : Scenario) → holds path bytes
-    → assembled bytes ≡ Ok s → IsTextAt holds path s
-text_at holds path bytes s held same = record { bytes = bytes; held = held; denotes = so_denotes bytes s same }
 
 pub not_saved : (es : List Entry) (made : List Made) → made ≡ [] → IsSavedAs None es made
 not_saved es made same = same

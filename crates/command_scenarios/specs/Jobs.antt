@@ -14,7 +14,8 @@ use Rattle.command_files.specs.declared.answer.Answer.{Answer}
 use Rattle.command_files.specs.declared.fault.Fault.{Fault}
 use Rattle.command_files.specs.declared.status.Status.TheVariants.{Done}
 use Rattle.command_scenarios.specs.RunAnswer.{IsRunAnswer, IsRunFault, RunOptions}
-use Rattle.command_scenarios.specs.Texts.{IsTextAt, count_line}
+use Rattle.command_scenarios.specs.Texts.{count_line}
+use Rattle.command_texts.specs.Texts.{IsTextAt}
 
 -- the paths of a scenario's text and of its image
 pub record TextPaths : Type 0 where

@@ -13,7 +13,8 @@ use Rattle.fleet_workers.specs.Fleet.{IsFleetRun, AreByBlocks, AreWorkers, IsBat
 use Rattle.command_files.specs.Answers.{files_of}
 use Rattle.command_files.specs.Files.{Made}
 use Rattle.command_files.specs.declared.answer.Answer.{Answer}
-use Rattle.command_scenarios.specs.Runs.{end_line, end_status}
+use Rattle.command_scenarios.specs.Runs.{end_status}
+use Rattle.command_texts.specs.Endings.{end_line}
 use Rattle.command_files.specs.declared.fault.Fault.{Fault}
 use Rattle.command_files.specs.declared.fault.Fault.TheVariants.{Batch, Memory, Spent, TooLarge, Workers}
 

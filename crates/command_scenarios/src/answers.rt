@@ -4,19 +4,20 @@ ghost use Rattle.std.specs.Prelude.{IfErr, IfOk, option_map};
 ghost use Rattle.command_files.specs.Loading.{IsCheckRefused, IsImageFault};
 ghost use Rattle.command_files.specs.Verdicts.{IsCheckDone};
 ghost use Rattle.command_scenarios.specs.Jobs.{IsAsmDone, IsDisDone, IsRunDone, IsRunRefused};
-ghost use Rattle.command_scenarios.specs.Texts.{IsTextFault};
+ghost use Rattle.command_texts.specs.Texts.{IsTextFault};
 
 use crate::runs::run_scenario;
-use crate::texts::{count_line, load_text};
+use crate::texts::count_line;
 use command_files::files::Files;
 use command_files::{Answer, Refusal, Status, image_file, judge, load_scenario, load_trace};
+use command_texts::load_text;
 use scenario_asm::disassemble;
 use std::alloc::Global;
 use std::sync::Wait;
 use std::thread::Threads;
 
 /// `asm IN OUT`: the scenario of a text, whose image goes to OUT, in version 2.
-#[tactic(auto, using(crate::proofs::Built::asm_done, crate::proofs::Faults::text_memory))]
+#[tactic(auto, using(crate::proofs::Built::asm_done, command_texts::proofs::Denoted::text_memory))]
 pub fn asm<'a, F: Files>(
     alloc: Global,
     input: &'a str,

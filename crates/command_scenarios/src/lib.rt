@@ -2,9 +2,8 @@
 #![tactic(auto)]
 
 mod answers;
-mod blame;
 mod runs;
 mod texts;
 
 pub use answers::{asm, check, dis, run};
-pub use texts::{count_line, load_text};
+pub use texts::count_line;

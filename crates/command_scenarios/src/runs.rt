@@ -1,13 +1,14 @@
 //! A run of a scenario by workers, and what is said of it.
 ghost use Rattle.std.specs.Prelude.{◌≡◌, option_map, IfErr, IfOk};
 ghost use Rattle.std.specs.String.{string_bytes};
-ghost use Rattle.command_scenarios.specs.Runs.{device_word, device_words, done_line, end_line, end_status};
-ghost use Rattle.command_scenarios.specs.Runs.{stalled_line, stalled_text};
+ghost use Rattle.command_scenarios.specs.Runs.{end_status};
+ghost use Rattle.command_texts.specs.Endings.{end_line};
 ghost use Rattle.command_files.specs.Answers.{files_of};
 ghost use Rattle.command_scenarios.specs.RunAnswer.{run_fault, IsRunBy, IsRunFault, IsSavedAs, IsSavingFault};
 ghost use Rattle.command_scenarios.specs.RunAnswer.{IsRunAnswer};
 
 use command_files::{Answer, Fault, NewFile, Status};
+use command_texts::end_line;
 use fleet_workers::{FleetRun, OpenGate, RunFault, run_fleet};
 use scenario_image::Scenario;
 use std::alloc::{AllocError, Global};
@@ -112,49 +113,4 @@ fn end_status(waiting: &[u16]) -> Status
         [] => Status::Done,
         [_, ..] => Status::NotRun,
     }
-}
-
-fn end_line(alloc: Global, count: usize, waiting: &[u16]) -> Result<String, AllocError>
-    ensures { IfOk result (λ text. string_bytes text ≡ end_line count waiting.now) }
-{
-    match waiting {
-        [] => done_line(alloc, count),
-        [_, ..] => stalled_line(alloc, count, waiting),
-    }
-}
-
-fn done_line(alloc: Global, count: usize) -> Result<String, AllocError>
-    ensures { IfOk result (λ text. string_bytes text ≡ done_line count) }
-{
-    format!(in alloc; "done {count}\n")
-}
-
-fn stalled_line(alloc: Global, count: usize, waiting: &[u16]) -> Result<String, AllocError>
-    ensures { IfOk result (λ text. string_bytes text ≡ stalled_line count waiting.now) }
-{
-    let devices = device_words(alloc, waiting)?;
-    stalled_text(alloc, count, devices.as_str())
-}
-
-fn stalled_text(alloc: Global, count: usize, devices: &str) -> Result<String, AllocError>
-    ensures { IfOk result (λ text. string_bytes text ≡ stalled_text count devices.now) }
-{
-    format!(in alloc; "stalled {count} waiting{devices}\n")
-}
-
-fn device_words(alloc: Global, devices: &[u16]) -> Result<String, AllocError>
-    ensures { IfOk result (λ text. string_bytes text ≡ device_words devices.now) }
-{
-    let mut text = String::new(alloc);
-    for device in devices {
-        let word = device_word(alloc, *device)?;
-        text.push_str(word.as_str())?;
-    }
-    Ok(text)
-}
-
-fn device_word(alloc: Global, device: u16) -> Result<String, AllocError>
-    ensures { IfOk result (λ text. string_bytes text ≡ device_word device) }
-{
-    format!(in alloc; " {device}")
 }

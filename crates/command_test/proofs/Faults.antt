@@ -1,5 +1,5 @@
 -- From the faults of the parts to those of the whole.
-use Rattle.std.proofs.Common.{ℕ, ◌≡◌, ◌≢◌, List, [], Option, Err, length, map, rules, inl, inr}
+use Rattle.std.proofs.Common.{ℕ, ◌≡◌, ◌≢◌, List, Option, Err, length, map, rules, inl, inr}
 use Rattle.std.proofs.Common.{subst, sym, ap, ◌∙◌}
 use Rattle.std.proofs.lemmas.List.{nil_from_length}
 use Rattle.std.specs.Str.{IsUtf8}
@@ -12,7 +12,7 @@ use Rattle.command_files.specs.declared.fault.Fault.{Fault}
 use Rattle.command_files.specs.declared.fault.Fault.TheVariants as faults
 use Rattle.command_test.specs.Jobs.{IsTestFault}
 use Rattle.command_test.specs.Playing.{AreChosen, case_of_file}
-use Rattle.command_test.specs.Reading.{AreRead, IsCasesFault, IsFileRefused, IsFirstRefused}
+use Rattle.command_test.specs.Reading.{AreRead, IsCasesFault, IsFileRefused, IsRefusalOf}
 use Rattle.command_test.specs.declared.case_file.CaseFile.{CaseFile}
 use Rattle.command_test.specs.declared.test_case.TestCase.{TestCase}
 
@@ -21,23 +21,7 @@ pub reading : (holds : List ℕ → List ℕ → Type 0) (fails : List ℕ → T
     → IsReadingFault (fails path) f → IsFileRefused holds fails path f
 reading holds fails path faults.Memory h = tt
 reading holds fails path faults.Read h = inl h
-reading holds fails path (faults.Cases fault) h = absurd h
-reading holds fails path faults.NoSuchCase h = absurd h
-reading holds fails path faults.Hex h = absurd h
-reading holds fails path faults.Write h = absurd h
-reading holds fails path (faults.Layout fault) h = absurd h
-reading holds fails path (faults.Text fault) h = absurd h
-reading holds fails path faults.TooLarge h = absurd h
-reading holds fails path (faults.Template fault) h = absurd h
-reading holds fails path faults.Workers h = absurd h
-reading holds fails path faults.Batch h = absurd h
-reading holds fails path faults.Spent h = absurd h
-reading holds fails path faults.NoDevice h = absurd h
-reading holds fails path faults.PastEnd h = absurd h
-reading holds fails path faults.Range h = absurd h
-reading holds fails path faults.TooLong h = absurd h
-reading holds fails path faults.Bind h = absurd h
-reading holds fails path (faults.Session fault) h = absurd h
+reading holds fails path _ h = absurd h
 
 -- bytes that are no text
 pub no_text : (holds : List ℕ → List ℕ → Type 0) (fails : List ℕ → Type 0) (path bytes : List ℕ) → holds path bytes
@@ -49,42 +33,12 @@ pub wrong : (holds : List ℕ → List ℕ → Type 0) (fails : List ℕ → Typ
     → holds path text → IsCasesFault text f → IsFileRefused holds fails path f
 wrong holds fails path text faults.Memory held h = tt
 wrong holds fails path text (faults.Cases fault) held h = record { bytes = text; held = held; wrong = h }
-wrong holds fails path text faults.NoSuchCase held h = absurd h
-wrong holds fails path text faults.Read held h = absurd h
-wrong holds fails path text faults.Hex held h = absurd h
-wrong holds fails path text faults.Write held h = absurd h
-wrong holds fails path text (faults.Layout fault) held h = absurd h
-wrong holds fails path text (faults.Text fault) held h = absurd h
-wrong holds fails path text faults.TooLarge held h = absurd h
-wrong holds fails path text (faults.Template fault) held h = absurd h
-wrong holds fails path text faults.Workers held h = absurd h
-wrong holds fails path text faults.Batch held h = absurd h
-wrong holds fails path text faults.Spent held h = absurd h
-wrong holds fails path text faults.NoDevice held h = absurd h
-wrong holds fails path text faults.PastEnd held h = absurd h
-wrong holds fails path text faults.Range held h = absurd h
-wrong holds fails path text faults.TooLong held h = absurd h
-wrong holds fails path text faults.Bind held h = absurd h
-wrong holds fails path text (faults.Session fault) held h = absurd h
+wrong holds fails path text _ held h = absurd h
 
 refused_as : (text : List ℕ) (w : Why) (fault : CaseFault) → (w ≢ why.Memory → cases_in text ≡ Err fault)
     → IsCasesFault text (refused_cases w fault)
-refused_as text why.NotText fault h = h (search rules)
-refused_as text (why.NotAnAnswer cause) fault h = h (search rules)
-refused_as text (why.NotAQuestion cause) fault h = h (search rules)
-refused_as text (why.NotAnEvent cause) fault h = h (search rules)
-refused_as text why.NotACount fault h = h (search rules)
-refused_as text (why.NotBytes cause) fault h = h (search rules)
-refused_as text why.NoSuchLine fault h = h (search rules)
-refused_as text why.AddsToNothing fault h = h (search rules)
-refused_as text why.NoTextAbove fault h = h (search rules)
-refused_as text why.BeforeFirstCase fault h = h (search rules)
-refused_as text why.NoTitle fault h = h (search rules)
-refused_as text why.SameTitle fault h = h (search rules)
-refused_as text why.NoAnswer fault h = h (search rules)
-refused_as text why.NoAnswerBelow fault h = h (search rules)
-refused_as text why.NoCase fault h = h (search rules)
 refused_as text why.Memory fault h = tt
+refused_as text _ fault h = h (search rules)
 
 pub wrong_cases : (text : List ℕ) (fault : CaseFault) → (fault.why ≢ why.Memory → cases_in text ≡ Err fault)
     → IsCasesFault text (case_fault fault)
@@ -94,26 +48,11 @@ wrong_cases text fault h = refused_as text fault.why fault h
 
 -- one of the files is refused
 pub unread : (holds : List ℕ → List ℕ → Type 0) (fails : List ℕ → Type 0) (paths : List (List ℕ))
-    (only : Option (List ℕ)) (f : Fault) → IsFirstRefused holds fails paths f → IsTestFault holds fails paths only f
-unread holds fails paths only faults.Memory h = tt
-unread holds fails paths only faults.NoSuchCase h = absurd h.refused
-unread holds fails paths only faults.Read h = h
-unread holds fails paths only (faults.Cases fault) h = h
-unread holds fails paths only faults.Hex h = h
-unread holds fails paths only faults.Write h = h
-unread holds fails paths only (faults.Layout fault) h = h
-unread holds fails paths only (faults.Text fault) h = h
-unread holds fails paths only faults.TooLarge h = h
-unread holds fails paths only (faults.Template fault) h = h
-unread holds fails paths only faults.Workers h = h
-unread holds fails paths only faults.Batch h = h
-unread holds fails paths only faults.Spent h = h
-unread holds fails paths only faults.NoDevice h = h
-unread holds fails paths only faults.PastEnd h = h
-unread holds fails paths only faults.Range h = h
-unread holds fails paths only faults.TooLong h = h
-unread holds fails paths only faults.Bind h = h
-unread holds fails paths only (faults.Session fault) h = h
+    (only about : Option (List ℕ)) (f : Fault) → IsRefusalOf holds fails paths about f
+    → IsTestFault holds fails paths only f
+unread holds fails paths only about faults.Memory h = tt
+unread holds fails paths only about faults.NoSuchCase h = absurd h.refused
+unread holds fails paths only about _ h = (about, h)
 
 -- no case is chosen
 pub unchosen : (holds : List ℕ → List ℕ → Type 0) (fails : List ℕ → Type 0) (paths : List (List ℕ))

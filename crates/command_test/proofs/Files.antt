@@ -1,12 +1,12 @@
 -- Files that are read, one after another.
-use Rattle.std.proofs.Common.{ℕ, ◌≡◌, ◌+◌, ◌≤◌, ◌<◌, Bor, List, [], ◌∷◌, ◌++◌, Ok, length, take, drop, get_or, map}
-use Rattle.std.proofs.Common.{refl, sym, ap, subst, ◌∙◌}
+use Rattle.std.proofs.Common.{ℕ, ◌≡◌, ◌+◌, ◌≤◌, ◌<◌, Bor, List, [], ◌∷◌, ◌++◌, Ok, Option, Some, length, take, drop}
+use Rattle.std.proofs.Common.{get_or, map, refl, sym, ap, subst, ◌∙◌}
 use Rattle.std.proofs.lemmas.List.{drop_more, map-append, take-append-drop, take_all, take_more}
 use Rattle.std.proofs.lemmas.List.Elements.{All-nil, All-push}
 use Rattle.case_text.specs.Cases.{cases_in}
 use Rattle.command_files.specs.declared.fault.Fault.{Fault}
 use Rattle.command_files.specs.declared.fault.Fault.TheVariants.{Memory}
-use Rattle.command_test.specs.Reading.{AreRead, IsCaseFile, IsFileRefused, IsFirstRefused}
+use Rattle.command_test.specs.Reading.{AreRead, IsCaseFile, IsFileRefused, IsFirstRefused, IsRefusalOf}
 use Rattle.command_test.specs.declared.case_file.CaseFile.{CaseFile}
 
 -- the paths behind references
@@ -56,26 +56,32 @@ all_read holds paths i files read end =
     subst (λ ps. AreRead holds (paths_in ps) files) (take_all i paths end) read
 
 -- the first file that is refused
-pub first_refused : (holds : List ℕ → List ℕ → Type 0) (fails : List ℕ → Type 0) (paths : List (Bor (List ℕ)))
-    (i : ℕ) (d : Bor (List ℕ)) (files : List CaseFile) (fault : Fault)
-    → AreRead holds (paths_in (take i paths)) files → i < length paths
-    → IsFileRefused holds fails (get_or paths i d).now fault → IsFirstRefused holds fails (paths_in paths) fault
-first_refused holds fails paths i d files fault read within refused =
+first_refused : (holds : List ℕ → List ℕ → Type 0) (fails : List ℕ → Type 0) (paths : List (Bor (List ℕ))) (i : ℕ)
+    (d : Bor (List ℕ)) (files : List CaseFile) (about : Option (List ℕ)) (fault : Fault)
+    → AreRead holds (paths_in (take i paths)) files → i < length paths → about ≡ Some (get_or paths i d).now
+    → IsFileRefused holds fails (get_or paths i d).now fault → IsFirstRefused holds fails (paths_in paths) about fault
+first_refused holds fails paths i d files about fault read within named refused =
     record {
       before = paths_in (take i paths);
       path = (get_or paths i d).now;
       others = paths_in (drop (i + 1) paths);
       stands = cut_at paths i d within;
+      named = named;
       files = files;
       read = read;
       refused = refused;
     }
 
+pub refused_at : (holds : List ℕ → List ℕ → Type 0) (fails : List ℕ → Type 0) (paths : List (Bor (List ℕ))) (i : ℕ)
+    (d : Bor (List ℕ)) (files : List CaseFile) (about : Option (List ℕ)) (fault : Fault)
+    → AreRead holds (paths_in (take i paths)) files → i < length paths → about ≡ Some (get_or paths i d).now
+    → IsFileRefused holds fails (get_or paths i d).now fault → IsRefusalOf holds fails (paths_in paths) about fault
+refused_at holds fails paths i d files about Memory read within named refused = tt
+refused_at holds fails paths i d files about fault read within named refused =
+    first_refused holds fails paths i d files about fault read within named refused
+
 -- no memory was left after a file was read
 pub unheld : (holds : List ℕ → List ℕ → Type 0) (fails : List ℕ → Type 0) (paths : List (Bor (List ℕ)))
-    (i : ℕ) (d : Bor (List ℕ)) (files : List CaseFile) (fault : Fault)
-    → AreRead holds (paths_in (take i paths)) files → i < length paths → fault ≡ Memory
-    → IsFirstRefused holds fails (paths_in paths) fault
-unheld holds fails paths i d files fault read within same =
-    subst (IsFirstRefused holds fails (paths_in paths)) (sym same)
-    (first_refused holds fails paths i d files Memory read within tt)
+    (about : Option (List ℕ)) (fault : Fault) → fault ≡ Memory → IsRefusalOf holds fails (paths_in paths) about fault
+unheld holds fails paths about fault same =
+    subst (IsRefusalOf holds fails (paths_in paths) about) (sym same) tt

@@ -40,4 +40,4 @@ abbrev pub IsTestFault : (List ℕ → List ℕ → Type 0) → (List ℕ → Ty
     → Type 0
 IsTestFault holds fails paths only Memory = ⊤
 IsTestFault holds fails paths only NoSuchCase = HasNoSuchCase holds paths only
-IsTestFault holds fails paths only fault = IsFirstRefused holds fails paths fault
+IsTestFault holds fails paths only fault = (about : Option (List ℕ)) × IsFirstRefused holds fails paths about fault

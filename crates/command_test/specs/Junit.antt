@@ -25,7 +25,7 @@ text_attribute name text = attribute name (escaped_text Attribute text)
 -- a failure, whose message says in short what the text does
 unfoldable pub failure_line : List ℕ → List ℕ → List ℕ
 failure_line message text =
-    ended_line (codes "<failure" ++ attribute (codes "message") message ++ codes ">" ++ escaped_text Element text
+    ended_line (codes "<failure" ++ text_attribute (codes "message") message ++ codes ">" ++ escaped_text Element text
     ++ codes "</failure>")
 
 -- the end of a test case that has this failure

@@ -2,7 +2,7 @@
 --
 -- Two relations say what is known of the files: `holds path bytes`, the file at the path had these bytes when it was
 -- read; `fails path`, it could not be read.
-use Rattle.std.specs.Prelude.{⊤, ℕ, ◌≡◌, ◌⊎◌, List, ◌∷◌, ◌++◌, All, Ok, Err, map}
+use Rattle.std.specs.Prelude.{⊤, ℕ, ◌≡◌, ◌⊎◌, List, ◌∷◌, ◌++◌, Option, Some, All, Ok, Err, map}
 use Rattle.std.specs.Str.{IsUtf8}
 use Rattle.case_text.specs.Cases.{cases_in}
 use Rattle.command_files.specs.declared.fault.Fault.{Fault}
@@ -44,13 +44,20 @@ IsFileRefused holds fails path Read = fails path ⊎ IsNoTextAt holds path
 IsFileRefused holds fails path (Cases fault) = HasNoCasesAt holds path (Cases fault)
 IsFileRefused holds fails path _ = ⊥
 
--- one of the files is refused so; those before it were read
+-- the file that is named is the first of the files that is refused, and this is why; those before it were read
 pub record IsFirstRefused (holds : List ℕ → List ℕ → Type 0) (fails : List ℕ → Type 0) (paths : List (List ℕ))
-    (fault : Fault) : Type 0 where
+    (about : Option (List ℕ)) (fault : Fault) : Type 0 where
   pub before : List (List ℕ)
   pub path : List ℕ
   pub others : List (List ℕ)
   pub stands : paths ≡ before ++ path ∷ others
+  pub named : about ≡ Some path
   pub files : List CaseFile
   pub read : AreRead holds before files
   pub refused : IsFileRefused holds fails path fault
+
+-- no memory was left, or one of the files is refused, which is named
+abbrev pub IsRefusalOf : (List ℕ → List ℕ → Type 0) → (List ℕ → Type 0) → List (List ℕ) → Option (List ℕ) → Fault
+    → Type 0
+IsRefusalOf holds fails paths about Memory = ⊤
+IsRefusalOf holds fails paths about fault = IsFirstRefused holds fails paths about fault

@@ -1,6 +1,6 @@
 -- What the program prints of cases that were played, and how it then ends.
-use Rattle.std.specs.Prelude.{ℕ, zero, suc, ◌+◌, Bool, true, false, List, [], ◌∷◌, ◌++◌, Option, None, Some, length}
-use Rattle.std.specs.Prelude.{codes, filter, if◌then◌else◌, slice_get}
+use Rattle.std.specs.Prelude.{ℕ, zero, suc, ◌+◌, Bool, true, false, List, [], ◌++◌, Option, None, Some, length}
+use Rattle.std.specs.Prelude.{codes, filter, slice_get}
 use Rattle.std.specs.Fmt.{decimal}
 use Rattle.std.specs.List.{flat_map}
 use Rattle.scenario_words.specs.CauseWords.{cause_words}

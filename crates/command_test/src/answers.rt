@@ -112,12 +112,7 @@ fn report_of<'a>(
 }
 
 /// What is printed: the form of TAP, or the report.
-fn printed(
-    alloc: Global,
-    is_tap: bool,
-    several: bool,
-    all: &[Judged],
-) -> Result<String, AllocError>
+fn printed(alloc: Global, is_tap: bool, several: bool, all: &[Judged]) -> Result<String, AllocError>
     ensures { IfOk result (λ text. string_bytes text ≡ printed is_tap several all.now) }
 {
     if is_tap {

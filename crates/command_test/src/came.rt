@@ -109,12 +109,7 @@ fn put_outputs(
 }
 
 /// Writes a line of a text.
-fn put_text_line(
-    alloc: Global,
-    out: &mut String,
-    form: Form,
-    line: &str,
-) -> Result<(), AllocError>
+fn put_text_line(alloc: Global, out: &mut String, form: Form, line: &str) -> Result<(), AllocError>
     ensures { OnOk result (string_bytes out.new ≡ string_bytes out.old
         ++ answer_line form (codes "=| " ++ line.now)) }
 {
@@ -123,12 +118,7 @@ fn put_text_line(
 }
 
 /// Writes the lines of a text, in their order.
-fn put_text_lines(
-    alloc: Global,
-    out: &mut String,
-    form: Form,
-    text: &str,
-) -> Result<(), AllocError>
+fn put_text_lines(alloc: Global, out: &mut String, form: Form, text: &str) -> Result<(), AllocError>
     ensures { OnOk result (string_bytes out.new ≡ string_bytes out.old ++ text_lines form text.now) }
 {
     for line in text.lines() {

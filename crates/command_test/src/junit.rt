@@ -56,7 +56,13 @@ fn put_suite(
 ) -> Result<(), AllocError>
     ensures { OnOk result (string_bytes out.new ≡ string_bytes out.old ++ suite several number path.now all.now) }
 {
-    put_suite_head(alloc, out, path, count_of_file(number, all), count_failures(number, all))?;
+    put_suite_head(
+        alloc,
+        out,
+        path,
+        count_of_file(number, all),
+        count_failures(number, all),
+    )?;
     put_suite_cases(alloc, out, several, number, all)?;
     out.push_str("</testsuite>\n")
 }
@@ -76,13 +82,17 @@ fn fails_in_file(number: usize, judged: &Judged) -> bool
 fn count_of_file(number: usize, all: &[Judged]) -> usize
     ensures { result ≡ length (filter (is_of_file number) all.now) }
 {
-    all.iter().filter(|judged| is_of_file(number, judged)).count()
+    all.iter()
+        .filter(|judged| is_of_file(number, judged))
+        .count()
 }
 
 fn count_failures(number: usize, all: &[Judged]) -> usize
     ensures { result ≡ length (filter (fails_in_file number) all.now) }
 {
-    all.iter().filter(|judged| fails_in_file(number, judged)).count()
+    all.iter()
+        .filter(|judged| fails_in_file(number, judged))
+        .count()
 }
 
 #[tactic(auto, unfolding(crate::specs::Junit::text_attribute, crate::specs::Junit::attribute))]
@@ -198,7 +208,7 @@ fn cause_message(alloc: Global, line: u128, cause: Cause) -> Result<String, Allo
 }
 
 /// Writes a failure, with what the report says of the case.
-#[tactic(auto, unfolding(crate::specs::Junit::failure_line, crate::specs::Junit::attribute))]
+#[tactic(auto, unfolding(crate::specs::Junit::failure_line))]
 fn put_failure_line(
     alloc: Global,
     out: &mut String,
@@ -207,7 +217,9 @@ fn put_failure_line(
 ) -> Result<(), AllocError>
     ensures { OnOk result (string_bytes out.new ≡ string_bytes out.old ++ failure_line message.now text.now) }
 {
-    write!(out, "<failure message=\"{message}\">")?;
+    out.push_str("<failure")?;
+    put_text_attribute(alloc, out, "message", message)?;
+    out.push('>')?;
     put_escaped(alloc, out, Escape::Element, text)?;
     out.push_str("</failure>\n")
 }

@@ -1,7 +1,7 @@
 //! Files of cases, which are all read before a case is played.
 ghost use Rattle.std.specs.Prelude.{◌≡◌, ◌∷◌, ◌++◌, [], Ok, Some, IfErr, IfOk, OnOk, map, option_map};
 ghost use Rattle.case_text.specs.Cases.{cases_in};
-ghost use Rattle.command_test.specs.Reading.{AreRead, IsCaseFile, IsCasesFault, IsFileRefused, IsFirstRefused};
+ghost use Rattle.command_test.specs.Reading.{AreRead, IsCaseFile, IsCasesFault, IsFileRefused, IsRefusalOf};
 
 use crate::case_file::CaseFile;
 use case_text::{Case, read_cases};
@@ -71,7 +71,7 @@ fn add<'a>(all: &mut Vec<CaseFile<'a>>, file: CaseFile<'a>) -> Result<(), AllocE
     Ok(())
 }
 
-/// The files at these paths, each with its cases; or the first that is refused.
+/// The files at these paths, each with its cases; or the first that is refused, by its path.
 #[tactic(auto, using(crate::proofs::Files::none_yet, crate::proofs::Files::all_read))]
 pub fn read_files<'a, F: Files>(
     alloc: Global,
@@ -79,8 +79,8 @@ pub fn read_files<'a, F: Files>(
     files: &F,
 ) -> Result<Vec<CaseFile<'a>>, Refusal<'a>>
     ensures read { IfOk result (λ v. AreRead (F.holds files.now) (map (λ p. p.now) paths.now) v.items) }
-    ensures refused { IfErr result (λ r. IsFirstRefused (F.holds files.now) (F.fails files.now)
-        (map (λ p. p.now) paths.now) r.fault) }
+    ensures refused { IfErr result (λ r. IsRefusalOf (F.holds files.now) (F.fails files.now)
+        (map (λ p. p.now) paths.now) (option_map (λ p. p.now) r.about) r.fault) }
 {
     let mut all = Vec::new(alloc);
     for path in paths {

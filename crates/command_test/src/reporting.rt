@@ -122,12 +122,7 @@ fn put_heading(out: &mut String, several: bool, test: &TestCase) -> Result<(), A
 }
 
 /// Writes what the datagram says that a line of a case states, if it states one.
-fn put_sent(
-    alloc: Global,
-    out: &mut String,
-    test: &TestCase,
-    line: usize,
-) -> Result<(), AllocError>
+fn put_sent(alloc: Global, out: &mut String, test: &TestCase, line: usize) -> Result<(), AllocError>
     ensures { OnOk result (string_bytes out.new ≡ string_bytes out.old ++ said_of (sent_at test.now.case.now line)) }
 {
     match sent_at(alloc, test.case, line)? {
@@ -161,12 +156,7 @@ fn put_differing(
 }
 
 /// Writes `, line N: CAUSE` after a title, and this line of the file.
-fn put_cause(
-    out: &mut String,
-    number: u128,
-    cause: Cause,
-    line: &str,
-) -> Result<(), AllocError>
+fn put_cause(out: &mut String, number: u128, cause: Cause, line: &str) -> Result<(), AllocError>
     ensures { OnOk result (string_bytes out.new ≡ string_bytes out.old
         ++ (ended_line (codes ", line " ++ decimal number ++ codes ": " ++ cause_words cause) ++ ended_line line.now)) }
 {

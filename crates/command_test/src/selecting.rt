@@ -13,7 +13,11 @@ fn is_chosen(only: Option<&str>, case: &Case) -> bool
 {
     match only {
         None => true,
-        Some(words) => case.title().as_str().as_bytes().starts_with(words.as_bytes()),
+        Some(words) => case
+            .title()
+            .as_str()
+            .as_bytes()
+            .starts_with(words.as_bytes()),
     }
 }
 

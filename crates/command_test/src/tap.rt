@@ -98,12 +98,7 @@ fn put_point_line(
 }
 
 /// Writes a line of a block: a name, and a text in quotes.
-fn put_entry(
-    alloc: Global,
-    out: &mut String,
-    name: &str,
-    text: &str,
-) -> Result<(), AllocError>
+fn put_entry(alloc: Global, out: &mut String, name: &str, text: &str) -> Result<(), AllocError>
     ensures { OnOk result (string_bytes out.new ≡ string_bytes out.old
         ++ ended_line (name.now ++ in_quotes text.now)) }
 {
@@ -121,12 +116,7 @@ fn put_line_number(out: &mut String, line: u128) -> Result<(), AllocError>
 
 /// Writes where a case differs.
 #[tactic(auto, unfolding(crate::specs::Tap::place))]
-fn put_place(
-    alloc: Global,
-    out: &mut String,
-    test: &TestCase,
-    line: u128,
-) -> Result<(), AllocError>
+fn put_place(alloc: Global, out: &mut String, test: &TestCase, line: u128) -> Result<(), AllocError>
     ensures { OnOk result (string_bytes out.new ≡ string_bytes out.old ++ place test.now line) }
 {
     put_entry(alloc, out, "  file: ", test.path)?;
@@ -136,12 +126,7 @@ fn put_place(
 
 /// Writes a block up to the answers that came.
 #[tactic(auto, unfolding(crate::specs::Tap::block))]
-fn put_block(
-    alloc: Global,
-    out: &mut String,
-    test: &TestCase,
-    line: u128,
-) -> Result<(), AllocError>
+fn put_block(alloc: Global, out: &mut String, test: &TestCase, line: u128) -> Result<(), AllocError>
     ensures { OnOk result (string_bytes out.new ≡ string_bytes out.old ++ block test.now line) }
 {
     out.push_str("  ---\n")?;

@@ -127,12 +127,7 @@ fn run_words(alloc: Global, entries: u64, devices: &[u16]) -> Result<String, All
     stalled_words(alloc, entries, devices)
 }
 
-fn counts_words(
-    alloc: Global,
-    classes: u64,
-    devices: u64,
-    steps: u64,
-) -> Result<String, AllocError>
+fn counts_words(alloc: Global, classes: u64, devices: u64, steps: u64) -> Result<String, AllocError>
     ensures { IfOk result (λ text. string_bytes text ≡ counts_words classes devices steps) }
 {
     format!(in alloc; "ok {classes} classes {devices} devices {steps} steps")

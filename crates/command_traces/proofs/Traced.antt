@@ -1,5 +1,5 @@
 -- What `show` and `pcap` came to, put together from its parts.
-use Rattle.std.proofs.Common.{ℕ, ◌≡◌, IsTrue, List, [], ◌∷◌, length, inl, inr, refl, subst, sym}
+use Rattle.std.proofs.Common.{ℕ, ◌≡◌, Bool, true, IsTrue, List, [], ◌∷◌, length, inl, inr, refl, subst, sym}
 use Rattle.std.specs.String.{string_bytes}
 use Rattle.scenario_image.specs.Scenario.{Scenario}
 use Rattle.trace_file.specs.declared.entry.Entry.{Entry}
@@ -9,15 +9,18 @@ use Rattle.fleet_core.specs.declared.verdict.Verdict.TheVariants as verdicts
 use Rattle.trace_text.specs.declared.selection.Selection.{Selection}
 use Rattle.trace_text.specs.declared.selection.SelectionFault.{SelectionFault}
 use Rattle.trace_text.specs.declared.selection.SelectionFault.TheVariants as selection
-use Rattle.trace_text.specs.Selection.{IsSelectable, IsSelectionFault, selected_text}
+use Rattle.trace_text.specs.Selection.{IsSelectable, IsSelectionFault}
+use Rattle.trace_json.specs.Entries.{trace_json}
+use Rattle.trace_json.specs.Lines.{AreLinesOf}
 use Rattle.trace_pcap.specs.declared.fault.PcapFault.{PcapFault}
 use Rattle.trace_pcap.specs.declared.fault.PcapFault.TheVariants as pcap
 use Rattle.trace_pcap.specs.Packets.{has_long, trace_packets}
 use Rattle.udp_capture.specs.Capture.{IsCapture}
 use Rattle.command_files.proofs.Built.{check_image, check_trace, judged_none}
-use Rattle.command_traces.specs.Traces.{pcap_fault, selection_fault, IsCapturedAs, IsNoRun, IsPcapDone, IsPcapFault}
+use Rattle.command_texts.specs.Selections.{selection_fault}
+use Rattle.command_traces.specs.Traces.{pcap_fault, IsCapturedAs, IsNoRun, IsPcapDone, IsPcapFault}
 use Rattle.command_traces.specs.Traces.{IsPcapRefused, IsRunCaptured, IsRunShown, IsShowDone, IsShowFault}
-use Rattle.command_traces.specs.Traces.{IsShowRefused, IsShownAs, packets_line}
+use Rattle.command_traces.specs.Traces.{IsShowRefused, IsShownAs, packets_line, shown_as}
 use Rattle.command_files.specs.Answers.{files_of}
 use Rattle.command_files.specs.Loading.{IsImageFault, IsScenarioAt, IsTraceAt, IsTraceFault, RunPaths}
 use Rattle.command_files.specs.Verdicts.{verdict_line, verdict_status}
@@ -35,19 +38,24 @@ no_run s es place answer breaks said ended none =
 
 -- ---- show
 
-pub unshown_run : (sel : Selection) (s : Scenario) (es : List Entry) (answer : Answer) → IsNoRun s es answer
-    → IsShownAs sel answer s es
-unshown_run sel s es answer none = inl none
+pub unshown_run : (is_json : Bool) (sel : Selection) (s : Scenario) (es : List Entry) (answer : Answer)
+    → IsNoRun s es answer → IsShownAs is_json sel answer s es
+unshown_run is_json sel s es answer none = inl none
 
-pub shown_run : (sel : Selection) (s : Scenario) (es : List Entry) (answer : Answer) → IsRunShown sel s es answer
-    → IsShownAs sel answer s es
-shown_run sel s es answer shown = inr shown
+pub shown_run : (is_json : Bool) (sel : Selection) (s : Scenario) (es : List Entry) (answer : Answer)
+    → IsRunShown is_json sel s es answer → IsShownAs is_json sel answer s es
+shown_run is_json sel s es answer shown = inr shown
 
-pub run_shown : (sel : Selection) (s : Scenario) (es : List Entry) (answer : Answer) → IsRun s es
-    → IsSelectable s sel es → string_bytes answer.text ≡ selected_text s sel es → answer.status ≡ Done
-    → files_of answer.file ≡ [] → IsRunShown sel s es answer
-run_shown sel s es answer run selectable said ended none =
+pub run_shown : (is_json : Bool) (sel : Selection) (s : Scenario) (es : List Entry) (answer : Answer) → IsRun s es
+    → IsSelectable s sel es → string_bytes answer.text ≡ shown_as is_json s sel es → answer.status ≡ Done
+    → files_of answer.file ≡ [] → IsRunShown is_json sel s es answer
+run_shown is_json sel s es answer run selectable said ended none =
     record { run = run; selectable = selectable; text_is = said; status_is = ended; made_is = none }
+
+-- JSON Lines are those of the entries that are asked for
+pub lines_are : (sel : Selection) (s : Scenario) (es : List Entry) (text : List ℕ)
+    → AreLinesOf (trace_json s sel es) text → text ≡ shown_as true s sel es
+lines_are sel s es text are = are.text_is
 
 pub unselected : (sel : Selection) (s : Scenario) (es : List Entry) (f : SelectionFault) → IsRun s es
     → IsSelectionFault s sel es f → IsShowFault sel (selection_fault f) s es
@@ -60,10 +68,10 @@ pub unshown_memory : (sel : Selection) (s : Scenario) (es : List Entry) (f : Fau
     → IsShowFault sel f s es
 unshown_memory sel s es f same = subst (λ g. IsShowFault sel g s es) (sym same) tt
 
-pub shown_at : (holds : List ℕ → List ℕ → Type 0) (paths : RunPaths) (sel : Selection) (s : Scenario)
+pub shown_at : (holds : List ℕ → List ℕ → Type 0) (paths : RunPaths) (is_json : Bool) (sel : Selection) (s : Scenario)
     (es : List Entry) (answer : Answer) → IsScenarioAt holds paths.image s → IsTraceAt holds paths.trace es
-    → IsShownAs sel answer s es → IsShowDone holds paths sel answer
-shown_at holds paths sel s es answer found read shown =
+    → IsShownAs is_json sel answer s es → IsShowDone holds paths is_json sel answer
+shown_at holds paths is_json sel s es answer found read shown =
     record { scenario = s; found = found; entries = es; read = read; so = shown }
 
 pub unshown_at : (holds : List ℕ → List ℕ → Type 0) (fails : List ℕ → Type 0) (paths : RunPaths) (sel : Selection)

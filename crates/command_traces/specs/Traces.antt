@@ -1,14 +1,15 @@
 -- What the program answers to its words about the trace of a run: `show` and `pcap`.
-use Rattle.std.specs.Prelude.{⊤, ℕ, ◌≡◌, ◌⊎◌, IsTrue, List, [], ◌∷◌, ◌++◌, length, codes}
+use Rattle.std.specs.Prelude.{⊤, ℕ, ◌≡◌, ◌⊎◌, Bool, true, false, IsTrue, List, [], ◌∷◌, ◌++◌, length, codes}
 use Rattle.std.specs.Fmt.{decimal}
 use Rattle.std.specs.String.{string_bytes}
 use Rattle.scenario_image.specs.Scenario.{Scenario}
 use Rattle.trace_file.specs.declared.entry.Entry.{Entry}
 use Rattle.fleet_core.specs.Run.{IsRun}
 use Rattle.trace_text.specs.declared.selection.Selection.{Selection}
-use Rattle.trace_text.specs.declared.selection.SelectionFault.{SelectionFault}
 use Rattle.trace_text.specs.declared.selection.SelectionFault.TheVariants as selection
 use Rattle.trace_text.specs.Selection.{IsSelectable, IsSelectionFault, selected_text}
+use Rattle.trace_json.specs.Entries.{trace_json}
+use Rattle.trace_json.specs.Lines.{json_lines}
 use Rattle.trace_pcap.specs.declared.fault.PcapFault.{PcapFault}
 use Rattle.trace_pcap.specs.declared.fault.PcapFault.TheVariants as pcap
 use Rattle.trace_pcap.specs.Packets.{has_long, trace_packets}
@@ -37,21 +38,27 @@ pub record IsNoRun (s : Scenario) (es : List Entry) (answer : Answer) : Type 0 w
   pub no_run : answer.status ≡ NotRun
   pub made_is : files_of answer.file ≡ []
 
--- ---- `show IMAGE TRACE [--device N] [--from N] [--to N]`
+-- ---- `show IMAGE TRACE [--device N] [--from N] [--to N] [--json]`
 
--- the entries are a run, and the text of those that are asked for is printed
-pub record IsRunShown (sel : Selection) (s : Scenario) (es : List Entry) (answer : Answer) : Type 0 where
+-- the text of the entries that are asked for; with `--json` an object for each of them, in a line of its own
+abbrev pub shown_as : Bool → Scenario → Selection → List Entry → List ℕ
+shown_as false s sel es = selected_text s sel es
+shown_as true s sel es = json_lines (trace_json s sel es)
+
+-- the entries are a run, and those that are asked for are printed
+pub record IsRunShown (is_json : Bool) (sel : Selection) (s : Scenario) (es : List Entry) (answer : Answer)
+    : Type 0 where
   pub run : IsRun s es
   pub selectable : IsSelectable s sel es
-  pub text_is : string_bytes answer.text ≡ selected_text s sel es
+  pub text_is : string_bytes answer.text ≡ shown_as is_json s sel es
   pub status_is : answer.status ≡ Done
   pub made_is : files_of answer.file ≡ []
 
-abbrev pub IsShownAs : Selection → Answer → Scenario → List Entry → Type 0
-IsShownAs sel answer s es = IsNoRun s es answer ⊎ IsRunShown sel s es answer
+abbrev pub IsShownAs : Bool → Selection → Answer → Scenario → List Entry → Type 0
+IsShownAs is_json sel answer s es = IsNoRun s es answer ⊎ IsRunShown is_json sel s es answer
 
-abbrev pub IsShowDone : (List ℕ → List ℕ → Type 0) → RunPaths → Selection → Answer → Type 0
-IsShowDone holds paths sel answer = IsOverTrace holds paths (IsShownAs sel answer)
+abbrev pub IsShowDone : (List ℕ → List ℕ → Type 0) → RunPaths → Bool → Selection → Answer → Type 0
+IsShowDone holds paths is_json sel answer = IsOverTrace holds paths (IsShownAs is_json sel answer)
 
 -- the entries are a run, and the scenario has no such device, or the run no entry of the first number, or the numbers
 -- are not in order, the first of these; or no memory was left
@@ -66,13 +73,6 @@ IsShowFault sel _ s es = ⊥
 abbrev pub IsShowRefused : (List ℕ → List ℕ → Type 0) → (List ℕ → Type 0) → RunPaths → Selection → Fault → Type 0
 IsShowRefused holds fails paths sel fault =
     IsCheckRefused holds fails paths fault ⊎ IsOverTrace holds paths (IsShowFault sel fault)
-
--- the fault of entries that a trace does not have: a lack of memory is not the trace's fault
-abbrev pub selection_fault : SelectionFault → Fault
-selection_fault selection.NoDevice = faults.NoDevice
-selection_fault selection.PastEnd = faults.PastEnd
-selection_fault selection.Range = faults.Range
-selection_fault selection.Memory = faults.Memory
 
 -- ---- `pcap IMAGE TRACE OUT`
 

@@ -1,18 +1,21 @@
 //! What the program answers to its words about the trace of a run: `show` and `pcap`. Where the trace is not a run, the
 //! answer is that of `check`.
-ghost use Rattle.std.specs.Prelude.{◌≡◌, IfErr, IfNone, IfOk, IfSome};
+ghost use Rattle.std.specs.Prelude.{◌≡◌, IfErr, IfNone, IfOk, IfSome, OnOk};
 ghost use Rattle.std.specs.String.{string_bytes};
 ghost use Rattle.fleet_core.specs.Run.{IsRun};
+ghost use Rattle.trace_text.specs.Selection.{IsSelectable, IsSelectionFault};
 ghost use Rattle.command_traces.specs.Traces.{IsCapturedAs, IsNoRun, IsPcapDone, IsPcapFault, IsPcapRefused};
 ghost use Rattle.command_traces.specs.Traces.{IsRunCaptured, IsRunShown, IsShowDone, IsShowFault, IsShowRefused};
-ghost use Rattle.command_traces.specs.Traces.{IsShownAs, packets_line, pcap_fault, selection_fault};
+ghost use Rattle.command_traces.specs.Traces.{IsShownAs, packets_line, pcap_fault, shown_as};
 
 use command_files::files::Files;
 use command_files::{Answer, Fault, NewFile, Refusal, Status, load_scenario, load_trace, no_run};
+use command_texts::selection_fault;
 use fleet_core::{Verdict, check};
 use scenario_image::Scenario;
 use std::alloc::{AllocError, Global};
 use trace_file::Entry;
+use trace_json::selected_lines;
 use trace_pcap::{PcapFault, packet_count, trace_pcap};
 use trace_text::{Selection, SelectionFault, selected_text};
 
@@ -32,23 +35,25 @@ fn answer_no_run<'a>(
     }
 }
 
-/// `show IMAGE TRACE [--device N] [--from N] [--to N]`: the text of those entries of a run that are asked for.
+/// `show IMAGE TRACE [--device N] [--from N] [--to N] [--json]`: those entries of a run that are asked for, as text or
+/// as JSON Lines.
 #[tactic(auto, using(crate::proofs::Traced::shown_at, crate::proofs::Traced::unshown_at, crate::proofs::Traced::unshown_image, crate::proofs::Traced::unshown_trace))]
 pub fn show<'a, F: Files>(
     alloc: Global,
     image: &'a str,
     trace: &'a str,
+    is_json: bool,
     selection: Selection,
     files: &F,
 ) -> Result<Answer<'a>, Refusal<'a>>
     ensures done { IfOk result (IsShowDone (F.holds files.now)
-        (record { image = image.entry.now; trace = trace.entry.now }) selection) }
+        (record { image = image.entry.now; trace = trace.entry.now }) is_json selection) }
     ensures refused { IfErr result (λ r. IsShowRefused (F.holds files.now) (F.fails files.now)
         (record { image = image.entry.now; trace = trace.entry.now }) selection r.fault) }
 {
     let scenario = load_scenario(alloc, image, files)?;
     let entries = load_trace(alloc, trace, files)?;
-    Ok(show_trace(alloc, &scenario, entries.as_slice(), selection)?)
+    Ok(show_trace(alloc, &scenario, entries.as_slice(), is_json, selection)?)
 }
 
 #[tactic(auto, using(crate::proofs::Traced::unshown_run, crate::proofs::Traced::shown_run, crate::proofs::Traced::unshown_memory))]
@@ -56,14 +61,15 @@ fn show_trace<'a>(
     alloc: Global,
     scenario: &Scenario,
     entries: &[Entry],
+    is_json: bool,
     selection: Selection,
 ) -> Result<Answer<'a>, Fault>
-    ensures done { IfOk result (λ a. IsShownAs selection a scenario.now entries.now) }
+    ensures done { IfOk result (λ a. IsShownAs is_json selection a scenario.now entries.now) }
     ensures refused { IfErr result (λ f. IsShowFault selection f scenario.now entries.now) }
 {
     match answer_no_run(alloc, scenario, entries)? {
         Some(answer) => Ok(answer),
-        None => show_run(alloc, scenario, entries, selection),
+        None => show_run(alloc, scenario, entries, is_json, selection),
     }
 }
 
@@ -72,27 +78,36 @@ fn show_run<'a>(
     alloc: Global,
     scenario: &Scenario,
     entries: &[Entry],
+    is_json: bool,
     selection: Selection,
 ) -> Result<Answer<'a>, Fault>
     requires { IsRun scenario.now entries.now }
-    ensures done { IfOk result (IsRunShown selection scenario.now entries.now) }
+    ensures done { IfOk result (IsRunShown is_json selection scenario.now entries.now) }
     ensures refused { IfErr result (λ f. IsShowFault selection f scenario.now entries.now) }
 {
-    match selected_text(alloc, scenario, entries, selection) {
+    match shown(alloc, scenario, entries, is_json, selection) {
         Ok(text) => Ok(Answer::printed(Status::Done, text)),
-        Err(fault) => Err(unselected(fault)),
+        Err(fault) => Err(selection_fault(fault)),
     }
 }
 
-/// The fault of entries that a trace does not have.
-fn unselected(fault: SelectionFault) -> Fault
-    ensures { result ≡ selection_fault fault }
+/// The entries that are asked for, as text or as JSON Lines.
+#[tactic(auto, using(crate::proofs::Traced::lines_are))]
+fn shown(
+    alloc: Global,
+    scenario: &Scenario,
+    entries: &[Entry],
+    is_json: bool,
+    selection: Selection,
+) -> Result<String, SelectionFault>
+    ensures selectable { OnOk result (IsSelectable scenario.now selection entries.now) }
+    ensures text { IfOk result (λ t. string_bytes t ≡ shown_as is_json scenario.now selection entries.now) }
+    ensures refused { IfErr result (IsSelectionFault scenario.now selection entries.now) }
 {
-    match fault {
-        SelectionFault::NoDevice => Fault::NoDevice,
-        SelectionFault::PastEnd => Fault::PastEnd,
-        SelectionFault::Range => Fault::Range,
-        SelectionFault::Memory => Fault::Memory,
+    if is_json {
+        selected_lines(alloc, scenario, entries, selection)
+    } else {
+        selected_text(alloc, scenario, entries, selection)
     }
 }
 

@@ -1,6 +1,7 @@
+use Rattle.std.proofs.Common.{option_map}
 use Rattle.std.proofs.lemmas.Result.{err_from_is_err_and}
-use Rattle.command_test.specs.Reading.{IsFirstRefused}
-use Rattle.command_test.proofs.Files.{first_refused, one_more, paths_in, unheld}
+use Rattle.command_test.specs.Reading.{IsRefusalOf}
+use Rattle.command_test.proofs.Files.{one_more, paths_in, refused_at, unheld}
 use Rattle.command_test.proofs.reading.read_files.Goals as goal
 
 pub loop-path-preserved : goal.loop-path-preserved
@@ -11,17 +12,18 @@ loop-path-preserved g c =
 
 pub returns-in_err-file-clause-refused : goal.returns-in_err-file-clause-refused
 returns-in_err-file-clause-refused g c =
-    let first : IsFirstRefused (g.F.Files.holds c.args.files.now) (g.F.Files.fails c.args.files.now)
-    (paths_in c.args.paths.now) c.in_err-file.field-0.0.fault =
-    first_refused (g.F.Files.holds c.args.files.now) (g.F.Files.fails c.args.files.now) c.args.paths.now
-    c.loop-path.path-index _ c.loop-path.all.items c.in_err-file.field-0.0.fault c.loop-path.invariant
-    c.loop-path-test.true c.in_err-file.ensures.refused in
+    let refused : IsRefusalOf (g.F.Files.holds c.args.files.now) (g.F.Files.fails c.args.files.now)
+    (paths_in c.args.paths.now) (option_map (λ p. p.now) c.in_err-file.field-0.0.about)
+    c.in_err-file.field-0.0.fault =
+    refused_at (g.F.Files.holds c.args.files.now) (g.F.Files.fails c.args.files.now) c.args.paths.now
+    c.loop-path.path-index _ c.loop-path.all.items _ c.in_err-file.field-0.0.fault c.loop-path.invariant
+    c.loop-path-test.true c.in_err-file.ensures.names_path c.in_err-file.ensures.refused in
     let p = err_from_is_err_and c.from_residual.result c.from_residual.ensures.1 in
-    rw (p.1, p.2) first
+    rw (p.1, p.2) refused
 
 pub returns-in_err-add-clause-refused : goal.returns-in_err-add-clause-refused
 returns-in_err-add-clause-refused g c =
     let p = err_from_is_err_and c.from_residual-in_err-add.result c.from_residual-in_err-add.ensures.1 in
     rw (p.1)
     (unheld (g.F.Files.holds c.args.files.now) (g.F.Files.fails c.args.files.now) c.args.paths.now
-    c.loop-path.path-index _ c.loop-path.all.items p.0.fault c.loop-path.invariant c.loop-path-test.true p.2)
+    (option_map (λ p. p.now) p.0.about) p.0.fault p.2)

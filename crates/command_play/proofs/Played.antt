@@ -1,0 +1,103 @@
+-- What `play` came to, put together from its parts.
+use Rattle.std.proofs.Common.{ℕ, ◌≡◌, ◌⊎◌, Bool, true, false, List, [], ◌++◌, length, inl, inr, subst, sym}
+use Rattle.std.specs.Prelude.{MatchBool}
+use Rattle.std.specs.String.{string_bytes}
+use Rattle.scenario_image.specs.Scenario.{Scenario}
+use Rattle.scenario_image.specs.Image.{IsImage}
+use Rattle.scenario_asm.specs.Denotes.{Denotes}
+use Rattle.trace_file.specs.declared.entry.Entry.{Entry}
+use Rattle.fleet_core.specs.Run.{IsSerial}
+use Rattle.fleet_core.specs.Waiting.{waiting}
+use Rattle.trace_text.specs.declared.selection.Selection.{Selection}
+use Rattle.trace_text.specs.declared.selection.SelectionFault.{SelectionFault}
+use Rattle.trace_text.specs.declared.selection.SelectionFault.TheVariants as selection
+use Rattle.trace_text.specs.Selection.{IsSelectable, IsSelectionFault, selected_text}
+use Rattle.command_files.specs.Answers.{files_of}
+use Rattle.command_files.specs.Fault.{IsReadingFault}
+use Rattle.command_files.specs.Loading.{IsHeld, IsNoImage}
+use Rattle.command_files.specs.declared.answer.Answer.{Answer}
+use Rattle.command_files.specs.declared.fault.Fault.{Fault}
+use Rattle.command_files.specs.declared.fault.Fault.TheVariants.{Memory}
+use Rattle.command_files.specs.declared.status.Status.TheVariants.{Done}
+use Rattle.command_texts.specs.Endings.{end_line}
+use Rattle.command_texts.specs.Selections.{selection_fault}
+use Rattle.command_texts.specs.Texts.{IsNoText}
+use Rattle.command_play.specs.Play.{IsNoScenario, IsPlayDone, IsPlayFault, IsPlayed, IsScenarioOf}
+use Rattle.command_play.specs.Play.{IsUnplayed, is_marked}
+
+-- ---- the scenario of a file
+
+of_true : (b : Bool) (P Q : Type 0) → b ≡ true → P → MatchBool b P Q
+of_true true P Q same h = h
+of_true false P Q same h = cc
+
+of_false : (b : Bool) (P Q : Type 0) → b ≡ false → Q → MatchBool b P Q
+of_false true P Q same h = cc
+of_false false P Q same h = h
+
+pub of_image : (bytes : List ℕ) (s : Scenario) → is_marked bytes ≡ true → IsImage bytes s → IsScenarioOf bytes s
+of_image bytes s marked h = of_true (is_marked bytes) (IsImage bytes s) (Denotes bytes s) marked h
+
+pub of_text : (bytes : List ℕ) (s : Scenario) → is_marked bytes ≡ false → Denotes bytes s → IsScenarioOf bytes s
+of_text bytes s plain h = of_false (is_marked bytes) (IsImage bytes s) (Denotes bytes s) plain h
+
+pub no_image : (bytes : List ℕ) (f : Fault) → is_marked bytes ≡ true → IsNoImage bytes f → IsNoScenario bytes f
+no_image bytes f marked h = of_true (is_marked bytes) (IsNoImage bytes f) (IsNoText bytes f) marked h
+
+pub no_text : (bytes : List ℕ) (f : Fault) → is_marked bytes ≡ false → IsNoText bytes f → IsNoScenario bytes f
+no_text bytes f plain h = of_false (is_marked bytes) (IsNoImage bytes f) (IsNoText bytes f) plain h
+
+pub held : (holds : List ℕ → List ℕ → Type 0) (path bytes : List ℕ) (s : Scenario) → holds path bytes
+    → IsScenarioOf bytes s → IsHeld holds path (λ bytes. IsScenarioOf bytes s)
+held holds path bytes s there h = record { bytes = bytes; held = there; so = h }
+
+pub unread : (holds : List ℕ → List ℕ → Type 0) (fails : List ℕ → Type 0) (path : List ℕ) (f : Fault)
+    → IsReadingFault (fails path) f → IsReadingFault (fails path) f ⊎ IsHeld holds path (λ bytes. IsNoScenario bytes f)
+unread holds fails path f h = inl h
+
+pub no_scenario : (holds : List ℕ → List ℕ → Type 0) (fails : List ℕ → Type 0) (path bytes : List ℕ) (f : Fault)
+    → holds path bytes → IsNoScenario bytes f
+    → IsReadingFault (fails path) f ⊎ IsHeld holds path (λ bytes. IsNoScenario bytes f)
+no_scenario holds fails path bytes f there h = inr (record { bytes = bytes; held = there; so = h })
+
+-- ---- its serial run
+
+pub unselected : (sel : Selection) (s : Scenario) (es : List Entry) (f : SelectionFault) → IsSerial s es
+    → IsSelectionFault s sel es f → IsUnplayed sel s (selection_fault f)
+unselected sel s es selection.NoDevice serial h = record { entries = es; serial = serial; so = h }
+unselected sel s es selection.PastEnd serial h = record { entries = es; serial = serial; so = h }
+unselected sel s es selection.Range serial h = record { entries = es; serial = serial; so = h }
+unselected sel s es selection.Memory serial h = tt
+
+pub no_memory : (sel : Selection) (s : Scenario) (f : Fault) → f ≡ Memory → IsUnplayed sel s f
+no_memory sel s f same = subst (λ g. IsUnplayed sel s g) (sym same) tt
+
+pub played : (sel : Selection) (s : Scenario) (es : List Entry) (answer : Answer) → IsSerial s es
+    → IsSelectable s sel es
+    → string_bytes answer.text ≡ selected_text s sel es ++ end_line (length es) (waiting s es)
+    → answer.status ≡ Done → files_of answer.file ≡ [] → IsPlayed sel s answer
+played sel s es answer serial selectable said ended none = record {
+  entries = es;
+  serial = serial;
+  selectable = selectable;
+  text_is = said;
+  status_is = ended;
+  made_is = none;
+}
+
+-- ---- the command
+
+pub played_at : (holds : List ℕ → List ℕ → Type 0) (path : List ℕ) (sel : Selection) (s : Scenario) (answer : Answer)
+    → IsHeld holds path (λ bytes. IsScenarioOf bytes s) → IsPlayed sel s answer → IsPlayDone holds path sel answer
+played_at holds path sel s answer found h = record { scenario = s; found = found; so = h }
+
+pub refused_file : (holds : List ℕ → List ℕ → Type 0) (fails : List ℕ → Type 0) (path : List ℕ) (sel : Selection)
+    (f : Fault) → IsReadingFault (fails path) f ⊎ IsHeld holds path (λ bytes. IsNoScenario bytes f)
+    → IsPlayFault holds fails path sel f
+refused_file holds fails path sel f (inl h) = inl h
+refused_file holds fails path sel f (inr h) = inr (inl h)
+
+pub unplayed_at : (holds : List ℕ → List ℕ → Type 0) (fails : List ℕ → Type 0) (path : List ℕ) (sel : Selection)
+    (s : Scenario) (f : Fault) → IsHeld holds path (λ bytes. IsScenarioOf bytes s) → IsUnplayed sel s f
+    → IsPlayFault holds fails path sel f
+unplayed_at holds fails path sel s f found h = inr (inr (record { scenario = s; found = found; so = h }))

@@ -1,0 +1,80 @@
+-- What `play FILE [--device N] [--from N] [--to N]` comes to.
+use Rattle.std.specs.Prelude.{⊤, ℕ, ◌≡◌, ◌⊎◌, nat_eq, Bool, MatchBool, List, [], ◌++◌, length, codes}
+use Rattle.std.specs.List.{starts_with}
+use Rattle.std.specs.String.{string_bytes}
+use Rattle.scenario_image.specs.Scenario.{Scenario}
+use Rattle.scenario_image.specs.Image.{IsImage}
+use Rattle.scenario_asm.specs.Denotes.{Denotes}
+use Rattle.trace_file.specs.declared.entry.Entry.{Entry}
+use Rattle.fleet_core.specs.Run.{IsSerial}
+use Rattle.fleet_core.specs.Waiting.{waiting}
+use Rattle.trace_text.specs.declared.selection.Selection.{Selection}
+use Rattle.trace_text.specs.declared.selection.SelectionFault.TheVariants as selection
+use Rattle.trace_text.specs.Selection.{IsSelectable, IsSelectionFault, selected_text}
+use Rattle.command_files.specs.Answers.{files_of}
+use Rattle.command_files.specs.Fault.{IsReadingFault}
+use Rattle.command_files.specs.Loading.{IsHeld, IsNoImage}
+use Rattle.command_files.specs.declared.answer.Answer.{Answer}
+use Rattle.command_files.specs.declared.fault.Fault.{Fault}
+use Rattle.command_files.specs.declared.fault.Fault.TheVariants as faults
+use Rattle.command_files.specs.declared.status.Status.TheVariants.{Done}
+use Rattle.command_texts.specs.Endings.{end_line}
+use Rattle.command_texts.specs.Texts.{IsNoText}
+
+-- ---- the scenario of a file
+
+-- bytes begin with the mark of an image, which begins no word of a scenario's text
+abbrev pub is_marked : List ℕ → Bool
+is_marked bytes = starts_with nat_eq bytes (codes "LWSC")
+
+-- the bytes are the scenario's image, in either version, or a text that denotes it
+abbrev pub IsScenarioOf : List ℕ → Scenario → Type 0
+IsScenarioOf bytes s = MatchBool (is_marked bytes) (IsImage bytes s) (Denotes bytes s)
+
+-- why bytes are neither: bytes with the mark are not an image, others are not a text
+abbrev pub IsNoScenario : List ℕ → Fault → Type 0
+IsNoScenario bytes fault = MatchBool (is_marked bytes) (IsNoImage bytes fault) (IsNoText bytes fault)
+
+-- ---- its serial run
+
+-- the text of the entries that are asked for, and then the line of the run's end; no file is made
+pub record IsPlayed (sel : Selection) (s : Scenario) (answer : Answer) : Type 0 where
+  pub entries : List Entry
+  pub serial : IsSerial s entries
+  pub selectable : IsSelectable s sel entries
+  pub text_is :
+      string_bytes answer.text ≡ selected_text s sel entries ++ end_line (length entries) (waiting s entries)
+  pub status_is : answer.status ≡ Done
+  pub made_is : files_of answer.file ≡ []
+
+-- this holds of the entries of the serial run
+pub record IsOverRun (s : Scenario) (over : List Entry → Type 0) : Type 0 where
+  pub entries : List Entry
+  pub serial : IsSerial s entries
+  pub so : over entries
+
+-- the scenario has no such device, or its serial run no entry of the first number, or the numbers are not in order, the
+-- first of these; or no memory was left
+abbrev pub IsUnplayed : Selection → Scenario → Fault → Type 0
+IsUnplayed sel s faults.NoDevice = IsOverRun s (λ es. IsSelectionFault s sel es selection.NoDevice)
+IsUnplayed sel s faults.PastEnd = IsOverRun s (λ es. IsSelectionFault s sel es selection.PastEnd)
+IsUnplayed sel s faults.Range = IsOverRun s (λ es. IsSelectionFault s sel es selection.Range)
+IsUnplayed sel s faults.Memory = ⊤
+IsUnplayed sel s _ = ⊥
+
+-- ---- the command
+
+-- the file at the path is a scenario, of which this holds
+pub record IsOverScenario (holds : List ℕ → List ℕ → Type 0) (path : List ℕ) (over : Scenario → Type 0) : Type 0 where
+  pub scenario : Scenario
+  pub found : IsHeld holds path (λ bytes. IsScenarioOf bytes scenario)
+  pub so : over scenario
+
+abbrev pub IsPlayDone : (List ℕ → List ℕ → Type 0) → List ℕ → Selection → Answer → Type 0
+IsPlayDone holds path sel answer = IsOverScenario holds path (λ s. IsPlayed sel s answer)
+
+-- the file could not be read, or is not a scenario; then it is what is asked for that is to blame
+abbrev pub IsPlayFault : (List ℕ → List ℕ → Type 0) → (List ℕ → Type 0) → List ℕ → Selection → Fault → Type 0
+IsPlayFault holds fails path sel fault =
+    IsReadingFault (fails path) fault ⊎ (IsHeld holds path (λ bytes. IsNoScenario bytes fault)
+    ⊎ IsOverScenario holds path (λ s. IsUnplayed sel s fault))

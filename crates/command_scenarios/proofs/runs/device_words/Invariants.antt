@@ -1,8 +1,0 @@
-use Rattle.std.proofs.Common.{◌≡◌, take}
-use Rattle.std.specs.List.{flat_map}
-use Rattle.std.specs.String.{string_bytes}
-use Rattle.command_scenarios.specs.Runs.{device_word}
-use Rattle.command_scenarios.proofs.runs.device_words.Given as goal
-
-abbrev pub invariant-loop-device : goal.invariant-loop-device
-invariant-loop-device l = string_bytes l.text ≡ flat_map device_word (take l.device-index l.devices)

@@ -1,0 +1,26 @@
+-- When a file is the text of a scenario, and why it is not.
+use Rattle.std.specs.Prelude.{⊤, ℕ, ◌≡◌, ◌⊎◌, List, Err}
+use Rattle.std.specs.Str.{IsUtf8}
+use Rattle.scenario_image.specs.Scenario.{Scenario}
+use Rattle.scenario_asm.specs.Denotes.{Denotes}
+use Rattle.scenario_asm.specs.Text.{assembled}
+use Rattle.command_files.specs.Fault.{IsReadingFault}
+use Rattle.command_files.specs.Loading.{IsHeld}
+use Rattle.command_files.specs.declared.fault.Fault.{Fault}
+use Rattle.command_files.specs.declared.fault.Fault.TheVariants.{Memory, Read, Text}
+
+-- why bytes are not the text of a scenario: they are no UTF-8, or a line is the first that is refused, for its cause
+abbrev pub IsNoText : List ℕ → Fault → Type 0
+IsNoText bytes Memory = ⊤
+IsNoText bytes Read = IsUtf8 bytes → ⊥
+IsNoText bytes (Text fault) = assembled bytes ≡ Err fault
+IsNoText bytes _ = ⊥
+
+-- the file at the path is a text that denotes this scenario
+abbrev pub IsTextAt : (List ℕ → List ℕ → Type 0) → List ℕ → Scenario → Type 0
+IsTextAt holds path s = IsHeld holds path (λ bytes. Denotes bytes s)
+
+-- the file at the path could not be read, or it is not the text of a scenario
+abbrev pub IsTextFault : (List ℕ → List ℕ → Type 0) → (List ℕ → Type 0) → List ℕ → Fault → Type 0
+IsTextFault holds fails path fault =
+    IsReadingFault (fails path) fault ⊎ IsHeld holds path (λ bytes. IsNoText bytes fault)

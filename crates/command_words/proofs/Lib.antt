@@ -1,0 +1,10 @@
+pub mod Again
+pub mod Heard
+pub mod Joined
+pub mod Logged
+pub mod Reading
+pub mod Requests
+pub mod Said
+pub mod Sayings
+pub mod Spelled
+pub mod Taken

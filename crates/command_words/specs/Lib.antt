@@ -1,0 +1,7 @@
+pub mod Acks
+pub mod Again
+pub mod Inputs
+pub mod Inside
+pub mod Logs
+pub mod Saying
+pub mod Spelling

@@ -1,0 +1,95 @@
+//! The datagram that the words of a line denote.
+ghost use Rattle.std.specs.Prelude.{◌≡◌};
+ghost use Rattle.scenario_words.specs.Reading.{Gives};
+ghost use Rattle.scenario_words.specs.Words.{words};
+ghost use Rattle.command_words.specs.Spelling.{ack, arrival_of, denoted, stated, within_limits};
+
+use crate::acks::ack_bytes;
+use octets::Bytes;
+use scenario_mnemonics::encode;
+use scenario_statements::{Statement, read_statement};
+use scenario_words::{Cause, end, is_name, natural, next_word};
+use std::alloc::Global;
+
+/// The most bytes of a datagram that a step of a scenario may have.
+const MOST_BYTES: usize = 1_500;
+
+/// A datagram, and the server that sends it.
+#[derive(Drop)]
+pub(crate) struct Arrival {
+    /// The Short Server ID of the server.
+    pub server: u16,
+    /// The bytes of the datagram.
+    pub bytes: Bytes,
+}
+
+/// The datagram, where a step of a scenario may have it.
+fn within_limits(arrival: Arrival) -> Result<Option<Arrival>, Cause>
+    ensures { result ≡ within_limits arrival }
+{
+    if arrival.bytes.len() <= MOST_BYTES {
+        Ok(Some(arrival))
+    } else {
+        Err(Cause::Limit)
+    }
+}
+
+/// The datagram that a statement denotes, if it denotes one.
+fn denoted(alloc: Global, statement: Statement) -> Result<Option<Arrival>, Cause>
+    ensures { Gives (λ a. a) result (denoted statement) }
+{
+    match statement {
+        Statement::Recv { server, bytes } => within_limits(Arrival { server, bytes }),
+        Statement::Request { server, mnemonic } => {
+            if !mnemonic.fits() {
+                return Err(Cause::Range);
+            }
+            let bytes = encode(alloc, &mnemonic)?;
+            within_limits(Arrival { server, bytes })
+        }
+        _ => Ok(None),
+    }
+}
+
+/// The datagram of the statement of a line.
+fn stated(alloc: Global, line: &[u8]) -> Result<Option<Arrival>, Cause>
+    ensures { Gives (λ a. a) result (stated (words line.now)) }
+{
+    match read_statement(alloc, line)? {
+        Some(statement) => denoted(alloc, statement),
+        None => Err(Cause::Missing),
+    }
+}
+
+/// The datagram of the words after `ack`.
+fn ack(alloc: Global, line: &[u8]) -> Result<Option<Arrival>, Cause>
+    ensures { Gives (λ a. a) result (ack (words line.now)) }
+{
+    let (server, line) = natural(line, 1, 65534)?;
+    let (mid, line) = natural(line, 0, 65535)?;
+    end(line)?;
+    let bytes = ack_bytes(alloc, mid as u16)?;
+    Ok(Some(Arrival {
+        server: server as u16,
+        bytes,
+    }))
+}
+
+/// The datagram that the words of a line denote, if they denote one. The line is refused as a text of scenarios is.
+pub(crate) fn arrival_of(alloc: Global, line: &[u8]) -> Result<Option<Arrival>, Cause>
+    ensures { Gives (λ a. a) result (arrival_of (words line.now)) }
+{
+    match next_word(line) {
+        None => Err(Cause::Missing),
+        Some((word, behind)) if is_name(word, "ack") => ack(alloc, behind),
+        Some(_) => stated(alloc, line),
+    }
+}
+
+/// Why the words of a line are refused, whatever they denote; none where they are not.
+pub(crate) fn words_cause(alloc: Global, line: &[u8]) -> Option<Cause> {
+    match next_word(line) {
+        Some((word, behind)) if is_name(word, "ack") => ack(alloc, behind).err(),
+        _ => read_statement(alloc, line).err(),
+    }
+}
