@@ -1,4 +1,5 @@
 mod Codes
+mod Exceeding
 mod Grants
 mod Lines
 mod Paths

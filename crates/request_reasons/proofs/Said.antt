@@ -1,15 +1,16 @@
 -- What a request has of the options of its message.
-use Rattle.std.proofs.Common.{◌≡◌, true, List, None, Some, Ok, sym}
+use Rattle.std.proofs.Common.{◌≡◌, ℕ, ◌∙◌, true, List, Option, None, Some, Ok, refl, sym}
 use Rattle.std.proofs.Common.{ap, ◌⊎◌, inl, inr}
 use Rattle.coap_codec.specs.Message.{Message}
 use Rattle.object_defs.specs.declared.definition.ObjectDef.{ObjectDef}
 use Rattle.object_defs.specs.declared.path.Path.{Path}
+use Rattle.lwm2m_payloads.specs.declared.given.Mode.TheVariants.{Replace, Update}
 use Rattle.device_requests.specs.declared.operation.Operation.{Operation}
 use Rattle.device_requests.specs.declared.operation.Operation.TheVariants.{Read, WriteReplace, WritePartial, Create}
 use Rattle.device_requests.specs.declared.operation.Operation.TheVariants.{Execute}
 use Rattle.device_requests.specs.declared.request.Request.{Request}
 use Rattle.device_requests.specs.Options.{accept_of, content_format_of}
-use Rattle.device_requests.specs.Refusals.{Purpose, lacks_format, to_create, to_execute}
+use Rattle.device_requests.specs.Refusals.{Purpose, lacks_format, to_delete, to_create, to_execute}
 use Rattle.device_requests.specs.Refusals.{to_read, to_write}
 use Rattle.device_requests.specs.Request.{purpose_of, request_of}
 use Rattle.device_requests.proofs.Reading.{said}
@@ -47,3 +48,36 @@ given_named m operation (inl h) = ap (λ o. format_named (purpose_of m o)) (sym 
 given_named m operation (inr (inl h)) = ap (λ o. format_named (purpose_of m o)) (sym h)
 given_named m operation (inr (inr (inl h))) = ap (λ o. format_named (purpose_of m o)) (sym h)
 given_named m operation (inr (inr (inr h))) = ap (λ o. format_named (purpose_of m o)) (sym h)
+
+-- the purpose of a request that gives something, by what it has of its message
+abbrev pub giving : Operation → Option ℕ → List ℕ → Purpose
+giving WriteReplace format payload = to_write Replace format payload
+giving WritePartial format payload = to_write Update format payload
+giving Create format payload = to_create format payload
+giving Execute format payload = to_execute format payload
+giving operation format payload = to_delete
+
+purpose_given : (m : Message) (r : Request) (operation : Operation) (payload : List ℕ) → request_of m ≡ Ok r
+    → payload ≡ m.payload → r.operation ≡ operation
+    → purpose_of m operation ≡ giving operation (content_format_of m.options) m.payload
+    → purpose_of m r.operation ≡ giving operation r.content_format payload
+purpose_given m r operation payload e h is same =
+    ap (purpose_of m) is ∙ same
+    ∙ ap (λ format. giving operation format m.payload) (sym (content_format_said m r e))
+    ∙ ap (giving operation r.content_format) (sym h)
+
+pub replacing : (m : Message) (r : Request) (payload : List ℕ) → request_of m ≡ Ok r → payload ≡ m.payload
+    → r.operation ≡ WriteReplace → purpose_of m r.operation ≡ to_write Replace r.content_format payload
+replacing m r payload e h is = purpose_given m r WriteReplace payload e h is refl
+
+pub updating : (m : Message) (r : Request) (payload : List ℕ) → request_of m ≡ Ok r → payload ≡ m.payload
+    → r.operation ≡ WritePartial → purpose_of m r.operation ≡ to_write Update r.content_format payload
+updating m r payload e h is = purpose_given m r WritePartial payload e h is refl
+
+pub creating : (m : Message) (r : Request) (payload : List ℕ) → request_of m ≡ Ok r → payload ≡ m.payload
+    → r.operation ≡ Create → purpose_of m r.operation ≡ to_create r.content_format payload
+creating m r payload e h is = purpose_given m r Create payload e h is refl
+
+pub executing : (m : Message) (r : Request) (payload : List ℕ) → request_of m ≡ Ok r → payload ≡ m.payload
+    → r.operation ≡ Execute → purpose_of m r.operation ≡ to_execute r.content_format payload
+executing m r payload e h is = purpose_given m r Execute payload e h is refl

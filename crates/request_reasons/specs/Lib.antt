@@ -1,5 +1,6 @@
 pub mod Formats
 pub mod Inside
+pub mod Limits
 pub mod Missing
 pub mod Options
 pub mod Reasons

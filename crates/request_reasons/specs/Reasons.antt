@@ -22,6 +22,7 @@ use Rattle.device_requests.specs.Refusals.{Purpose}
 use Rattle.device_requests.specs.Request.{purpose_of}
 use Rattle.device_requests.specs.Targets.{definition_at}
 use Rattle.request_reasons.specs.Formats.{IsUnserved}
+use Rattle.request_reasons.specs.Limits.{IsLimit, firmware_state_in}
 use Rattle.request_reasons.specs.Missing.{missing_lines}
 use Rattle.request_reasons.specs.Options.{IsUnrecognized}
 use Rattle.request_reasons.specs.Rights.{IsDenied, IsDeniedAll}
@@ -41,8 +42,8 @@ line_at (rule.RightOnAll server count instance grant) = 3
 line_at (rule.Operation operations) = 4
 line_at (rule.Format number served) = 5
 line_at rule.Payload = 6
-line_at rule.State = 7
-line_at rule.Limit = 8
+line_at (rule.State state) = 7
+line_at (rule.Limit limit) = 8
 
 abbrev pub line_of : Reason → ℕ
 line_of (Unrecognized number fault) = 0
@@ -71,8 +72,8 @@ code_at operation (rule.RightOnAll server count instance grant) = Unauthorized
 code_at operation (rule.Operation operations) = MethodNotAllowed
 code_at operation (rule.Format number served) = format_code operation
 code_at operation rule.Payload = BadRequest
-code_at operation rule.State = MethodNotAllowed
-code_at operation rule.Limit = InternalServerError
+code_at operation (rule.State state) = MethodNotAllowed
+code_at operation (rule.Limit limit) = InternalServerError
 
 -- the code of what is done
 abbrev pub success_code : Operation → Code
@@ -113,8 +114,8 @@ IsWhy client server path operation purpose (rule.Operation operations) =
 IsWhy client server path operation purpose (rule.Format number served) =
     IsUnserved client.catalog path purpose number served
 IsWhy client server path operation purpose rule.Payload = Unit {0}
-IsWhy client server path operation purpose rule.State = Unit {0}
-IsWhy client server path operation purpose rule.Limit = Unit {0}
+IsWhy client server path operation purpose (rule.State state) = firmware_state_in client.store ≡ state
+IsWhy client server path operation purpose (rule.Limit limit) = IsLimit client server path purpose limit
 
 -- what a reason says of a request is so
 abbrev pub IsTold : Client → ℕ → Message → Reason → Type 0

@@ -2,6 +2,7 @@
 use Rattle.std.specs.Prelude.{ℕ, ◌==◌, Bool, List, [], ◌∷◌, ◌++◌, Option, None, Some, codes, if◌then◌else◌}
 use Rattle.std.specs.Prelude.{true, false, ℤ}
 use Rattle.std.specs.Fmt.{decimal, signed_decimal}
+use Rattle.object_defs.specs.Numbers.{firmware_update_object, package_uri, update_package}
 use Rattle.object_defs.specs.Path.{object_in, path_text}
 use Rattle.object_defs.specs.declared.definition.Ops.{Ops}
 use Rattle.object_defs.specs.declared.definition.Ops.TheVariants as ops
@@ -12,10 +13,15 @@ use Rattle.device_requests.specs.declared.operation.Operation.{Operation}
 use Rattle.device_requests.specs.declared.operation.Operation.TheVariants.{Read, Discover, WriteAttributes}
 use Rattle.device_requests.specs.declared.operation.Operation.TheVariants.{WriteReplace, WritePartial, Create, Execute}
 use Rattle.device_requests.specs.declared.operation.Operation.TheVariants.{Delete}
+use Rattle.device_requests.specs.Targets.{is_resource}
 use Rattle.scenario_words.specs.HexWord.{hex_word}
 use Rattle.message_words.specs.Names.{formats, name_in}
 use Rattle.request_reasons.specs.declared.format.Served.{Served}
 use Rattle.request_reasons.specs.declared.format.Served.TheVariants.{TlvAlone, PlainTextAlone, PlainTextAndTlv, All}
+use Rattle.request_reasons.specs.declared.limit.FirmwareState.{FirmwareState}
+use Rattle.request_reasons.specs.declared.limit.FirmwareState.TheVariants as state
+use Rattle.request_reasons.specs.declared.limit.Limit.{Limit}
+use Rattle.request_reasons.specs.declared.limit.Limit.TheVariants.{Size, Parts, Instances, Controls}
 use Rattle.request_reasons.specs.declared.options.OptionFault.{OptionFault}
 use Rattle.request_reasons.specs.declared.options.OptionFault.TheVariants.{Unknown, Length, Repeated}
 use Rattle.request_reasons.specs.declared.reasons.Reason.{Reason}
@@ -242,6 +248,33 @@ abbrev pub unserved_words : Path → ℕ → Served → List ℕ
 unserved_words path number served =
     format_words number ++ (codes " is not served at " ++ (path_text path ++ (codes ", " ++ served_text served)))
 
+-- ---- rule 12
+
+abbrev pub state_text : FirmwareState → List ℕ
+state_text state.NoInstance = codes "there is no instance /5/0"
+state_text state.NoState = codes "/5/0/3 holds no State"
+state_text state.Idle = codes "/5/0/3 is 0 (Idle)"
+state_text state.Downloading = codes "/5/0/3 is 1 (Downloading)"
+state_text state.Downloaded = codes "/5/0/3 is 2 (Downloaded)"
+state_text state.Updating = codes "/5/0/3 is 3 (Updating)"
+
+-- what a Write or an Execute at a path is for the firmware
+abbrev pub event_text : Path → List ℕ
+event_text path =
+    if is_resource firmware_update_object update_package path then codes "a Package"
+    else (if is_resource firmware_update_object package_uri path then codes "a Package URI" else codes "Update")
+
+abbrev pub state_words : Path → FirmwareState → List ℕ
+state_words path state = state_text state ++ (codes ", where " ++ (event_text path ++ codes " is not taken"))
+
+abbrev pub limit_text : Path → Limit → List ℕ
+limit_text path Size = codes "the payload would have more than 1,024 bytes"
+limit_text path (Parts resource count) =
+    codes "resource " ++ (decimal resource ++ (codes " would have " ++ (decimal count ++ codes " parts, over 32")))
+limit_text path (Instances count) =
+    codes "object " ++ (decimal (object_in path) ++ (codes " has " ++ (decimal count ++ codes " instances already")))
+limit_text path (Controls count) = codes "Access Control has " ++ (decimal count ++ codes " instances already")
+
 -- ---- all rules
 
 abbrev pub rule_number : Rule → ℕ
@@ -252,8 +285,8 @@ rule_number (rule.RightOnAll server count instance grant) = 8
 rule_number (rule.Operation operations) = 9
 rule_number (rule.Format number served) = 10
 rule_number rule.Payload = 11
-rule_number rule.State = 12
-rule_number rule.Limit = 12
+rule_number (rule.State state) = 12
+rule_number (rule.Limit limit) = 12
 
 abbrev pub rule_words : Operation → Path → Rule → List ℕ
 rule_words operation path rule.Security = codes "object 0 is closed to servers"
@@ -265,8 +298,8 @@ rule_words operation path (rule.RightOnAll server count instance grant) =
 rule_words operation path (rule.Operation operations) = operations_text operation path operations
 rule_words operation path (rule.Format number served) = unserved_words path number served
 rule_words operation path rule.Payload = codes "the payload is not valid"
-rule_words operation path rule.State = codes "the firmware does not take it now"
-rule_words operation path rule.Limit = codes "it would be more than the limits allow"
+rule_words operation path (rule.State state) = state_words path state
+rule_words operation path (rule.Limit limit) = limit_text path limit
 
 -- a path, and what it names
 abbrev pub target_text : Path → List ℕ

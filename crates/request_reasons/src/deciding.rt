@@ -12,6 +12,7 @@ ghost use Rattle.request_reasons.specs.Reasons.{IsTold, IsWhy, code_at, code_of,
 ghost use Rattle.request_reasons.specs.Rights.{is_read_of_object};
 
 use crate::format::unserved;
+use crate::limit::{firmware_state_in, limit_of};
 use crate::options::unrecognized;
 use crate::reasons::{Reason, Rule};
 use crate::right::{denied, denied_all};
@@ -151,58 +152,72 @@ fn right_rule(client: &Client, server: u16, message: &Message, request: Request)
 
 /// The rule of a line, with what it read, or none where that is success.
 fn rule_at(
+    alloc: Global,
     client: &Client,
     server: u16,
     message: &Message,
     request: Request,
     ruling: Ruling,
-) -> Option<Rule>
+) -> Result<Option<Rule>, AllocError>
     requires read { request_of message.now ≡ Ok request }
     requires first { position (λ line. line.0) (request_lines client.now server message.now)
         ≡ Some (place_at ruling) }
-    ensures place { line_with result ≡ place_at ruling }
-    ensures code { code_with request.operation result ≡ code_for (purpose_of message.now request.operation) ruling }
-    ensures why { IfSome result (λ rule. IsWhy client.now server request.path request.operation
-        (purpose_of message.now request.operation) rule) }
+    ensures place { IfOk result (λ found. line_with found ≡ place_at ruling) }
+    ensures code { IfOk result (λ found.
+        code_with request.operation found ≡ code_for (purpose_of message.now request.operation) ruling) }
+    ensures why { IfOk result (λ found. IfSome found (λ rule.
+        IsWhy client.now server request.path request.operation (purpose_of message.now request.operation) rule)) }
 {
     match ruling {
-        Ruling::Security => Some(Rule::Security),
-        Ruling::Target => Some(Rule::Target {
+        Ruling::Security => Ok(Some(Rule::Security)),
+        Ruling::Target => Ok(Some(Rule::Target {
             missing: missing_at(client.catalog(), client.store(), request.path),
-        }),
-        Ruling::Right => Some(right_rule(client, server, message, request)),
-        Ruling::Operation => Some(Rule::Operation {
+        })),
+        Ruling::Right => Ok(Some(right_rule(client, server, message, request))),
+        Ruling::Operation => Ok(Some(Rule::Operation {
             operations: operations_at(client.catalog(), request.path),
-        }),
+        })),
         Ruling::Format => {
             let (number, served) = unserved(client.catalog(), message, request);
-            Some(Rule::Format { number, served })
+            Ok(Some(Rule::Format { number, served }))
         }
-        Ruling::Payload => Some(Rule::Payload),
-        Ruling::State => Some(Rule::State),
-        Ruling::Limit => Some(Rule::Limit),
-        Ruling::Success => None,
+        Ruling::Payload => Ok(Some(Rule::Payload)),
+        Ruling::State => Ok(Some(Rule::State {
+            state: firmware_state_in(client.store()),
+        })),
+        Ruling::Limit => Ok(Some(Rule::Limit {
+            limit: limit_of(alloc, client, server, message, request)?,
+        })),
+        Ruling::Success => Ok(None),
     }
 }
 
 /// Why a request for an operation is answered with this code.
-fn asked(client: &Client, server: u16, message: &Message, request: Request, code: Code) -> Reason
+fn asked(
+    alloc: Global,
+    client: &Client,
+    server: u16,
+    message: &Message,
+    request: Request,
+    code: Code,
+) -> Result<Reason, AllocError>
     requires read { request_of message.now ≡ Ok request }
     requires answer { code ≡ (outcome_of client.now server message.now).answer.code }
-    ensures first { position (λ line. line.0) (request_lines client.now server message.now) ≡ Some (line_of result) }
-    ensures code { code_of result ≡ code }
-    ensures told { IsTold client.now server message.now result }
+    ensures first { IfOk result (λ r.
+        position (λ line. line.0) (request_lines client.now server message.now) ≡ Some (line_of r)) }
+    ensures code { IfOk result (λ r. code_of r ≡ code) }
+    ensures told { IfOk result (λ r. IsTold client.now server message.now r) }
 {
     let path = request.path;
     let operation = request.operation;
     let ruling = ruling_of(client, server, message, request, code);
-    match rule_at(client, server, message, request, ruling) {
-        Some(rule) => Reason::Refused {
+    match rule_at(alloc, client, server, message, request, ruling)? {
+        Some(rule) => Ok(Reason::Refused {
             path,
             operation,
             rule,
-        },
-        None => Reason::Done { path, operation },
+        }),
+        None => Ok(Reason::Done { path, operation }),
     }
 }
 
@@ -225,7 +240,7 @@ pub fn reason(
         Err(code) => unread(message, code),
         Ok(request) => {
             let code = answered(client, server, message)?;
-            Ok(asked(client, server, message, request, code))
+            asked(alloc, client, server, message, request, code)
         }
     }
 }

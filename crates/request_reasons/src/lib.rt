@@ -3,6 +3,7 @@
 
 mod deciding;
 mod format;
+mod limit;
 mod options;
 mod reasons;
 mod right;
@@ -14,6 +15,7 @@ mod words;
 
 pub use deciding::reason;
 pub use format::Served;
+pub use limit::{FirmwareState, Limit};
 pub use options::OptionFault;
 pub use reasons::{Reason, Rule};
 pub use right::{Grant, Letter};

@@ -1,6 +1,7 @@
 //! What decides an answer.
 
 use crate::format::Served;
+use crate::limit::{FirmwareState, Limit};
 use crate::options::OptionFault;
 use crate::right::{Grant, Letter};
 use crate::target::Missing;
@@ -96,7 +97,13 @@ pub enum Rule {
     /// Rule 11: the payload, the queries or the arguments are not valid.
     Payload,
     /// Rule 12: the firmware does not take it now.
-    State,
+    State {
+        /// The State of the firmware.
+        state: FirmwareState,
+    },
     /// Rule 12: more would be shown or stored than may be.
-    Limit,
+    Limit {
+        /// The limit that would be passed.
+        limit: Limit,
+    },
 }

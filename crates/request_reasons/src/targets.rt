@@ -5,7 +5,7 @@ ghost use Rattle.coap_codec.specs.Message.{Message};
 ghost use Rattle.device_requests.specs.Refusals.{can_be_read, can_be_written, is_executable, is_fixed, is_writable};
 ghost use Rattle.device_requests.specs.Refusals.{lacks_operation};
 ghost use Rattle.device_requests.specs.Request.{purpose_of};
-ghost use Rattle.device_requests.specs.Targets.{definition_at, is_readable};
+ghost use Rattle.device_requests.specs.Targets.{defined, definition_at, is_readable};
 
 use device_requests::Operation;
 use object_defs::object_number::{ACCESS_CONTROL, DEVICE, FIRMWARE_UPDATE, SERVER};
@@ -19,6 +19,16 @@ pub(crate) fn definition_at(catalog: &Catalog, path: Path) -> Option<ResourceDef
         Path::Object(_) | Path::Instance(_, _) => None,
         Path::Resource(object, _, resource) => catalog.resource(object, resource).copied(),
         Path::Part(object, _, resource, _) => catalog.resource(object, resource).copied(),
+    }
+}
+
+/// The definitions of an object's resources; none where the object is not known.
+pub(crate) fn defined(catalog: &Catalog, object: u16) -> &[ResourceDef]
+    ensures { result.now ≡ defined catalog.now object }
+{
+    match catalog.object(object) {
+        None => &[],
+        Some(object) => object.resources.as_slice(),
     }
 }
 

@@ -2,10 +2,12 @@
 
 ghost use Rattle.std.specs.Prelude.{◌≡◌, IfOk};
 ghost use Rattle.std.specs.String.{string_bytes};
+ghost use Rattle.request_reasons.specs.Words.{event_text, limit_text, state_text, state_words};
 ghost use Rattle.request_reasons.specs.Words.{on_all_words, reason_text, rule_number, rule_words, target_text};
 ghost use Rattle.request_reasons.specs.Words.{target_words, unserved_words};
 
 use crate::format::Served;
+use crate::limit::{FirmwareState, Limit};
 use crate::reasons::{Reason, Rule};
 use crate::right::{Grant, Letter};
 use crate::target::Missing;
@@ -14,6 +16,8 @@ use crate::words::{
     option_text, path_fault_text, right_words, served_text,
 };
 use device_requests::Operation;
+use object_defs::object_number::FIRMWARE_UPDATE;
+use object_defs::resource_number::{PACKAGE, PACKAGE_URI};
 use object_defs::{Path, path_text};
 use std::alloc::{AllocError, Global};
 
@@ -28,7 +32,7 @@ fn rule_number(rule: &Rule) -> u8
         Rule::Operation { .. } => 9,
         Rule::Format { .. } => 10,
         Rule::Payload => 11,
-        Rule::State | Rule::Limit => 12,
+        Rule::State { .. } | Rule::Limit { .. } => 12,
     }
 }
 
@@ -72,6 +76,59 @@ fn unserved_words(
     format!(in alloc; "{format} is not served at {place}, {others}")
 }
 
+/// What a Write or an Execute at a path is for the firmware.
+fn event_text(path: Path) -> &'static str
+    ensures { result.now ≡ event_text path }
+{
+    match path {
+        Path::Resource(FIRMWARE_UPDATE, _, PACKAGE) => "a Package",
+        Path::Resource(FIRMWARE_UPDATE, _, PACKAGE_URI) => "a Package URI",
+        _ => "Update",
+    }
+}
+
+/// The State of the firmware.
+fn state_text(state: FirmwareState) -> &'static str
+    ensures { result.now ≡ state_text state }
+{
+    match state {
+        FirmwareState::NoInstance => "there is no instance /5/0",
+        FirmwareState::NoState => "/5/0/3 holds no State",
+        FirmwareState::Idle => "/5/0/3 is 0 (Idle)",
+        FirmwareState::Downloading => "/5/0/3 is 1 (Downloading)",
+        FirmwareState::Downloaded => "/5/0/3 is 2 (Downloaded)",
+        FirmwareState::Updating => "/5/0/3 is 3 (Updating)",
+    }
+}
+
+/// Rule 12 of the firmware.
+fn state_words(alloc: Global, path: Path, state: FirmwareState) -> Result<String, AllocError>
+    ensures { IfOk result (λ text. string_bytes text ≡ state_words path state) }
+{
+    let state = state_text(state);
+    let event = event_text(path);
+    format!(in alloc; "{state}, where {event} is not taken")
+}
+
+/// Rule 12 of the limits.
+fn limit_text(alloc: Global, path: Path, limit: Limit) -> Result<String, AllocError>
+    ensures { IfOk result (λ text. string_bytes text ≡ limit_text path limit) }
+{
+    let object = path.object();
+    match limit {
+        Limit::Size => String::from_str(alloc, "the payload would have more than 1,024 bytes"),
+        Limit::Parts { resource, count } => {
+            format!(in alloc; "resource {resource} would have {count} parts, over 32")
+        }
+        Limit::Instances { count } => {
+            format!(in alloc; "object {object} has {count} instances already")
+        }
+        Limit::Controls { count } => {
+            format!(in alloc; "Access Control has {count} instances already")
+        }
+    }
+}
+
 /// What a rule read.
 fn rule_words(
     alloc: Global,
@@ -106,8 +163,8 @@ fn rule_words(
         Rule::Operation { operations } => operations_text(alloc, operation, path, *operations),
         Rule::Format { number, served } => unserved_words(alloc, path, *number, *served),
         Rule::Payload => String::from_str(alloc, "the payload is not valid"),
-        Rule::State => String::from_str(alloc, "the firmware does not take it now"),
-        Rule::Limit => String::from_str(alloc, "it would be more than the limits allow"),
+        Rule::State { state } => state_words(alloc, path, *state),
+        Rule::Limit { limit } => limit_text(alloc, path, *limit),
     }
 }
 

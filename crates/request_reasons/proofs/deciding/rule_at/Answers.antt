@@ -31,3 +31,10 @@ returns-in-Security-clause-why c =
     (tested c.args.client.now c.args.server c.args.message.now r.path r.operation 1
     (asks c.args.message.now r c.requires.read) at).1 in
     eqb-true (object_in r.path) 0 named
+
+pub limit_of-requires-clause-exceeded : goal.limit_of-requires-clause-exceeded
+limit_of-requires-clause-exceeded c =
+    let r = c.args.request in
+    let at = c.requires.first ∙ ap (λ ruling. Some (place_at ruling)) c.in-Limit.is in
+    (tested c.args.client.now c.args.server c.args.message.now r.path r.operation 8
+    (asks c.args.message.now r c.requires.read) at).1
