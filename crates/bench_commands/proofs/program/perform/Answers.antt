@@ -26,8 +26,8 @@ returns-in-Some-clause-done g c =
     let same : c.in_ok-asked.field-0 ≡ asked.Job c.in-Job.job = search rules in
     let read : IsReadAs words (asked.Job c.in-Job.job) = subst (IsReadAs words) same c.in_ok-asked.ensures in
     answered_if _ _ _ _ (g.O.Output.taken c.answer_to.new.output) words (asked.Job c.in-Job.job) c.in-Some.answer
-    c.deliver-in-Some.result read (search rules) (search rules) (search rules) c.deliver-in-Some.ensures.status c.deliver-in-Some.ensures.made
-    c.deliver-in-Some.ensures.printed
+    c.deliver-in-Some.result read (search rules) (search rules) (search rules) c.deliver-in-Some.ensures.status
+    c.deliver-in-Some.ensures.made c.deliver-in-Some.ensures.printed
 
 pub returns-in-Some-clause-refused : goal.returns-in-Some-clause-refused
 returns-in-Some-clause-refused g c =
