@@ -24,7 +24,7 @@ use Rattle.serde_json.specs.Data as json
 use Rattle.serde_json.specs.View.{items_of}
 use Rattle.trace_json.specs.Entries.{entry_json}
 use Rattle.trace_json.specs.Json.{by_key, items_by_key}
-use Rattle.trace_json.specs.Members.{HasEntry, IsSameEntry, SendsBytes}
+use Rattle.trace_json.specs.Members.{TellsEntry, IsSameEntry, SendsBytes}
 use Rattle.trace_json.specs.Steps.{event_json, output_json}
 use Rattle.trace_json.proofs.Back.{bytes_again, bytes_in, data_at, is_named, number_in, path_again, path_in, text_in}
 use Rattle.trace_json.proofs.Back.{value_again, value_in}
@@ -153,7 +153,7 @@ told_apart s t m n a b valid fit sends_a sends_b same = record {
   second = ap (λ d. number_in (data_at (codes "second") d)) same;
 }
 
-pub has_entry : (s : Scenario) (n : ℕ) (e : Entry) → HasEntry s n e (by_key (entry_json s n e))
+pub has_entry : (s : Scenario) (n : ℕ) (e : Entry) → TellsEntry s n e (by_key (entry_json s n e))
 unfolding entry_json
 has_entry s n e = record {
   entry = refl;

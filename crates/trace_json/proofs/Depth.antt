@@ -18,7 +18,7 @@ use Rattle.serde_json.specs.View.{items_of}
 use Rattle.trace_json.specs.Entries.{entry_json, head_json}
 use Rattle.trace_json.specs.Notes.{verdict_json}
 use Rattle.trace_json.specs.Steps.{event_json, output_json, value_json}
-use Rattle.trace_json.specs.Writing.{HasExact, IsReadAgain}
+use Rattle.trace_json.specs.Writing.{Has64Bits, IsReadAgain}
 use Rattle.trace_json.proofs.ReadAgain.{read_again}
 
 value_depth : (v : Value) → depth (value_json v) ≤ 1
@@ -57,10 +57,10 @@ head_depth : (devices entries : ℕ) → depth (head_json devices entries) ≤ m
 unfolding head_json
 head_depth devices entries = omega arith
 
-pub entry_again : (s : Scenario) (n : ℕ) (e : Entry) → HasExact (entry_json s n e) → IsReadAgain (entry_json s n e)
+pub entry_again : (s : Scenario) (n : ℕ) (e : Entry) → Has64Bits (entry_json s n e) → IsReadAgain (entry_json s n e)
 entry_again s n e exact = read_again (entry_json s n e) exact (entry_depth s n e)
 
-pub head_again : (devices entries : ℕ) → HasExact (head_json devices entries) → IsReadAgain (head_json devices entries)
+pub head_again : (devices entries : ℕ) → Has64Bits (head_json devices entries) → IsReadAgain (head_json devices entries)
 head_again devices entries exact = read_again (head_json devices entries) exact (head_depth devices entries)
 
 -- ---- what is answered where there is no trace
@@ -70,5 +70,5 @@ unfolding verdict_json
 verdict_depth Run = omega arith
 verdict_depth (NotRun place) = omega arith
 
-pub verdict_again : (v : Verdict) → HasExact (verdict_json v) → IsReadAgain (verdict_json v)
+pub verdict_again : (v : Verdict) → Has64Bits (verdict_json v) → IsReadAgain (verdict_json v)
 verdict_again v exact = read_again (verdict_json v) exact (verdict_depth v)

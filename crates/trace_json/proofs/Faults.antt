@@ -11,7 +11,7 @@ use Rattle.serde_json.specs.Written.{members_outline}
 use Rattle.trace_json.specs.declared.notes.FaultParts.{FaultParts}
 use Rattle.trace_json.specs.Json.{Field, fields_json, number_json, object_json}
 use Rattle.trace_json.specs.Notes.{fault_fields, fault_json, if_there}
-use Rattle.trace_json.specs.Writing.{HasExact, IsReadAgain, MembersHaveExact, fields_tokens, member_tokens, tokens_of}
+use Rattle.trace_json.specs.Writing.{Has64Bits, IsReadAgain, MembersHave64Bits, fields_tokens, member_tokens, tokens_of}
 use Rattle.trace_json.proofs.ReadAgain.{read_again}
 
 -- ---- tokens
@@ -46,8 +46,8 @@ five_lists k name a b c d e =
 
 -- ---- numbers
 
-pub both_exact : (fs gs : List Field) → MembersHaveExact (fields_json fs) → MembersHaveExact (fields_json gs)
-    → MembersHaveExact (fields_json (fs ++ gs))
+pub both_exact : (fs gs : List Field) → MembersHave64Bits (fields_json fs) → MembersHave64Bits (fields_json gs)
+    → MembersHave64Bits (fields_json (fs ++ gs))
 both_exact [] gs h k = k
 both_exact (f ∷ fs) gs h k = (h.0, both_exact fs gs h.1 k)
 
@@ -75,5 +75,5 @@ fault_depth : (fault : FaultParts) → depth (fault_json fault) ≤ max_depth
 unfolding fault_json
 fault_depth fault = omega (arith, fields_flat fault)
 
-pub fault_again : (fault : FaultParts) → HasExact (fault_json fault) → IsReadAgain (fault_json fault)
+pub fault_again : (fault : FaultParts) → Has64Bits (fault_json fault) → IsReadAgain (fault_json fault)
 fault_again fault exact = read_again (fault_json fault) exact (fault_depth fault)

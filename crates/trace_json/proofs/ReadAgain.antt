@@ -26,18 +26,18 @@ use Rattle.serde_json.specs.Written.{number_text, outline}
 use Rattle.serde_json.proofs.Numbers.{number_of-decimal, number_of-negative}
 use Rattle.serde_json.proofs.Texts.{print-outline}
 use Rattle.trace_json.specs.Json.{by_key, items_by_key, members_by_key}
-use Rattle.trace_json.specs.Writing.{HasExact, IsExact, IsReadAgain, ItemsHaveExact, MembersHaveExact}
+use Rattle.trace_json.specs.Writing.{Has64Bits, Is64Bit, IsReadAgain, ItemsHave64Bits, MembersHave64Bits}
 
 -- ---- what is read
 
-number_read : (n : Num) → IsExact n → number_of (number_text n) ≡ Some n
+number_read : (n : Num) → Is64Bit n → number_of (number_text n) ≡ Some n
 number_read (json.unsigned n) h = number_of-decimal n h
 number_read (json.negative (pos n)) h = absurd h
 number_read (json.negative (negsuc n)) h = number_of-negative n h
 number_read (json.float x) h = absurd h
 
 mutual
-  value_read : (d : Data) → HasExact d → of_json (outline d) ≡ Some (by_key d)
+  value_read : (d : Data) → Has64Bits d → of_json (outline d) ≡ Some (by_key d)
   value_read json.null h = refl
   value_read (json.boolean b) h = refl
   value_read (json.number n) h = ap (option_map json.number) (number_read n h)
@@ -45,13 +45,13 @@ mutual
   value_read (json.array ds) h = ap (option_map json.array) (items_read ds h)
   value_read (json.object ms) h = ap (option_map json.object) (members_read ms json.no_members h)
 
-  items_read : (ds : Items) → ItemsHaveExact ds → of_items (items_outline ds) ≡ Some (items_by_key ds)
+  items_read : (ds : Items) → ItemsHave64Bits ds → of_items (items_outline ds) ≡ Some (items_by_key ds)
   items_read json.no_items h = refl
   items_read (json.item d ds) h =
       ap (option_and_then (λ e. option_map (json.item e) (of_items (items_outline ds)))) (value_read d h.0)
       ∙ ap (option_map (json.item (by_key d))) (items_read ds h.1)
 
-  members_read : (ms found : Members) → MembersHaveExact ms
+  members_read : (ms found : Members) → MembersHave64Bits ms
       → of_members (members_outline ms) found ≡ Some (members_by_key ms found)
   members_read json.no_members found h = refl
   members_read (json.member k d ms) found h =
@@ -60,14 +60,14 @@ mutual
 
 -- ---- what can be printed
 
-number_prints : (n : Num) → IsExact n → HasNumbers (tree.number (number_text n))
+number_prints : (n : Num) → Is64Bit n → HasNumbers (tree.number (number_text n))
 number_prints (json.unsigned n) h = IsNumber-decimal n h
 number_prints (json.negative (pos n)) h = absurd h
 number_prints (json.negative (negsuc n)) h = IsNumber-signed_decimal (negsuc n) h
 number_prints (json.float x) h = absurd h
 
 mutual
-  value_prints : (d : Data) → HasExact d → HasNumbers (outline d)
+  value_prints : (d : Data) → Has64Bits d → HasNumbers (outline d)
   value_prints json.null h = tt
   value_prints (json.boolean b) h = tt
   value_prints (json.number n) h = number_prints n h
@@ -75,11 +75,11 @@ mutual
   value_prints (json.array ds) h = items_print ds h
   value_prints (json.object ms) h = members_print ms h
 
-  items_print : (ds : Items) → ItemsHaveExact ds → ItemsHaveNumbers (items_outline ds)
+  items_print : (ds : Items) → ItemsHave64Bits ds → ItemsHaveNumbers (items_outline ds)
   items_print json.no_items h = tt
   items_print (json.item d ds) h = (value_prints d h.0, items_print ds h.1)
 
-  members_print : (ms : Members) → MembersHaveExact ms → MembersHaveNumbers (members_outline ms)
+  members_print : (ms : Members) → MembersHave64Bits ms → MembersHaveNumbers (members_outline ms)
   members_print json.no_members h = tt
   members_print (json.member k d ms) h = (value_prints d h.0, members_print ms h.1)
 
@@ -101,7 +101,7 @@ mutual
   same_members_depth (json.member k d ms) = omega (arith, same_depth d, same_members_depth ms)
 
 -- the text is read as the value
-text_read : (d : Data) → HasExact d → depth d ≤ max_depth → read (compact_text d) ≡ Some (by_key d)
+text_read : (d : Data) → Has64Bits d → depth d ≤ max_depth → read (compact_text d) ≡ Some (by_key d)
 text_read d h shallow =
     let printed = ArePrintable-json_tokens (outline d) (value_prints d h) in
     let there : tokens (compact_text d) ≡ json_tokens (outline d) ++ [] =
@@ -199,5 +199,5 @@ clean_line (b ∷ bs) h =
 
 -- ---- both
 
-pub read_again : (d : Data) → HasExact d → depth d ≤ max_depth → IsReadAgain d
+pub read_again : (d : Data) → Has64Bits d → depth d ≤ max_depth → IsReadAgain d
 read_again d h shallow = record { line = clean_line (compact_text d) (text_clean d); read_is = text_read d h shallow }

@@ -13,8 +13,8 @@ use Rattle.serde_json.specs.Find.{get}
 use Rattle.trace_json.specs.Json.{by_key, number_json}
 use Rattle.trace_json.specs.Steps.{event_json, outputs_json}
 
--- at each key there is what belongs to the entry of this number
-pub record HasEntry (s : Scenario) (number : ℕ) (e : Entry) (d : Data) : Type 0 where
+-- each member is the one of the entry of this number
+pub record TellsEntry (s : Scenario) (number : ℕ) (e : Entry) (d : Data) : Type 0 where
   pub entry : get (codes "entry") d ≡ Some (number_json number)
   pub worker : get (codes "worker") d ≡ Some (number_json e.worker)
   pub device : get (codes "device") d ≡ Some (number_json e.device)

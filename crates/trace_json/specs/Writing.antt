@@ -21,30 +21,30 @@ pub record IsReadAgain (d : Data) : Type 0 where
 
 -- ---- for private clauses
 
--- an integer of 64 bits, which is read as itself
-abbrev pub IsExact : Num → Type 0
-IsExact (json.unsigned n) = n < 2 ^ 64
-IsExact (json.negative (pos n)) = ⊥
-IsExact (json.negative (negsuc n)) = n < 2 ^ 63
-IsExact (json.float x) = ⊥
+-- an integer of 64 bits: it is read as itself
+abbrev pub Is64Bit : Num → Type 0
+Is64Bit (json.unsigned n) = n < 2 ^ 64
+Is64Bit (json.negative (pos n)) = ⊥
+Is64Bit (json.negative (negsuc n)) = n < 2 ^ 63
+Is64Bit (json.float x) = ⊥
 
--- each number in a value is such an integer
+-- each number in a value is one
 abbrev mutual
-  pub HasExact : Data → Type 0
-  HasExact json.null = Unit {0}
-  HasExact (json.boolean b) = Unit {0}
-  HasExact (json.number n) = IsExact n
-  HasExact (json.string s) = Unit {0}
-  HasExact (json.array ds) = ItemsHaveExact ds
-  HasExact (json.object ms) = MembersHaveExact ms
+  pub Has64Bits : Data → Type 0
+  Has64Bits json.null = Unit {0}
+  Has64Bits (json.boolean b) = Unit {0}
+  Has64Bits (json.number n) = Is64Bit n
+  Has64Bits (json.string s) = Unit {0}
+  Has64Bits (json.array ds) = ItemsHave64Bits ds
+  Has64Bits (json.object ms) = MembersHave64Bits ms
 
-  pub ItemsHaveExact : Items → Type 0
-  ItemsHaveExact json.no_items = Unit {0}
-  ItemsHaveExact (json.item d ds) = HasExact d × ItemsHaveExact ds
+  pub ItemsHave64Bits : Items → Type 0
+  ItemsHave64Bits json.no_items = Unit {0}
+  ItemsHave64Bits (json.item d ds) = Has64Bits d × ItemsHave64Bits ds
 
-  pub MembersHaveExact : Members → Type 0
-  MembersHaveExact json.no_members = Unit {0}
-  MembersHaveExact (json.member k d ms) = HasExact d × MembersHaveExact ms
+  pub MembersHave64Bits : Members → Type 0
+  MembersHave64Bits json.no_members = Unit {0}
+  MembersHave64Bits (json.member k d ms) = Has64Bits d × MembersHave64Bits ms
 
 -- the tokens of a value, and those of a member
 abbrev pub tokens_of : Data → List Token

@@ -2,7 +2,7 @@
 
 ghost use Rattle.std.specs.Prelude.{◌≡◌, ◌++◌, OnOk};
 ghost use Rattle.trace_json.specs.Steps.{datagram_fields, kind_json};
-ghost use Rattle.trace_json.specs.Writing.{HasExact, tokens_of};
+ghost use Rattle.trace_json.specs.Writing.{Has64Bits, tokens_of};
 
 use crate::members::{put_hex, put_number, put_string};
 use json::Writer;
@@ -20,7 +20,7 @@ pub(crate) fn put_datagram(
     ensures adds { OnOk result
         (out.new.tokens ≡ out.old.tokens ++ tokens_of (kind_json kind.now (datagram_fields server bytes.now))) }
     ensures before { out.new.before ≡ out.old.before }
-    ensures exact { HasExact (kind_json kind.now (datagram_fields server bytes.now)) }
+    ensures exact { Has64Bits (kind_json kind.now (datagram_fields server bytes.now)) }
 {
     let words = datagram_text(alloc, bytes)?;
     out.begin_object()?;

@@ -3,7 +3,7 @@
 ghost use Rattle.std.specs.Prelude.{◌≡◌, ◌++◌, OnOk};
 ghost use Rattle.trace_text.specs.Seconds.{second_at};
 ghost use Rattle.trace_json.specs.Entries.{entry_json, head_json};
-ghost use Rattle.trace_json.specs.Writing.{HasExact, tokens_of};
+ghost use Rattle.trace_json.specs.Writing.{Has64Bits, tokens_of};
 
 use crate::events::put_event;
 use crate::members::{put_number, put_string};
@@ -20,7 +20,7 @@ use trace_file::Entry;
 pub(crate) fn put_head(out: &mut Writer, devices: usize, entries: usize) -> Result<(), AllocError>
     ensures adds { OnOk result (out.new.tokens ≡ out.old.tokens ++ tokens_of (head_json devices entries)) }
     ensures before { out.new.before ≡ out.old.before }
-    ensures exact { HasExact (head_json devices entries) }
+    ensures exact { Has64Bits (head_json devices entries) }
 {
     out.begin_object()?;
     put_number(out, "version", 1)?;
@@ -44,7 +44,7 @@ pub(crate) fn put_entry(
     ensures adds { OnOk result
         (out.new.tokens ≡ out.old.tokens ++ tokens_of (entry_json scenario.now number entry.now)) }
     ensures before { out.new.before ≡ out.old.before }
-    ensures exact { OnOk result (HasExact (entry_json scenario.now number entry.now)) }
+    ensures exact { OnOk result (Has64Bits (entry_json scenario.now number entry.now)) }
 {
     let step = step_of(scenario, entry.device, entry.step);
     let words = step_words(alloc, step)?;

@@ -6,7 +6,7 @@ ghost use Rattle.device_machine.specs.declared.event.Event.TheVariants as events
 ghost use Rattle.scenario_image.specs.declared.step.Step.TheVariants as steps;
 ghost use Rattle.trace_json.specs.Json.{number_json};
 ghost use Rattle.trace_json.specs.Steps.{event_json, kind_json};
-ghost use Rattle.trace_json.specs.Writing.{HasExact, tokens_of};
+ghost use Rattle.trace_json.specs.Writing.{Has64Bits, tokens_of};
 
 use crate::datagrams::put_datagram;
 use crate::members::{put_number, put_string};
@@ -23,7 +23,7 @@ fn put_one(out: &mut Writer, kind: &str, key: &str, number: u64) -> Result<(), A
     ensures adds { OnOk result
         (out.new.tokens ≡ out.old.tokens ++ tokens_of (kind_json kind.now ((key.now, number_json number) ∷ []))) }
     ensures before { out.new.before ≡ out.old.before }
-    ensures exact { HasExact (kind_json kind.now ((key.now, number_json number) ∷ [])) }
+    ensures exact { Has64Bits (kind_json kind.now ((key.now, number_json number) ∷ [])) }
 {
     out.begin_object()?;
     put_string(out, "kind", kind)?;
@@ -38,7 +38,7 @@ fn put_change(alloc: Global, out: &mut Writer, path: Path, value: &Value) -> Res
     ensures adds { OnOk result
         (out.new.tokens ≡ out.old.tokens ++ tokens_of (event_json (Some (steps.Event (events.Put path value.now))))) }
     ensures before { out.new.before ≡ out.old.before }
-    ensures exact { OnOk result (HasExact (event_json (Some (steps.Event (events.Put path value.now))))) }
+    ensures exact { OnOk result (Has64Bits (event_json (Some (steps.Event (events.Put path value.now))))) }
 {
     let text = path_text(alloc, path)?;
     out.begin_object()?;
@@ -56,7 +56,7 @@ fn put_need(out: &mut Writer, group: u8, count: u32) -> Result<(), AllocError>
     ensures adds { OnOk result (out.new.tokens ≡ out.old.tokens
         ++ tokens_of (event_json (Some (steps.Need group count)))) }
     ensures before { out.new.before ≡ out.old.before }
-    ensures exact { HasExact (event_json (Some (steps.Need group count))) }
+    ensures exact { Has64Bits (event_json (Some (steps.Need group count))) }
 {
     out.begin_object()?;
     put_string(out, "kind", "need")?;
@@ -72,7 +72,7 @@ fn put_happening(alloc: Global, out: &mut Writer, event: &Event) -> Result<(), A
     ensures adds { OnOk result
         (out.new.tokens ≡ out.old.tokens ++ tokens_of (event_json (Some (steps.Event event.now)))) }
     ensures before { out.new.before ≡ out.old.before }
-    ensures exact { OnOk result (HasExact (event_json (Some (steps.Event event.now)))) }
+    ensures exact { OnOk result (Has64Bits (event_json (Some (steps.Event event.now)))) }
 {
     match event {
         Event::Recv { server, bytes } => {
@@ -94,7 +94,7 @@ pub(crate) fn put_event(
     ensures adds { OnOk result
         (out.new.tokens ≡ out.old.tokens ++ tokens_of (event_json (option_copied step.entry))) }
     ensures before { out.new.before ≡ out.old.before }
-    ensures exact { OnOk result (HasExact (event_json (option_copied step.entry))) }
+    ensures exact { OnOk result (Has64Bits (event_json (option_copied step.entry))) }
 {
     match step {
         None => out.null(),

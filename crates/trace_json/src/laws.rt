@@ -8,11 +8,11 @@ ghost use Rattle.trace_text.specs.declared.selection.Selection.{Selection};
 ghost use Rattle.trace_text.specs.Selection.{numbered_entries, selected};
 ghost use Rattle.trace_json.specs.Entries.{entry_json, trace_json};
 ghost use Rattle.trace_json.specs.Json.{by_key};
-ghost use Rattle.trace_json.specs.Members.{HasEntry, IsSameEntry, SendsBytes};
+ghost use Rattle.trace_json.specs.Members.{TellsEntry, IsSameEntry, SendsBytes};
 
 /// What is read of an entry's line has the entry's members.
 pub fn lines_have_entries()
-    ensures { (s : Scenario) (number : ℕ) (e : Entry) → HasEntry s number e (by_key (entry_json s number e)) }
+    ensures { (s : Scenario) (number : ℕ) (e : Entry) → TellsEntry s number e (by_key (entry_json s number e)) }
 {}
 
 /// Entries whose lines are read as the same are the same, of the same step in the same second: nothing of an entry or

@@ -5,7 +5,7 @@ ghost use Rattle.serde_json.specs.Data.{boolean, string};
 ghost use Rattle.hex.specs.Hex.{encode_upper};
 ghost use Rattle.trace_json.specs.Json.{integer_json, number_json};
 ghost use Rattle.trace_json.specs.Steps.{hex_json};
-ghost use Rattle.trace_json.specs.Writing.{HasExact, member_tokens};
+ghost use Rattle.trace_json.specs.Writing.{Has64Bits, member_tokens};
 
 use json::Writer;
 use std::alloc::{AllocError, Global};
@@ -14,7 +14,7 @@ use std::alloc::{AllocError, Global};
 pub(crate) fn put_number(out: &mut Writer, key: &str, number: u64) -> Result<(), AllocError>
     ensures adds { OnOk result (out.new.tokens ≡ out.old.tokens ++ member_tokens key.now (number_json number)) }
     ensures before { out.new.before ≡ out.old.before }
-    ensures exact { HasExact (number_json number) }
+    ensures exact { Has64Bits (number_json number) }
 {
     out.key(key)?;
     out.u64(number)
@@ -24,7 +24,7 @@ pub(crate) fn put_number(out: &mut Writer, key: &str, number: u64) -> Result<(),
 pub(crate) fn put_integer(out: &mut Writer, key: &str, number: i64) -> Result<(), AllocError>
     ensures adds { OnOk result (out.new.tokens ≡ out.old.tokens ++ member_tokens key.now (integer_json number)) }
     ensures before { out.new.before ≡ out.old.before }
-    ensures exact { HasExact (integer_json number) }
+    ensures exact { Has64Bits (integer_json number) }
 {
     out.key(key)?;
     out.i64(number)

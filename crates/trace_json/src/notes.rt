@@ -6,7 +6,7 @@ ghost use Rattle.serde_json.specs.Data.{string};
 ghost use Rattle.fleet_core.specs.declared.verdict.Verdict.TheVariants as verdicts;
 ghost use Rattle.trace_json.specs.Json.{number_json, object_json};
 ghost use Rattle.trace_json.specs.Notes.{fault_json, if_there, verdict_json};
-ghost use Rattle.trace_json.specs.Writing.{HasExact, IsReadAgain, fields_tokens, json_line, tokens_of};
+ghost use Rattle.trace_json.specs.Writing.{Has64Bits, IsReadAgain, fields_tokens, json_line, tokens_of};
 
 use crate::lines::{end_line, text_of};
 use crate::members::{put_number, put_string};
@@ -36,7 +36,7 @@ pub struct FaultParts<'a> {
 fn put_run(out: &mut Writer) -> Result<(), AllocError>
     ensures adds { OnOk result (out.new.tokens ≡ out.old.tokens ++ tokens_of (verdict_json verdicts.Run)) }
     ensures before { out.new.before ≡ out.old.before }
-    ensures exact { HasExact (verdict_json verdicts.Run) }
+    ensures exact { Has64Bits (verdict_json verdicts.Run) }
 {
     out.begin_object()?;
     put_string(out, "verdict", "run")?;
@@ -50,7 +50,7 @@ fn put_no_run(out: &mut Writer, place: usize) -> Result<(), AllocError>
     ensures adds { OnOk result
         (out.new.tokens ≡ out.old.tokens ++ tokens_of (verdict_json (verdicts.NotRun place))) }
     ensures before { out.new.before ≡ out.old.before }
-    ensures exact { HasExact (verdict_json (verdicts.NotRun place)) }
+    ensures exact { Has64Bits (verdict_json (verdicts.NotRun place)) }
 {
     out.begin_object()?;
     put_string(out, "verdict", "not a run")?;
@@ -63,7 +63,7 @@ fn put_no_run(out: &mut Writer, place: usize) -> Result<(), AllocError>
 fn put_verdict(out: &mut Writer, verdict: Verdict) -> Result<(), AllocError>
     ensures adds { OnOk result (out.new.tokens ≡ out.old.tokens ++ tokens_of (verdict_json verdict)) }
     ensures before { out.new.before ≡ out.old.before }
-    ensures exact { OnOk result (HasExact (verdict_json verdict)) }
+    ensures exact { OnOk result (Has64Bits (verdict_json verdict)) }
 {
     match verdict {
         Verdict::Run => put_run(out),
@@ -88,7 +88,7 @@ fn put_number_if(out: &mut Writer, key: &str, number: Option<usize>) -> Result<(
     ensures adds { OnOk result (out.new.tokens
         ≡ out.old.tokens ++ fields_tokens (if_there key.now (option_map number_json number))) }
     ensures before { out.new.before ≡ out.old.before }
-    ensures exact { HasExact (object_json (if_there key.now (option_map number_json number))) }
+    ensures exact { Has64Bits (object_json (if_there key.now (option_map number_json number))) }
 {
     match number {
         None => Ok(()),
@@ -101,7 +101,7 @@ fn put_string_if(out: &mut Writer, key: &str, text: Option<&str>) -> Result<(), 
     ensures adds { OnOk result (out.new.tokens ≡ out.old.tokens
         ++ fields_tokens (if_there key.now (option_map (λ x. string x.now) text.entry))) }
     ensures before { out.new.before ≡ out.old.before }
-    ensures exact { HasExact (object_json (if_there key.now (option_map (λ x. string x.now) text.entry))) }
+    ensures exact { Has64Bits (object_json (if_there key.now (option_map (λ x. string x.now) text.entry))) }
 {
     match text {
         None => Ok(()),
@@ -113,7 +113,7 @@ fn put_string_if(out: &mut Writer, key: &str, text: Option<&str>) -> Result<(), 
 fn put_fault(out: &mut Writer, fault: &FaultParts<'_>) -> Result<(), AllocError>
     ensures adds { OnOk result (out.new.tokens ≡ out.old.tokens ++ tokens_of (fault_json fault.now)) }
     ensures before { out.new.before ≡ out.old.before }
-    ensures exact { OnOk result (HasExact (fault_json fault.now)) }
+    ensures exact { OnOk result (Has64Bits (fault_json fault.now)) }
 {
     out.begin_object()?;
     put_string(out, "fault", fault.name)?;

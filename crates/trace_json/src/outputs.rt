@@ -4,7 +4,7 @@ ghost use Rattle.std.specs.Prelude.{◌≡◌, ◌++◌, OnOk};
 ghost use Rattle.device_machine.specs.declared.output.Output.TheVariants as outputs;
 ghost use Rattle.trace_text.specs.Lines.{act_name};
 ghost use Rattle.trace_json.specs.Steps.{output_json, outputs_json};
-ghost use Rattle.trace_json.specs.Writing.{HasExact, tokens_of};
+ghost use Rattle.trace_json.specs.Writing.{Has64Bits, tokens_of};
 
 use crate::datagrams::put_datagram;
 use crate::members::put_string;
@@ -29,7 +29,7 @@ fn act_name(act: Act) -> &'static str
 fn put_act(out: &mut Writer, act: Act) -> Result<(), AllocError>
     ensures adds { OnOk result (out.new.tokens ≡ out.old.tokens ++ tokens_of (output_json (outputs.Act act))) }
     ensures before { out.new.before ≡ out.old.before }
-    ensures exact { HasExact (output_json (outputs.Act act)) }
+    ensures exact { Has64Bits (output_json (outputs.Act act)) }
 {
     out.begin_object()?;
     put_string(out, "kind", "act")?;
@@ -43,7 +43,7 @@ fn put_act(out: &mut Writer, act: Act) -> Result<(), AllocError>
 fn put_output(alloc: Global, out: &mut Writer, output: &Output) -> Result<(), AllocError>
     ensures adds { OnOk result (out.new.tokens ≡ out.old.tokens ++ tokens_of (output_json output.now)) }
     ensures before { out.new.before ≡ out.old.before }
-    ensures exact { OnOk result (HasExact (output_json output.now)) }
+    ensures exact { OnOk result (Has64Bits (output_json output.now)) }
 {
     match output {
         Output::Send { server, bytes } => {
@@ -61,7 +61,7 @@ pub(crate) fn put_outputs(
 ) -> Result<(), AllocError>
     ensures adds { OnOk result (out.new.tokens ≡ out.old.tokens ++ tokens_of (outputs_json outputs.now)) }
     ensures before { out.new.before ≡ out.old.before }
-    ensures exact { OnOk result (HasExact (outputs_json outputs.now)) }
+    ensures exact { OnOk result (Has64Bits (outputs_json outputs.now)) }
 {
     out.begin_array()?;
     for output in outputs {

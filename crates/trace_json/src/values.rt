@@ -5,7 +5,7 @@ ghost use Rattle.json.specs.Tree.{members_tokens};
 ghost use Rattle.serde_json.specs.Written.{members_outline};
 ghost use Rattle.trace_json.specs.Json.{fields_json, object_json};
 ghost use Rattle.trace_json.specs.Steps.{value_fields, value_json};
-ghost use Rattle.trace_json.specs.Writing.{HasExact, tokens_of};
+ghost use Rattle.trace_json.specs.Writing.{Has64Bits, tokens_of};
 
 use crate::members::{put_flag, put_hex, put_integer, put_number, put_string};
 use json::Writer;
@@ -18,7 +18,7 @@ fn put_content(alloc: Global, out: &mut Writer, value: &Value) -> Result<(), All
     ensures adds { OnOk result
         (out.new.tokens ≡ out.old.tokens ++ members_tokens (members_outline (fields_json (value_fields value.now)))) }
     ensures before { out.new.before ≡ out.old.before }
-    ensures exact { OnOk result (HasExact (object_json (value_fields value.now))) }
+    ensures exact { OnOk result (Has64Bits (object_json (value_fields value.now))) }
 {
     match value {
         Value::Text(text) => put_string(out, "value", text.as_str())?,
@@ -39,7 +39,7 @@ fn put_content(alloc: Global, out: &mut Writer, value: &Value) -> Result<(), All
 pub(crate) fn put_value(alloc: Global, out: &mut Writer, value: &Value) -> Result<(), AllocError>
     ensures adds { OnOk result (out.new.tokens ≡ out.old.tokens ++ tokens_of (value_json value.now)) }
     ensures before { out.new.before ≡ out.old.before }
-    ensures exact { OnOk result (HasExact (value_json value.now)) }
+    ensures exact { OnOk result (Has64Bits (value_json value.now)) }
 {
     out.begin_object()?;
     put_string(out, "kind", kind_word(value.kind()))?;

@@ -1,7 +1,7 @@
 use Rattle.std.proofs.Common.{◌^◌, ◌<◌, append_assoc, subst}
 use Rattle.trace_json.specs.Entries.{entry_json}
 use Rattle.trace_json.specs.Steps.{event_json, outputs_json}
-use Rattle.trace_json.specs.Writing.{HasExact}
+use Rattle.trace_json.specs.Writing.{Has64Bits}
 use Rattle.trace_json.proofs.entries.put_entry.Goals as goal
 
 pub returns-clause-adds : goal.returns-clause-adds
@@ -42,8 +42,8 @@ returns-clause-exact c = (
           (
             tt,
             (
-              subst (λ o. HasExact (event_json o)) c.step_of-step.ensures c.in_ok-put_event.ensures.exact,
-              (subst (λ os. HasExact (outputs_json os)) c.as_slice.ensures c.in_ok-put_outputs.ensures.exact, tt),
+              subst (λ o. Has64Bits (event_json o)) c.step_of-step.ensures c.in_ok-put_event.ensures.exact,
+              (subst (λ os. Has64Bits (outputs_json os)) c.as_slice.ensures c.in_ok-put_outputs.ensures.exact, tt),
             ),
           ),
         ),

@@ -4,7 +4,7 @@ use Rattle.json.specs.Tree.{items_tokens}
 use Rattle.serde_json.specs.View.{items_of}
 use Rattle.serde_json.specs.Written.{items_outline}
 use Rattle.trace_json.specs.Steps.{output_json, outputs_json}
-use Rattle.trace_json.specs.Writing.{HasExact, tokens_of}
+use Rattle.trace_json.specs.Writing.{Has64Bits, tokens_of}
 use Rattle.trace_json.proofs.outputs.put_outputs.Given as goal
 
 abbrev pub invariant-loop-output : goal.invariant-loop-output
@@ -12,5 +12,5 @@ invariant-loop-output l = record {
   so_far : l.out.tokens ++ items_tokens (items_outline (items_of (map output_json (drop l.output-index l.outputs))))
       ≡ l.fn.out.tokens ++ tokens_of (outputs_json l.outputs);
   before : l.out.before ≡ l.fn.out.before;
-  exact : HasExact (outputs_json (drop l.output-index l.outputs)) → HasExact (outputs_json l.outputs);
+  exact : Has64Bits (outputs_json (drop l.output-index l.outputs)) → Has64Bits (outputs_json l.outputs);
 }
