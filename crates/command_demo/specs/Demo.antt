@@ -12,6 +12,7 @@ use Rattle.device_template.specs.Template.{Template, empty_class, instance_fault
 use Rattle.device_template.specs.Values.{with_value_at}
 use Rattle.device_requests.specs.Targets.{place_of}
 use Rattle.device_machine.specs.Reactions.{outputs_of}
+use Rattle.device_machine.specs.State.{Machine}
 use Rattle.device_machine.specs.declared.event.Event.TheVariants.{Recv}
 use Rattle.device_machine.specs.declared.output.Output.{Output}
 use Rattle.command_demo.specs.declared.demo.Held.{Held}
@@ -61,9 +62,13 @@ takes_values class (row ∷ rows) =
 unfoldable pub demo_class : Template
 demo_class = fold with_row (fold with_place (with_account empty_class 1) demo_instances) demo_values
 
--- what the device, just started, outputs where server 1 sends these bytes
+-- the flat state of the device, just started
+unfoldable pub demo_start : Machine
+demo_start = record { kept = start_of demo_class; recorded = [] }
+
+-- what it then outputs where server 1 sends these bytes
 unfoldable pub demo_outputs : List ℕ → List Output
-demo_outputs bytes = outputs_of (record { kept = start_of demo_class; recorded = [] }) (Recv 1 bytes)
+demo_outputs bytes = outputs_of demo_start (Recv 1 bytes)
 
 -- a value as the program's table has it
 abbrev pub value_of : Held → Value

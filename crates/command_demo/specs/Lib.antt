@@ -1,2 +1,3 @@
 pub mod Demo
 pub mod One
+pub mod Why

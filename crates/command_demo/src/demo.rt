@@ -1,10 +1,13 @@
 ghost use Rattle.std.specs.Prelude.{◌≡◌, IfErr, IfOk, OnOk, map, true};
 ghost use Rattle.std.specs.List.{fold};
-ghost use Rattle.command_demo.specs.Demo.{demo_class, demo_outputs, row_of, takes_instances, takes_values, value_of};
-ghost use Rattle.command_demo.specs.Demo.{with_place, with_row};
+ghost use Rattle.std.specs.String.{string_bytes};
+ghost use Rattle.device_reasons.specs.Text.{IsReasonLine};
+ghost use Rattle.command_demo.specs.Demo.{demo_class, demo_outputs, demo_start, row_of, takes_instances, takes_values};
+ghost use Rattle.command_demo.specs.Demo.{value_of, with_place, with_row};
 
 use command_files::Fault;
 use device_machine::{Device, Event, Outputs, StepFault, Template, TemplateFault};
+use device_reasons::reason_line;
 use lwm2m_values::{Text, Value};
 use object_defs::Path;
 use octets::Bytes;
@@ -98,4 +101,15 @@ pub fn answer(alloc: Global, bytes: Bytes) -> Result<Outputs, Fault>
         Err(StepFault::Memory) => Err(Fault::Memory),
         Err(StepFault::Spent) => unreachable!(),
     }
+}
+
+/// The line that says why the demonstration device, just started, handles these bytes of its server as it does, or out
+/// of memory.
+pub fn reason(alloc: Global, bytes: &[u8]) -> Result<String, Fault>
+    ensures reason { IfOk result (λ line. IsReasonLine demo_start 1 bytes.now (string_bytes line)) }
+    ensures refused { IfErr result (λ f. f ≡ Fault.Memory) }
+{
+    let device = Device::start(&template(alloc)?)?;
+    let line = reason_line(alloc, &device, SERVER, bytes)?;
+    Ok(line)
 }

@@ -1,8 +1,9 @@
-//! `one`: what the demonstration device outputs for one datagram.
+//! `one`: what the demonstration device outputs for one datagram, and why.
 #![tactic(auto)]
 
 mod answers;
 mod demo;
+mod explained;
 
-pub use answers::one;
-pub use demo::{SERVER, answer, template};
+pub use answers::{one, one_why};
+pub use demo::{SERVER, answer, reason, template};

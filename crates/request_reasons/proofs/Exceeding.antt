@@ -43,7 +43,7 @@ none_found p (a ∷ given) h =
       | false ↦ λ e. none_found p given e
     ] h
 
-mapped_none : {X Y : Type 0} (f : X → Y) (o : Option X) → option_map f o ≡ None → o ≡ None
+pub mapped_none : {X Y : Type 0} (f : X → Y) (o : Option X) → option_map f o ≡ None → o ≡ None
 mapped_none f None h = refl
 mapped_none f (Some x) h = cc
 

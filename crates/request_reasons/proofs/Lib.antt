@@ -2,8 +2,12 @@ mod Codes
 mod Exceeding
 mod Grants
 mod Lines
+mod Nodes
 mod Paths
 mod Recognized
+mod Recorded
+mod Refused
 mod Said
 mod Segments
+mod Spelled
 mod Unread

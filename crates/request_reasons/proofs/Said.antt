@@ -14,7 +14,10 @@ use Rattle.device_requests.specs.Refusals.{Purpose, lacks_format, to_delete, to_
 use Rattle.device_requests.specs.Refusals.{to_read, to_write}
 use Rattle.device_requests.specs.Request.{purpose_of, request_of}
 use Rattle.device_requests.proofs.Reading.{said}
+use Rattle.device_requests.specs.Client.{Client}
+use Rattle.device_requests.specs.Read.{format_at}
 use Rattle.request_reasons.specs.Formats.{format_named}
+use Rattle.request_reasons.specs.Payloads.{payload_fault, write_fault_in}
 
 pub accept_said : (m : Message) (r : Request) → request_of m ≡ Ok r → r.accept ≡ accept_of m.options
 accept_said m r e = sym ((said m r).0 e).accept
@@ -81,3 +84,13 @@ creating m r payload e h is = purpose_given m r Create payload e h is refl
 pub executing : (m : Message) (r : Request) (payload : List ℕ) → request_of m ≡ Ok r → payload ≡ m.payload
     → r.operation ≡ Execute → purpose_of m r.operation ≡ to_execute r.content_format payload
 executing m r payload e h is = purpose_given m r Execute payload e h is refl
+
+-- what is at fault in a Write is that of its payload, in either mode
+pub write_said : (client : Client) (m : Message) (r : Request) (payload : List ℕ) → request_of m ≡ Ok r
+    → payload ≡ m.payload → (r.operation ≡ WriteReplace) ⊎ (r.operation ≡ WritePartial)
+    → write_fault_in client.catalog r.path payload (format_at client.catalog r.path r.content_format)
+    ≡ payload_fault client r.path (purpose_of m r.operation)
+write_said client m r payload e h (inl is) =
+    ap (payload_fault client r.path) (sym (replacing m r payload e h is))
+write_said client m r payload e h (inr is) =
+    ap (payload_fault client r.path) (sym (updating m r payload e h is))

@@ -3,6 +3,8 @@ pub mod Inside
 pub mod Limits
 pub mod Missing
 pub mod Options
+pub mod PayloadWords
+pub mod Payloads
 pub mod Reasons
 pub mod Rights
 pub mod Segments

@@ -5,7 +5,6 @@ use Rattle.std.specs.Fmt.{decimal, signed_decimal}
 use Rattle.object_defs.specs.Numbers.{firmware_update_object, package_uri, update_package}
 use Rattle.object_defs.specs.Path.{object_in, path_text}
 use Rattle.object_defs.specs.declared.definition.Ops.{Ops}
-use Rattle.object_defs.specs.declared.definition.Ops.TheVariants as ops
 use Rattle.object_defs.specs.declared.path.Path.{Path}
 use Rattle.object_defs.specs.declared.path.Path.TheVariants.{Object, Instance, Resource, Part}
 use Rattle.access_control.specs.declared.letters.Rights.{Rights}
@@ -14,8 +13,8 @@ use Rattle.device_requests.specs.declared.operation.Operation.TheVariants.{Read,
 use Rattle.device_requests.specs.declared.operation.Operation.TheVariants.{WriteReplace, WritePartial, Create, Execute}
 use Rattle.device_requests.specs.declared.operation.Operation.TheVariants.{Delete}
 use Rattle.device_requests.specs.Targets.{is_resource}
-use Rattle.scenario_words.specs.HexWord.{hex_word}
 use Rattle.message_words.specs.Names.{formats, name_in}
+use Rattle.request_reasons.specs.PayloadWords.{bytes_text, ops_text, payload_words}
 use Rattle.request_reasons.specs.declared.format.Served.{Served}
 use Rattle.request_reasons.specs.declared.format.Served.TheVariants.{TlvAlone, PlainTextAlone, PlainTextAndTlv, All}
 use Rattle.request_reasons.specs.declared.limit.FirmwareState.{FirmwareState}
@@ -81,7 +80,7 @@ option_text number Repeated = codes "a second option " ++ (decimal number ++ cod
 
 abbrev pub segment_text : ℕ → List ℕ → List ℕ
 segment_text place bytes =
-    codes "segment " ++ (decimal place ++ (codes " of the Uri-Path is not a number: " ++ hex_word bytes))
+    codes "segment " ++ (decimal place ++ (codes " of the Uri-Path is not a number: " ++ bytes_text bytes))
 
 abbrev pub path_fault_text : PathFault → List ℕ
 path_fault_text (Segment place bytes) = segment_text place bytes
@@ -194,12 +193,6 @@ on_all_words server path count first grant =
 
 -- ---- rule 9
 
-abbrev pub ops_text : Ops → List ℕ
-ops_text ops.R = codes "R"
-ops_text ops.W = codes "W"
-ops_text ops.RW = codes "RW"
-ops_text ops.E = codes "E"
-
 -- the letter of an operation on a resource
 abbrev pub needed_text : Operation → List ℕ
 needed_text Read = codes "R"
@@ -284,7 +277,7 @@ rule_number (rule.Right server letter instance grant) = 8
 rule_number (rule.RightOnAll server count instance grant) = 8
 rule_number (rule.Operation operations) = 9
 rule_number (rule.Format number served) = 10
-rule_number rule.Payload = 11
+rule_number (rule.Payload fault) = 11
 rule_number (rule.State state) = 12
 rule_number (rule.Limit limit) = 12
 
@@ -297,7 +290,7 @@ rule_words operation path (rule.RightOnAll server count instance grant) =
     on_all_words server path count (Instance (object_in path) instance) grant
 rule_words operation path (rule.Operation operations) = operations_text operation path operations
 rule_words operation path (rule.Format number served) = unserved_words path number served
-rule_words operation path rule.Payload = codes "the payload is not valid"
+rule_words operation path (rule.Payload fault) = payload_words path fault
 rule_words operation path (rule.State state) = state_words path state
 rule_words operation path (rule.Limit limit) = limit_text path limit
 

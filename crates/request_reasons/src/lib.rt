@@ -3,9 +3,14 @@
 
 mod deciding;
 mod format;
+mod invalid;
 mod limit;
 mod options;
+mod payload;
+mod payload_words;
+mod queries;
 mod reasons;
+mod records;
 mod right;
 mod target;
 mod targets;
@@ -17,6 +22,7 @@ pub use deciding::reason;
 pub use format::Served;
 pub use limit::{FirmwareState, Limit};
 pub use options::OptionFault;
+pub use payload::{PayloadFault, RecordFault};
 pub use reasons::{Reason, Rule};
 pub use right::{Grant, Letter};
 pub use target::Missing;

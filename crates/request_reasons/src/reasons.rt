@@ -3,6 +3,7 @@
 use crate::format::Served;
 use crate::limit::{FirmwareState, Limit};
 use crate::options::OptionFault;
+use crate::payload::PayloadFault;
 use crate::right::{Grant, Letter};
 use crate::target::Missing;
 use crate::uri_path::PathFault;
@@ -95,7 +96,10 @@ pub enum Rule {
         served: Served,
     },
     /// Rule 11: the payload, the queries or the arguments are not valid.
-    Payload,
+    Payload {
+        /// What of them is not.
+        fault: PayloadFault,
+    },
     /// Rule 12: the firmware does not take it now.
     State {
         /// The State of the firmware.

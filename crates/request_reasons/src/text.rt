@@ -8,6 +8,7 @@ ghost use Rattle.request_reasons.specs.Words.{target_words, unserved_words};
 
 use crate::format::Served;
 use crate::limit::{FirmwareState, Limit};
+use crate::payload_words::payload_words;
 use crate::reasons::{Reason, Rule};
 use crate::right::{Grant, Letter};
 use crate::target::Missing;
@@ -31,7 +32,7 @@ fn rule_number(rule: &Rule) -> u8
         Rule::Right { .. } | Rule::RightOnAll { .. } => 8,
         Rule::Operation { .. } => 9,
         Rule::Format { .. } => 10,
-        Rule::Payload => 11,
+        Rule::Payload { .. } => 11,
         Rule::State { .. } | Rule::Limit { .. } => 12,
     }
 }
@@ -162,7 +163,7 @@ fn rule_words(
         }
         Rule::Operation { operations } => operations_text(alloc, operation, path, *operations),
         Rule::Format { number, served } => unserved_words(alloc, path, *number, *served),
-        Rule::Payload => String::from_str(alloc, "the payload is not valid"),
+        Rule::Payload { fault } => payload_words(alloc, path, fault),
         Rule::State { state } => state_words(alloc, path, *state),
         Rule::Limit { limit } => limit_text(alloc, path, *limit),
     }

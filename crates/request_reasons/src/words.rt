@@ -7,19 +7,19 @@ ghost use Rattle.request_reasons.specs.Words.{entry_path, entry_text, fixed_text
 ghost use Rattle.request_reasons.specs.Words.{instance_path, kind_text, letter_if, letter_text, letters_text};
 ghost use Rattle.request_reasons.specs.Words.{method_text, missing_text, named_format, needed_text, no_entry_text};
 ghost use Rattle.request_reasons.specs.Words.{operation_name};
-ghost use Rattle.request_reasons.specs.Words.{operations_text, ops_text, option_text, ownership_text, path_fault_text};
+ghost use Rattle.request_reasons.specs.Words.{operations_text, option_text, ownership_text, path_fault_text};
 ghost use Rattle.request_reasons.specs.Words.{put_text, resource_path, right_words, rights_text, segment_text};
 ghost use Rattle.request_reasons.specs.Words.{served_text};
 
 use crate::format::Served;
 use crate::options::OptionFault;
+use crate::payload_words::{bytes_text, ops_text};
 use crate::right::{Grant, Letter};
 use crate::target::Missing;
 use crate::uri_path::PathFault;
 use access_control::Rights;
 use device_requests::Operation;
 use object_defs::{Ops, Path, path_text};
-use scenario_words::hex_word;
 use std::alloc::{AllocError, Global};
 
 /// The name of an operation.
@@ -96,7 +96,7 @@ pub(crate) fn option_text(
 fn segment_text(alloc: Global, place: usize, bytes: &[u8]) -> Result<String, AllocError>
     ensures { IfOk result (λ text. string_bytes text ≡ segment_text place bytes.now) }
 {
-    let word = hex_word(alloc, bytes)?;
+    let word = bytes_text(alloc, bytes)?;
     format!(in alloc; "segment {place} of the Uri-Path is not a number: {word}")
 }
 
@@ -323,18 +323,6 @@ pub(crate) fn right_words(
     let letter = letter_text(letter);
     let place = path_text(alloc, path)?;
     format!(in alloc; "{given}: server {server} lacks {letter} on {place}")
-}
-
-/// The operations of a resource.
-fn ops_text(ops: Ops) -> &'static str
-    ensures { result.now ≡ ops_text ops }
-{
-    match ops {
-        Ops::R => "R",
-        Ops::W => "W",
-        Ops::RW => "RW",
-        Ops::E => "E",
-    }
 }
 
 /// The letter of an operation on a resource.

@@ -1,4 +1,4 @@
-use Rattle.std.proofs.Common.{Some, ap, ◌∙◌}
+use Rattle.std.proofs.Common.{Some, ap, ◌∙◌, arith}
 use Rattle.std.proofs.lemmas.Bool.{eqb-true}
 use Rattle.object_defs.specs.Path.{object_in}
 use Rattle.device_requests.specs.Refusals.{lacks_format}
@@ -37,4 +37,25 @@ limit_of-requires-clause-exceeded c =
     let r = c.args.request in
     let at = c.requires.first ∙ ap (λ ruling. Some (place_at ruling)) c.in-Limit.is in
     (tested c.args.client.now c.args.server c.args.message.now r.path r.operation 8
+    (asks c.args.message.now r c.requires.read) at).1
+
+pub payload_fault_of-requires-clause-target : goal.payload_fault_of-requires-clause-target
+payload_fault_of-requires-clause-target c =
+    let r = c.args.request in
+    let at = c.requires.first ∙ ap (λ ruling. Some (place_at ruling)) c.in-Payload.is in
+    (tested c.args.client.now c.args.server c.args.message.now r.path r.operation 6
+    (asks c.args.message.now r c.requires.read) at).2 2 (omega arith)
+
+pub payload_fault_of-requires-clause-format : goal.payload_fault_of-requires-clause-format
+payload_fault_of-requires-clause-format c =
+    let r = c.args.request in
+    let at = c.requires.first ∙ ap (λ ruling. Some (place_at ruling)) c.in-Payload.is in
+    (tested c.args.client.now c.args.server c.args.message.now r.path r.operation 6
+    (asks c.args.message.now r c.requires.read) at).2 5 (omega arith)
+
+pub payload_fault_of-requires-clause-invalid : goal.payload_fault_of-requires-clause-invalid
+payload_fault_of-requires-clause-invalid c =
+    let r = c.args.request in
+    let at = c.requires.first ∙ ap (λ ruling. Some (place_at ruling)) c.in-Payload.is in
+    (tested c.args.client.now c.args.server c.args.message.now r.path r.operation 6
     (asks c.args.message.now r c.requires.read) at).1

@@ -1,0 +1,10 @@
+//! A trace as text, with the reason why a device handles each datagram that arrives as it does.
+#![tactic(auto)]
+
+mod entries;
+mod laws;
+mod lines;
+mod selection;
+
+pub use entries::selected_reasons;
+pub use laws::reasons_are_added;
