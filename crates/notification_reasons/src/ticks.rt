@@ -63,8 +63,8 @@ fn pass(
     told: &mut Vec<Sending>,
 ) -> Result<(), StepFault>
     requires { 1 ≤ wait }
-    ensures told { (f : FlatState) → Shows device.old f → IsQuietFor f (wait - 1)
-        → OnOk result (Tells f wait told.old.items told.new.items) }
+    ensures told { (f : FlatState) → Shows device.old f → passes_end f.kept.clock (Tick wait) ≡ false
+        → IsQuietFor f (wait - 1) → OnOk result (Tells f wait told.old.items told.new.items) }
     ensures shows { (f : FlatState) → Shows device.old f → OnOk result (Shows device.new (later f wait)) }
     ensures goes { (f : FlatState) → Shows device.old f → passes_end f.kept.clock (Tick wait) ≡ false
         → result ≢ Err StepFault.Spent }
