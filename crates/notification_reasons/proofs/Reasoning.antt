@@ -14,8 +14,14 @@ use Rattle.notification_reasons.proofs.Found.{alone, told}
 abbrev pub SendsOne : Client → ℕ → Observation → Type 0
 SendsOne client clock o = (next_id : ℕ) → (d : Datagram) × ((turn_of client clock next_id o).sent ≡ d ∷ [])
 
+-- nothing is sent, or one datagram for this reason
+abbrev pub IsTold : Client → ℕ → Observation → Option NotificationReason → Type 0
+IsTold client clock o found =
+    MatchOption found (SendsNothing client clock o)
+    (λ r. IsNotificationReason client clock o r × SendsOne client clock o)
+
 sends_for : (client : Client) (clock next_id : ℕ) (o : Observation) (found : Option NotificationReason)
-    → MatchOption found (SendsNothing client clock o) (λ r. IsNotificationReason client clock o r × SendsOne client clock o)
+    → IsTold client clock o found
     → (turn_of client clock next_id o).sent ≢ []
     → (reason : NotificationReason) × IsNotificationReason client clock o reason
 sends_for client clock next_id o None h some = absurd (some (h next_id))
@@ -23,7 +29,7 @@ sends_for client clock next_id o (Some r) h some = (r, h.0)
 
 -- what is told of an observation for which there is a reason
 told_of : (client : Client) (clock : ℕ) (o : Observation) (found : Option NotificationReason) (r : NotificationReason)
-    → MatchOption found (SendsNothing client clock o) (λ r. IsNotificationReason client clock o r × SendsOne client clock o)
+    → IsTold client clock o found
     → found ≡ Some r → SendsOne client clock o
 told_of client clock o None r h is = absurd cc
 told_of client clock o (Some s) r h is = h.1

@@ -1,9 +1,9 @@
 -- What is sent in many seconds, by what is sent in each.
 use Rattle.std.proofs.Common.{◌≡◌, ℕ, zero, suc, ◌+◌, ◌-◌, ◌<◌, ◌≤◌, nat_lt, false, ◌⊎◌, inl, inr, List, [], ◌∷◌, ◌++◌}
-use Rattle.std.proofs.Common.{Option, None, Some, map, refl, sym, ap, subst, ◌∙◌, arith}
-use Rattle.std.specs.Option.{MatchOption}
+use Rattle.std.proofs.Common.{Option, None, Some, ◌^◌, min, slice_get, take, map, refl, sym, ap, subst, ◌∙◌, arith}
 use Rattle.std.proofs.lemmas.Bool.Decides.{nat_tests}
 use Rattle.std.proofs.lemmas.List.{append-nil, append_assoc}
+use Rattle.lemmas.proofs.Lists.{take_one_more}
 use Rattle.notifier.specs.declared.observation.Observation.{Observation}
 use Rattle.device_requests.specs.Client.{Client}
 use Rattle.device_notifications.specs.declared.datagram.Datagram.{Datagram}
@@ -15,12 +15,12 @@ use Rattle.device_machine.specs.State.{Machine}
 use Rattle.device_machine.specs.declared.event.Event.TheVariants.{Tick}
 use Rattle.notification_reasons.specs.Finding.{reason_at}
 use Rattle.notification_reasons.specs.Laws.{AreSentAs, IsSentAs, TicksSendThese}
-use Rattle.notification_reasons.specs.Reasons.{IsNotificationReason, SendsNothing}
+use Rattle.notification_reasons.specs.Reasons.{SendsNothing}
 use Rattle.notification_reasons.specs.Sendings.{AreSendings, AreSendingsIn, AreTickSendings, IsQuietFor, IsSending, Tells}
 use Rattle.notification_reasons.specs.declared.reasons.NotificationReason.{NotificationReason}
 use Rattle.notification_reasons.specs.declared.reasons.Sending.{Sending}
 use Rattle.notification_reasons.proofs.Found.{told}
-use Rattle.notification_reasons.proofs.Reasoning.{SendsOne, never_empty, sends_one}
+use Rattle.notification_reasons.proofs.Reasoning.{IsTold, never_empty, sends_one}
 
 -- ---- one second
 
@@ -42,7 +42,7 @@ one_sends client clock (p ∷ os) o ss s (inr h) is =
 
 -- what sends nothing under one message ID sends nothing under any
 silent_by : (client : Client) (clock next_id : ℕ) (o : Observation) (found : Option NotificationReason)
-    → MatchOption found (SendsNothing client clock o) (λ r. IsNotificationReason client clock o r × SendsOne client clock o)
+    → IsTold client clock o found
     → (turn_of client clock next_id o).sent ≡ [] → SendsNothing client clock o
 silent_by client clock next_id o None h none = h
 silent_by client clock next_id o (Some r) h none =
@@ -50,7 +50,8 @@ silent_by client clock next_id o (Some r) h none =
 
 silent : (client : Client) (clock next_id : ℕ) (o : Observation) → (turn_of client clock next_id o).sent ≡ []
     → SendsNothing client clock o
-silent client clock next_id o none = silent_by client clock next_id o (reason_at client clock o) (told client clock o) none
+silent client clock next_id o none =
+    silent_by client clock next_id o (reason_at client clock o) (told client clock o) none
 
 silent_second : (client : Client) (clock next_id : ℕ) (os : List Observation)
     → (second client clock next_id os).sent ≡ [] → AreSendings client clock os []
@@ -197,3 +198,57 @@ send_these f n ss h =
       outputs = refl;
       each = seconds_sent f.kept.client f.kept.clock n f.kept.next_id f.kept.observations ss h;
     }
+
+-- ---- as the code goes
+
+-- an observation at a place, after those before it
+pub next_silent : (client : Client) (clock : ℕ) (os : List Observation) (i : ℕ) (o : Observation) (ss : List Sending)
+    → slice_get os i ≡ Some o → AreSendings client clock (take i os) ss → SendsNothing client clock o
+    → AreSendings client clock (take (i + 1) os) ss
+next_silent client clock os i o ss at h is =
+    subst (λ xs. AreSendings client clock xs ss) (sym (take_one_more os i o at))
+    (one_silent client clock (take i os) o ss h is)
+
+pub next_sends : (client : Client) (clock : ℕ) (os : List Observation) (i : ℕ) (o : Observation) (ss : List Sending)
+    (s : Sending) → slice_get os i ≡ Some o → AreSendings client clock (take i os) ss → IsSending client clock o s
+    → AreSendings client clock (take (i + 1) os) (ss ++ s ∷ [])
+next_sends client clock os i o ss s at h is =
+    subst (λ xs. AreSendings client clock xs (ss ++ s ∷ [])) (sym (take_one_more os i o at))
+    (one_sends client clock (take i os) o ss s h is)
+
+-- what is told in the second after these
+pub told_there : (f : Machine) (wait shown clock : ℕ) (client : Client) (os : List Observation) (here : List Sending)
+    → 1 ≤ wait → IsQuietFor f (wait - 1) → passes_end f.kept.clock (Tick wait) ≡ false
+    → shown ≡ (later f (wait - 1)).kept.clock → clock ≡ min (shown + 1) (2 ^ 64 - 1) → client ≡ f.kept.client
+    → os ≡ (later f (wait - 1)).kept.observations → AreSendings client clock os here → AreTickSendings f wait here
+told_there f wait shown clock client os here some rest ends at is same left h =
+    let within = before_end f.kept.clock wait ends in
+    let now : clock ≡ f.kept.clock + (wait - 1) + 1 = omega (arith, is, at, within, some) in
+    last_second f wait clock here some rest now
+    (subst (λ c. AreSendings c clock (later f (wait - 1)).kept.observations here) same
+    (subst (λ xs. AreSendings client clock xs here) left h))
+
+-- a tick of n seconds, of which so many have passed
+pub all_told : (f : Machine) (n passed : ℕ) (ss : List Sending) → passed ≤ n → AreTickSendings f passed ss
+    → IsQuietFor (later f passed) (n - passed) → AreTickSendings f n ss
+all_told f n passed ss within h rest =
+    let all : passed + (n - passed) ≡ n = omega (arith, within) in
+    subst (λ k. AreTickSendings f k ss) all
+    (subst (AreTickSendings f (passed + (n - passed))) (append-nil ss)
+    (ticks_add f passed (n - passed) ss [] h (quiet_tick (later f passed) (n - passed) rest)))
+
+pub more_told : (f : Machine) (passed wait : ℕ) (ss new : List Sending) → AreTickSendings f passed ss
+    → Tells (later f passed) wait ss new → AreTickSendings f (passed + wait) new
+more_told f passed wait ss new h more =
+    subst (AreTickSendings f (passed + wait)) (sym more.2) (ticks_add f passed wait ss more.0 h more.1)
+
+-- the clock has room for these seconds, and for each part of them
+pub fits_rest : (f : Machine) (n passed : ℕ) → passed ≤ n → passes_end f.kept.clock (Tick n) ≡ false
+    → (later f passed).kept.clock + (n - passed) < 2 ^ 64
+fits_rest f n passed within ends = omega (arith, before_end f.kept.clock n ends, within)
+
+pub goes_there : (f : Machine) (n passed wait : ℕ) → passed ≤ n → wait ≤ n - passed
+    → passes_end f.kept.clock (Tick n) ≡ false → passes_end (later f passed).kept.clock (Tick wait) ≡ false
+goes_there f n passed wait within less ends =
+    let all = before_end f.kept.clock n ends in
+    goes_on (f.kept.clock + passed) wait (omega (arith, all, within, less))

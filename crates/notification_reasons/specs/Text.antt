@@ -11,17 +11,26 @@ use Rattle.notification_reasons.specs.declared.reasons.NotificationReason.{Notif
 use Rattle.notification_reasons.specs.declared.reasons.NotificationReason.TheVariants.{Due, Resent, Ended}
 use Rattle.notification_reasons.specs.declared.reasons.Sending.{Sending}
 
+-- one number and then another, between which this bound lies; or so far apart
+abbrev pub crossed_words : List ℕ → List ℕ → List ℕ → List ℕ → List ℕ
+crossed_words old now name bound = old ++ codes " to " ++ now ++ codes " crosses " ++ name ++ codes " " ++ bound
+
+abbrev pub stepped_words : List ℕ → List ℕ → List ℕ → List ℕ
+stepped_words old now st = codes "|" ++ old ++ codes " - " ++ now ++ codes "| >= st " ++ st
+
+abbrev pub elapsed_words : ℕ → List ℕ
+elapsed_words pmax = codes "pmax " ++ decimal pmax ++ codes " is over, with no trigger"
+
 -- what makes content due: the number that was last reported stands before the present one; gt, lt and st are written as
 -- a Discover shows them
 abbrev pub due_text : DueBy → List ℕ
 due_text (Gt old now gt) =
-    signed_decimal old ++ codes " to " ++ signed_decimal now ++ codes " crosses gt " ++ thousandths_text gt
+    crossed_words (signed_decimal old) (signed_decimal now) (codes "gt") (thousandths_text gt)
 due_text (Lt old now lt) =
-    signed_decimal old ++ codes " to " ++ signed_decimal now ++ codes " crosses lt " ++ thousandths_text lt
-due_text (St old now st) =
-    codes "|" ++ signed_decimal old ++ codes " - " ++ signed_decimal now ++ codes "| >= st " ++ thousandths_text st
+    crossed_words (signed_decimal old) (signed_decimal now) (codes "lt") (thousandths_text lt)
+due_text (St old now st) = stepped_words (signed_decimal old) (signed_decimal now) (thousandths_text st)
 due_text Payload = codes "another payload"
-due_text (Pmax pmax) = codes "pmax " ++ decimal pmax ++ codes " is over, with no trigger"
+due_text (Pmax pmax) = elapsed_words pmax
 
 -- what is sent, for what path and in what second
 abbrev pub head_text : List ℕ → List ℕ → ℕ → List ℕ

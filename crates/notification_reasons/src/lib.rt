@@ -1,4 +1,4 @@
-//! Why a device sends what it sends as seconds pass: of each datagram the trigger, the period, the resending or the end.
+//! Why a device sends something by itself, as seconds pass: a trigger, a period, a resending, or an end.
 #![tactic(auto)]
 
 mod finding;

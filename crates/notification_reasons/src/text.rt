@@ -4,9 +4,9 @@ ghost use Rattle.std.specs.Prelude.{◌≡◌, IfOk};
 ghost use Rattle.std.specs.String.{string_bytes};
 ghost use Rattle.device_requests.specs.Discover.{fraction_text, thousandths_text, unsigned_text};
 ghost use Rattle.message_words.specs.Names.{class_and_detail};
-ghost use Rattle.notification_reasons.specs.Text.{due_text, due_words, end_text, ended_words, head_text};
-ghost use Rattle.notification_reasons.specs.Text.{notification_text, reason_words, resent_words, sending_line};
-ghost use Rattle.notification_reasons.specs.Text.{sending_text};
+ghost use Rattle.notification_reasons.specs.Text.{crossed_words, due_text, due_words, elapsed_words, ended_words};
+ghost use Rattle.notification_reasons.specs.Text.{head_text, reason_words, resent_words, sending_line, sending_text};
+ghost use Rattle.notification_reasons.specs.Text.{stepped_words};
 
 use crate::reasons::{DueBy, NotificationReason, Sending};
 use object_defs::path_text;
@@ -61,25 +61,58 @@ fn class_and_detail(alloc: Global, code: u8) -> Result<String, AllocError>
     format!(in alloc; "{class}.{tens}{ones}")
 }
 
+/// One number and then another, between which this bound lies.
+fn crossed_words(
+    alloc: Global,
+    old: &str,
+    now: &str,
+    name: &str,
+    bound: &str,
+) -> Result<String, AllocError>
+    ensures { IfOk result (λ text. string_bytes text ≡ crossed_words old.now now.now name.now bound.now) }
+{
+    format!(in alloc; "{old} to {now} crosses {name} {bound}")
+}
+
+/// Two numbers that are st or more apart.
+fn stepped_words(alloc: Global, old: &str, now: &str, st: &str) -> Result<String, AllocError>
+    ensures { IfOk result (λ text. string_bytes text ≡ stepped_words old.now now.now st.now) }
+{
+    format!(in alloc; "|{old} - {now}| >= st {st}")
+}
+
+/// A maximum period that is over.
+fn elapsed_words(alloc: Global, pmax: u64) -> Result<String, AllocError>
+    ensures { IfOk result (λ text. string_bytes text ≡ elapsed_words pmax) }
+{
+    format!(in alloc; "pmax {pmax} is over, with no trigger")
+}
+
 /// What makes content due.
 fn due_text(alloc: Global, by: DueBy) -> Result<String, AllocError>
     ensures { IfOk result (λ text. string_bytes text ≡ due_text by) }
 {
     match by {
         DueBy::Gt { old, now, gt } => {
+            let old = old.to_string(alloc)?;
+            let now = now.to_string(alloc)?;
             let gt = thousandths_text(alloc, gt)?;
-            format!(in alloc; "{old} to {now} crosses gt {gt}")
+            crossed_words(alloc, old.as_str(), now.as_str(), "gt", gt.as_str())
         }
         DueBy::Lt { old, now, lt } => {
+            let old = old.to_string(alloc)?;
+            let now = now.to_string(alloc)?;
             let lt = thousandths_text(alloc, lt)?;
-            format!(in alloc; "{old} to {now} crosses lt {lt}")
+            crossed_words(alloc, old.as_str(), now.as_str(), "lt", lt.as_str())
         }
         DueBy::St { old, now, st } => {
+            let old = old.to_string(alloc)?;
+            let now = now.to_string(alloc)?;
             let st = thousandths_text(alloc, st)?;
-            format!(in alloc; "|{old} - {now}| >= st {st}")
+            stepped_words(alloc, old.as_str(), now.as_str(), st.as_str())
         }
         DueBy::Payload => String::from_str(alloc, "another payload"),
-        DueBy::Pmax { pmax } => format!(in alloc; "pmax {pmax} is over, with no trigger"),
+        DueBy::Pmax { pmax } => elapsed_words(alloc, pmax),
     }
 }
 

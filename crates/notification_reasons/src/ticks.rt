@@ -29,12 +29,13 @@ fn second_sendings(
         let Some(observation) = observations.at(place) else {
             unreachable!()
         };
-        if let Some(reason) = turn_reason(alloc, client, observations, place, clock) {
-            sendings.push(Sending {
+        match turn_reason(alloc, client, observations, place, clock) {
+            Some(reason) => sendings.push(Sending {
                 path: observation.path,
                 second: clock,
                 reason,
-            })?;
+            })?,
+            None => {}
         }
     }
     Ok(sendings)
@@ -86,8 +87,9 @@ pub fn tick_sendings(alloc: Global, device: &Device, count: u32) -> Result<Vec<S
         → IfOk result (λ v. AreTickSendings f count v.items) }
 {
     let mut told = Vec::new(alloc);
-    if next_wait(device, count).is_none() {
-        return Ok(told);
+    match next_wait(device, count) {
+        Some(_) => {}
+        None => return Ok(told),
     }
     let mut later = device.copy()?;
     let mut passed = 0;
