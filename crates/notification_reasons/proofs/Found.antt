@@ -133,8 +133,10 @@ evaluated_found client clock o is =
     (trigger_of client o) (Tells client clock o Evaluate)
     (λ c d next_id. ap (λ v. (turn_by client clock next_id o v).sent) (quiet_by client clock o c d))
     (λ c t d waited. (
-      (ready client clock o is c waited,
-      due_by client o (age_of clock o) (pmin_of client o.server o.path) t),
+      (
+        ready client clock o is c waited,
+        due_by client o (age_of clock o) (pmin_of client o.server o.path) t,
+      ),
       λ next_id. sent_by client clock next_id o c d,
     ))
     (λ m c t d at waited over. (

@@ -59,8 +59,10 @@ silent_second client clock next_id [] h = refl
 silent_second client clock next_id (o ∷ os) h =
     let t = turn_of client clock next_id o in
     let rest = second client clock t.next_id os in
-    inl (silent client clock next_id o (none_left t.sent rest.sent h),
-    silent_second client clock t.next_id os (none_right t.sent rest.sent h))
+    inl (
+      silent client clock next_id o (none_left t.sent rest.sent h),
+      silent_second client clock t.next_id os (none_right t.sent rest.sent h),
+    )
 
 -- ---- many seconds
 

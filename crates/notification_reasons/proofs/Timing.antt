@@ -72,13 +72,19 @@ two t after some h = rw (ne_eqb after t (λ e. omega (arith, some, h, e)), eq-eq
 
 three : (t after : ℕ) → 0 < t → after ≡ 7 * t → times_of t after ≡ 3
 three t after some h =
-    rw (ne_eqb after t (λ e. omega (arith, some, h, e)), ne_eqb after (3 * t) (λ e. omega (arith, some, h, e)),
-    eq-eqb after (7 * t) h) refl
+    rw (
+      ne_eqb after t (λ e. omega (arith, some, h, e)),
+      ne_eqb after (3 * t) (λ e. omega (arith, some, h, e)),
+      eq-eqb after (7 * t) h,
+    ) refl
 
 four : (t after : ℕ) → 0 < t → after ≡ 15 * t → times_of t after ≡ 4
 four t after some h =
-    rw (ne_eqb after t (λ e. omega (arith, some, h, e)), ne_eqb after (3 * t) (λ e. omega (arith, some, h, e)),
-    ne_eqb after (7 * t) (λ e. omega (arith, some, h, e))) refl
+    rw (
+      ne_eqb after t (λ e. omega (arith, some, h, e)),
+      ne_eqb after (3 * t) (λ e. omega (arith, some, h, e)),
+      ne_eqb after (7 * t) (λ e. omega (arith, some, h, e)),
+    ) refl
 
 pub times_are : (s t clock k : ℕ) → 0 < t → IsKth s t clock k → times_of t (clock - s) ≡ k
 times_are s t clock zero some h = absurd (omega (arith, h.0))

@@ -70,11 +70,7 @@ fn put_output(alloc: Global, out: &mut String, output: &Output) -> Result<(), Al
 }
 
 /// Writes the line of a sending, if there is one.
-fn put_sending(
-    alloc: Global,
-    out: &mut String,
-    sending: Option<&Sending>,
-) -> Result<(), AllocError>
+fn put_sending(alloc: Global, out: &mut String, sending: Option<&Sending>) -> Result<(), AllocError>
     ensures { OnOk result (string_bytes out.new ≡ string_bytes out.old ++ sending_lines (option_copied sending.entry)) }
 {
     match sending {
