@@ -1,5 +1,5 @@
 -- The reason that is found is the one reason, and there is none where nothing is sent.
-use Rattle.std.proofs.Common.{◌≡◌, ◌≢◌, ℕ, ◌+◌, ◌-◌, ◌<◌, ◌≤◌, nat_le, nat_lt, Bool, true, false, ◌⊎◌, inl, inr, List}
+use Rattle.std.proofs.Common.{◌≡◌, ℕ, ◌<◌, ◌≤◌, Bool, true, false}
 use Rattle.std.proofs.Common.{[], ◌∷◌, Option, None, Some, if◌then◌else◌, refl, sym, ap, subst, ◌∙◌, arith}
 use Rattle.std.specs.Option.{MatchOption, option_map, option_to_list}
 use Rattle.std.proofs.lemmas.Bool.Decides.{nat_tests}
@@ -15,10 +15,10 @@ use Rattle.device_requests.specs.Answer.{code_byte, is_content}
 use Rattle.device_requests.specs.Client.{Client}
 use Rattle.device_notifications.specs.declared.datagram.Datagram.{Datagram}
 use Rattle.device_notifications.specs.declared.evaluation.Evaluation.TheVariants.{Quiet, Sends, Gone}
-use Rattle.device_notifications.specs.Message.{open_notification, resent}
+use Rattle.device_notifications.specs.Message.{resent}
 use Rattle.device_notifications.specs.Period.{pmin_of, pmax_of}
 use Rattle.device_notifications.specs.Report.{number_at}
-use Rattle.device_notifications.specs.Second.{Sweep, age_of, evaluation_of, is_due_now, present, triggers_now, turn_as}
+use Rattle.device_notifications.specs.Second.{age_of, evaluation_of, is_due_now, present, triggers_now, turn_as}
 use Rattle.device_notifications.specs.Second.{turn_by, turn_of}
 use Rattle.notification_reasons.specs.Finding.{reason_at, reason_by, reason_in, resent_reason, times_of, trigger_of}
 use Rattle.notification_reasons.specs.Reasons.{IsDueBy, IsEnd, IsNotificationReason, IsReady, IsResending, SendsNothing}
@@ -27,7 +27,7 @@ use Rattle.notification_reasons.specs.declared.reasons.DueBy.{DueBy}
 use Rattle.notification_reasons.specs.declared.reasons.DueBy.TheVariants.{Gt, Lt, St, Payload, Pmax}
 use Rattle.notification_reasons.specs.declared.reasons.NotificationReason.{NotificationReason}
 use Rattle.notification_reasons.specs.declared.reasons.NotificationReason.TheVariants.{Due, Resent, Ended}
-use Rattle.notification_reasons.proofs.Timing.{IsAgain, sent_again, times_are}
+use Rattle.notification_reasons.proofs.Timing.{sent_again, times_are}
 use Rattle.notification_reasons.proofs.Triggers.{IsBy, choose, gt_is, lt_is, payload_is, st_is, trigger_found}
 
 -- ---- what is due, over plain values

@@ -1,6 +1,6 @@
 -- What is sent in many seconds, by what is sent in each.
-use Rattle.std.proofs.Common.{◌≡◌, ℕ, zero, suc, ◌+◌, ◌-◌, ◌<◌, ◌≤◌, nat_lt, false, ◌⊎◌, inl, inr, List, [], ◌∷◌, ◌++◌}
-use Rattle.std.proofs.Common.{Option, None, Some, ◌^◌, min, slice_get, take, map, refl, sym, ap, subst, ◌∙◌, arith}
+use Rattle.std.proofs.Common.{◌≡◌, ℕ, zero, suc, ◌+◌, ◌-◌, ◌<◌, ◌≤◌, false, inl, inr, List, [], ◌∷◌, ◌++◌}
+use Rattle.std.proofs.Common.{Option, None, Some, ◌^◌, min, slice_get, take, refl, sym, ap, subst, ◌∙◌, arith}
 use Rattle.std.proofs.lemmas.Bool.Decides.{nat_tests}
 use Rattle.std.proofs.lemmas.List.{append-nil, append_assoc}
 use Rattle.lemmas.proofs.Lists.{take_one_more}
@@ -10,7 +10,7 @@ use Rattle.device_notifications.specs.declared.datagram.Datagram.{Datagram}
 use Rattle.device_notifications.specs.Second.{Sweep, quiet, second, seconds, turn_of}
 use Rattle.device_notifications.proofs.Resting.{none_left, none_right}
 use Rattle.device_notifications.proofs.Spans.{seconds_add}
-use Rattle.device_machine.specs.Reactions.{later, passes_end, send_of, sweep_in}
+use Rattle.device_machine.specs.Reactions.{later, passes_end, sweep_in}
 use Rattle.device_machine.specs.State.{Machine}
 use Rattle.device_machine.specs.declared.event.Event.TheVariants.{Tick}
 use Rattle.notification_reasons.specs.Finding.{reason_at}

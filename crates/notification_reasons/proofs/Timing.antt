@@ -5,8 +5,7 @@ use Rattle.std.proofs.lemmas.Bool.{eq-eqb, eqb-true, ne_eqb}
 use Rattle.std.proofs.lemmas.Bool.Decides.{nat_tests}
 use Rattle.notifier.specs.Resending.{after_timeouts, is_timed_out, resending, turn_with}
 use Rattle.notifier.specs.declared.observation.Timer.{Timer}
-use Rattle.notifier.specs.declared.turn.Turn.{Turn}
-use Rattle.notifier.specs.declared.turn.Turn.TheVariants.{Evaluate, Wait, Resend, Expire}
+use Rattle.notifier.specs.declared.turn.Turn.TheVariants.{Wait, Resend, Expire}
 use Rattle.notification_reasons.specs.Finding.{times_of}
 
 -- a second is that of the kth resending

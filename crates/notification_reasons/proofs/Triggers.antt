@@ -1,15 +1,14 @@
 -- Which of the conditions triggers, over plain values.
-use Rattle.std.proofs.Common.{◌≡◌, ℕ, ℤ, Bool, true, false, not, ◌||◌, cond, ◌⊎◌, inl, inr, List, Option, None, Some}
+use Rattle.std.proofs.Common.{◌≡◌, ℕ, ℤ, Bool, true, false, not, cond, ◌⊎◌, inl, inr, List, Option, None, Some}
 use Rattle.std.proofs.Common.{if◌then◌else◌, refl, sym, ap, ◌∙◌}
 use Rattle.std.specs.Str.{bytes_eq}
 use Rattle.std.specs.Option.{option_or, unwrap_or}
 use Rattle.std.proofs.lemmas.Slice.Eq.{bytes_eq-Decides}
-use Rattle.std.proofs.lemmas.Bool.Decides.{not_from_Decides}
 use Rattle.std.proofs.lemmas.Bool.{false_from_ne_true}
 use Rattle.notifier.specs.Trigger.{crosses_gt, crosses_lt, has_condition, is_triggered, number_triggers, steps_st}
 use Rattle.notification_reasons.specs.Finding.{by_gt, by_lt, by_numbers, by_st, by_trigger}
 use Rattle.notification_reasons.specs.declared.reasons.DueBy.{DueBy}
-use Rattle.notification_reasons.specs.declared.reasons.DueBy.TheVariants.{Gt, Lt, St, Payload, Pmax}
+use Rattle.notification_reasons.specs.declared.reasons.DueBy.TheVariants.{Gt, Lt, St, Payload}
 
 pub choose : {X : Type 0} (b : Bool) (x y : X) (P : X → Type 0) → (b ≡ true → P x) → (b ≡ false → P y)
     → P (if b then x else y)
