@@ -1,6 +1,6 @@
 //! The lines of an entry.
 
-ghost use Rattle.std.specs.Prelude.{◌≡◌, ◌++◌, false, IfOk, OnOk};
+ghost use Rattle.std.specs.Prelude.{◌≡◌, ◌++◌, false, slice_get, IfOk, OnOk};
 ghost use Rattle.std.specs.Option.{option_copied};
 ghost use Rattle.std.specs.String.{string_bytes};
 ghost use Rattle.device_machine.specs.State.{Machine as FlatState, Shows};
@@ -69,6 +69,13 @@ fn put_output(alloc: Global, out: &mut String, output: &Output) -> Result<(), Al
     }
 }
 
+/// The sending at a place.
+fn sending_at(sendings: &[Sending], place: usize) -> Option<&Sending>
+    ensures { option_copied result ≡ slice_get sendings.now place }
+{
+    sendings.get(place)
+}
+
 /// Writes the line of a sending, if there is one.
 fn put_sending(alloc: Global, out: &mut String, sending: Option<&Sending>) -> Result<(), AllocError>
     ensures { OnOk result (string_bytes out.new ≡ string_bytes out.old ++ sending_lines (option_copied sending.entry)) }
@@ -93,7 +100,7 @@ fn put_outputs(
 {
     for (place, output) in outputs.iter().enumerate() {
         put_output(alloc, out, output)?;
-        put_sending(alloc, out, sendings.get(place))?;
+        put_sending(alloc, out, sending_at(sendings, place))?;
     }
     Ok(())
 }
