@@ -6,9 +6,14 @@ use Rattle.std.proofs.lemmas.Bool.{cases_eq}
 use Rattle.std.proofs.lemmas.List.{length-set}
 use Rattle.std.proofs.lemmas.Option.{slice_get_read}
 use Rattle.lemmas.proofs.Lists.{take_one_more}
+use Rattle.lemmas.proofs.Tests.{or_second}
+use Rattle.device_machine.specs.Reactions.{passes_end}
+use Rattle.device_machine.specs.declared.event.Event.TheVariants.{Tick}
 use Rattle.device_machine.specs.State.{Device, Machine, Shows}
+use Rattle.notification_reasons.specs.declared.reasons.Sending.{Sending}
 use Rattle.scenario_image.specs.declared.step.Step.{Step}
-use Rattle.scenario_image.specs.Play.{state_at}
+use Rattle.scenario_image.specs.Play.{is_step_refused, state_at}
+use Rattle.scenario_image.specs.declared.step.Step.TheVariants.{Event}
 use Rattle.scenario_image.specs.Scenario.{IsValid, Scenario}
 use Rattle.trace_file.specs.declared.entry.Entry.{Entry}
 use Rattle.fleet_core.specs.Board.{AreStarted, ShowsAfter}
@@ -19,7 +24,7 @@ use Rattle.fleet_core.proofs.Valid.{IsStep, step_is}
 use Rattle.trace_text.specs.Selection.{is_wanted}
 use Rattle.trace_text.proofs.Shown.{follows}
 use Rattle.trace_reasons.specs.Beside.{AreBeside}
-use Rattle.trace_reasons.specs.Text.{AreReasonLines, AreReasonsAt}
+use Rattle.trace_reasons.specs.Text.{AreReasonLines, AreReasonsAt, AreSendingsOf}
 
 -- ---- one element of a list is set
 
@@ -35,6 +40,14 @@ set_elsewhere (z ∷ zs) zero zero y h = absurd (h refl)
 set_elsewhere (z ∷ zs) zero (suc j) y h = refl
 set_elsewhere (z ∷ zs) (suc i) zero y h = refl
 set_elsewhere (z ∷ zs) (suc i) (suc j) y h = set_elsewhere zs i j y (λ e. h (ap suc e))
+
+-- ---- a tick that a device does not refuse
+
+pub tick_goes : (x : Device) (f : Machine) (seconds : ℕ) → is_step_refused x (Event (Tick seconds)) ≡ false → Shows x f
+    → passes_end f.kept.clock (Tick seconds) ≡ false
+tick_goes x f seconds taken shows =
+    ap (λ g. passes_end g.kept.clock (Tick seconds)) (sym shows.holds)
+    ∙ or_second x.spent (passes_end x.flat.kept.clock (Tick seconds)) taken
 
 -- ---- an entry of a run
 
@@ -79,11 +92,13 @@ shows_here s wanted es i e devices d x next is own read =
     slice_get_read devices (length devices) e.device x refl (has_row s wanted es i e devices next) here in
     subst (λ k. ShowsAfter s e.device k x) (sym next.fits.count) (next.beside.each e.device x is at)
 
--- the lines of a step's reason, where a device shows the state right before it
-pub reasons_at : (s : Scenario) (d k : ℕ) (step : Step) (x : Device) (lines : List ℕ) → IsValid s
-    → step_at s d k ≡ Some step → ShowsAfter s d k x → ((f : Machine) → Shows x f → AreReasonLines f step lines)
-    → AreReasonsAt s d k lines
-reasons_at s d k step x lines valid at shows why =
+-- the reasons of a step, where a device shows the state right before it
+pub reasons_at : (s : Scenario) (d k : ℕ) (step : Step) (x : Device) (lines : List ℕ) (sendings : List Sending)
+    → IsValid s → step_at s d k ≡ Some step → ShowsAfter s d k x
+    → ((f : Machine) → Shows x f → AreReasonLines f step lines)
+    → ((f : Machine) → Shows x f → AreSendingsOf f step sendings)
+    → AreReasonsAt s d k lines sendings
+reasons_at s d k step x lines sendings valid at shows why sent =
     let is : IsStep s d k step = step_is s d k step valid at in
     record {
       class = is.class;
@@ -92,6 +107,7 @@ reasons_at s d k step x lines valid at shows why =
       step = step;
       stands = is.stands;
       why = why (state_at is.class is.steps k) (shows is.class is.steps is.row);
+      sent = sent (state_at is.class is.steps k) (shows is.class is.steps is.row);
     }
 
 -- ---- with one entry more

@@ -1,4 +1,5 @@
-//! A trace as text, with the reason why a device handles each datagram that arrives as it does.
+//! A trace as text, with the reason why a device handles each datagram that arrives as it does, and sends each that it
+//! sends by itself.
 #![tactic(auto)]
 
 mod entries;

@@ -1,0 +1,195 @@
+//! A sending in words.
+
+ghost use Rattle.std.specs.Prelude.{◌≡◌, IfOk};
+ghost use Rattle.std.specs.String.{string_bytes};
+ghost use Rattle.device_requests.specs.Discover.{fraction_text, thousandths_text, unsigned_text};
+ghost use Rattle.message_words.specs.Names.{class_and_detail};
+ghost use Rattle.notification_reasons.specs.Text.{crossed_words, due_text, due_words, elapsed_words, ended_words};
+ghost use Rattle.notification_reasons.specs.Text.{head_text, reason_words, resent_words, sending_line, sending_text};
+ghost use Rattle.notification_reasons.specs.Text.{stepped_words};
+
+use crate::reasons::{DueBy, NotificationReason, Sending};
+use object_defs::path_text;
+use std::alloc::{AllocError, Global};
+
+/// The digits of thousandths below 1,000 after a point, with no needless zero.
+fn fraction_text(alloc: Global, fraction: u64) -> Result<String, AllocError>
+    ensures { IfOk result (λ t. string_bytes t ≡ fraction_text fraction) }
+{
+    let tenths = fraction / 100;
+    let hundredths = fraction / 10 % 10;
+    let last = fraction % 10;
+    if fraction == 0 {
+        return Ok(String::new(alloc));
+    }
+    if fraction % 100 == 0 {
+        return format!(in alloc; ".{tenths}");
+    }
+    if fraction % 10 == 0 {
+        return format!(in alloc; ".{tenths}{hundredths}");
+    }
+    format!(in alloc; ".{tenths}{hundredths}{last}")
+}
+
+/// A number of thousandths without its sign.
+fn unsigned_text(alloc: Global, number: u64) -> Result<String, AllocError>
+    ensures { IfOk result (λ t. string_bytes t ≡ unsigned_text number) }
+{
+    let whole = number / 1000;
+    let fraction = fraction_text(alloc, number % 1000)?;
+    format!(in alloc; "{whole}{fraction}")
+}
+
+/// A number of thousandths, as `-0.5` or `50`.
+fn thousandths_text(alloc: Global, number: i64) -> Result<String, AllocError>
+    ensures { IfOk result (λ t. string_bytes t ≡ thousandths_text number) }
+{
+    let text = unsigned_text(alloc, number.unsigned_abs())?;
+    if number < 0 {
+        return format!(in alloc; "-{text}");
+    }
+    Ok(text)
+}
+
+/// A code as class and detail, as `4.04`.
+fn class_and_detail(alloc: Global, code: u8) -> Result<String, AllocError>
+    ensures { IfOk result (λ text. string_bytes text ≡ class_and_detail code) }
+{
+    let class = code / 32;
+    let tens = code % 32 / 10;
+    let ones = code % 32 % 10;
+    format!(in alloc; "{class}.{tens}{ones}")
+}
+
+/// One number and then another, between which this bound lies.
+fn crossed_words(
+    alloc: Global,
+    old: &str,
+    now: &str,
+    name: &str,
+    bound: &str,
+) -> Result<String, AllocError>
+    ensures { IfOk result (λ text. string_bytes text ≡ crossed_words old.now now.now name.now bound.now) }
+{
+    format!(in alloc; "{old} to {now} crosses {name} {bound}")
+}
+
+/// Two numbers that are st or more apart.
+fn stepped_words(alloc: Global, old: &str, now: &str, st: &str) -> Result<String, AllocError>
+    ensures { IfOk result (λ text. string_bytes text ≡ stepped_words old.now now.now st.now) }
+{
+    format!(in alloc; "|{old} - {now}| >= st {st}")
+}
+
+/// A maximum period that is over.
+fn elapsed_words(alloc: Global, pmax: u64) -> Result<String, AllocError>
+    ensures { IfOk result (λ text. string_bytes text ≡ elapsed_words pmax) }
+{
+    format!(in alloc; "pmax {pmax} is over, with no trigger")
+}
+
+/// What makes content due.
+fn due_text(alloc: Global, by: DueBy) -> Result<String, AllocError>
+    ensures { IfOk result (λ text. string_bytes text ≡ due_text by) }
+{
+    match by {
+        DueBy::Gt { old, now, gt } => {
+            let old = old.to_string(alloc)?;
+            let now = now.to_string(alloc)?;
+            let gt = thousandths_text(alloc, gt)?;
+            crossed_words(alloc, old.as_str(), now.as_str(), "gt", gt.as_str())
+        }
+        DueBy::Lt { old, now, lt } => {
+            let old = old.to_string(alloc)?;
+            let now = now.to_string(alloc)?;
+            let lt = thousandths_text(alloc, lt)?;
+            crossed_words(alloc, old.as_str(), now.as_str(), "lt", lt.as_str())
+        }
+        DueBy::St { old, now, st } => {
+            let old = old.to_string(alloc)?;
+            let now = now.to_string(alloc)?;
+            let st = thousandths_text(alloc, st)?;
+            stepped_words(alloc, old.as_str(), now.as_str(), st.as_str())
+        }
+        DueBy::Payload => String::from_str(alloc, "another payload"),
+        DueBy::Pmax { pmax } => elapsed_words(alloc, pmax),
+    }
+}
+
+/// What is sent, for what path and in what second.
+fn head_text(alloc: Global, what: &str, path: &str, second: u64) -> Result<String, AllocError>
+    ensures { IfOk result (λ text. string_bytes text ≡ head_text what.now path.now second) }
+{
+    format!(in alloc; "{what} of {path} in second {second}")
+}
+
+/// Content that is due.
+fn due_words(
+    alloc: Global,
+    head: &str,
+    why: &str,
+    age: u64,
+    pmin: u64,
+) -> Result<String, AllocError>
+    ensures { IfOk result (λ text. string_bytes text ≡ due_words head.now why.now age pmin) }
+{
+    format!(in alloc; "{head}: {why}, {age} s after the last message, pmin {pmin}")
+}
+
+/// A notification that is sent again.
+fn resent_words(alloc: Global, head: &str, times: u8, after: u64) -> Result<String, AllocError>
+    ensures { IfOk result (λ text. string_bytes text ≡ resent_words head.now times after) }
+{
+    format!(in alloc; "{head}: resending {times} of 4, {after} s after the first sending")
+}
+
+/// An end.
+fn ended_words(alloc: Global, head: &str, code: &str) -> Result<String, AllocError>
+    ensures { IfOk result (λ text. string_bytes text ≡ ended_words head.now code.now) }
+{
+    format!(in alloc; "{head}: the present answer is {code}")
+}
+
+/// Why something is sent for a path in a second.
+fn reason_words(
+    alloc: Global,
+    path: &str,
+    second: u64,
+    reason: NotificationReason,
+) -> Result<String, AllocError>
+    ensures { IfOk result (λ text. string_bytes text ≡ reason_words path.now second reason) }
+{
+    match reason {
+        NotificationReason::Due { by, age, pmin } => {
+            let head = head_text(alloc, "notification", path, second)?;
+            let why = due_text(alloc, by)?;
+            due_words(alloc, head.as_str(), why.as_str(), age, pmin)
+        }
+        NotificationReason::Resent { times, after } => {
+            let head = head_text(alloc, "notification", path, second)?;
+            resent_words(alloc, head.as_str(), times, after)
+        }
+        NotificationReason::Ended { code } => {
+            let head = head_text(alloc, "end of the observation", path, second)?;
+            let code = class_and_detail(alloc, code)?;
+            ended_words(alloc, head.as_str(), code.as_str())
+        }
+    }
+}
+
+/// Why a datagram is sent for an observation, in words, in one line without its end: for which path and in which
+/// second, and the trigger, the maximum period, the resending or the code of the answer that ends the observation.
+pub fn sending_text(alloc: Global, sending: &Sending) -> Result<String, AllocError>
+    ensures { IfOk result (λ text. string_bytes text ≡ sending_text sending.now) }
+{
+    let path = path_text(alloc, sending.path)?;
+    reason_words(alloc, path.as_str(), sending.second, sending.reason)
+}
+
+/// The line with these words, which begins as a comment does.
+pub fn sending_line(alloc: Global, sending: &Sending) -> Result<String, AllocError>
+    ensures { IfOk result (λ line. string_bytes line ≡ sending_line sending.now) }
+{
+    let words = sending_text(alloc, sending)?;
+    format!(in alloc; "    # {words}\n")
+}
