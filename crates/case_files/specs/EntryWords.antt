@@ -2,21 +2,12 @@
 use Rattle.std.specs.Prelude.{ℕ, List, [], ◌∷◌, ◌++◌, codes}
 use Rattle.std.specs.Fmt.{decimal}
 use Rattle.std.specs.List.{flat_map}
-use Rattle.device_requests.specs.declared.answer.Act.{Act as Deed}
-use Rattle.device_requests.specs.declared.answer.Act.TheVariants.{Reboot, FactoryReset, RegUpdate, Disable, Missed}
+use Rattle.device_machine.specs.Acts.{act_name}
 use Rattle.device_machine.specs.declared.output.Output.{Output}
 use Rattle.device_machine.specs.declared.output.Output.TheVariants.{Send, Act}
 use Rattle.scenario_words.specs.HexWord.{hex_word}
 use Rattle.scenario_words.specs.Words.{ended_line}
 use Rattle.trace_file.specs.declared.entry.Entry.{Entry}
-
--- what a device does beside sending, by its name
-abbrev pub act_name : Deed → List ℕ
-act_name Reboot = codes "reboot"
-act_name FactoryReset = codes "factory reset"
-act_name RegUpdate = codes "reg update"
-act_name Disable = codes "disable"
-act_name Missed = codes "missed"
 
 -- an output: a datagram by its server and its bytes in hex, or what is done
 abbrev pub output_words : Output → List ℕ

@@ -4,25 +4,13 @@ ghost use Rattle.std.specs.Prelude.{◌≡◌, ◌++◌, IfOk, OnOk};
 ghost use Rattle.std.specs.List.{flat_map};
 ghost use Rattle.std.specs.String.{string_bytes};
 ghost use Rattle.scenario_words.specs.Words.{ended_line};
-ghost use Rattle.case_files.specs.EntryWords.{act_name, entries_in_words, entry_words, further_words, output_words};
+ghost use Rattle.case_files.specs.EntryWords.{entries_in_words, entry_words, further_words, output_words};
 ghost use Rattle.case_files.specs.EntryWords.{outputs_words};
 
-use device_machine::{Act, Output};
+use device_machine::{Output, act_name};
 use scenario_words::hex_word;
 use std::alloc::{AllocError, Global};
 use trace_file::Entry;
-
-fn act_name(act: Act) -> &'static str
-    ensures { result.now ≡ act_name act }
-{
-    match act {
-        Act::Reboot => "reboot",
-        Act::FactoryReset => "factory reset",
-        Act::RegUpdate => "reg update",
-        Act::Disable => "disable",
-        Act::Missed => "missed",
-    }
-}
 
 /// Writes an output.
 fn put_output(alloc: Global, out: &mut String, output: &Output) -> Result<(), AllocError>

@@ -4,12 +4,12 @@ ghost use Rattle.std.specs.Fmt.{decimal};
 ghost use Rattle.std.specs.Option.{option_copied};
 ghost use Rattle.std.specs.String.{string_bytes};
 ghost use Rattle.scenario_words.specs.HexWord.{hex_word};
-ghost use Rattle.case_files.specs.EntryWords.{act_name, output_words};
+ghost use Rattle.case_files.specs.EntryWords.{output_words};
 ghost use Rattle.command_test.specs.Came.{came_words, counts_words, device_words, number_or_none, refusal_words};
 ghost use Rattle.command_test.specs.Came.{run_words, value_or_none};
 
 use case_play::Came;
-use device_machine::{Act, Output};
+use device_machine::{Output, act_name};
 use lwm2m_values::Value;
 use scenario_words::{Cause, cause_words, hex_word, spell};
 use std::alloc::{AllocError, Global};
@@ -34,18 +34,6 @@ fn in_hex(alloc: Global, word: &str, bytes: &[u8]) -> Result<String, AllocError>
 {
     let hex = hex_word(alloc, bytes)?;
     joined(alloc, word, hex.as_str())
-}
-
-fn act_name(act: Act) -> &'static str
-    ensures { result.now ≡ act_name act }
-{
-    match act {
-        Act::Reboot => "reboot",
-        Act::FactoryReset => "factory reset",
-        Act::RegUpdate => "reg update",
-        Act::Disable => "disable",
-        Act::Missed => "missed",
-    }
 }
 
 fn sent_words(alloc: Global, server: u16, hex: &str) -> Result<String, AllocError>

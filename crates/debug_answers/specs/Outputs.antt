@@ -3,8 +3,7 @@ use Rattle.std.specs.Prelude.{ℕ, List, [], ◌∷◌, ◌++◌, codes}
 use Rattle.std.specs.Fmt.{decimal}
 use Rattle.std.specs.List.{flat_map}
 use Rattle.hex.specs.Hex.{encode_upper}
-use Rattle.device_requests.specs.declared.answer.Act.{Act as Deed}
-use Rattle.device_requests.specs.declared.answer.Act.TheVariants.{Reboot, FactoryReset, RegUpdate, Disable, Missed}
+use Rattle.device_machine.specs.Acts.{act_name}
 use Rattle.device_machine.specs.declared.output.Output.{Output}
 use Rattle.device_machine.specs.declared.output.Output.TheVariants.{Send, Act}
 use Rattle.scenario_words.specs.Words.{ended_line}
@@ -12,14 +11,6 @@ use Rattle.scenario_words.specs.Words.{ended_line}
 -- the line of bytes that are sent: the server that they go to, and the bytes in hex
 abbrev pub send_line : ℕ → List ℕ → List ℕ
 send_line server hex = ended_line (codes "send " ++ decimal server ++ codes " " ++ hex)
-
--- what a device does beside sending, by its name
-abbrev pub act_name : Deed → List ℕ
-act_name Reboot = codes "reboot"
-act_name FactoryReset = codes "factory reset"
-act_name RegUpdate = codes "reg update"
-act_name Disable = codes "disable"
-act_name Missed = codes "missed"
 
 abbrev pub act_line : List ℕ → List ℕ
 act_line name = ended_line (codes "act " ++ name)

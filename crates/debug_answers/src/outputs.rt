@@ -1,9 +1,9 @@
 //! The lines of what a device outputs.
 ghost use Rattle.std.specs.Prelude.{◌≡◌, IfOk};
 ghost use Rattle.std.specs.String.{string_bytes};
-ghost use Rattle.debug_answers.specs.Outputs.{act_line, act_name, output_line, output_lines, send_line};
+ghost use Rattle.debug_answers.specs.Outputs.{act_line, output_line, output_lines, send_line};
 
-use device_machine::{Act, Output};
+use device_machine::{Output, act_name};
 use std::alloc::{AllocError, Global};
 
 /// The outputs, a line for each, or the line `nothing`.
@@ -43,16 +43,4 @@ fn act_line(alloc: Global, name: &str) -> Result<String, AllocError>
     ensures { IfOk result (λ text. string_bytes text ≡ act_line name.now) }
 {
     format!(in alloc; "act {name}\n")
-}
-
-fn act_name(act: Act) -> &'static str
-    ensures { result.now ≡ act_name act }
-{
-    match act {
-        Act::Reboot => "reboot",
-        Act::FactoryReset => "factory reset",
-        Act::RegUpdate => "reg update",
-        Act::Disable => "disable",
-        Act::Missed => "missed",
-    }
 }

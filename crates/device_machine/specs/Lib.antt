@@ -1,3 +1,4 @@
+pub mod Acts
 pub mod Items
 pub mod Template
 pub mod Laws

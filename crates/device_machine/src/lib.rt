@@ -21,5 +21,5 @@ pub use laws::{
     ends_observations, notifies_after_pmin, notifies_before_pmax, refusals_change_nothing, repeats,
     ticks_add,
 };
-pub use output::{Output, Outputs};
+pub use output::{Output, Outputs, act_name};
 pub use recorded::Recorded;

@@ -1,4 +1,5 @@
 ghost use Rattle.std.specs.Prelude.{◌≡◌, ◌≢◌, ◌∷◌, ◌++◌, [], map, IfOk, IsOk, OnErr, OnOk};
+ghost use Rattle.device_machine.specs.Acts.{act_name};
 ghost use Rattle.device_machine.specs.Reactions.{acted, send_of};
 
 use device_notifications::Datagram;
@@ -20,6 +21,19 @@ pub enum Output {
     },
     /// The device does this.
     Act(Act),
+}
+
+/// The name of an act, as traces print it: `reboot`, `factory reset`, `reg update`, `disable` or `missed`.
+pub fn act_name(act: Act) -> &'static str
+    ensures { result.now ≡ act_name act }
+{
+    match act {
+        Act::Reboot => "reboot",
+        Act::FactoryReset => "factory reset",
+        Act::RegUpdate => "reg update",
+        Act::Disable => "disable",
+        Act::Missed => "missed",
+    }
 }
 
 /// What a device outputs at one event, in order. Contracts see the list.

@@ -145,8 +145,6 @@ twice_not : (b : Bool) → (if b then Some record_fault.Twice else None) ≡ Non
 twice_not true h = cc
 twice_not false h = refl
 
-
-
 with_record : (node : Tree) (nodes : Trees) (a : Option Assignment) (rest : Option (List Assignment))
     → Assigns a (number_in node) → has_number (number_in node) nodes ≡ false
     → Gives (λ (x : Assignment). x.resource) rest nodes
@@ -171,7 +169,8 @@ assigned purpose resources place (more node nodes) h =
     let found = resource_in resources (number_in node) in
     let t = neither_found (option_map (named place node) (refused_for purpose resources node nodes))
     (first_refused purpose resources (place + 1) nodes) h in
-    let u = neither_found (fault_as purpose node found) (if has_number (number_in node) nodes then Some record_fault.Twice else None)
+    let u = neither_found (fault_as purpose node found)
+    (if has_number (number_in node) nodes then Some record_fault.Twice else None)
     (mapped_none (named place node) (refused_for purpose resources node nodes) t.0) in
     with_record node nodes (assigned_as purpose node found) (assignments purpose resources nodes)
     (assigned_when purpose node found (id_found resources (number_in node)) u.0)

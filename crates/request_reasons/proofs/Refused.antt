@@ -15,7 +15,8 @@ use Rattle.object_defs.specs.declared.path.Path.{Path}
 use Rattle.object_defs.specs.declared.path.Path.TheVariants.{Object, Instance, Resource, Part}
 use Rattle.instance_store.specs.Stored.{Stored, has_instance}
 use Rattle.device_instances.specs.Numbers.{number_for}
-use Rattle.lwm2m_payloads.specs.Given.{assignments, complete, content_of, creation_in, given_by, given_if, instance_given}
+use Rattle.lwm2m_payloads.specs.Given.{assignments, complete, content_of, creation_in, given_by, given_if}
+use Rattle.lwm2m_payloads.specs.Given.{instance_given}
 use Rattle.lwm2m_payloads.specs.Given.{lacks_mandatory, lone_part, lone_record, number_in, one_part, part_given}
 use Rattle.lwm2m_payloads.specs.Given.{part_record, resource_given}
 use Rattle.lwm2m_payloads.specs.declared.format.Format.{Format}
@@ -35,7 +36,8 @@ use Rattle.device_requests.specs.WriteAttributes.{level_at}
 use Rattle.request_reasons.specs.Payloads.{creation_fault, fault_in, first_refused, has_number, instance_fault}
 use Rattle.request_reasons.specs.Payloads.{is_lacking, lone_part_fault, lone_part_in, mandatory_fault, number_fault}
 use Rattle.request_reasons.specs.Payloads.{part_payload_fault, part_record_fault, payload_fault, query_fault}
-use Rattle.request_reasons.specs.Payloads.{records_fault, resource_fault, resource_payload_fault, tlv_fault, value_fault}
+use Rattle.request_reasons.specs.Payloads.{records_fault, resource_fault, resource_payload_fault, tlv_fault}
+use Rattle.request_reasons.specs.Payloads.{value_fault}
 use Rattle.request_reasons.specs.Payloads.{write_fault, write_fault_as, write_fault_in}
 use Rattle.request_reasons.specs.declared.payload.PayloadFault.{PayloadFault}
 use Rattle.request_reasons.specs.declared.payload.PayloadFault.TheVariants as fault
@@ -278,7 +280,8 @@ has_fault client server path (to_write mode number payload) t s h e =
 has_fault client server path (to_write_attributes queries) t s h e =
     some_or (query_fault [] (level_at client.catalog path) 1 queries) fault.Inconsistent e
 has_fault client server path (to_create number payload) t s h e =
-    contrary _ h (creation_tlv client.store (object_in path) (defined client.catalog (object_in path)) (nodes_of_bytes payload) e)
+    contrary _ h (creation_tlv client.store (object_in path) (defined client.catalog (object_in path))
+    (nodes_of_bytes payload) e)
 has_fault client server path (to_execute number payload) t s h e = cc
 has_fault client server path (to_read accept) t s h e = cc
 has_fault client server path to_discover t s h e = cc

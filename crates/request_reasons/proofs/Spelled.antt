@@ -14,12 +14,14 @@ use Rattle.request_reasons.specs.declared.payload.PayloadFault.TheVariants as fa
 -- an option that is a query, and one that is not
 pub query_next : (o : Opt) (os : List Opt) → (o.number == 15) ≡ true → queries_of (o ∷ os) ≡ o.value ∷ queries_of os
 query_next o os h =
-    ap (λ b. map (λ (x : Opt). x.value) (cond b (o ∷ filter (λ x. x.number == 15) os) (filter (λ x. x.number == 15) os)))
+    ap (λ b. map (λ (x : Opt). x.value) (cond b (o ∷ filter (λ x. x.number == 15) os)
+    (filter (λ x. x.number == 15) os)))
     h
 
 pub no_query_next : (o : Opt) (os : List Opt) → (o.number == 15) ≡ false → queries_of (o ∷ os) ≡ queries_of os
 no_query_next o os h =
-    ap (λ b. map (λ (x : Opt). x.value) (cond b (o ∷ filter (λ x. x.number == 15) os) (filter (λ x. x.number == 15) os)))
+    ap (λ b. map (λ (x : Opt). x.value) (cond b (o ∷ filter (λ x. x.number == 15) os)
+    (filter (λ x. x.number == 15) os)))
     h
 
 same_ok : {A E : Type 0} (a b : A) → ◌≡◌ {A = Result A E} (Ok a) (Ok b) → a ≡ b
@@ -29,14 +31,14 @@ same_err : {A E : Type 0} (a b : E) → ◌≡◌ {A = Result A E} (Err a) (Err 
 same_err a b h = cc
 
 read_on : {A C E X : Type 0} (r : Result C E) (to : C → A) (next : A → X) (bad : E → X) (x : A)
-    → ◌≡◌ {A = Result A E} (elim r [ | Ok c ↦ Ok (to c) | Err e ↦ Err e ]) (Ok x)
-    → ◌≡◌ {A = X} (elim r [ | Ok c ↦ next (to c) | Err e ↦ bad e ]) (next x)
+    → ◌≡◌ {A = Result A E} (elim r [ Ok c ↦ Ok (to c) | Err e ↦ Err e ]) (Ok x)
+    → ◌≡◌ {A = X} (elim r [ Ok c ↦ next (to c) | Err e ↦ bad e ]) (next x)
 read_on (Ok c) to next bad x h = ap next (same_ok (to c) x h)
 read_on (Err e) to next bad x h = cc
 
 read_bad : {A C E X : Type 0} (r : Result C E) (to : C → A) (next : A → X) (bad : E → X) (why : E)
-    → ◌≡◌ {A = Result A E} (elim r [ | Ok c ↦ Ok (to c) | Err e ↦ Err e ]) (Err why)
-    → ◌≡◌ {A = X} (elim r [ | Ok c ↦ next (to c) | Err e ↦ bad e ]) (bad why)
+    → ◌≡◌ {A = Result A E} (elim r [ Ok c ↦ Ok (to c) | Err e ↦ Err e ]) (Err why)
+    → ◌≡◌ {A = X} (elim r [ Ok c ↦ next (to c) | Err e ↦ bad e ]) (bad why)
 read_bad (Ok c) to next bad why h = cc
 read_bad (Err e) to next bad why h = ap bad (same_err e why h)
 

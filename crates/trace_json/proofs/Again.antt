@@ -18,7 +18,7 @@ use Rattle.scenario_words.specs.PathWord.{IsPath}
 use Rattle.trace_file.specs.declared.entry.Entry.{Entry}
 use Rattle.fleet_core.specs.Run.{step_at}
 use Rattle.fleet_core.proofs.Valid.{IsStep, all_at, step_is}
-use Rattle.trace_text.specs.Lines.{act_name}
+use Rattle.device_machine.specs.Acts.{act_name}
 use Rattle.serde_json.specs.Data.{Data, Items}
 use Rattle.serde_json.specs.Data as json
 use Rattle.serde_json.specs.View.{items_of}

@@ -5,6 +5,7 @@ use Rattle.lwm2m_values.specs.declared.value.Value.{Value}
 use Rattle.lwm2m_values.specs.declared.value.Value.TheVariants.{Text, Whole, Flag, Opaque, Moment, Link}
 use Rattle.lwm2m_values.specs.Value.{kind_of}
 use Rattle.object_defs.specs.Path.{path_text}
+use Rattle.device_machine.specs.Acts.{act_name}
 use Rattle.device_machine.specs.declared.event.Event.TheVariants.{Recv, Put, Firmware, Tick}
 use Rattle.device_machine.specs.declared.output.Output.{Output}
 use Rattle.device_machine.specs.declared.output.Output.TheVariants.{Send, Act}
@@ -12,7 +13,6 @@ use Rattle.scenario_image.specs.declared.step.Step.{Step}
 use Rattle.scenario_image.specs.declared.step.Step.TheVariants.{Event, Post, Need}
 use Rattle.scenario_words.specs.ValueWords.{kind_word}
 use Rattle.message_words.specs.Text.{reading_text}
-use Rattle.trace_text.specs.Lines.{act_name}
 use Rattle.hex.specs.Hex.{encode_upper}
 use Rattle.serde_json.specs.Data.{Data, null, boolean, string}
 use Rattle.trace_json.specs.Json.{Field, integer_json, list_json, number_json, object_json}

@@ -2,27 +2,14 @@
 
 ghost use Rattle.std.specs.Prelude.{◌≡◌, ◌++◌, OnOk};
 ghost use Rattle.device_machine.specs.declared.output.Output.TheVariants as outputs;
-ghost use Rattle.trace_text.specs.Lines.{act_name};
 ghost use Rattle.trace_json.specs.Steps.{output_json, outputs_json};
 ghost use Rattle.trace_json.specs.Writing.{Has64Bits, tokens_of};
 
 use crate::datagrams::put_datagram;
 use crate::members::put_string;
-use device_machine::{Act, Output};
+use device_machine::{Act, Output, act_name};
 use json::Writer;
 use std::alloc::{AllocError, Global};
-
-fn act_name(act: Act) -> &'static str
-    ensures { result.now ≡ act_name act }
-{
-    match act {
-        Act::Reboot => "reboot",
-        Act::FactoryReset => "factory reset",
-        Act::RegUpdate => "reg update",
-        Act::Disable => "disable",
-        Act::Missed => "missed",
-    }
-}
 
 /// Writes the object of an act.
 #[tactic(auto, unfolding(crate::specs::Steps::output_json))]

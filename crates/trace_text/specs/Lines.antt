@@ -3,8 +3,7 @@ use Rattle.std.specs.Prelude.{ℕ, List, [], ◌++◌, Option, None, Some, codes
 use Rattle.std.specs.Fmt.{decimal}
 use Rattle.std.specs.List.{flat_map}
 use Rattle.coap_codec.specs.Reading.{reading_of}
-use Rattle.device_requests.specs.declared.answer.Act.{Act as Deed}
-use Rattle.device_requests.specs.declared.answer.Act.TheVariants.{Reboot, FactoryReset, RegUpdate, Disable, Missed}
+use Rattle.device_machine.specs.Acts.{act_name}
 use Rattle.device_machine.specs.declared.event.Event.TheVariants.{Recv, Put, Firmware, Tick}
 use Rattle.device_machine.specs.declared.output.Output.{Output}
 use Rattle.device_machine.specs.declared.output.Output.TheVariants.{Send, Act}
@@ -51,14 +50,6 @@ entry_line number e second words =
 -- the line of a datagram that is sent to a server, in hex
 abbrev pub sent_line : ℕ → List ℕ → List ℕ
 sent_line server bytes = ended_line (codes "=> send " ++ decimal server ++ codes " " ++ hex_word bytes)
-
--- what a device does beside sending, by its name
-abbrev pub act_name : Deed → List ℕ
-act_name Reboot = codes "reboot"
-act_name FactoryReset = codes "factory reset"
-act_name RegUpdate = codes "reg update"
-act_name Disable = codes "disable"
-act_name Missed = codes "missed"
 
 -- the lines of an output; after that of a datagram comes what the datagram says
 abbrev pub output_lines : Output → List ℕ

@@ -3,10 +3,10 @@
 ghost use Rattle.std.specs.Prelude.{◌≡◌, ◌++◌, IfOk, OnOk};
 ghost use Rattle.std.specs.Option.{option_copied};
 ghost use Rattle.std.specs.String.{string_bytes};
-ghost use Rattle.trace_text.specs.Lines.{act_name, all_output_lines, arrival_lines, entry_line, output_lines};
+ghost use Rattle.trace_text.specs.Lines.{all_output_lines, arrival_lines, entry_line, output_lines};
 ghost use Rattle.trace_text.specs.Lines.{said_line, sent_line};
 
-use device_machine::{Act, Event, Output};
+use device_machine::{Event, Output, act_name};
 use message_words::datagram_text;
 use scenario_image::Step;
 use scenario_words::hex_word;
@@ -71,18 +71,6 @@ pub(crate) fn put_sent(
 {
     let hex = hex_word(alloc, bytes)?;
     write!(out, "=> send {server} {hex}\n")
-}
-
-fn act_name(act: Act) -> &'static str
-    ensures { result.now ≡ act_name act }
-{
-    match act {
-        Act::Reboot => "reboot",
-        Act::FactoryReset => "factory reset",
-        Act::RegUpdate => "reg update",
-        Act::Disable => "disable",
-        Act::Missed => "missed",
-    }
 }
 
 /// Writes the lines of an output.

@@ -15,9 +15,13 @@ returns-in_default-fault c =
 pub loop-rest-preserved-in-Ok : goal.loop-rest-preserved-in-Ok
 loop-rest-preserved-in-Ok c = (
   rest_read c.loop-rest.changes c.add_query.new.self c.args.level (c.loop-rest.place + 1) c.loop-rest.rest.now
-  c.option-item.result c.as_slice.result.now c.in-len1-up.len_at_least c.option-item.is c.if-option-eq-URI_QUERY.true
-  c.as_slice.ensures (rw c.in-Ok.is at c.add_query.ensures.ok)
-  ∙ c.loop-rest.invariant.0,
-  omega (arith, ap length (first_and_others c.loop-rest.rest.now c.option-item.result c.in-len1-up.len_at_least
-  c.option-item.is), c.loop-rest.invariant.1),
+      c.option-item.result c.as_slice.result.now c.in-len1-up.len_at_least c.option-item.is
+      c.if-option-eq-URI_QUERY.true c.as_slice.ensures (rw c.in-Ok.is at c.add_query.ensures.ok)
+      ∙ c.loop-rest.invariant.0,
+  omega (
+    arith,
+    ap length (first_and_others c.loop-rest.rest.now c.option-item.result c.in-len1-up.len_at_least
+        c.option-item.is),
+    c.loop-rest.invariant.1,
+  ),
 )

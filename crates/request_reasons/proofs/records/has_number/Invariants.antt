@@ -5,4 +5,5 @@ use Rattle.request_reasons.proofs.records.has_number.Given as goal
 
 -- what is still to come has the same
 abbrev pub invariant-loop-node : goal.invariant-loop-node
-invariant-loop-node l = has_number l.number (trees_of (drop l.node-index l.nodes)) ≡ has_number l.number (trees_of l.nodes)
+invariant-loop-node l =
+    has_number l.number (trees_of (drop l.node-index l.nodes)) ≡ has_number l.number (trees_of l.nodes)
