@@ -199,8 +199,8 @@ fn answer_to<'a, R: Threads + Wait + Sync, F: Files, I: Input, O: Output, E: Out
             to,
             why,
         } => {
-            let selection = Selection { device, from, to };
-            Ok(Some(play(alloc, file, why, selection, files)?))
+            let part = Selection { device, from, to };
+            Ok(Some(play(alloc, file, why, part, files)?))
         }
         Job::Asm {
             input: text,

@@ -66,7 +66,8 @@ with_selection a = with_range (with_rule a (optional_number (codes "device") 655
 -- `show IMAGE TRACE [--device N] [--from N] [--to N] [--json] [--why]`
 abbrev pub show_app : App
 show_app =
-    with_rule (with_rule (with_selection (with_trace (new_app (codes "show")))) (flag (codes "json"))) (flag (codes "why"))
+    with_rule (with_rule (with_selection (with_trace (new_app (codes "show")))) (flag (codes "json")))
+    (flag (codes "why"))
 
 -- `play FILE [--device N] [--from N] [--to N] [--why]`
 abbrev pub play_app : App

@@ -285,10 +285,9 @@ fn one_job<'a>(found: &ArgMatches<'a>) -> Option<Job<'a>>
     ensures some { IfSome result (AsksFor (codes "one", rows_of (found_of found.now))) }
     ensures none { IfNone result (first_of (codes "HEX") (rows_of (found_of found.now)) ≡ None) }
 {
-    Some(Job::One {
-        hex: value_of(found, "HEX")?,
-        why: flag(found, "why"),
-    })
+    let hex = value_of(found, "HEX")?;
+    let why = flag(found, "why");
+    Some(Job::One { hex, why })
 }
 
 fn spell_job<'a>(alloc: Global, found: &ArgMatches<'a>) -> Result<Option<Job<'a>>, AllocError>
