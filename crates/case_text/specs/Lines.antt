@@ -12,7 +12,10 @@ use Rattle.scenario_words.specs.Reading.{◌>>=◌}
 use Rattle.scenario_mnemonics.specs.Messages.{datagram_of, fits_mnemonic}
 use Rattle.scenario_statements.specs.declared.statement.Statement.{Statement}
 use Rattle.scenario_statements.specs.declared.statement.Statement.TheVariants as says
+use Rattle.scenario_statements.specs.declared.acks.Ack.{Ack}
+use Rattle.scenario_statements.specs.Acks.{ack_datagram, said_ack}
 use Rattle.scenario_statements.specs.Grammar.{statement_of}
+use Rattle.scenario_statements.specs.Spelling.{line_of}
 use Rattle.case_text.specs.declared.above.CaseKind.{CaseKind}
 use Rattle.case_text.specs.declared.above.CaseKind.TheVariants as kinds
 use Rattle.case_text.specs.declared.fault.Why.{Why}
@@ -66,12 +69,24 @@ abbrev pub event_from : Option Statement → Result Event Cause
 event_from None = Err Missing
 event_from (Some s) = event_by s
 
--- the event that a line says
+-- the event that a line says, by what it says that is `ack S MID`
+abbrev pub event_or : List ℕ → Option Ack → Result Event Cause
+event_or line None = statement_of (words line) >>= event_from
+event_or line (Some a) = Ok (event.Recv a.server (ack_datagram a.mid))
+
 abbrev pub event_of : List ℕ → Result Event Cause
-event_of line = statement_of (words line) >>= event_from
+event_of line = event_or line (said_ack (words line))
 
 abbrev pub aside_of : List ℕ → Result Line Why
 aside_of line = made why.NotAnEvent (λ e. beside (part.Aside e)) (event_of (expanded (parts 32 line)))
+
+-- a line as scenario text has it, by what it says that is `ack S MID`: the Empty ACK as `recv`, any other as it is
+abbrev pub line_by : List ℕ → Option Ack → List ℕ
+line_by line None = line
+line_by line (Some a) = line_of (says.Recv a.server (ack_datagram a.mid))
+
+abbrev pub line_in_text : List ℕ → List ℕ
+line_in_text line = line_by line (said_ack (words line))
 
 -- what a line of the text is by its statement, where it stands n times
 abbrev pub part_by : ℕ → Statement → Part
@@ -91,10 +106,14 @@ part_of n (Ok None) = part.Line
 part_of n (Ok (Some s)) = part_by n s
 part_of n (Err cause) = part.Line
 
+-- the part and the text of a line of the scenario's text that stands n times
+abbrev pub text_part : ℕ → List ℕ → Line
+text_part n line = is.Part (part_of n (statement_of (words line))) (repeat n (line ++ 10 ∷ [])) n
+
 -- a line of the scenario's text that stands n times
 abbrev pub text_of : ℕ → List ℕ → Result Line Why
 text_of n line =
-    of_text (λ t. is.Part (part_of n (statement_of (words t))) (repeat n (t ++ 10 ∷ [])) n) (text_from line)
+    of_text (λ t. text_part n (line_in_text t)) (text_from line)
 
 abbrev pub counted_by : Result ℕ Cause → List ℕ → Result Line Why
 counted_by (Ok n) line = text_of n line

@@ -1,13 +1,18 @@
 //! What a line of a case of a scenario is.
 
-ghost use Rattle.std.specs.Prelude.{◌≡◌, ◌++◌, ◌∷◌, [], false, IfOk};
+ghost use Rattle.std.specs.Prelude.{◌≡◌, ◌++◌, ◌∷◌, [], false, IfOk, Ok};
 ghost use Rattle.std.specs.List.{repeat};
+ghost use Rattle.std.specs.String.{string_bytes};
+ghost use Rattle.device_machine.specs.declared.event.Event.TheVariants as event;
 ghost use Rattle.scenario_words.specs.Words.{parts, words};
-ghost use Rattle.scenario_words.specs.Reading.{Gives};
+ghost use Rattle.scenario_words.specs.Reading.{◌>>=◌, Gives};
+ghost use Rattle.scenario_statements.specs.declared.statement.Statement.TheVariants as says;
+ghost use Rattle.scenario_statements.specs.Acks.{ack_datagram};
 ghost use Rattle.scenario_statements.specs.Grammar.{statement_of};
-ghost use Rattle.case_text.specs.Lines.{answer_of, aside_of, asking_of, beside, counted_of, event_by, event_of};
-ghost use Rattle.case_text.specs.Lines.{is_marked, marked_of, part_by, part_of, question_line_of, recorded_of, stated_in};
-ghost use Rattle.case_text.specs.Lines.{text_line_of, text_of, unmarked_of};
+ghost use Rattle.scenario_statements.specs.Spelling.{line_of};
+ghost use Rattle.case_text.specs.Lines.{answer_of, aside_of, asking_of, beside, counted_of, event_by, event_from};
+ghost use Rattle.case_text.specs.Lines.{event_of, is_marked, line_in_text, marked_of, part_by, part_of, question_line_of};
+ghost use Rattle.case_text.specs.Lines.{recorded_of, stated_in, text_line_of, text_of, text_part, unmarked_of};
 ghost use Rattle.case_text.specs.Marks.{Finds};
 
 use crate::above::CaseKind;
@@ -26,7 +31,7 @@ use crate::stating::read_stated;
 use device_machine::Event;
 use lwm2m_values::Text;
 use scenario_mnemonics::encode;
-use scenario_statements::{Statement, read_statement};
+use scenario_statements::{Ack, Statement, ack_bytes, read_statement, recv_line, said_ack};
 use scenario_words::{Cause, is_name};
 use std::alloc::{AllocError, Global};
 
@@ -100,13 +105,34 @@ fn event_by(alloc: Global, statement: Statement) -> Result<Event, Cause>
     }
 }
 
-/// The event that a line says.
-fn event_of(alloc: Global, line: &[u8]) -> Result<Event, Cause>
-    ensures { Gives (λ e. e) result (event_of line.now) }
+/// The Empty ACK that arrives.
+fn acked(alloc: Global, ack: Ack) -> Result<Event, Cause>
+    ensures { Gives (λ e. e) result (Ok (event.Recv ack.server (ack_datagram ack.mid))) }
+{
+    let bytes = ack_bytes(alloc, ack.mid)?;
+    Ok(Event::Recv {
+        server: ack.server,
+        bytes,
+    })
+}
+
+/// The event of the statement of a line.
+fn stated_event(alloc: Global, line: &[u8]) -> Result<Event, Cause>
+    ensures { Gives (λ e. e) result (statement_of (words line.now) >>= event_from) }
 {
     match read_statement(alloc, line)? {
         Some(statement) => event_by(alloc, statement),
         None => Err(Cause::Missing),
+    }
+}
+
+/// The event that a line says: a statement, or `ack S MID`.
+fn event_of(alloc: Global, line: &[u8]) -> Result<Event, Cause>
+    ensures { Gives (λ e. e) result (event_of line.now) }
+{
+    match said_ack(line) {
+        Some(ack) => acked(alloc, ack),
+        None => stated_event(alloc, line),
     }
 }
 
@@ -159,6 +185,37 @@ fn ended_lines(alloc: Global, line: &str, times: u32) -> Result<Text, AllocError
     Ok(Text::from_string(all))
 }
 
+/// The Empty ACK as scenario text has it.
+fn ack_line(alloc: Global, ack: Ack) -> Result<String, AllocError>
+    ensures { IfOk result (λ s. string_bytes s ≡ line_of (says.Recv ack.server (ack_datagram ack.mid))) }
+{
+    let bytes = ack_bytes(alloc, ack.mid)?;
+    recv_line(alloc, ack.server, bytes.as_slice())
+}
+
+/// A line as scenario text has it: `ack S MID` is a `recv` there.
+fn line_in_text(alloc: Global, line: &str) -> Result<String, AllocError>
+    ensures { IfOk result (λ s. string_bytes s ≡ line_in_text line.now) }
+{
+    match said_ack(line.as_bytes()) {
+        Some(ack) => ack_line(alloc, ack),
+        None => String::from_str(alloc, line),
+    }
+}
+
+/// The part and the text of a line of the scenario's text that stands `times` times.
+fn text_part(alloc: Global, times: u32, line: &str) -> Result<Line, AllocError>
+    ensures { IfOk result (λ l. l ≡ text_part times line.now) }
+{
+    let part = part_of(alloc, times, line.as_bytes())?;
+    let text = ended_lines(alloc, line, times)?;
+    Ok(Line::Part {
+        part,
+        text,
+        lines: times,
+    })
+}
+
 /// A line of the scenario's text that stands `times` times.
 fn text_of(alloc: Global, times: u32, line: &[u8]) -> Result<Line, Why>
     ensures { Finds (λ l. l) result (text_of times line.now) }
@@ -166,13 +223,8 @@ fn text_of(alloc: Global, times: u32, line: &[u8]) -> Result<Line, Why>
     let Some(text) = checked(line) else {
         return Err(Why::NotText);
     };
-    let part = part_of(alloc, times, line)?;
-    let text = ended_lines(alloc, text, times)?;
-    Ok(Line::Part {
-        part,
-        text,
-        lines: times,
-    })
+    let text = line_in_text(alloc, text)?;
+    Ok(text_part(alloc, times, text.as_str())?)
 }
 
 /// `N LINE`.

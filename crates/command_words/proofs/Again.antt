@@ -31,7 +31,7 @@ use Rattle.scenario_statements.specs.Spelling.{line_of}
 use Rattle.trace_text.specs.Lines.{said_line}
 use Rattle.command_files.specs.declared.answer.Answer.{Answer}
 use Rattle.command_words.specs.declared.arrival.Arrival.{Arrival}
-use Rattle.command_words.specs.Acks.{ack_datagram, ack_line}
+use Rattle.scenario_statements.specs.Acks.{ack_datagram, ack_line}
 use Rattle.command_words.specs.Again.{AcksAreFound, AcksAreSaidAgain, IsSaidAgain, MnemonicsAreFound}
 use Rattle.command_words.specs.Again.{MnemonicsAreSaidAgain, OthersAreSaidAgain}
 use Rattle.command_words.specs.Saying.{said_text}

@@ -24,7 +24,7 @@ use Rattle.scenario_statements.specs.declared.statement.Statement.TheVariants as
 use Rattle.scenario_statements.specs.Spelling.{line_of}
 use Rattle.scenario_asm.specs.Canonical.{of_datagram}
 use Rattle.trace_text.specs.Lines.{said_line}
-use Rattle.command_words.specs.Acks.{ack_datagram, ack_line, acknowledged, empty_ack, is_ack}
+use Rattle.scenario_statements.specs.Acks.{ack_datagram, ack_line, acknowledged, empty_ack, is_ack}
 use Rattle.command_words.specs.Saying.{said_text, text_as}
 
 -- what is said of a datagram begins with this line

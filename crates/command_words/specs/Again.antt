@@ -9,7 +9,7 @@ use Rattle.scenario_statements.specs.declared.statement.Statement.TheVariants as
 use Rattle.scenario_statements.specs.Grammar.{statement_of}
 use Rattle.scenario_statements.specs.Spelling.{line_of}
 use Rattle.command_files.specs.declared.answer.Answer.{Answer}
-use Rattle.command_words.specs.Acks.{ack_datagram, ack_line, ack_words}
+use Rattle.scenario_statements.specs.Acks.{ack_datagram, ack_line, ack_words}
 use Rattle.command_words.specs.Saying.{IsSayDone}
 use Rattle.command_words.specs.Spelling.{IsSpellDone, said_words}
 

@@ -1,4 +1,3 @@
-pub mod Acks
 pub mod Again
 pub mod Inputs
 pub mod Inside

@@ -12,7 +12,7 @@ use Rattle.command_files.specs.declared.answer.Answer.{Answer}
 use Rattle.command_files.specs.declared.fault.Fault.{Fault}
 use Rattle.command_files.specs.declared.fault.Fault.TheVariants as faults
 use Rattle.command_files.specs.declared.status.Status.TheVariants.{Done}
-use Rattle.command_words.specs.Acks.{ack_line, acknowledged}
+use Rattle.scenario_statements.specs.Acks.{ack_line, acknowledged}
 
 -- of an Empty ACK of this message ID `ack S MID` and what it says, of any other what `show` prints where it arrives
 abbrev pub text_as : Option ℕ → ℕ → List ℕ → List ℕ

@@ -10,8 +10,7 @@ use Rattle.scenario_image.specs.declared.step.Step.TheVariants.{Event}
 use Rattle.scenario_image.specs.Scenario.{is_within_limits}
 use Rattle.scenario_words.specs.declared.cause.Cause.{Cause}
 use Rattle.scenario_words.specs.declared.cause.Cause.TheVariants.{Limit, Missing, Range}
-use Rattle.scenario_words.specs.Number.{number_of}
-use Rattle.scenario_words.specs.Reading.{◌>>=◌, ended, word_by}
+use Rattle.scenario_words.specs.Reading.{◌>>=◌}
 use Rattle.scenario_words.specs.Words.{ended_line, words}
 use Rattle.scenario_mnemonics.specs.Messages.{datagram_of, fits_mnemonic}
 use Rattle.scenario_statements.specs.declared.statement.Statement.{Statement}
@@ -22,7 +21,7 @@ use Rattle.command_files.specs.declared.answer.Answer.{Answer}
 use Rattle.command_files.specs.declared.fault.Fault.{Fault}
 use Rattle.command_files.specs.declared.fault.Fault.TheVariants.{Memory, NoDatagram, Text}
 use Rattle.command_files.specs.declared.status.Status.TheVariants.{Done}
-use Rattle.command_words.specs.Acks.{ack_datagram}
+use Rattle.scenario_statements.specs.Acks.{ack_datagram, ack_from}
 use Rattle.command_words.specs.declared.arrival.Arrival.{Arrival}
 
 -- a datagram that a step of a scenario may have
@@ -36,13 +35,9 @@ denoted (says.Request server m) =
     if fits_mnemonic m then within_limits (record { server = server; bytes = datagram_of m }) else Err Range
 denoted _ = Ok None
 
--- the words after `ack`: the server, the message ID, and no more
+-- the datagram of the words after `ack`
 abbrev pub ack : List (List ℕ) → Result (Option Arrival) Cause
-ack ws = do
-  s ← word_by (number_of 1 65534) ws
-  m ← word_by (number_of 0 65535) s.1
-  e ← ended m.1
-  Ok (Some (record { server = s.0; bytes = ack_datagram m.0 }))
+ack ws = ack_from ws >>= (λ a. Ok (Some (record { server = a.server; bytes = ack_datagram a.mid })))
 
 -- a line without words states nothing, and is refused as a text that states nothing is
 abbrev pub denoted_by : Option Statement → Result (Option Arrival) Cause

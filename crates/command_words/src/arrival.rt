@@ -4,11 +4,10 @@ ghost use Rattle.scenario_words.specs.Reading.{Gives};
 ghost use Rattle.scenario_words.specs.Words.{words};
 ghost use Rattle.command_words.specs.Spelling.{ack, arrival_of, denoted, stated, within_limits};
 
-use crate::acks::ack_bytes;
 use octets::Bytes;
 use scenario_mnemonics::encode;
-use scenario_statements::{Statement, read_statement};
-use scenario_words::{Cause, end, is_name, natural, next_word};
+use scenario_statements::{Ack, Statement, ack_bytes, read_ack, read_statement};
+use scenario_words::{Cause, is_name, next_word};
 use std::alloc::Global;
 
 /// The most bytes of a datagram that a step of a scenario may have.
@@ -65,14 +64,9 @@ fn stated(alloc: Global, line: &[u8]) -> Result<Option<Arrival>, Cause>
 fn ack(alloc: Global, line: &[u8]) -> Result<Option<Arrival>, Cause>
     ensures { Gives (λ a. a) result (ack (words line.now)) }
 {
-    let (server, line) = natural(line, 1, 65534)?;
-    let (mid, line) = natural(line, 0, 65535)?;
-    end(line)?;
-    let bytes = ack_bytes(alloc, mid as u16)?;
-    Ok(Some(Arrival {
-        server: server as u16,
-        bytes,
-    }))
+    let Ack { server, mid } = read_ack(line)?;
+    let bytes = ack_bytes(alloc, mid)?;
+    Ok(Some(Arrival { server, bytes }))
 }
 
 /// The datagram that the words of a line denote, if they denote one. The line is refused as a text of scenarios is.

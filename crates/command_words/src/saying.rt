@@ -3,8 +3,9 @@ ghost use Rattle.std.specs.Prelude.{◌≡◌, IfErr, IfOk};
 ghost use Rattle.std.specs.String.{string_bytes};
 ghost use Rattle.command_words.specs.Saying.{IsSayDone, IsSayFault, said_text};
 
-use crate::acks::{ack_text, acknowledged};
+use crate::acks::ack_text;
 use command_files::{Answer, Fault, Refusal, Status, Why, read_hex};
+use scenario_statements::acknowledged;
 use std::alloc::{AllocError, Global};
 use trace_text::arrival_text;
 

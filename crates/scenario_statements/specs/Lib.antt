@@ -1,2 +1,3 @@
+pub mod Acks
 pub mod Grammar
 pub mod Spelling
