@@ -277,15 +277,15 @@ unread a b same = subst (λ x. WhereKnown (IsWithin most_bytes) a x) (sym same) 
 within_job : (holds : List ℕ → List ℕ → Type 0) (faults : StreamFaults) (job : Job) (before after : Streams)
     → IsDebuggedJob holds faults job before after → WhereKnown (IsWithin most_bytes) before.input after.input
 within_job holds faults (jobs.Debug image trace) before after h = h.conversation.within
-within_job holds faults (jobs.One hex) before after h = absurd h
+within_job holds faults (jobs.One hex why) before after h = absurd h
 within_job holds faults (jobs.Say hex server) before after h = absurd h
 within_job holds faults (jobs.Spell statement) before after h = absurd h
-within_job holds faults (jobs.Play file device from to) before after h = absurd h
+within_job holds faults (jobs.Play file device from to why) before after h = absurd h
 within_job holds faults (jobs.Asm input output) before after h = absurd h
 within_job holds faults (jobs.Dis input) before after h = absurd h
 within_job holds faults (jobs.Run image workers batch trace) before after h = absurd h
 within_job holds faults (jobs.Check image trace) before after h = absurd h
-within_job holds faults (jobs.Show image trace device from to json) before after h = absurd h
+within_job holds faults (jobs.Show image trace device from to form) before after h = absurd h
 within_job holds faults (jobs.Pcap image trace output) before after h = absurd h
 within_job holds faults (jobs.Titles files only) before after h = absurd h
 within_job holds faults (jobs.Test files only tap junit) before after h = absurd h
@@ -294,15 +294,15 @@ within_cut : (holds : List ℕ → List ℕ → Type 0) (faults : StreamFaults) 
     (fault : Fault) → IsCutJob holds faults job before after fault
     → WhereKnown (IsWithin most_bytes) before.input after.input
 within_cut holds faults (jobs.Debug image trace) before after fault h = h.cut.within
-within_cut holds faults (jobs.One hex) before after fault h = absurd h
+within_cut holds faults (jobs.One hex why) before after fault h = absurd h
 within_cut holds faults (jobs.Say hex server) before after fault h = absurd h
 within_cut holds faults (jobs.Spell statement) before after fault h = absurd h
-within_cut holds faults (jobs.Play file device from to) before after fault h = absurd h
+within_cut holds faults (jobs.Play file device from to why) before after fault h = absurd h
 within_cut holds faults (jobs.Asm input output) before after fault h = absurd h
 within_cut holds faults (jobs.Dis input) before after fault h = absurd h
 within_cut holds faults (jobs.Run image workers batch trace) before after fault h = absurd h
 within_cut holds faults (jobs.Check image trace) before after fault h = absurd h
-within_cut holds faults (jobs.Show image trace device from to json) before after fault h = absurd h
+within_cut holds faults (jobs.Show image trace device from to form) before after fault h = absurd h
 within_cut holds faults (jobs.Pcap image trace output) before after fault h = absurd h
 within_cut holds faults (jobs.Titles files only) before after fault h = absurd h
 within_cut holds faults (jobs.Test files only tap junit) before after fault h = absurd h

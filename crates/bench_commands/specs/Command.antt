@@ -1,5 +1,5 @@
 -- What a command comes to: the words were answered, or refused, and the status says which.
-use Rattle.std.specs.Prelude.{ℕ, ◌≡◌, ◌⊎◌, List, [], Option, map, option_map}
+use Rattle.std.specs.Prelude.{ℕ, ◌≡◌, ◌⊎◌, true, false, List, [], Option, map, option_map}
 use Rattle.std.specs.Io.KnownBytes.{Appends}
 use Rattle.std.specs.String.{string_bytes}
 use Rattle.command_line.specs.Words.{IsReadAs}
@@ -8,6 +8,8 @@ use Rattle.command_line.specs.declared.words.Asked.TheVariants as asked
 use Rattle.command_line.specs.declared.words.Job.{Job}
 use Rattle.command_line.specs.declared.words.Job.TheVariants as jobs
 use Rattle.command_line.specs.declared.words.Live.{Live}
+use Rattle.command_line.specs.declared.words.TraceForm.{TraceForm as AskedForm}
+use Rattle.command_line.specs.declared.words.TraceForm.TheVariants as asked_forms
 use Rattle.command_files.specs.Answers.{IsUndelivered, files_of}
 use Rattle.command_debug.specs.Debugging.{IsDebugCutAt, IsDebuggedAt, IsDebugRefused}
 use Rattle.command_files.specs.Files.{Grows, most_bytes}
@@ -16,6 +18,7 @@ use Rattle.command_scenarios.specs.Jobs.{IsAsmDone, IsDisDone, IsRunDone, IsRunR
 use Rattle.command_files.specs.Verdicts.{IsCheckDone}
 use Rattle.command_files.specs.Loading.{IsCheckRefused, IsImageFault}
 use Rattle.command_demo.specs.One.{IsOneDone, IsOneFault}
+use Rattle.command_demo.specs.Why.{IsOneWhyDone}
 use Rattle.command_live.specs.Live.{IsLiveDone, IsLiveFault}
 use Rattle.command_files.specs.Refusals.{IsTold}
 use Rattle.command_files.specs.Status.{text_status}
@@ -23,6 +26,8 @@ use Rattle.command_play.specs.Play.{IsPlayDone, IsPlayFault}
 use Rattle.command_texts.specs.Texts.{IsTextFault}
 use Rattle.command_test.specs.Jobs.{IsTestDone, IsTestFault, IsTitlesDone}
 use Rattle.command_traces.specs.Traces.{IsPcapDone, IsPcapRefused, IsShowDone, IsShowRefused}
+use Rattle.command_traces.specs.declared.form.TraceForm.{TraceForm}
+use Rattle.command_traces.specs.declared.form.TraceForm.TheVariants as forms
 use Rattle.command_words.specs.Inputs.{IsInputRefused, IsInputSaid}
 use Rattle.command_words.specs.Saying.{IsSayDone, IsSayFault}
 use Rattle.command_words.specs.Spelling.{IsSpellDone, IsSpellFault}
@@ -35,21 +40,28 @@ use Rattle.command_files.specs.declared.status.Status.TheVariants as ends
 
 -- ---- what words are answered with
 
+-- the form of a trace that is asked for
+abbrev pub form_of : AskedForm → TraceForm
+form_of asked_forms.Text = forms.Text
+form_of asked_forms.Reasons = forms.Reasons
+form_of asked_forms.JsonLines = forms.JsonLines
+
 -- what a job is answered with
 abbrev pub IsDone : (List ℕ → List ℕ → Type 0) → Job → Answer → Type 0
-IsDone holds (jobs.One hex) answer = IsOneDone hex.now answer
+IsDone holds (jobs.One hex false) answer = IsOneDone hex.now answer
+IsDone holds (jobs.One hex true) answer = IsOneWhyDone hex.now answer
 IsDone holds (jobs.Say hex server) answer = IsSayDone hex.now server answer
 IsDone holds (jobs.Spell statement) answer = IsSpellDone (map (λ w. w.now) statement.items) answer
-IsDone holds (jobs.Play file device from to) answer =
-    IsPlayDone holds file.now (record { device = device; from = from; to = to }) answer
+IsDone holds (jobs.Play file device from to why) answer =
+    IsPlayDone holds file.now why (record { device = device; from = from; to = to }) answer
 IsDone holds (jobs.Asm input output) answer = IsAsmDone holds (record { text = input.now; image = output.now }) answer
 IsDone holds (jobs.Dis input) answer = IsDisDone holds input.now answer
 IsDone holds (jobs.Run image workers batch trace) answer =
     IsRunDone holds image.now (record { workers = workers; batch = batch }) (option_map (λ p. p.now) trace) answer
 IsDone holds (jobs.Check image trace) answer =
     IsCheckDone holds (record { image = image.now; trace = trace.now }) answer
-IsDone holds (jobs.Show image trace device from to json) answer =
-    IsShowDone holds (record { image = image.now; trace = trace.now }) json
+IsDone holds (jobs.Show image trace device from to form) answer =
+    IsShowDone holds (record { image = image.now; trace = trace.now }) (form_of form)
     (record { device = device; from = from; to = to }) answer
 IsDone holds (jobs.Pcap image trace output) answer =
     IsPcapDone holds (record { image = image.now; trace = trace.now }) output.now answer
@@ -63,10 +75,10 @@ IsDone holds (jobs.Test files only tap junit) answer =
 
 -- a job is refused for this fault
 abbrev pub IsRefusedJob : (List ℕ → List ℕ → Type 0) → (List ℕ → Type 0) → Job → Fault → Type 0
-IsRefusedJob holds fails (jobs.One hex) fault = IsOneFault hex.now fault
+IsRefusedJob holds fails (jobs.One hex why) fault = IsOneFault hex.now fault
 IsRefusedJob holds fails (jobs.Say hex server) fault = IsSayFault hex.now fault
 IsRefusedJob holds fails (jobs.Spell statement) fault = IsSpellFault (map (λ w. w.now) statement.items) fault
-IsRefusedJob holds fails (jobs.Play file device from to) fault =
+IsRefusedJob holds fails (jobs.Play file device from to why) fault =
     IsPlayFault holds fails file.now (record { device = device; from = from; to = to }) fault
 IsRefusedJob holds fails (jobs.Asm input output) fault = IsTextFault holds fails input.now fault
 IsRefusedJob holds fails (jobs.Dis input) fault = IsImageFault holds fails input.now fault
@@ -74,7 +86,7 @@ IsRefusedJob holds fails (jobs.Run image workers batch trace) fault =
     IsRunRefused holds fails image.now (record { workers = workers; batch = batch }) fault
 IsRefusedJob holds fails (jobs.Check image trace) fault =
     IsCheckRefused holds fails (record { image = image.now; trace = trace.now }) fault
-IsRefusedJob holds fails (jobs.Show image trace device from to json) fault =
+IsRefusedJob holds fails (jobs.Show image trace device from to form) fault =
     IsShowRefused holds fails (record { image = image.now; trace = trace.now })
     (record { device = device; from = from; to = to }) fault
 IsRefusedJob holds fails (jobs.Pcap image trace output) fault =

@@ -1,20 +1,20 @@
 //! One command: its words, its answer, and the status that the program ends with.
-ghost use Rattle.std.specs.Prelude.{◌⊎◌, IfErr, IfNone, IfOk, IfSome, map};
+ghost use Rattle.std.specs.Prelude.{◌≡◌, ◌⊎◌, IfErr, IfNone, IfOk, IfSome, map};
 ghost use Rattle.std.specs.String.{string_bytes};
 ghost use Rattle.bench_commands.specs.Command.{Ends, IsCutJob, IsDebuggedJob, IsDone, IsFinished, IsRefusedJob};
-ghost use Rattle.bench_commands.specs.Command.{IsUnfinished};
+ghost use Rattle.bench_commands.specs.Command.{IsUnfinished, form_of};
 ghost use Rattle.command_files.specs.World.{IsIdle};
 
 use command_debug::debug;
-use command_demo::one;
+use command_demo::{one, one_why};
 use command_files::files::Files;
 use command_files::{Answer, Input, Output, Refusal, Status, deliver, tell};
-use command_line::{Asked, Job, read};
+use command_line::{Asked, Job, TraceForm as AskedForm, read};
 use command_live::live;
 use command_play::play;
 use command_scenarios::{asm, check, dis, run};
 use command_test::{test, titles};
-use command_traces::{pcap, show};
+use command_traces::{TraceForm, pcap, show};
 use command_words::{say, say_input, spell};
 use std::alloc::Global;
 use std::net::Net;
@@ -145,6 +145,17 @@ fn perform<'a, R: Threads + Wait + Sync + Net + Clock, F: Files, I: Input, O: Ou
     }
 }
 
+/// The form of a trace that is asked for.
+fn form_of(form: AskedForm) -> TraceForm
+    ensures { result ≡ form_of form }
+{
+    match form {
+        AskedForm::Text => TraceForm::Text,
+        AskedForm::Reasons => TraceForm::Reasons,
+        AskedForm::JsonLines => TraceForm::JsonLines,
+    }
+}
+
 /// What the program answers to a job; none where that is a debugger over a run: then the lines of `input` were
 /// answered.
 fn answer_to<'a, R: Threads + Wait + Sync, F: Files, I: Input, O: Output, E: Output>(
@@ -177,7 +188,8 @@ fn answer_to<'a, R: Threads + Wait + Sync, F: Files, I: Input, O: Output, E: Out
         r.fault) }
 {
     match job {
-        Job::One { hex } => Ok(Some(one(alloc, hex)?)),
+        Job::One { hex, why: false } => Ok(Some(one(alloc, hex)?)),
+        Job::One { hex, why: true } => Ok(Some(one_why(alloc, hex)?)),
         Job::Say { hex, server } => Ok(Some(say(alloc, hex, server)?)),
         Job::Spell { statement } => Ok(Some(spell(alloc, statement.as_slice())?)),
         Job::Play {
@@ -185,7 +197,11 @@ fn answer_to<'a, R: Threads + Wait + Sync, F: Files, I: Input, O: Output, E: Out
             device,
             from,
             to,
-        } => Ok(Some(play(alloc, file, Selection { device, from, to }, files)?)),
+            why,
+        } => {
+            let part = Selection { device, from, to };
+            Ok(Some(play(alloc, file, why, part, files)?))
+        }
         Job::Asm {
             input: text,
             output: path,
@@ -204,10 +220,10 @@ fn answer_to<'a, R: Threads + Wait + Sync, F: Files, I: Input, O: Output, E: Out
             device,
             from,
             to,
-            json,
+            form,
         } => {
             let selection = Selection { device, from, to };
-            Ok(Some(show(alloc, image, trace, json, selection, files)?))
+            Ok(Some(show(alloc, image, trace, form_of(form), selection, files)?))
         }
         Job::Pcap {
             image,

@@ -8,9 +8,9 @@ use Rattle.command_line.specs.Words.{AsksFor, AsksForLog, AsksToLive, IsNoNumber
 use Rattle.command_line.specs.Words.{needed_number, number, number_from, optional_number, several, text_option}
 use Rattle.command_line.specs.Words.{with_settings}
 
--- `one HEX`
+-- `one HEX [--why]`
 abbrev pub one_app : App
-one_app = with_rule (new_app (codes "one")) (needed (codes "HEX"))
+one_app = with_rule (with_rule (new_app (codes "one")) (needed (codes "HEX"))) (flag (codes "why"))
 
 -- `--server S`
 abbrev pub server : Rule
@@ -59,17 +59,19 @@ abbrev pub with_range : App → App
 with_range a =
     with_rule (with_rule a (optional_number (codes "from") 4294967295)) (optional_number (codes "to") 4294967295)
 
--- `show IMAGE TRACE [--device N] [--from N] [--to N] [--json]`
+-- `[--device N] [--from N] [--to N]`
+abbrev pub with_selection : App → App
+with_selection a = with_range (with_rule a (optional_number (codes "device") 65535))
+
+-- `show IMAGE TRACE [--device N] [--from N] [--to N] [--json] [--why]`
 abbrev pub show_app : App
 show_app =
-    with_rule (with_range (with_rule (with_trace (new_app (codes "show"))) (optional_number (codes "device") 65535)))
-    (flag (codes "json"))
+    with_rule (with_rule (with_selection (with_trace (new_app (codes "show")))) (flag (codes "json")))
+    (flag (codes "why"))
 
--- `play FILE [--device N] [--from N] [--to N]`
+-- `play FILE [--device N] [--from N] [--to N] [--why]`
 abbrev pub play_app : App
-play_app =
-    with_range (with_rule (with_rule (new_app (codes "play")) (needed (codes "FILE")))
-    (optional_number (codes "device") 65535))
+play_app = with_rule (with_selection (with_rule (new_app (codes "play")) (needed (codes "FILE")))) (flag (codes "why"))
 
 -- `pcap IMAGE TRACE OUT`
 abbrev pub pcap_app : App
@@ -139,6 +141,15 @@ ListsAndPlays rows =
 -- `test` has no file, or words that exclude each other
 abbrev pub LacksTest : List Row → Type 0
 LacksTest rows = (all_of (codes "FILE") rows ≡ None) ⊎ ListsAndPlays rows
+
+-- `--json` stands beside `--why`, of which each wants a form of its own
+abbrev pub WantsTwoForms : List Row → Type 0
+WantsTwoForms rows = (is_set (codes "json") rows ≡ true) × (is_set (codes "why") rows ≡ true)
+
+-- `show` has no file, or words that exclude each other
+abbrev pub LacksShow : List Row → Type 0
+LacksShow rows =
+    (first_of (codes "IMAGE") rows ≡ None) ⊎ ((first_of (codes "TRACE") rows ≡ None) ⊎ WantsTwoForms rows)
 
 -- what words that were taken ask for, by the subcommand that was found; a text where they ask for nothing
 abbrev pub IsTakenAs : Option (Word × List Row) → Asked → Type 0

@@ -14,6 +14,8 @@ use Rattle.command_line.specs.declared.words.Job.TheVariants as jobs
 use Rattle.command_line.specs.declared.words.Live.{Live}
 use Rattle.command_line.specs.declared.words.Asked.{Asked}
 use Rattle.command_line.specs.declared.words.Asked.TheVariants as asked
+use Rattle.command_line.specs.declared.words.TraceForm.{TraceForm}
+use Rattle.command_line.specs.declared.words.TraceForm.TheVariants as forms
 
 -- ---- what is taken
 
@@ -61,15 +63,15 @@ command name rules = fold with_rule (new_app name) rules
 
 abbrev pub commands : List App
 commands =
-    -- `one HEX`
-    command (codes "one") (needed (codes "HEX") ∷ [])
+    -- `one HEX [--why]`
+    command (codes "one") (needed (codes "HEX") ∷ flag (codes "why") ∷ [])
     -- `say HEX [--server S]`
     ∷ command (codes "say") (needed (codes "HEX") ∷ number_from (codes "server") 1 65534 (codes "1") ∷ [])
     -- `spell STATEMENT ..`
     ∷ command (codes "spell") (several (codes "STATEMENT") ∷ [])
-    -- `play FILE [--device N] [--from N] [--to N]`
+    -- `play FILE [--device N] [--from N] [--to N] [--why]`
     ∷ command (codes "play") (needed (codes "FILE") ∷ optional_number (codes "device") 65535
-    ∷ optional_number (codes "from") 4294967295 ∷ optional_number (codes "to") 4294967295 ∷ [])
+    ∷ optional_number (codes "from") 4294967295 ∷ optional_number (codes "to") 4294967295 ∷ flag (codes "why") ∷ [])
     -- `asm IN OUT`
     ∷ command (codes "asm") (needed (codes "IN") ∷ needed (codes "OUT") ∷ [])
     -- `dis IN`
@@ -79,9 +81,10 @@ commands =
     ∷ number (codes "batch") 4294967295 (codes "16") ∷ text_option (codes "trace") ∷ [])
     -- `check IMAGE TRACE`
     ∷ command (codes "check") (needed (codes "IMAGE") ∷ needed (codes "TRACE") ∷ [])
-    -- `show IMAGE TRACE [--device N] [--from N] [--to N] [--json]`
+    -- `show IMAGE TRACE [--device N] [--from N] [--to N] [--json] [--why]`
     ∷ command (codes "show") (needed (codes "IMAGE") ∷ needed (codes "TRACE") ∷ optional_number (codes "device") 65535
-    ∷ optional_number (codes "from") 4294967295 ∷ optional_number (codes "to") 4294967295 ∷ flag (codes "json") ∷ [])
+    ∷ optional_number (codes "from") 4294967295 ∷ optional_number (codes "to") 4294967295 ∷ flag (codes "json")
+    ∷ flag (codes "why") ∷ [])
     -- `pcap IMAGE TRACE OUT`
     ∷ command (codes "pcap") (needed (codes "IMAGE") ∷ needed (codes "TRACE") ∷ needed (codes "OUT") ∷ [])
     -- `debug IMAGE TRACE`
@@ -141,18 +144,26 @@ abbrev pub AsksForCases : Word × List Row → List Word → Option Word → Typ
 AsksForCases found files only =
     (found.0 ≡ codes "test") × AreTexts found (codes "FILE") files × (first_of (codes "only") found.1 ≡ only)
 
+-- the words of `show` ask for a trace in this form: `--json` and `--why` exclude each other
+abbrev pub AsksForForm : List Row → TraceForm → Type 0
+AsksForForm rows forms.Text = (is_set (codes "json") rows ≡ false) × (is_set (codes "why") rows ≡ false)
+AsksForForm rows forms.Reasons = (is_set (codes "json") rows ≡ false) × (is_set (codes "why") rows ≡ true)
+AsksForForm rows forms.JsonLines = (is_set (codes "json") rows ≡ true) × (is_set (codes "why") rows ≡ false)
+
 -- a subcommand with its values asks for this
 abbrev pub AsksFor : Word × List Row → Job → Type 0
-AsksFor found (jobs.One hex) = (found.0 ≡ codes "one") × IsText found (codes "HEX") hex.now
+AsksFor found (jobs.One hex why) =
+    (found.0 ≡ codes "one") × IsText found (codes "HEX") hex.now × (is_set (codes "why") found.1 ≡ why)
 AsksFor found (jobs.Say hex server) =
     (found.0 ≡ codes "say") × IsText found (codes "HEX") hex.now × (hex.now ≢ codes "-")
     × IsNumber 16 (one_of (codes "server") found.1) server
 AsksFor found (jobs.Spell statement) =
     (found.0 ≡ codes "spell") × AreTexts found (codes "STATEMENT") (map (λ w. w.now) statement.items)
-AsksFor found (jobs.Play file device from to) =
+AsksFor found (jobs.Play file device from to why) =
     (found.0 ≡ codes "play") × IsText found (codes "FILE") file.now
     × IsOptionalNumber 16 (one_of (codes "device") found.1) device
     × IsOptionalNumber 32 (one_of (codes "from") found.1) from × IsOptionalNumber 32 (one_of (codes "to") found.1) to
+    × (is_set (codes "why") found.1 ≡ why)
 AsksFor found (jobs.Asm input output) =
     (found.0 ≡ codes "asm") × IsText found (codes "IN") input.now × IsText found (codes "OUT") output.now
 AsksFor found (jobs.Dis input) = (found.0 ≡ codes "dis") × IsText found (codes "IN") input.now
@@ -162,11 +173,11 @@ AsksFor found (jobs.Run image workers batch trace) =
     × (first_of (codes "trace") found.1 ≡ option_map (λ p. p.now) trace)
 AsksFor found (jobs.Check image trace) =
     (found.0 ≡ codes "check") × IsText found (codes "IMAGE") image.now × IsText found (codes "TRACE") trace.now
-AsksFor found (jobs.Show image trace device from to json) =
+AsksFor found (jobs.Show image trace device from to form) =
     (found.0 ≡ codes "show") × IsText found (codes "IMAGE") image.now × IsText found (codes "TRACE") trace.now
     × IsOptionalNumber 16 (one_of (codes "device") found.1) device
     × IsOptionalNumber 32 (one_of (codes "from") found.1) from × IsOptionalNumber 32 (one_of (codes "to") found.1) to
-    × (is_set (codes "json") found.1 ≡ json)
+    × AsksForForm found.1 form
 AsksFor found (jobs.Pcap image trace output) =
     (found.0 ≡ codes "pcap") × IsText found (codes "IMAGE") image.now × IsText found (codes "TRACE") trace.now
     × IsText found (codes "OUT") output.now

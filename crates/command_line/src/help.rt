@@ -15,8 +15,11 @@ Status:
   3  the run stalled, the trace is not a run, or a case differs";
 
 pub const ONE: &str =
-    "Reads no file. Prints a line for each output of the device, a datagram or another act, or `nothing`:
+    "Reads no file. Prints a line for each output of the device, a datagram or another act, or `nothing`. With
+`--why` the first of them is followed by what the reply says, and by the rule that decides and what it read:
   send SERVER HEX
+      # WORDS
+      # REASON
   act NAME
 Writes no file.
 
@@ -50,8 +53,8 @@ Example:
 pub const PLAY: &str =
     "Reads FILE: what begins with LWSC is a scenario's image, any other file its text. Makes the serial run, in
 which the lowest device that can step always steps, as worker 0. Prints its entries as `show` does, all or
-those that `--device`, `--from` and `--to` ask for, and then how the run ended, as `run` does. The status
-is 0 also where it stalled:
+those that `--device`, `--from` and `--to` ask for, with reasons where `--why` asks for them, and then how
+the run ended, as `run` does. The status is 0 also where it stalled:
   N worker 0 device D step K second S: STEP
   => send SERVER HEX
   => act NAME
@@ -116,8 +119,9 @@ second before the step, and the step; and a line for each output. Below a datagr
   => act NAME
 With `--device` only entries of this device are printed; with `--from` and `--to` only entries that have
 these numbers or numbers between them. With `--json` an object in JSON is printed for each of them, in a
-line of its own, and before them one for the whole trace. Where the trace is not a run of the scenario,
-prints the least place, from 0, at which it is not (status 3):
+line of its own, and before them one for the whole trace. With `--why` a line stands below what a datagram
+that arrives says: the rule by which the device answers so, and what it read. Where the trace is not a run
+of the scenario, prints the least place, from 0, at which it is not (status 3):
   not a run at N
 Writes no file.
 

@@ -6,7 +6,7 @@ ghost use Rattle.command_line.specs.Words.{with_settings};
 ghost use Rattle.command_line.specs.Inside.{asm_app, batch, check_app, debug_app, dis_app, live_app, one_app, pcap_app};
 ghost use Rattle.command_line.specs.Inside.{play_app, run_app, say_app, server, show_app, spell_app, test_app};
 ghost use Rattle.command_line.specs.Inside.{whole_app, with_cases, with_forms, with_port};
-ghost use Rattle.command_line.specs.Inside.{with_range, with_trace, with_turns, workers};
+ghost use Rattle.command_line.specs.Inside.{with_range, with_selection, with_trace, with_turns, workers};
 
 use crate::help;
 use clap::{Arg, ArgAction, Command, value_parser};
@@ -100,9 +100,18 @@ fn one_command<'a>(alloc: Global) -> Result<Command<'a>, AllocError>
     ensures { IfOk result (λ c. app_of c ≡ one_app) }
 {
     let about = "Gives the demonstration device one datagram from server 1";
-    described(alloc, "one", about, help::ONE).arg(needed(alloc, "HEX").help(
-        "The bytes of the datagram, in hex",
-    ))
+    let hex = needed(alloc, "HEX").help("The bytes of the datagram, in hex");
+    described(alloc, "one", about, help::ONE)
+        .arg(hex)?
+        .arg(why(alloc))
+}
+
+/// `--why`.
+fn why<'a>(alloc: Global) -> Arg<'a>
+    ensures rule { rule_of result ≡ flag (codes "why") }
+    ensures local { result.global ≡ false }
+{
+    flag(alloc, "why").help("Prints why the device answers so")
 }
 
 fn say_command<'a>(alloc: Global) -> Result<Command<'a>, AllocError>
@@ -145,10 +154,7 @@ fn play_command<'a>(alloc: Global) -> Result<Command<'a>, AllocError>
     let file = described(alloc, "play", about, help::PLAY).arg(needed(alloc, "FILE").help(
         "The scenario, as text or as an image",
     ))?;
-    let of_device = file.arg(optional_small(alloc, "device").help(
-        "Print only the entries of this device",
-    ))?;
-    with_range(alloc, of_device)
+    with_selection(alloc, file)?.arg(why(alloc))
 }
 
 fn asm_command<'a>(alloc: Global) -> Result<Command<'a>, AllocError>
@@ -225,13 +231,21 @@ fn show_command<'a>(alloc: Global) -> Result<Command<'a>, AllocError>
 {
     let about = "Prints the trace of a run, as text or as JSON Lines";
     let run = with_trace(alloc, described(alloc, "show", about, help::SHOW))?;
-    let of_device = run.arg(optional_small(alloc, "device").help(
-        "Print only the entries of this device",
-    ))?;
-    with_range(alloc, of_device)?.arg(flag(alloc, "json").help("Prints JSON Lines, for scripts"))
+    let json = flag(alloc, "json").help("Prints JSON Lines, for scripts");
+    with_selection(alloc, run)?.arg(json)?.arg(why(alloc))
 }
 
 /// Adds the words for a part of a trace.
+fn with_selection<'a>(alloc: Global, command: Command<'a>) -> Result<Command<'a>, AllocError>
+    ensures { IfOk result (λ c. app_of c ≡ with_selection (app_of command.entry)) }
+{
+    let of_device = command.arg(optional_small(alloc, "device").help(
+        "Print only the entries of this device",
+    ))?;
+    with_range(alloc, of_device)
+}
+
+/// Adds the words for the numbers of the entries.
 fn with_range<'a>(alloc: Global, command: Command<'a>) -> Result<Command<'a>, AllocError>
     ensures { IfOk result (λ c. app_of c ≡ with_range (app_of command.entry)) }
 {

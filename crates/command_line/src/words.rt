@@ -4,8 +4,10 @@ ghost use Rattle.clap.specs.Words.{Row, Text as Word, all_of, first_of, found_of
 ghost use Rattle.clap.specs.Words.{subcommand_rows_of};
 ghost use Rattle.command_line.specs.declared.words.Asked.{Asked as AskedData};
 ghost use Rattle.command_line.specs.declared.words.Job.{Job as JobData};
-ghost use Rattle.command_line.specs.Words.{AsksFor, AsksToLive, IsOptionalNumber, IsReadAs, MayAskFor, is_set};
-ghost use Rattle.command_line.specs.Inside.{IsTakenAs, LacksLive, LacksRun, LacksSay, LacksTest, ListsAndPlays};
+ghost use Rattle.command_line.specs.Words.{AsksFor, AsksForForm, AsksToLive, IsOptionalNumber, IsReadAs, MayAskFor};
+ghost use Rattle.command_line.specs.Words.{is_set};
+ghost use Rattle.command_line.specs.Inside.{IsTakenAs, LacksLive, LacksRun, LacksSay, LacksShow, LacksTest};
+ghost use Rattle.command_line.specs.Inside.{ListsAndPlays, WantsTwoForms};
 
 use crate::subcommands::bench;
 use clap::error::ErrorKind;
@@ -22,6 +24,21 @@ const LISTS_AND_PLAYS: &str =
     "error: the argument '--list' cannot be used with '--tap' or '--junit <FILE>'\n\n\
      Usage: lwbench test [OPTIONS] <FILE>...\n\nFor more information, try '--help'.\n";
 
+/// What is said where a trace is asked for in two forms.
+const JSON_AND_WHY: &str = "error: the argument '--json' cannot be used with '--why'\n\n\
+     Usage: lwbench show [OPTIONS] <IMAGE> <TRACE>\n\nFor more information, try '--help'.\n";
+
+/// How the entries of a trace are printed.
+#[derive(Clone, Copy)]
+pub enum TraceForm {
+    /// As text.
+    Text,
+    /// As text, and below what a datagram that arrives says why the device handles it so.
+    Reasons,
+    /// As an object in JSON for each.
+    JsonLines,
+}
+
 /// What the words ask the program to do. It borrows them.
 #[derive(Drop)]
 pub enum Job<'a> {
@@ -29,6 +46,8 @@ pub enum Job<'a> {
     One {
         /// The bytes of the datagram, in hex.
         hex: &'a str,
+        /// Whether it is also asked why the device answers so.
+        why: bool,
     },
     /// What a datagram says.
     Say {
@@ -52,6 +71,8 @@ pub enum Job<'a> {
         from: Option<u32>,
         /// The number of the last entry that may be shown; where it is not given, that of the last of all.
         to: Option<u32>,
+        /// Whether it is also asked why the devices answer so.
+        why: bool,
     },
     /// The image of a scenario, from its text.
     Asm {
@@ -83,7 +104,7 @@ pub enum Job<'a> {
         /// The path of the trace file.
         trace: &'a str,
     },
-    /// A run's trace, or a part of it, as text or as JSON Lines.
+    /// A run's trace, or a part of it.
     Show {
         /// The path of the scenario's image.
         image: &'a str,
@@ -95,8 +116,8 @@ pub enum Job<'a> {
         from: Option<u32>,
         /// The number of the last entry that may be shown; where it is not given, that of the last of all.
         to: Option<u32>,
-        /// Whether an object in JSON is printed for each entry.
-        json: bool,
+        /// How the entries are printed.
+        form: TraceForm,
     },
     /// The datagrams of a run, as a capture of packets.
     Pcap {
@@ -264,9 +285,9 @@ fn one_job<'a>(found: &ArgMatches<'a>) -> Option<Job<'a>>
     ensures some { IfSome result (AsksFor (codes "one", rows_of (found_of found.now))) }
     ensures none { IfNone result (first_of (codes "HEX") (rows_of (found_of found.now)) ≡ None) }
 {
-    Some(Job::One {
-        hex: value_of(found, "HEX")?,
-    })
+    let hex = value_of(found, "HEX")?;
+    let why = flag(found, "why");
+    Some(Job::One { hex, why })
 }
 
 fn spell_job<'a>(alloc: Global, found: &ArgMatches<'a>) -> Result<Option<Job<'a>>, AllocError>
@@ -288,6 +309,7 @@ fn play_job<'a>(found: &ArgMatches<'a>) -> Option<Job<'a>>
         device: small_number(found, "device"),
         from: number(found, "from"),
         to: number(found, "to"),
+        why: flag(found, "why"),
     })
 }
 
@@ -336,8 +358,7 @@ fn check_job<'a>(found: &ArgMatches<'a>) -> Option<Job<'a>>
 
 fn show_job<'a>(found: &ArgMatches<'a>) -> Option<Job<'a>>
     ensures some { IfSome result (AsksFor (codes "show", rows_of (found_of found.now))) }
-    ensures none { IfNone result ((first_of (codes "IMAGE") (rows_of (found_of found.now)) ≡ None)
-        ⊎ (first_of (codes "TRACE") (rows_of (found_of found.now)) ≡ None)) }
+    ensures none { IfNone result (LacksShow (rows_of (found_of found.now))) }
 {
     Some(Job::Show {
         image: value_of(found, "IMAGE")?,
@@ -345,8 +366,21 @@ fn show_job<'a>(found: &ArgMatches<'a>) -> Option<Job<'a>>
         device: small_number(found, "device"),
         from: number(found, "from"),
         to: number(found, "to"),
-        json: flag(found, "json"),
+        form: form_of(found)?,
     })
+}
+
+/// In which form the words of `show` ask for a trace; none where they ask for two.
+fn form_of(found: &ArgMatches) -> Option<TraceForm>
+    ensures some { IfSome result (AsksForForm (rows_of (found_of found.now))) }
+    ensures none { IfNone result (WantsTwoForms (rows_of (found_of found.now))) }
+{
+    match (flag(found, "json"), flag(found, "why")) {
+        (false, false) => Some(TraceForm::Text),
+        (false, true) => Some(TraceForm::Reasons),
+        (true, false) => Some(TraceForm::JsonLines),
+        (true, true) => None,
+    }
 }
 
 fn pcap_job<'a>(found: &ArgMatches<'a>) -> Option<Job<'a>>
@@ -511,6 +545,7 @@ fn told(alloc: Global, error: &Error) -> Result<String, AllocError>
 fn usage(alloc: Global, found: &ArgMatches) -> Result<String, AllocError> {
     match found.subcommand_name() {
         Some("test") => String::from_str(alloc, LISTS_AND_PLAYS),
+        Some("show") => String::from_str(alloc, JSON_AND_WHY),
         _ => bench(alloc)?.render_help(),
     }
 }

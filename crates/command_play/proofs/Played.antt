@@ -11,7 +11,7 @@ use Rattle.fleet_core.specs.Waiting.{waiting}
 use Rattle.trace_text.specs.declared.selection.Selection.{Selection}
 use Rattle.trace_text.specs.declared.selection.SelectionFault.{SelectionFault}
 use Rattle.trace_text.specs.declared.selection.SelectionFault.TheVariants as selection
-use Rattle.trace_text.specs.Selection.{IsSelectable, IsSelectionFault, selected_text}
+use Rattle.trace_text.specs.Selection.{IsSelectable, IsSelectionFault}
 use Rattle.command_files.specs.Answers.{files_of}
 use Rattle.command_files.specs.Fault.{IsReadingFault}
 use Rattle.command_files.specs.Loading.{IsHeld, IsNoImage}
@@ -23,7 +23,7 @@ use Rattle.command_texts.specs.Endings.{end_line}
 use Rattle.command_texts.specs.Selections.{selection_fault}
 use Rattle.command_texts.specs.Texts.{IsNoText}
 use Rattle.command_play.specs.Play.{IsNoScenario, IsPlayDone, IsPlayFault, IsPlayed, IsScenarioOf}
-use Rattle.command_play.specs.Play.{IsUnplayed, is_marked}
+use Rattle.command_play.specs.Play.{IsToldAs, IsUnplayed, is_marked}
 
 -- ---- the scenario of a file
 
@@ -72,14 +72,16 @@ unselected sel s es selection.Memory serial h = tt
 pub no_memory : (sel : Selection) (s : Scenario) (f : Fault) → f ≡ Memory → IsUnplayed sel s f
 no_memory sel s f same = subst (λ g. IsUnplayed sel s g) (sym same) tt
 
-pub played : (sel : Selection) (s : Scenario) (es : List Entry) (answer : Answer) → IsSerial s es
-    → IsSelectable s sel es
-    → string_bytes answer.text ≡ selected_text s sel es ++ end_line (length es) (waiting s es)
-    → answer.status ≡ Done → files_of answer.file ≡ [] → IsPlayed sel s answer
-played sel s es answer serial selectable said ended none = record {
+pub played : (why : Bool) (sel : Selection) (s : Scenario) (es : List Entry) (shown : List ℕ) (answer : Answer)
+    → IsSerial s es → IsSelectable s sel es → IsToldAs why s sel es shown
+    → string_bytes answer.text ≡ shown ++ end_line (length es) (waiting s es)
+    → answer.status ≡ Done → files_of answer.file ≡ [] → IsPlayed why sel s answer
+played why sel s es shown answer serial selectable told said ended none = record {
   entries = es;
   serial = serial;
   selectable = selectable;
+  shown = shown;
+  told = told;
   text_is = said;
   status_is = ended;
   made_is = none;
@@ -87,9 +89,10 @@ played sel s es answer serial selectable said ended none = record {
 
 -- ---- the command
 
-pub played_at : (holds : List ℕ → List ℕ → Type 0) (path : List ℕ) (sel : Selection) (s : Scenario) (answer : Answer)
-    → IsHeld holds path (λ bytes. IsScenarioOf bytes s) → IsPlayed sel s answer → IsPlayDone holds path sel answer
-played_at holds path sel s answer found h = record { scenario = s; found = found; so = h }
+pub played_at : (holds : List ℕ → List ℕ → Type 0) (path : List ℕ) (why : Bool) (sel : Selection) (s : Scenario)
+    (answer : Answer) → IsHeld holds path (λ bytes. IsScenarioOf bytes s) → IsPlayed why sel s answer
+    → IsPlayDone holds path why sel answer
+played_at holds path why sel s answer found h = record { scenario = s; found = found; so = h }
 
 pub refused_file : (holds : List ℕ → List ℕ → Type 0) (fails : List ℕ → Type 0) (path : List ℕ) (sel : Selection)
     (f : Fault) → IsReadingFault (fails path) f ⊎ IsHeld holds path (λ bytes. IsNoScenario bytes f)

@@ -1,5 +1,5 @@
--- What `play FILE [--device N] [--from N] [--to N]` comes to.
-use Rattle.std.specs.Prelude.{⊤, ℕ, ◌≡◌, ◌⊎◌, nat_eq, Bool, MatchBool, List, [], ◌++◌, length, codes}
+-- What `play FILE [--device N] [--from N] [--to N] [--why]` comes to.
+use Rattle.std.specs.Prelude.{⊤, ℕ, ◌≡◌, ◌⊎◌, nat_eq, Bool, true, false, MatchBool, List, [], ◌++◌, length, codes}
 use Rattle.std.specs.List.{starts_with}
 use Rattle.std.specs.String.{string_bytes}
 use Rattle.scenario_image.specs.Scenario.{Scenario}
@@ -11,6 +11,7 @@ use Rattle.fleet_core.specs.Waiting.{waiting}
 use Rattle.trace_text.specs.declared.selection.Selection.{Selection}
 use Rattle.trace_text.specs.declared.selection.SelectionFault.TheVariants as selection
 use Rattle.trace_text.specs.Selection.{IsSelectable, IsSelectionFault, selected_text}
+use Rattle.trace_reasons.specs.Text.{IsReasonedText}
 use Rattle.command_files.specs.Answers.{files_of}
 use Rattle.command_files.specs.Fault.{IsReadingFault}
 use Rattle.command_files.specs.Loading.{IsHeld, IsNoImage}
@@ -37,13 +38,20 @@ IsNoScenario bytes fault = MatchBool (is_marked bytes) (IsNoImage bytes fault) (
 
 -- ---- its serial run
 
+-- the text of the entries that are asked for; with `--why` that with the reasons why devices handle what arrives as
+-- they do
+abbrev pub IsToldAs : Bool → Scenario → Selection → List Entry → List ℕ → Type 0
+IsToldAs false s sel es text = text ≡ selected_text s sel es
+IsToldAs true s sel es text = IsReasonedText s sel es text
+
 -- the text of the entries that are asked for, and then the line of the run's end; no file is made
-pub record IsPlayed (sel : Selection) (s : Scenario) (answer : Answer) : Type 0 where
+pub record IsPlayed (why : Bool) (sel : Selection) (s : Scenario) (answer : Answer) : Type 0 where
   pub entries : List Entry
   pub serial : IsSerial s entries
   pub selectable : IsSelectable s sel entries
-  pub text_is :
-      string_bytes answer.text ≡ selected_text s sel entries ++ end_line (length entries) (waiting s entries)
+  pub shown : List ℕ
+  pub told : IsToldAs why s sel entries shown
+  pub text_is : string_bytes answer.text ≡ shown ++ end_line (length entries) (waiting s entries)
   pub status_is : answer.status ≡ Done
   pub made_is : files_of answer.file ≡ []
 
@@ -70,8 +78,8 @@ pub record IsOverScenario (holds : List ℕ → List ℕ → Type 0) (path : Lis
   pub found : IsHeld holds path (λ bytes. IsScenarioOf bytes scenario)
   pub so : over scenario
 
-abbrev pub IsPlayDone : (List ℕ → List ℕ → Type 0) → List ℕ → Selection → Answer → Type 0
-IsPlayDone holds path sel answer = IsOverScenario holds path (λ s. IsPlayed sel s answer)
+abbrev pub IsPlayDone : (List ℕ → List ℕ → Type 0) → List ℕ → Bool → Selection → Answer → Type 0
+IsPlayDone holds path why sel answer = IsOverScenario holds path (λ s. IsPlayed why sel s answer)
 
 -- the file could not be read, or is not a scenario; then it is what is asked for that is to blame
 abbrev pub IsPlayFault : (List ℕ → List ℕ → Type 0) → (List ℕ → Type 0) → List ℕ → Selection → Fault → Type 0

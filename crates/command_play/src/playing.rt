@@ -1,11 +1,11 @@
 //! The serial run of a scenario, as text.
-ghost use Rattle.std.specs.Prelude.{◌≡◌, IfErr, IfOk, length};
+ghost use Rattle.std.specs.Prelude.{◌≡◌, IfErr, IfOk, OnOk, length};
 ghost use Rattle.std.specs.String.{string_bytes};
-ghost use Rattle.fleet_core.specs.Run.{IsSerial};
+ghost use Rattle.fleet_core.specs.Run.{IsRun, IsSerial};
 ghost use Rattle.fleet_core.specs.Waiting.{waiting};
-ghost use Rattle.trace_text.specs.Selection.{IsSelectable, selected_text};
+ghost use Rattle.trace_text.specs.Selection.{IsSelectable, IsSelectionFault};
 ghost use Rattle.command_texts.specs.Endings.{end_line};
-ghost use Rattle.command_play.specs.Play.{IsPlayDone, IsPlayFault, IsPlayed, IsUnplayed};
+ghost use Rattle.command_play.specs.Play.{IsPlayDone, IsPlayFault, IsPlayed, IsToldAs, IsUnplayed};
 
 use crate::loading::load;
 use command_files::files::Files;
@@ -15,24 +15,46 @@ use fleet_core::{run_serial, unfinished};
 use scenario_image::Scenario;
 use std::alloc::{AllocError, Global};
 use trace_file::Entry;
-use trace_text::{Selection, selected_text};
+use trace_reasons::selected_reasons;
+use trace_text::{Selection, SelectionFault, selected_text};
 
-/// `play FILE [--device N] [--from N] [--to N]`: the serial run of the scenario of a file, whose text or image the file
-/// is. Prints the text of those entries that are asked for, and how the run ended; the status is 0 also where it
-/// stalled.
+/// `play FILE [--device N] [--from N] [--to N] [--why]`: the serial run of the scenario of a file, whose text or image
+/// the file is. Prints the text of those entries that are asked for, with reasons where they are asked for too, and how
+/// the run ended; the status is 0 also where it stalled.
 #[tactic(auto, using(crate::proofs::Played::played_at, crate::proofs::Played::refused_file, crate::proofs::Played::unplayed_at))]
 pub fn play<'a, F: Files>(
     alloc: Global,
     path: &'a str,
+    why: bool,
     selection: Selection,
     files: &F,
 ) -> Result<Answer<'a>, Refusal<'a>>
-    ensures done { IfOk result (IsPlayDone (F.holds files.now) path.entry.now selection) }
+    ensures done { IfOk result (IsPlayDone (F.holds files.now) path.entry.now why selection) }
     ensures refused { IfErr result (λ r.
         IsPlayFault (F.holds files.now) (F.fails files.now) path.entry.now selection r.fault) }
 {
     let scenario = load(alloc, path, files)?;
-    Ok(play_scenario(alloc, &scenario, selection)?)
+    Ok(play_scenario(alloc, &scenario, why, selection)?)
+}
+
+/// The text of the entries that are asked for, with reasons or without.
+fn told(
+    alloc: Global,
+    scenario: &Scenario,
+    entries: &[Entry],
+    why: bool,
+    selection: Selection,
+) -> Result<String, SelectionFault>
+    requires { IsRun scenario.now entries.now }
+    ensures selectable { OnOk result (IsSelectable scenario.now selection entries.now) }
+    ensures text { IfOk result (λ t. IsToldAs why scenario.now selection entries.now (string_bytes t)) }
+    ensures refused { IfErr result (IsSelectionFault scenario.now selection entries.now) }
+{
+    if why {
+        selected_reasons(alloc, scenario, entries, selection)
+    } else {
+        selected_text(alloc, scenario, entries, selection)
+    }
 }
 
 /// The text of the entries that are asked for, of the serial run.
@@ -41,14 +63,15 @@ fn shown(
     alloc: Global,
     scenario: &Scenario,
     entries: &[Entry],
+    why: bool,
     selection: Selection,
 ) -> Result<String, Fault>
     requires { IsSerial scenario.now entries.now }
     ensures selectable { IfOk result (λ _. IsSelectable scenario.now selection entries.now) }
-    ensures text { IfOk result (λ t. string_bytes t ≡ selected_text scenario.now selection entries.now) }
+    ensures text { IfOk result (λ t. IsToldAs why scenario.now selection entries.now (string_bytes t)) }
     ensures refused { IfErr result (IsUnplayed selection scenario.now) }
 {
-    match selected_text(alloc, scenario, entries, selection) {
+    match told(alloc, scenario, entries, why, selection) {
         Ok(text) => Ok(text),
         Err(fault) => Err(selection_fault(fault)),
     }
@@ -68,13 +91,14 @@ fn ended(alloc: Global, scenario: &Scenario, entries: &[Entry]) -> Result<String
 fn play_scenario<'a>(
     alloc: Global,
     scenario: &Scenario,
+    why: bool,
     selection: Selection,
 ) -> Result<Answer<'a>, Fault>
-    ensures done { IfOk result (IsPlayed selection scenario.now) }
+    ensures done { IfOk result (IsPlayed why selection scenario.now) }
     ensures refused { IfErr result (IsUnplayed selection scenario.now) }
 {
     let entries = run_serial(alloc, scenario)?;
-    let mut text = shown(alloc, scenario, entries.as_slice(), selection)?;
+    let mut text = shown(alloc, scenario, entries.as_slice(), why, selection)?;
     let end = ended(alloc, scenario, entries.as_slice())?;
     text.push_str(end.as_str())?;
     Ok(Answer::printed(Status::Done, text))

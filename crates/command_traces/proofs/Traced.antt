@@ -1,5 +1,5 @@
 -- What `show` and `pcap` came to, put together from its parts.
-use Rattle.std.proofs.Common.{ℕ, ◌≡◌, Bool, true, IsTrue, List, [], ◌∷◌, length, inl, inr, refl, subst, sym}
+use Rattle.std.proofs.Common.{ℕ, ◌≡◌, IsTrue, List, [], ◌∷◌, length, inl, inr, refl, subst, sym}
 use Rattle.std.specs.String.{string_bytes}
 use Rattle.scenario_image.specs.Scenario.{Scenario}
 use Rattle.trace_file.specs.declared.entry.Entry.{Entry}
@@ -20,7 +20,9 @@ use Rattle.command_files.proofs.Built.{check_image, check_trace, judged_none}
 use Rattle.command_texts.specs.Selections.{selection_fault}
 use Rattle.command_traces.specs.Traces.{pcap_fault, IsCapturedAs, IsNoRun, IsPcapDone, IsPcapFault}
 use Rattle.command_traces.specs.Traces.{IsPcapRefused, IsRunCaptured, IsRunShown, IsShowDone, IsShowFault}
-use Rattle.command_traces.specs.Traces.{IsShowRefused, IsShownAs, packets_line, shown_as}
+use Rattle.command_traces.specs.Traces.{IsShowRefused, IsShownAs, IsShownIn, packets_line}
+use Rattle.command_traces.specs.declared.form.TraceForm.{TraceForm}
+use Rattle.command_traces.specs.declared.form.TraceForm.TheVariants as forms
 use Rattle.command_files.specs.Answers.{files_of}
 use Rattle.command_files.specs.Loading.{IsImageFault, IsScenarioAt, IsTraceAt, IsTraceFault, RunPaths}
 use Rattle.command_files.specs.Verdicts.{verdict_line, verdict_status}
@@ -38,23 +40,23 @@ no_run s es place answer breaks said ended none =
 
 -- ---- show
 
-pub unshown_run : (is_json : Bool) (sel : Selection) (s : Scenario) (es : List Entry) (answer : Answer)
-    → IsNoRun s es answer → IsShownAs is_json sel answer s es
-unshown_run is_json sel s es answer none = inl none
+pub unshown_run : (form : TraceForm) (sel : Selection) (s : Scenario) (es : List Entry) (answer : Answer)
+    → IsNoRun s es answer → IsShownAs form sel answer s es
+unshown_run form sel s es answer none = inl none
 
-pub shown_run : (is_json : Bool) (sel : Selection) (s : Scenario) (es : List Entry) (answer : Answer)
-    → IsRunShown is_json sel s es answer → IsShownAs is_json sel answer s es
-shown_run is_json sel s es answer shown = inr shown
+pub shown_run : (form : TraceForm) (sel : Selection) (s : Scenario) (es : List Entry) (answer : Answer)
+    → IsRunShown form sel s es answer → IsShownAs form sel answer s es
+shown_run form sel s es answer shown = inr shown
 
-pub run_shown : (is_json : Bool) (sel : Selection) (s : Scenario) (es : List Entry) (answer : Answer) → IsRun s es
-    → IsSelectable s sel es → string_bytes answer.text ≡ shown_as is_json s sel es → answer.status ≡ Done
-    → files_of answer.file ≡ [] → IsRunShown is_json sel s es answer
-run_shown is_json sel s es answer run selectable said ended none =
+pub run_shown : (form : TraceForm) (sel : Selection) (s : Scenario) (es : List Entry) (answer : Answer) → IsRun s es
+    → IsSelectable s sel es → IsShownIn form s sel es (string_bytes answer.text) → answer.status ≡ Done
+    → files_of answer.file ≡ [] → IsRunShown form sel s es answer
+run_shown form sel s es answer run selectable said ended none =
     record { run = run; selectable = selectable; text_is = said; status_is = ended; made_is = none }
 
 -- JSON Lines are those of the entries that are asked for
 pub lines_are : (sel : Selection) (s : Scenario) (es : List Entry) (text : List ℕ)
-    → AreLinesOf (trace_json s sel es) text → text ≡ shown_as true s sel es
+    → AreLinesOf (trace_json s sel es) text → IsShownIn forms.JsonLines s sel es text
 lines_are sel s es text are = are.text_is
 
 pub unselected : (sel : Selection) (s : Scenario) (es : List Entry) (f : SelectionFault) → IsRun s es
@@ -68,10 +70,10 @@ pub unshown_memory : (sel : Selection) (s : Scenario) (es : List Entry) (f : Fau
     → IsShowFault sel f s es
 unshown_memory sel s es f same = subst (λ g. IsShowFault sel g s es) (sym same) tt
 
-pub shown_at : (holds : List ℕ → List ℕ → Type 0) (paths : RunPaths) (is_json : Bool) (sel : Selection) (s : Scenario)
+pub shown_at : (holds : List ℕ → List ℕ → Type 0) (paths : RunPaths) (form : TraceForm) (sel : Selection) (s : Scenario)
     (es : List Entry) (answer : Answer) → IsScenarioAt holds paths.image s → IsTraceAt holds paths.trace es
-    → IsShownAs is_json sel answer s es → IsShowDone holds paths is_json sel answer
-shown_at holds paths is_json sel s es answer found read shown =
+    → IsShownAs form sel answer s es → IsShowDone holds paths form sel answer
+shown_at holds paths form sel s es answer found read shown =
     record { scenario = s; found = found; entries = es; read = read; so = shown }
 
 pub unshown_at : (holds : List ℕ → List ℕ → Type 0) (fails : List ℕ → Type 0) (paths : RunPaths) (sel : Selection)

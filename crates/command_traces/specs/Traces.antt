@@ -1,5 +1,5 @@
 -- What the program answers to its words about the trace of a run: `show` and `pcap`.
-use Rattle.std.specs.Prelude.{⊤, ℕ, ◌≡◌, ◌⊎◌, Bool, true, false, IsTrue, List, [], ◌∷◌, ◌++◌, length, codes}
+use Rattle.std.specs.Prelude.{⊤, ℕ, ◌≡◌, ◌⊎◌, IsTrue, List, [], ◌∷◌, ◌++◌, length, codes}
 use Rattle.std.specs.Fmt.{decimal}
 use Rattle.std.specs.String.{string_bytes}
 use Rattle.scenario_image.specs.Scenario.{Scenario}
@@ -8,6 +8,7 @@ use Rattle.fleet_core.specs.Run.{IsRun}
 use Rattle.trace_text.specs.declared.selection.Selection.{Selection}
 use Rattle.trace_text.specs.declared.selection.SelectionFault.TheVariants as selection
 use Rattle.trace_text.specs.Selection.{IsSelectable, IsSelectionFault, selected_text}
+use Rattle.trace_reasons.specs.Text.{IsReasonedText}
 use Rattle.trace_json.specs.Entries.{trace_json}
 use Rattle.trace_json.specs.Lines.{json_lines}
 use Rattle.trace_pcap.specs.declared.fault.PcapFault.{PcapFault}
@@ -15,6 +16,8 @@ use Rattle.trace_pcap.specs.declared.fault.PcapFault.TheVariants as pcap
 use Rattle.trace_pcap.specs.Packets.{has_long, trace_packets}
 use Rattle.udp_capture.specs.Capture.{IsCapture}
 use Rattle.scenario_words.specs.Words.{ended_line}
+use Rattle.command_traces.specs.declared.form.TraceForm.{TraceForm}
+use Rattle.command_traces.specs.declared.form.TraceForm.TheVariants as forms
 use Rattle.command_files.specs.Answers.{files_of}
 use Rattle.command_files.specs.Loading.{IsCheckRefused, IsScenarioAt, IsTraceAt, RunPaths}
 use Rattle.command_files.specs.Verdicts.{IsJudged}
@@ -38,27 +41,29 @@ pub record IsNoRun (s : Scenario) (es : List Entry) (answer : Answer) : Type 0 w
   pub no_run : answer.status ≡ NotRun
   pub made_is : files_of answer.file ≡ []
 
--- ---- `show IMAGE TRACE [--device N] [--from N] [--to N] [--json]`
+-- ---- `show IMAGE TRACE [--device N] [--from N] [--to N] [--json] [--why]`
 
--- the text of the entries that are asked for; with `--json` an object for each of them, in a line of its own
-abbrev pub shown_as : Bool → Scenario → Selection → List Entry → List ℕ
-shown_as false s sel es = selected_text s sel es
-shown_as true s sel es = json_lines (trace_json s sel es)
+-- the entries that are asked for, in this form: their text; the same with the reasons why devices handle what arrives
+-- as they do; or an object for each of them, in a line of its own
+abbrev pub IsShownIn : TraceForm → Scenario → Selection → List Entry → List ℕ → Type 0
+IsShownIn forms.Text s sel es text = text ≡ selected_text s sel es
+IsShownIn forms.Reasons s sel es text = IsReasonedText s sel es text
+IsShownIn forms.JsonLines s sel es text = text ≡ json_lines (trace_json s sel es)
 
 -- the entries are a run, and those that are asked for are printed
-pub record IsRunShown (is_json : Bool) (sel : Selection) (s : Scenario) (es : List Entry) (answer : Answer)
+pub record IsRunShown (form : TraceForm) (sel : Selection) (s : Scenario) (es : List Entry) (answer : Answer)
     : Type 0 where
   pub run : IsRun s es
   pub selectable : IsSelectable s sel es
-  pub text_is : string_bytes answer.text ≡ shown_as is_json s sel es
+  pub text_is : IsShownIn form s sel es (string_bytes answer.text)
   pub status_is : answer.status ≡ Done
   pub made_is : files_of answer.file ≡ []
 
-abbrev pub IsShownAs : Bool → Selection → Answer → Scenario → List Entry → Type 0
-IsShownAs is_json sel answer s es = IsNoRun s es answer ⊎ IsRunShown is_json sel s es answer
+abbrev pub IsShownAs : TraceForm → Selection → Answer → Scenario → List Entry → Type 0
+IsShownAs form sel answer s es = IsNoRun s es answer ⊎ IsRunShown form sel s es answer
 
-abbrev pub IsShowDone : (List ℕ → List ℕ → Type 0) → RunPaths → Bool → Selection → Answer → Type 0
-IsShowDone holds paths is_json sel answer = IsOverTrace holds paths (IsShownAs is_json sel answer)
+abbrev pub IsShowDone : (List ℕ → List ℕ → Type 0) → RunPaths → TraceForm → Selection → Answer → Type 0
+IsShowDone holds paths form sel answer = IsOverTrace holds paths (IsShownAs form sel answer)
 
 -- the entries are a run, and the scenario has no such device, or the run no entry of the first number, or the numbers
 -- are not in order, the first of these; or no memory was left

@@ -6,8 +6,9 @@ ghost use Rattle.fleet_core.specs.Run.{IsRun};
 ghost use Rattle.trace_text.specs.Selection.{IsSelectable, IsSelectionFault};
 ghost use Rattle.command_traces.specs.Traces.{IsCapturedAs, IsNoRun, IsPcapDone, IsPcapFault, IsPcapRefused};
 ghost use Rattle.command_traces.specs.Traces.{IsRunCaptured, IsRunShown, IsShowDone, IsShowFault, IsShowRefused};
-ghost use Rattle.command_traces.specs.Traces.{IsShownAs, packets_line, pcap_fault, shown_as};
+ghost use Rattle.command_traces.specs.Traces.{IsShownAs, IsShownIn, packets_line, pcap_fault};
 
+use crate::form::TraceForm;
 use command_files::files::Files;
 use command_files::{Answer, Fault, NewFile, Refusal, Status, load_scenario, load_trace, no_run};
 use command_texts::selection_fault;
@@ -17,6 +18,7 @@ use std::alloc::{AllocError, Global};
 use trace_file::Entry;
 use trace_json::selected_lines;
 use trace_pcap::{PcapFault, packet_count, trace_pcap};
+use trace_reasons::selected_reasons;
 use trace_text::{Selection, SelectionFault, selected_text};
 
 /// The answer that entries are not a run; none where they are one.
@@ -35,25 +37,25 @@ fn answer_no_run<'a>(
     }
 }
 
-/// `show IMAGE TRACE [--device N] [--from N] [--to N] [--json]`: those entries of a run that are asked for, as text or
-/// as JSON Lines.
+/// `show IMAGE TRACE [--device N] [--from N] [--to N] [--json] [--why]`: those entries of a run that are asked for, as
+/// text, as text with reasons, or as JSON Lines.
 #[tactic(auto, using(crate::proofs::Traced::shown_at, crate::proofs::Traced::unshown_at, crate::proofs::Traced::unshown_image, crate::proofs::Traced::unshown_trace))]
 pub fn show<'a, F: Files>(
     alloc: Global,
     image: &'a str,
     trace: &'a str,
-    is_json: bool,
+    form: TraceForm,
     selection: Selection,
     files: &F,
 ) -> Result<Answer<'a>, Refusal<'a>>
     ensures done { IfOk result (IsShowDone (F.holds files.now)
-        (record { image = image.entry.now; trace = trace.entry.now }) is_json selection) }
+        (record { image = image.entry.now; trace = trace.entry.now }) form selection) }
     ensures refused { IfErr result (λ r. IsShowRefused (F.holds files.now) (F.fails files.now)
         (record { image = image.entry.now; trace = trace.entry.now }) selection r.fault) }
 {
     let scenario = load_scenario(alloc, image, files)?;
     let entries = load_trace(alloc, trace, files)?;
-    Ok(show_trace(alloc, &scenario, entries.as_slice(), is_json, selection)?)
+    Ok(show_trace(alloc, &scenario, entries.as_slice(), form, selection)?)
 }
 
 #[tactic(auto, using(crate::proofs::Traced::unshown_run, crate::proofs::Traced::shown_run, crate::proofs::Traced::unshown_memory))]
@@ -61,15 +63,15 @@ fn show_trace<'a>(
     alloc: Global,
     scenario: &Scenario,
     entries: &[Entry],
-    is_json: bool,
+    form: TraceForm,
     selection: Selection,
 ) -> Result<Answer<'a>, Fault>
-    ensures done { IfOk result (λ a. IsShownAs is_json selection a scenario.now entries.now) }
+    ensures done { IfOk result (λ a. IsShownAs form selection a scenario.now entries.now) }
     ensures refused { IfErr result (λ f. IsShowFault selection f scenario.now entries.now) }
 {
     match answer_no_run(alloc, scenario, entries)? {
         Some(answer) => Ok(answer),
-        None => show_run(alloc, scenario, entries, is_json, selection),
+        None => show_run(alloc, scenario, entries, form, selection),
     }
 }
 
@@ -78,36 +80,37 @@ fn show_run<'a>(
     alloc: Global,
     scenario: &Scenario,
     entries: &[Entry],
-    is_json: bool,
+    form: TraceForm,
     selection: Selection,
 ) -> Result<Answer<'a>, Fault>
     requires { IsRun scenario.now entries.now }
-    ensures done { IfOk result (IsRunShown is_json selection scenario.now entries.now) }
+    ensures done { IfOk result (IsRunShown form selection scenario.now entries.now) }
     ensures refused { IfErr result (λ f. IsShowFault selection f scenario.now entries.now) }
 {
-    match shown(alloc, scenario, entries, is_json, selection) {
+    match shown(alloc, scenario, entries, form, selection) {
         Ok(text) => Ok(Answer::printed(Status::Done, text)),
         Err(fault) => Err(selection_fault(fault)),
     }
 }
 
-/// The entries that are asked for, as text or as JSON Lines.
+/// The entries that are asked for, in this form.
 #[tactic(auto, using(crate::proofs::Traced::lines_are))]
 fn shown(
     alloc: Global,
     scenario: &Scenario,
     entries: &[Entry],
-    is_json: bool,
+    form: TraceForm,
     selection: Selection,
 ) -> Result<String, SelectionFault>
+    requires { IsRun scenario.now entries.now }
     ensures selectable { OnOk result (IsSelectable scenario.now selection entries.now) }
-    ensures text { IfOk result (λ t. string_bytes t ≡ shown_as is_json scenario.now selection entries.now) }
+    ensures text { IfOk result (λ t. IsShownIn form scenario.now selection entries.now (string_bytes t)) }
     ensures refused { IfErr result (IsSelectionFault scenario.now selection entries.now) }
 {
-    if is_json {
-        selected_lines(alloc, scenario, entries, selection)
-    } else {
-        selected_text(alloc, scenario, entries, selection)
+    match form {
+        TraceForm::Text => selected_text(alloc, scenario, entries, selection),
+        TraceForm::Reasons => selected_reasons(alloc, scenario, entries, selection),
+        TraceForm::JsonLines => selected_lines(alloc, scenario, entries, selection),
     }
 }
 

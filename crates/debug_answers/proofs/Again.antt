@@ -80,6 +80,8 @@ again (command.Observations d) ws h =
     ap command_of h.0 ∙ numbered (λ m. command.Observations m) 65535 d (omega arith) (omega (arith, h.1))
 again (command.Outputs d) ws h =
     ap command_of h.0 ∙ numbered (λ m. command.Outputs m) 65535 d (omega arith) (omega (arith, h.1))
+again (command.Why d) ws h =
+    ap command_of h.0 ∙ numbered (λ m. command.Why m) 65535 d (omega arith) (omega (arith, h.1))
 again command.Quit ws h = ap command_of h
 
 -- `help` says no command

@@ -117,7 +117,10 @@ device_found w ws c =
     (by_name w (codes "out") _ _ c (IsSaidBy c (w ∷ ws))
     (numbered IsSaidBy (λ d. command.Outputs d) 65535 c w (codes "out") ws (omega arith)
     (λ d h. (refl, omega (arith, h))))
-    (λ h. cc)))))
+    (by_name w (codes "why") _ _ c (IsSaidBy c (w ∷ ws))
+    (numbered IsSaidBy (λ d. command.Why d) 65535 c w (codes "why") ws (omega arith)
+    (λ d h. (refl, omega (arith, h))))
+    (λ h. cc))))))
 
 by_found : (w : List ℕ) (ws : List (List ℕ)) (c : Command) → command_by w ws ≡ Ok c → IsSaidBy c (w ∷ ws)
 by_found w ws c =

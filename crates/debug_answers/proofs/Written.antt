@@ -40,6 +40,7 @@ said command.Resume h = refl
 said (command.Value d p) h = (refl, h.0, h.1)
 said (command.Observations d) h = (refl, h)
 said (command.Outputs d) h = (refl, h)
+said (command.Why d) h = (refl, h)
 said command.Quit h = refl
 
 point_good : (p : Point) (ws : List (List ℕ)) → IsBreakSaidBy p ws → IsPoint p
@@ -59,6 +60,7 @@ good command.Resume ws h = tt
 good (command.Value d p) ws h = (h.1, h.2)
 good (command.Observations d) ws h = h.1
 good (command.Outputs d) ws h = h.1
+good (command.Why d) ws h = h.1
 good command.Quit ws h = tt
 
 -- ---- the words of the line
@@ -86,6 +88,7 @@ bare command.Resume h = refl
 bare (command.Value d p) h = and_from _ _ refl (two_bare d (path_text p) h.0 (path_bare p h.1))
 bare (command.Observations d) h = and_from _ _ refl (number_bare d (omega arith))
 bare (command.Outputs d) h = and_from _ _ refl (number_bare d (omega arith))
+bare (command.Why d) h = and_from _ _ refl (number_bare d (omega arith))
 bare command.Quit h = refl
 
 pub found_again : (c : Command) → IsCommand c → words (line_of c) ≡ words_of c

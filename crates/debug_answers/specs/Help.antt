@@ -15,6 +15,7 @@ help_lines =
     ∷ codes "value D PATH    the value of device D at a path"
     ∷ codes "obs D           the observations of device D"
     ∷ codes "out D           the latest outputs of device D"
+    ∷ codes "why D           why device D handled the datagram of its latest step so"
     ∷ codes "quit            the end"
     ∷ []
 

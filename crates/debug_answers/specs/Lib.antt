@@ -4,6 +4,7 @@ pub mod Reading
 pub mod Lines
 pub mod Outputs
 pub mod Show
+pub mod Why
 pub mod Help
 pub mod Notes
 pub mod Answers

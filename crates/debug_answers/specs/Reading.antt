@@ -88,8 +88,9 @@ about_device w ws =
     else (if bytes_eq w (codes "clear") then (only_number 255 ws >>= (λ n. Ok (command.Clear n)))
     else (if bytes_eq w (codes "value") then (device_and_path ws >>= (λ x. Ok (command.Value x.0 x.1)))
     else (if bytes_eq w (codes "obs") then (only_number 65535 ws >>= (λ d. Ok (command.Observations d)))
-    else (if bytes_eq w (codes "out") then
-    (only_number 65535 ws >>= (λ d. Ok (command.Outputs d))) else Err UnknownWord))))
+    else (if bytes_eq w (codes "out") then (only_number 65535 ws >>= (λ d. Ok (command.Outputs d)))
+    else (if bytes_eq w (codes "why") then
+    (only_number 65535 ws >>= (λ d. Ok (command.Why d))) else Err UnknownWord)))))
 
 -- a command, by its first word and those after it
 abbrev pub command_by : List ℕ → List (List ℕ) → Result Command Cause

@@ -13,6 +13,7 @@ use Rattle.scenario_words.specs.Words.{ended_line}
 use Rattle.debug_answers.specs.Lines.{at_line}
 use Rattle.debug_answers.specs.Outputs.{output_lines}
 use Rattle.debug_answers.specs.Show.{value_line, observation_lines}
+use Rattle.debug_answers.specs.Why.{IsWhyAnswer}
 use Rattle.debug_answers.specs.Answers.{IsCommandRefused, IsForward, IsBack, IsBreak, IsCleared, IsResumed}
 
 -- this is shown of a device, or `no device` where the scenario has no row for it
@@ -43,6 +44,7 @@ IsAnswer old (command.Observations d) new text =
     text
 IsAnswer old (command.Outputs d) new text =
     (new ≡ old) × IsDeviceAnswer old d (output_lines (outputs_shown old.scenario old.entries old.place d)) text
+IsAnswer old (command.Why d) new text = (new ≡ old) × IsWhyAnswer old d text
 IsAnswer old command.Quit new text = (new ≡ old) × (text ≡ [])
 
 -- what is answered to a line: the answer to the command that it says, or `bad command` where it says none

@@ -34,6 +34,7 @@ IsSaidBy command.Resume ws = ws ≡ codes "resume" ∷ []
 IsSaidBy (command.Value d p) ws = (ws ≡ codes "value" ∷ decimal d ∷ path_text p ∷ []) × (d < 2 ^ 16) × IsPath p
 IsSaidBy (command.Observations d) ws = (ws ≡ codes "obs" ∷ decimal d ∷ []) × (d < 2 ^ 16)
 IsSaidBy (command.Outputs d) ws = (ws ≡ codes "out" ∷ decimal d ∷ []) × (d < 2 ^ 16)
+IsSaidBy (command.Why d) ws = (ws ≡ codes "why" ∷ decimal d ∷ []) × (d < 2 ^ 16)
 IsSaidBy command.Quit ws = ws ≡ codes "quit" ∷ []
 
 -- a character of printable ASCII, and no `#`

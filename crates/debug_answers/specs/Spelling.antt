@@ -29,6 +29,7 @@ IsCommand command.Resume = Unit {0}
 IsCommand (command.Value d p) = (d < 2 ^ 16) × IsPath p
 IsCommand (command.Observations d) = d < 2 ^ 16
 IsCommand (command.Outputs d) = d < 2 ^ 16
+IsCommand (command.Why d) = d < 2 ^ 16
 IsCommand command.Quit = Unit {0}
 
 -- the words of a point, after `break`
@@ -50,6 +51,7 @@ words_of command.Resume = codes "resume" ∷ []
 words_of (command.Value d p) = codes "value" ∷ decimal d ∷ path_text p ∷ []
 words_of (command.Observations d) = codes "obs" ∷ decimal d ∷ []
 words_of (command.Outputs d) = codes "out" ∷ decimal d ∷ []
+words_of (command.Why d) = codes "why" ∷ decimal d ∷ []
 words_of command.Quit = codes "quit" ∷ []
 
 -- a command as its line has it

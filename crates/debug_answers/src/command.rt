@@ -21,6 +21,8 @@ pub enum Command {
     Observations(u16),
     /// `out D`: the latest outputs of a device.
     Outputs(u16),
+    /// `why D`: why a device handled so what arrived at its latest step.
+    Why(u16),
     /// `quit`: the end.
     Quit,
 }

@@ -14,6 +14,7 @@ resume          to the next place at which a breakpoint holds, or to the end
 value D PATH    the value of device D at a path
 obs D           the observations of device D
 out D           the latest outputs of device D
+why D           why device D handled the datagram of its latest step so
 quit            the end
 ";
 

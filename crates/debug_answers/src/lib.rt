@@ -13,6 +13,7 @@ mod points;
 mod reading;
 mod replies;
 mod show;
+mod why;
 
 pub use breaks::{add_break, clear, resume};
 pub use command::{Command, Point};
@@ -24,3 +25,4 @@ pub use outputs::outputs_text;
 pub use reading::{asks_for_help, read_command};
 pub use replies::{Reply, reply_to};
 pub use show::{show_observations, show_outputs, show_value};
+pub use why::show_why;

@@ -47,6 +47,9 @@ fn about_device(word: &[u8], line: &[u8]) -> Result<Command, Cause>
     } else if is_name(word, "out") {
         let device = only_number(line, 65535)?;
         Ok(Command::Outputs(device as u16))
+    } else if is_name(word, "why") {
+        let device = only_number(line, 65535)?;
+        Ok(Command::Why(device as u16))
     } else {
         Err(Cause::UnknownWord)
     }

@@ -16,6 +16,7 @@ use crate::moves::{back, forward, place};
 use crate::notes::no_command;
 use crate::reading::{asks_for_help, read_command};
 use crate::show::{show_observations, show_outputs, show_value};
+use crate::why::show_why;
 use debugger::{Break, Debugger};
 use std::alloc::{AllocError, Global};
 
@@ -59,6 +60,7 @@ fn answer(alloc: Global, debugger: &mut Debugger, command: Command) -> Result<St
         Command::Value(device, path) => show_value(alloc, debugger, device, &path),
         Command::Observations(device) => show_observations(alloc, debugger, device),
         Command::Outputs(device) => show_outputs(alloc, debugger, device),
+        Command::Why(device) => show_why(alloc, debugger, device),
         Command::Quit => Ok(String::new(alloc)),
     }
 }

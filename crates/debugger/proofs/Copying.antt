@@ -148,7 +148,7 @@ pub all_steps : (s : Scenario) (es : List Entry) (counts : List ℕ) → IsRun s
 all_steps s es counts run made d less = subst (HasSteps s d) (sym (made d less)) (made_most s es d run)
 
 -- before a place there are no more entries than there are in all
-made_before : (es : List Entry) (d n : ℕ) → made_by d (take n es) ≤ made_by d es
+pub made_before : (es : List Entry) (d n : ℕ) → made_by d (take n es) ≤ made_by d es
 made_before es d n = sum_by-take-le (λ e. cond (eqb e.device d) 1 0) es n
 
 pub copied_to : (s : Scenario) (es : List Entry) (n : ℕ) (counts : List ℕ) (all : List Copies) → AreCopied s es all

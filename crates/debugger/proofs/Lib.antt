@@ -15,3 +15,4 @@ pub mod Events
 pub mod Devices
 pub mod Going
 pub mod Places
+pub mod Preceding

@@ -11,7 +11,7 @@ use Rattle.scenario_image.specs.Scenario.{Scenario, IsGoodRow, IsValid}
 use Rattle.scenario_image.specs.Play.{state_at, IsRowOf}
 use Rattle.fleet_core.specs.Board.{ShowsAfter}
 use Rattle.fleet_core.proofs.Valid.{all_at}
-use Rattle.debugger.specs.Shown.{state_with, state_in_row, state_of, value_of, observations_of}
+use Rattle.debugger.specs.Shown.{ShowsState, state_with, state_in_row, state_of, value_of, observations_of}
 
 pub some_at : {X : Type 0} (xs : List X) (i : ℕ) → i < length xs → (x : X) × (slice_get xs i ≡ Some x)
 some_at [] i h = absurd (omega (arith, h))
@@ -49,6 +49,15 @@ shown_is s d k x valid within shows =
       is = ap (λ r. state_in_row s r k) found.row.row ∙ ap (λ c. state_with c found.steps k) found.row.stated;
       kept = ap (λ g. g.kept) here.holds;
     }
+
+pub shows_state : (s : Scenario) (d k : ℕ) (x : Device) → IsValid s → d < length s.rows → ShowsAfter s d k x
+    → ShowsState (state_of s d k) x
+shows_state s d k x valid within shows =
+    let found = row_of s d valid within in (
+      state_at found.class found.steps k,
+      ap (λ r. state_in_row s r k) found.row.row ∙ ap (λ c. state_with c found.steps k) found.row.stated,
+      shows found.class found.steps found.row,
+    )
 
 pub value_is : (s : Scenario) (d k : ℕ) (x : Device) (path : Path) → IsValid s → d < length s.rows → ShowsAfter s d k x
     → value_in x.flat.kept (full_path path) ≡ value_of (state_of s d k) path

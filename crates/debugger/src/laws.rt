@@ -9,7 +9,8 @@ ghost use Rattle.scenario_image.specs.Play.{start, state_after, IsRowOf};
 ghost use Rattle.trace_file.specs.declared.entry.Entry.{Entry};
 ghost use Rattle.fleet_core.specs.Run.{made_by, IsRun};
 ghost use Rattle.fleet_core.specs.Waiting.{is_waiting};
-ghost use Rattle.debugger.specs.Shown.{state_of, value_shown, observations_shown, outputs_shown};
+ghost use Rattle.debugger.specs.Shown.{state_of, value_shown, observations_shown, outputs_shown, step_shown};
+ghost use Rattle.debugger.specs.Shown.{before_shown};
 ghost use Rattle.debugger.specs.Session.{Session, at_place};
 ghost use Rattle.debugger.specs.Stops.{device_in, Holds};
 ghost use Rattle.debugger.specs.declared.breaks.Break.{Break};
@@ -31,6 +32,10 @@ pub fn orders_show_the_same()
         → made_by d (take n a) ≡ made_by d (take m b) → observations_shown s a n d ≡ observations_shown s b m d }
     ensures outputs { (s : Scenario) (a : List Entry) (b : List Entry) (n : ℕ) (m : ℕ) (d : ℕ)
         → made_by d (take n a) ≡ made_by d (take m b) → outputs_shown s a n d ≡ outputs_shown s b m d }
+    ensures step { (s : Scenario) (a : List Entry) (b : List Entry) (n : ℕ) (m : ℕ) (d : ℕ)
+        → made_by d (take n a) ≡ made_by d (take m b) → step_shown s a n d ≡ step_shown s b m d }
+    ensures before { (s : Scenario) (a : List Entry) (b : List Entry) (n : ℕ) (m : ℕ) (d : ℕ)
+        → made_by d (take n a) ≡ made_by d (take m b) → before_shown s a n d ≡ before_shown s b m d }
 {}
 
 /// A breakpoint on a device that has no row holds at no place of a run.

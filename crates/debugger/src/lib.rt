@@ -6,6 +6,7 @@ mod breaks;
 mod changes;
 mod copies;
 mod fault;
+mod latest;
 mod laws;
 mod moves;
 mod search;

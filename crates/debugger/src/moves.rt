@@ -137,7 +137,7 @@ fn device_after(
 }
 
 /// The device of a row after its first steps: the latest of its copies that is not after them goes on.
-fn device_before(
+pub(crate) fn device_before(
     alloc: Global,
     scenario: &Scenario,
     copies: &[Device],

@@ -1,10 +1,11 @@
 ghost use Rattle.std.specs.Prelude.{◌≡◌, ℕ, ◌+◌, ◌-◌, ◌*◌, ◌<◌, ◌≤◌, ◌↔◌, length, slice_get, slice_range, Some, None};
-ghost use Rattle.std.specs.Prelude.{Err, IsTrue, IfOk, IfSome, OnOk, OnErr};
+ghost use Rattle.std.specs.Prelude.{Err, IsSome, IsTrue, IfOk, IfSome, OnOk, OnErr};
 ghost use Rattle.std.specs.Option.{option_copied};
 ghost use Rattle.std.specs.Result.{IsOk, IsErr};
 ghost use Rattle.fleet_core.specs.Run.{made_by, IsRun};
 ghost use Rattle.fleet_core.specs.Verdict.{BreaksAt};
-ghost use Rattle.debugger.specs.Shown.{latest, value_shown, observations_shown, outputs_shown};
+ghost use Rattle.debugger.specs.Shown.{latest, value_shown, observations_shown, outputs_shown, step_shown};
+ghost use Rattle.debugger.specs.Shown.{ShowsState, before_shown};
 ghost use Rattle.debugger.specs.Session.{IsSession, opened, at_place, with_replayed};
 ghost use Rattle.debugger.specs.Moves.{steps_to};
 ghost use Rattle.debugger.specs.Replayed.{devices_between, events_among, IsReplayedBack};
@@ -17,7 +18,8 @@ use crate::breaks::{Break, Stop};
 use crate::changes::next_change;
 use crate::copies::{Copies, all_copies};
 use crate::fault::{AddFault, BackFault, DeviceFault, ForwardFault, OpenFault, RemoveFault};
-use crate::moves::{Moves, count_rows, counts_at, moved_devices, settle};
+use crate::latest::latest_step;
+use crate::moves::{Moves, count_rows, counts_at, device_before, moved_devices, settle};
 use crate::search::{change_in, next_mark};
 use crate::slots::{free_slot, is_taken, no_breaks};
 use device_machine::{Device, Output};
@@ -25,7 +27,7 @@ use fleet_core::{Verdict, check, start_devices};
 use lwm2m_values::Value;
 use notifier::Observations;
 use object_defs::Path;
-use scenario_image::Scenario;
+use scenario_image::{Scenario, Step};
 use std::alloc::{AllocError, Global};
 use std::marker::Model;
 use trace_file::{Entries, Entry};
@@ -245,6 +247,34 @@ impl<'a> Debugger<'a> {
         }
         let (passed, _) = self.entries.as_slice().split_at(self.place);
         Ok(latest_outputs(self.scenario, passed, device))
+    }
+
+    /// The step of the device's latest entry before the place; none before its first one. `NoDevice`, exactly if there
+    /// is no row.
+    pub fn latest_step(&self, device: u16) -> Result<Option<&Step>, DeviceFault>
+        ensures step { IfOk result (λ o. option_copied o
+            ≡ step_shown self.now.scenario self.now.entries self.now.place device) }
+        ensures device { IsOk result ↔ (device < length self.now.scenario.rows) }
+    {
+        let _rows = self.scenario.rows();
+        match self.made.get(usize::from(device)) {
+            None => Err(DeviceFault::NoDevice),
+            Some(made) => Ok(latest_step(self.scenario, device, *made)),
+        }
+    }
+
+    /// A copy of the device as it was right before its latest entry before the place.
+    pub fn before_latest(&self, device: u16) -> Result<Device, AllocError>
+        requires { IsSome (step_shown self.now.scenario self.now.entries self.now.place device) }
+        ensures { IfOk result
+            (ShowsState (before_shown self.now.scenario self.now.entries self.now.place device)) }
+    {
+        let _rows = self.scenario.rows();
+        let made = self.made[usize::from(device)];
+        let kept = &self.copies[usize::from(device)];
+        let copies = kept.devices.as_slice();
+        let before = device_before(self.alloc, self.scenario, copies, device, made as u32 - 1)?;
+        Ok(before.machine)
     }
 
     /// Adds a breakpoint under the least number from 1 that is free, and returns the number.
