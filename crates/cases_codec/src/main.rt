@@ -5,11 +5,8 @@
 mod attributes;
 mod case;
 mod catalog;
-mod fields;
 mod firmware;
 mod forms;
-mod layouts;
-mod lines;
 mod managing;
 mod messages;
 mod notifying;
@@ -21,9 +18,7 @@ mod records;
 mod stating;
 mod stores;
 mod tally;
-mod traces;
 mod values;
-mod words;
 mod writing;
 
 use case::{Case, Line};
@@ -40,17 +35,12 @@ fn answer(subject: &str, question: &mut Question<'_>, out: &mut Sheet) -> bool {
         || values::answer(subject, question, out)
         || records::answer(subject, question, out)
         || catalog::answer(subject, question, out)
-        || words::answer(subject, question, out)
         || payloads::answer(subject, question, out)
         || notifying::answer(subject, question, out)
         || attributes::answer(subject, question, out)
         || observing::answer(subject, question, out)
         || stores::answer(subject, question, out)
         || firmware::answer(subject, question, out)
-        || layouts::answer(subject, question, out)
-        || fields::answer(subject, question, out)
-        || lines::answer(subject, question, out)
-        || traces::answer(subject, question, out)
 }
 
 /// Asks a question, and prints the line where its answer is another, or where it has none.

@@ -56,6 +56,7 @@ fn make(call: &str, given: &Given, marks: &mut Marks, line: &mut Line) {
         "check" => traces::check_run(given, marks, line),
         "unfinished" => traces::find_unfinished(given, marks, line),
         "write_entries" => traces::write_run(given, marks, line),
+        "write_sized" => traces::write_sized(given, marks, line),
         "read_entries" => traces::read_trace(given, marks, line),
         "single" => building::single(given, marks, line),
         "trace" => shared::new(given, marks, line),
