@@ -177,10 +177,11 @@ fn path<'a>(question: &mut Question<'a>) -> (u16, &'a str) {
 /// Whether the next word is the second of two names, and not the first.
 fn either(question: &mut Question<'_>, no: &str, yes: &str) -> bool {
     let word = question.word();
-    if word != no && word != yes {
+    let is_yes = word == yes;
+    if !is_yes && word != no {
         question.refuse("another word was expected");
     }
-    word == yes
+    is_yes
 }
 
 /// The operations that the next word names.

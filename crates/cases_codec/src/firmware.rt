@@ -84,7 +84,7 @@ fn put_state(out: &mut Sheet, store: &Store, is_taken: bool) {
 fn put_held(out: &mut Sheet, store: &Store, number: u16) {
     match store.get(resource(number).single()) {
         Some(Value::Whole(number)) => out.put_signed(*number),
-        Some(Value::Text(text)) => put_text(out, text.as_str().as_bytes()),
+        Some(Value::Text(text)) => put_text(out, text.as_str()),
         _ => out.put("none"),
     }
 }

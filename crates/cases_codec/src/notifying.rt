@@ -173,11 +173,14 @@ fn is_triggered(question: &mut Question<'_>, out: &mut Sheet) {
 
 /// Whether a report has the payload of the last one.
 fn is_same(question: &mut Question<'_>) -> bool {
-    let word = question.word();
-    if word != "same" && word != "other" {
-        question.refuse("neither same nor other");
+    match question.word() {
+        "same" => true,
+        "other" => false,
+        _ => {
+            question.refuse("neither same nor other");
+            false
+        }
     }
-    word == "same"
 }
 
 /// `due AGE PMIN PMAX triggered|quiet`, with `-` for no pmax: whether an observation sends whose last message is this
@@ -185,11 +188,20 @@ fn is_same(question: &mut Question<'_>) -> bool {
 fn is_sent(question: &mut Question<'_>, out: &mut Sheet) {
     let (age, pmin) = (question.natural(), question.natural());
     let pmax = pmax(question);
-    let word = question.rest();
-    if word != "triggered" && word != "quiet" {
-        question.refuse("neither triggered nor quiet");
+    let has_trigger = has_trigger(question);
+    put_yes_no(out, is_due(age, pmin, pmax, has_trigger));
+}
+
+/// Whether the last word says that there is a trigger.
+fn has_trigger(question: &mut Question<'_>) -> bool {
+    match question.rest() {
+        "triggered" => true,
+        "quiet" => false,
+        _ => {
+            question.refuse("neither triggered nor quiet");
+            false
+        }
     }
-    put_yes_no(out, is_due(age, pmin, pmax, word == "triggered"));
 }
 
 fn pmax(question: &mut Question<'_>) -> Option<u64> {

@@ -26,12 +26,22 @@ fn operations(question: &mut Question<'_>, out: &mut Sheet) {
     let mut kept = Observations::new(out.alloc());
     for operation in question.rest().split(';') {
         question.turn_to(operation.trim());
-        out.next("; ");
-        match question.rest() {
-            "copy" => copy(out, &observations, &mut kept),
-            "restore" => copy(out, &kept, &mut observations),
-            _ => operate(question, out, &mut observations),
-        }
+        take(question, out, &mut observations, &mut kept);
+    }
+}
+
+/// Adds what an operation answers.
+fn take(
+    question: &mut Question<'_>,
+    out: &mut Sheet,
+    observations: &mut Observations,
+    kept: &mut Observations,
+) {
+    out.next("; ");
+    match question.rest() {
+        "copy" => copy(out, observations, kept),
+        "restore" => copy(out, kept, observations),
+        _ => operate(question, out, observations),
     }
 }
 
@@ -47,10 +57,7 @@ fn copy(out: &mut Sheet, from: &Observations, to: &mut Observations) {
 
 fn operate(question: &mut Question<'_>, out: &mut Sheet, observations: &mut Observations) {
     match question.word() {
-        "register" => {
-            let token = last_bytes(question);
-            register(question, out, observations, token.as_slice());
-        }
+        "register" => register_named(question, out, observations),
         "fill" => fill(question, out, observations),
         "sent" => sent(question, out, observations),
         "open" => open(question, out, observations),
@@ -81,6 +88,12 @@ fn ask(question: &mut Question<'_>, out: &mut Sheet, observations: &Observations
         "place" => place(question, out, observations),
         _ => question.refuse("not an operation on observations"),
     }
+}
+
+/// `register TOKEN`.
+fn register_named(question: &mut Question<'_>, out: &mut Sheet, observations: &mut Observations) {
+    let token = last_bytes(question);
+    register(question, out, observations, token.as_slice());
 }
 
 /// Registers server 1's interest in the battery level 100, at second 0 by an acknowledgement with message ID 10.

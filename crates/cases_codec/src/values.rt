@@ -33,7 +33,7 @@ fn copy(question: &mut Question<'_>, out: &mut Sheet) {
 pub fn put_value(out: &mut Sheet, value: &Value) {
     out.put_all(&[kind_name(value.kind()), " "]);
     match value {
-        Value::Text(text) => put_text(out, text.as_str().as_bytes()),
+        Value::Text(text) => put_text(out, text.as_str()),
         Value::Whole(number) | Value::Moment(number) => out.put_signed(*number),
         Value::Flag(flag) => out.put(if *flag { "true" } else { "false" }),
         Value::Opaque(bytes) => put_hex(out, bytes.as_slice()),
@@ -63,11 +63,14 @@ fn text(question: &mut Question<'_>) -> Value {
 }
 
 fn flag(question: &mut Question<'_>) -> bool {
-    let word = question.rest();
-    if word != "true" && word != "false" {
-        question.refuse("neither true nor false");
+    match question.rest() {
+        "true" => true,
+        "false" => false,
+        _ => {
+            question.refuse("neither true nor false");
+            false
+        }
     }
-    word == "true"
 }
 
 fn link(question: &mut Question<'_>) -> Value {
