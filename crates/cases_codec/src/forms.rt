@@ -91,13 +91,18 @@ pub fn text_of(question: &mut Question<'_>, words: &str) -> Vec<u8> {
     if words.is_empty() {
         question.refuse("the text is missing, %- is the empty one");
     } else if words != "%-" {
-        let mut is_escape = false;
-        for piece in words.split('%') {
-            add_text_piece(question, &mut out, piece, is_escape);
-            is_escape = true;
-        }
+        add_text(question, &mut out, words);
     }
     out
+}
+
+/// Adds the pieces of a text, of which all but the first are escapes.
+fn add_text(question: &mut Question<'_>, out: &mut Vec<u8>, words: &str) {
+    let mut is_escape = false;
+    for piece in words.split('%') {
+        add_text_piece(question, out, piece, is_escape);
+        is_escape = true;
+    }
 }
 
 fn add_text_piece(question: &mut Question<'_>, out: &mut Vec<u8>, piece: &str, is_escape: bool) {

@@ -62,17 +62,25 @@ fn code(question: &mut Question<'_>) -> u8 {
 
 /// The options of the words `NUMBER:HEX`, `-` for none, up to the word `payload`, which is skipped.
 fn options(question: &mut Question<'_>) -> Options {
+    match question.rest().split_once(" payload ") {
+        Some((words, behind)) => {
+            question.turn_to(behind);
+            options_of(question, words)
+        }
+        None => {
+            question.refuse("no payload");
+            Options::new(question.alloc())
+        }
+    }
+}
+
+fn options_of(question: &mut Question<'_>, words: &str) -> Options {
     let mut options = Options::new(question.alloc());
-    let Some((words, behind)) = question.rest().split_once(" payload ") else {
-        question.refuse("no payload");
-        return options;
-    };
     if words != "-" {
         for word in words.split(' ') {
             add_option(question, &mut options, word);
         }
     }
-    question.turn_to(behind);
     options
 }
 

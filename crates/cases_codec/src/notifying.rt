@@ -77,7 +77,11 @@ fn query(question: &mut Question<'_>, out: &mut Sheet) {
     for text in texts.iter() {
         push(question, &mut queries, text.as_slice());
     }
-    match parse_query(out.alloc(), queries.as_slice(), level) {
+    put_read(out, queries.as_slice(), level);
+}
+
+fn put_read(out: &mut Sheet, queries: &[&[u8]], level: Level) {
+    match parse_query(out.alloc(), queries, level) {
         Ok(changes) => put_changes(out, changes.as_slice()),
         Err(QueryFault::Memory) => out.cut(),
         Err(fault) => out.put(fault_name(fault)),

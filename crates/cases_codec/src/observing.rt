@@ -63,6 +63,18 @@ fn operate(question: &mut Question<'_>, out: &mut Sheet, observations: &mut Obse
         "open" => open(question, out, observations),
         "remove" => remove(question, out, observations),
         "pending" => pending(question, out, observations),
+        name => answer_to(question, out, observations, name),
+    }
+}
+
+/// A message of a server by which observations change.
+fn answer_to(
+    question: &mut Question<'_>,
+    out: &mut Sheet,
+    observations: &mut Observations,
+    name: &str,
+) {
+    match name {
         "cancel" => cancel(question, out, observations),
         "reset" => {
             let (server, mid) = (question.half(), question.last_half());
@@ -72,7 +84,7 @@ fn operate(question: &mut Question<'_>, out: &mut Sheet, observations: &mut Obse
             let (server, mid) = (question.half(), question.last_half());
             put_yes_no(out, observations.acknowledge(server, mid));
         }
-        name => ask(question, out, observations, name),
+        _ => ask(question, out, observations, name),
     }
 }
 
@@ -241,26 +253,34 @@ fn open_bytes(question: &mut Question<'_>, out: &mut Sheet, observations: &Obser
 /// periods; `-` for no PMAX. CODE is a byte in decimal, and stands after `gone` alone.
 fn pending(question: &mut Question<'_>, out: &mut Sheet, observations: &mut Observations) {
     let place = usize::from(question.half());
-    let pending = match question.word() {
-        "idle" => Pending::Idle,
-        "changed" => Pending::Changed,
-        "gone" => Pending::Gone(question.byte()),
-        _ => {
-            question.refuse("not idle, changed or gone");
-            return;
-        }
-    };
-    let pmin = question.natural();
-    let pmax = if question.rest() == "-" {
-        None
-    } else {
-        Some(question.last_natural())
-    };
+    let pending = answered(question);
+    let (pmin, pmax) = (question.natural(), last_pmax(question));
     if place >= observations.len() {
         out.put("none");
     } else {
         observations.pending(place, pending, pmin, pmax);
         out.put("ok");
+    }
+}
+
+/// What the present answer of an observation is.
+fn answered(question: &mut Question<'_>) -> Pending {
+    match question.word() {
+        "idle" => Pending::Idle,
+        "changed" => Pending::Changed,
+        "gone" => Pending::Gone(question.byte()),
+        _ => {
+            question.refuse("not idle, changed or gone");
+            Pending::Idle
+        }
+    }
+}
+
+fn last_pmax(question: &mut Question<'_>) -> Option<u64> {
+    if question.rest() == "-" {
+        None
+    } else {
+        Some(question.last_natural())
     }
 }
 

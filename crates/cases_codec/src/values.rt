@@ -21,12 +21,14 @@ pub fn answer(subject: &str, question: &mut Question<'_>, out: &mut Sheet) -> bo
 fn copy(question: &mut Question<'_>, out: &mut Sheet) {
     let value = value(question);
     match value.copy() {
-        Ok(copy) => {
-            out.put(if copy == value { "equal " } else { "unequal " });
-            put_value(out, &copy);
-        }
+        Ok(copy) => put_copy(out, &value, &copy),
         Err(_) => out.cut(),
     }
+}
+
+fn put_copy(out: &mut Sheet, value: &Value, copy: &Value) {
+    out.put(if copy == value { "equal " } else { "unequal " });
+    put_value(out, copy);
 }
 
 /// Adds the words `KIND VALUE` of a value.
