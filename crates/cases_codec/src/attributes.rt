@@ -23,12 +23,22 @@ fn operations(question: &mut Question<'_>, out: &mut Sheet) {
     let mut kept = Attributes::new(out.alloc());
     for operation in question.rest().split(';') {
         question.turn_to(operation.trim());
-        out.next("; ");
-        match question.rest() {
-            "copy" => copy(out, &attributes, &mut kept),
-            "restore" => copy(out, &kept, &mut attributes),
-            _ => operate(question, out, &mut attributes),
-        }
+        take(question, out, &mut attributes, &mut kept);
+    }
+}
+
+/// Adds what an operation answers.
+fn take(
+    question: &mut Question<'_>,
+    out: &mut Sheet,
+    attributes: &mut Attributes,
+    kept: &mut Attributes,
+) {
+    out.next("; ");
+    match question.rest() {
+        "copy" => copy(out, attributes, kept),
+        "restore" => copy(out, kept, attributes),
+        _ => operate(question, out, attributes),
     }
 }
 

@@ -73,15 +73,32 @@ fn add_objects(question: &mut Question<'_>, out: &mut Sheet, catalog: &mut Catal
 fn add_resources(question: &mut Question<'_>, out: &mut Sheet, catalog: &mut Catalog) {
     let (object, ids) = path(question);
     let (first, last) = range_of(question, ids);
-    let mut definition = ResourceDef {
-        id: first,
+    let definition = definition(question, first);
+    add_each(out, catalog, object, definition, last);
+}
+
+/// The words that are left as the definition of the resource of this number.
+fn definition(question: &mut Question<'_>, id: u16) -> ResourceDef {
+    let definition = ResourceDef {
+        id,
         ops: ops(question),
         multiple: either(question, "single", "multiple"),
         mandatory: either(question, "optional", "mandatory"),
         kind: kind(question),
     };
     question.end();
-    for id in first..=last {
+    definition
+}
+
+/// Adds this resource, and the same of each further number up to the last one.
+fn add_each(
+    out: &mut Sheet,
+    catalog: &mut Catalog,
+    object: u16,
+    mut definition: ResourceDef,
+    last: u16,
+) {
+    for id in definition.id..=last {
         definition.id = id;
         if let Err(fault) = catalog.add_resource(object, definition) {
             put_fault(out, fault);
@@ -177,10 +194,11 @@ fn path<'a>(question: &mut Question<'a>) -> (u16, &'a str) {
 /// Whether the next word is the second of two names, and not the first.
 fn either(question: &mut Question<'_>, no: &str, yes: &str) -> bool {
     let word = question.word();
-    if word != no && word != yes {
+    let is_yes = word == yes;
+    if !is_yes && word != no {
         question.refuse("another word was expected");
     }
-    word == yes
+    is_yes
 }
 
 /// The operations that the next word names.

@@ -64,10 +64,14 @@ fn event(question: &mut Question<'_>) -> FirmwareEvent {
 fn event_in_state(question: &mut Question<'_>, out: &mut Sheet) {
     let mut store = store_in_state(question);
     let event = event(question);
-    let can_be_taken = takes(&store, &event);
-    match take(out.alloc(), &mut store, event) {
+    take_event(out, &mut store, event);
+}
+
+fn take_event(out: &mut Sheet, store: &mut Store, event: FirmwareEvent) {
+    let can_be_taken = takes(store, &event);
+    match take(out.alloc(), store, event) {
         Ok(is_taken) if is_taken != can_be_taken => out.put("takes and take differ"),
-        Ok(is_taken) => put_state(out, &store, is_taken),
+        Ok(is_taken) => put_state(out, store, is_taken),
         Err(_) => out.cut(),
     }
 }
@@ -84,7 +88,7 @@ fn put_state(out: &mut Sheet, store: &Store, is_taken: bool) {
 fn put_held(out: &mut Sheet, store: &Store, number: u16) {
     match store.get(resource(number).single()) {
         Some(Value::Whole(number)) => out.put_signed(*number),
-        Some(Value::Text(text)) => put_text(out, text.as_str().as_bytes()),
+        Some(Value::Text(text)) => put_text(out, text.as_str()),
         _ => out.put("none"),
     }
 }

@@ -91,13 +91,18 @@ pub fn text_of(question: &mut Question<'_>, words: &str) -> Vec<u8> {
     if words.is_empty() {
         question.refuse("the text is missing, %- is the empty one");
     } else if words != "%-" {
-        let mut is_escape = false;
-        for piece in words.split('%') {
-            add_text_piece(question, &mut out, piece, is_escape);
-            is_escape = true;
-        }
+        add_text(question, &mut out, words);
     }
     out
+}
+
+/// Adds the pieces of a text, of which all but the first are escapes.
+fn add_text(question: &mut Question<'_>, out: &mut Vec<u8>, words: &str) {
+    let mut is_escape = false;
+    for piece in words.split('%') {
+        add_text_piece(question, out, piece, is_escape);
+        is_escape = true;
+    }
 }
 
 fn add_text_piece(question: &mut Question<'_>, out: &mut Vec<u8>, piece: &str, is_escape: bool) {
@@ -181,60 +186,7 @@ fn put_run(out: &mut Sheet, byte: u8, count: usize) {
     out.put_number(count as u64);
 }
 
-/// Adds bytes as text: what is not a visible character, a space at either end, `%` and `|` as `%XX`, more than 32 equal
-/// bytes in a row as `%XX*N`, and no byte at all as `%-`.
-pub fn put_text(out: &mut Sheet, bytes: &[u8]) {
-    let mut text = Sheet::new(out.alloc());
-    let mut is_apart = false;
-    for row in bytes.chunk_by(|a, b| a == b) {
-        let is_run = row.len() > ROW;
-        put_text_row(&mut text, row, is_run, is_apart);
-        is_apart = is_run;
-    }
-    put_ended(out, &text);
-}
-
-/// Adds a text, whose last character must not be a space.
-fn put_ended(out: &mut Sheet, text: &Sheet) {
-    if text.is_cut() {
-        out.cut();
-    }
-    match text.as_str().strip_suffix(' ') {
-        Some(front) => out.put_all(&[front, "%20"]),
-        None if text.is_empty() => out.put("%-"),
-        None => out.put(text.as_str()),
-    }
-}
-
-/// Adds equal bytes, of which a digit must not stand right after a run.
-fn put_text_row(text: &mut Sheet, row: &[u8], is_run: bool, is_apart: bool) {
-    if let Some(byte) = row.first()
-        && is_run
-    {
-        text.put("%");
-        put_run(text, *byte, row.len());
-        return;
-    }
-    for byte in row {
-        put_text_byte(text, *byte, is_apart);
-    }
-}
-
-fn put_text_byte(text: &mut Sheet, byte: u8, is_apart: bool) {
-    match str::from_utf8(&[byte]) {
-        Ok(letter) if stands_for_itself(byte, text.is_empty(), is_apart) => text.put(letter),
-        _ => {
-            text.put("%");
-            text.put_hex(&[byte]);
-        }
-    }
-}
-
-/// Whether a byte of a text is written as its character, at the front of a text or right after a run.
-fn stands_for_itself(byte: u8, is_first: bool, is_apart: bool) -> bool {
-    if byte == b'%' || byte == b'|' || (is_first && byte == b' ') {
-        return false;
-    }
-    let is_digit = b'0' <= byte && byte <= b'9';
-    b' ' <= byte && byte <= b'~' && !(is_apart && is_digit)
+/// Adds a text as it is; `%-` for the empty one.
+pub fn put_text(out: &mut Sheet, text: &str) {
+    out.put(if text.is_empty() { "%-" } else { text });
 }

@@ -1,15 +1,13 @@
-//! The tables of the formats, as questions that stand beside their answers: reads them from standard input, asks the
-//! crates, and prints each line whose answer differs. docs/inside/codec-cases.md says how a line is written.
+//! The tables of the formats that no command shows, as questions that stand beside their answers: reads them from
+//! standard input, asks the crates, and prints each line whose answer differs. docs/inside/codec-cases.md says how a
+//! line is written.
 #![tactic(auto)]
 
 mod attributes;
 mod case;
 mod catalog;
-mod fields;
 mod firmware;
 mod forms;
-mod layouts;
-mod lines;
 mod managing;
 mod messages;
 mod notifying;
@@ -21,15 +19,12 @@ mod records;
 mod stating;
 mod stores;
 mod tally;
-mod traces;
 mod values;
-mod words;
 mod writing;
 
 use case::{Case, Line};
 use case_sheet::Sheet;
 use question::Question;
-use std::alloc::{AllocError, Global};
 use std::io;
 use std::process::ExitCode;
 use tally::Tally;
@@ -40,108 +35,88 @@ fn answer(subject: &str, question: &mut Question<'_>, out: &mut Sheet) -> bool {
         || values::answer(subject, question, out)
         || records::answer(subject, question, out)
         || catalog::answer(subject, question, out)
-        || words::answer(subject, question, out)
         || payloads::answer(subject, question, out)
         || notifying::answer(subject, question, out)
         || attributes::answer(subject, question, out)
         || observing::answer(subject, question, out)
         || stores::answer(subject, question, out)
         || firmware::answer(subject, question, out)
-        || layouts::answer(subject, question, out)
-        || fields::answer(subject, question, out)
-        || lines::answer(subject, question, out)
-        || traces::answer(subject, question, out)
 }
 
-/// Asks a question, and prints the line where its answer is another, or where it has none.
-fn check(
-    rt: &impl Print,
-    alloc: Global,
-    number: u64,
-    case: &Case<'_>,
-    tally: &mut Tally,
-) -> io::Result<()> {
+/// Asks a question. Where its answer is another, or where it has none, the report gets the line.
+fn check(number: u64, case: &Case<'_>, tally: &mut Tally, report: &mut Sheet) {
     let (subject, words) = match case.question.split_once(' ') {
         Some(parts) => parts,
         None => (case.question, ""),
     };
-    let mut question = Question::new(alloc, words.trim());
-    let mut got = Sheet::new(alloc);
+    let mut question = Question::new(report.alloc(), words.trim());
+    let mut got = Sheet::new(report.alloc());
     if !answer(subject, &mut question, &mut got) {
         question.refuse("unknown subject");
     }
     if question.is_cut() || got.is_cut() {
-        return Err(io::Error::from(AllocError));
+        report.cut();
     }
     match question.fault() {
-        Some(why) => refuse(rt, number, why, case.question, tally),
-        None => compare(rt, number, case, got.as_str(), tally),
+        Some(why) => refuse(number, why, case.question, tally, report),
+        None => compare(number, case, got.as_str(), tally, report),
     }
 }
 
-/// Prints the line of a case whose answer is another.
-fn compare(
-    rt: &impl Print,
-    number: u64,
-    case: &Case<'_>,
-    got: &str,
-    tally: &mut Tally,
-) -> io::Result<()> {
+/// Adds the line of a case whose answer is another.
+fn compare(number: u64, case: &Case<'_>, got: &str, tally: &mut Tally, report: &mut Sheet) {
     tally.count_case();
     if (got == case.answer) == case.is_same {
-        return Ok(());
+        return;
     }
     tally.count_other();
-    let question = case.question;
-    if case.is_same {
-        println!(rt; "line {number}: {question} => {got}")
+    put_place(number, report);
+    report.put_all(&[": ", case.question, " => ", got]);
+    report.put(if case.is_same {
+        "\n"
     } else {
-        println!(rt; "line {number}: {question} => {got}, which must not be")
-    }
+        ", which must not be\n"
+    });
 }
 
-/// Prints a line that is not a case, and why.
-fn refuse(
-    rt: &impl Print,
-    number: u64,
-    why: &str,
-    text: &str,
-    tally: &mut Tally,
-) -> io::Result<()> {
+/// Adds a line that is not a case, and why.
+fn refuse(number: u64, why: &str, text: &str, tally: &mut Tally, report: &mut Sheet) {
     tally.count_refused();
-    println!(rt; "line {number} is not a case, {why}: {text}")
+    put_place(number, report);
+    report.put_all(&[" is not a case, ", why, ": ", text, "\n"]);
 }
 
-/// Goes through the lines of a table.
-fn check_all(rt: &impl Print, alloc: Global, table: &str) -> io::Result<Tally> {
+/// Adds which line it is.
+fn put_place(number: u64, report: &mut Sheet) {
+    report.put("line ");
+    report.put_number(number);
+}
+
+/// Goes through the lines of a table, and adds what they come to.
+fn check_all(table: &str, report: &mut Sheet) -> Tally {
     let mut tally = Tally::new();
     let mut number: u64 = 0;
     for line in table.lines() {
         number = number.saturating_add(1);
         match case::read_line(line) {
             Line::Comment => {}
-            Line::Case(case) => check(rt, alloc, number, &case, &mut tally)?,
-            Line::Unread(why) => refuse(rt, number, why, line, &mut tally)?,
+            Line::Case(case) => check(number, &case, &mut tally, report),
+            Line::Unread(why) => refuse(number, why, line, &mut tally, report),
         }
     }
-    Ok(tally)
+    report.put_number(tally.cases());
+    report.put(" cases, ");
+    report.put_number(tally.differ());
+    report.put(" differ\n");
+    tally
 }
 
-/// Reads the table, checks it, and prints how many cases there were.
-fn run(rt: &(impl Input + Print + AllocGlobal)) -> io::Result<Tally> {
-    let table = io::read_to_string(rt.alloc(), rt.reader())?;
-    let tally = check_all(rt, rt.alloc(), table.as_str())?;
-    let (cases, differ) = (tally.cases(), tally.differ());
-    println!(rt; "{cases} cases, {differ} differ")?;
-    Ok(tally)
-}
-
-fn main(rt: HostRuntime) -> ExitCode {
-    match run(&rt) {
-        Ok(tally) => ExitCode::from(tally.status()),
-        Err(error) => {
-            let _ = eprintln!(rt; "cases_codec: {error}");
-            ExitCode::from(2)
-        }
-    }
+fn main(rt: HostRuntime) -> io::Result<ExitCode> {
+    let alloc = rt.alloc();
+    let table = io::read_to_string(alloc, rt.reader())?;
+    let mut report = Sheet::new(alloc);
+    let tally = check_all(table.as_str(), &mut report);
+    let report = report.finish()?;
+    rt.print(report.as_str())?;
+    Ok(ExitCode::from(tally.status()))
 }

@@ -9,7 +9,7 @@ use access_control::{Rights, may_create, rights};
 use case_sheet::Sheet;
 use device_instances::{create, free_number, has_no_room, number_for};
 use instance_store::Store;
-use lwm2m_payloads::{Creation, creation_given};
+use lwm2m_payloads::{Assignments, Creation, creation_given};
 use lwm2m_values::ValueKind;
 use object_defs::{InstancePath, Ops, ResourceDef};
 
@@ -98,27 +98,16 @@ fn ask_by_accounts(question: &mut Question<'_>, out: &mut Sheet, store: &Store, 
 
 fn room(question: &mut Question<'_>, out: &mut Sheet, store: &Store, accounts: usize) {
     let place = place(question);
-    let payload = last_bytes(question);
-    match creation_given(out.alloc(), &RESOURCES, payload.as_slice()) {
-        Ok(Some(creation)) => {
-            let has_none = has_no_room(store, accounts, &RESOURCES, place, &creation.assigned);
-            put_yes_no(out, !has_none);
-        }
-        Ok(None) => question.refuse("the payload creates nothing"),
-        Err(_) => out.cut(),
+    if let Some(assigned) = assigned(question) {
+        let has_none = has_no_room(store, accounts, &RESOURCES, place, &assigned);
+        put_yes_no(out, !has_none);
     }
 }
 
-/// `create ACCOUNTS SERVER PLACE PAYLOAD`: creates an instance of another object than 2, of which nobody does.
-pub fn create_by(question: &mut Question<'_>, out: &mut Sheet, store: &mut Store) {
-    let (accounts, server) = (usize::from(question.half()), question.half());
-    let place = place(question);
+/// The payload that is the last word: what it gives to a new instance.
+fn assigned(question: &mut Question<'_>) -> Option<Assignments> {
     let payload = last_bytes(question);
-    if place.object == 2 {
-        question.refuse("nobody creates instances of object 2");
-        return;
-    }
-    match creation_given(out.alloc(), &RESOURCES, payload.as_slice()) {
+    match creation_given(question.alloc(), &RESOURCES, payload.as_slice()) {
         Ok(
             Some(
                 Creation {
@@ -126,11 +115,28 @@ pub fn create_by(question: &mut Question<'_>, out: &mut Sheet, store: &mut Store
                     assigned,
                 },
             ),
-        ) => put_outcome(
+        ) => Some(assigned),
+        Ok(None) => {
+            question.refuse("the payload creates nothing");
+            None
+        }
+        Err(_) => {
+            question.cut();
+            None
+        }
+    }
+}
+
+/// `create ACCOUNTS SERVER PLACE PAYLOAD`: creates an instance of another object than 2, of which nobody does.
+pub fn create_by(question: &mut Question<'_>, out: &mut Sheet, store: &mut Store) {
+    let (accounts, server) = (usize::from(question.half()), question.half());
+    let place = place(question);
+    if place.object == 2 {
+        question.refuse("nobody creates instances of object 2");
+    } else if let Some(assigned) = assigned(question) {
+        put_outcome(
             out,
             create(store, accounts, server, &RESOURCES, place, assigned),
-        ),
-        Ok(None) => question.refuse("the payload creates nothing"),
-        Err(_) => out.cut(),
+        );
     }
 }

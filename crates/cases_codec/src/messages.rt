@@ -3,15 +3,12 @@
 use crate::forms::{bytes, hex, last_bytes, put_hex};
 use crate::question::Question;
 use case_sheet::Sheet;
-use coap_codec::{
-    CoapFault, Kind, Message, Opt, Options, decode, encode, header, uint, uint_bytes,
-};
+use coap_codec::{CoapFault, Kind, Message, Opt, Options, encode, header, uint, uint_bytes};
 use octets::Bytes;
 
 /// Answers a question of this subject; `false` where the subject is none of this module's.
 pub fn answer(subject: &str, question: &mut Question<'_>, out: &mut Sheet) -> bool {
     match subject {
-        "coap" => parts(question, out),
         "write-coap" => write_parts(question, out),
         "coap-header" => front(question, out),
         "coap-fault" => fault_number(question, out),
@@ -20,51 +17,6 @@ pub fn answer(subject: &str, question: &mut Question<'_>, out: &mut Sheet) -> bo
         _ => return false,
     }
     true
-}
-
-/// `coap HEX`: the parts of the message that bytes are, or their fault.
-fn parts(question: &mut Question<'_>, out: &mut Sheet) {
-    let bytes = last_bytes(question);
-    match decode(out.alloc(), bytes.as_slice()) {
-        Ok(message) => put_parts(out, &message),
-        Err(CoapFault::Memory) => out.cut(),
-        Err(fault) => out.put(fault_name(fault)),
-    }
-}
-
-/// Adds the parts of a message.
-fn put_parts(out: &mut Sheet, message: &Message) {
-    out.put_all(&[kind_name(message.kind()), " "]);
-    put_code(out, message.code());
-    out.put(" mid ");
-    out.put_number(u64::from(message.mid()));
-    out.put(" token ");
-    put_hex(out, message.token().as_slice());
-    out.put(" options");
-    put_options(out, message.options().as_slice());
-    out.put(" payload ");
-    put_hex(out, message.payload().as_slice());
-}
-
-/// Adds the class and the detail of a code, as in 2.05.
-fn put_code(out: &mut Sheet, code: u8) {
-    let (class, detail) = (code / 32, code % 32);
-    out.put_number(u64::from(class));
-    out.put(if detail < 10 { ".0" } else { "." });
-    out.put_number(u64::from(detail));
-}
-
-/// Adds options, each after a space, or `-` for none.
-fn put_options(out: &mut Sheet, options: &[Opt]) {
-    if options.is_empty() {
-        out.put(" -");
-    }
-    for option in options {
-        out.put(" ");
-        out.put_number(u64::from(option.number));
-        out.put(":");
-        put_hex(out, option.value.as_slice());
-    }
 }
 
 /// `write-coap PARTS`: the bytes of the message of these parts, or `refused` where there is none.
@@ -110,17 +62,25 @@ fn code(question: &mut Question<'_>) -> u8 {
 
 /// The options of the words `NUMBER:HEX`, `-` for none, up to the word `payload`, which is skipped.
 fn options(question: &mut Question<'_>) -> Options {
+    match question.rest().split_once(" payload ") {
+        Some((words, behind)) => {
+            question.turn_to(behind);
+            options_of(question, words)
+        }
+        None => {
+            question.refuse("no payload");
+            Options::new(question.alloc())
+        }
+    }
+}
+
+fn options_of(question: &mut Question<'_>, words: &str) -> Options {
     let mut options = Options::new(question.alloc());
-    let Some((words, behind)) = question.rest().split_once(" payload ") else {
-        question.refuse("no payload");
-        return options;
-    };
     if words != "-" {
         for word in words.split(' ') {
             add_option(question, &mut options, word);
         }
     }
-    question.turn_to(behind);
     options
 }
 

@@ -77,7 +77,11 @@ fn query(question: &mut Question<'_>, out: &mut Sheet) {
     for text in texts.iter() {
         push(question, &mut queries, text.as_slice());
     }
-    match parse_query(out.alloc(), queries.as_slice(), level) {
+    put_read(out, queries.as_slice(), level);
+}
+
+fn put_read(out: &mut Sheet, queries: &[&[u8]], level: Level) {
+    match parse_query(out.alloc(), queries, level) {
         Ok(changes) => put_changes(out, changes.as_slice()),
         Err(QueryFault::Memory) => out.cut(),
         Err(fault) => out.put(fault_name(fault)),
@@ -173,11 +177,14 @@ fn is_triggered(question: &mut Question<'_>, out: &mut Sheet) {
 
 /// Whether a report has the payload of the last one.
 fn is_same(question: &mut Question<'_>) -> bool {
-    let word = question.word();
-    if word != "same" && word != "other" {
-        question.refuse("neither same nor other");
+    match question.word() {
+        "same" => true,
+        "other" => false,
+        _ => {
+            question.refuse("neither same nor other");
+            false
+        }
     }
-    word == "same"
 }
 
 /// `due AGE PMIN PMAX triggered|quiet`, with `-` for no pmax: whether an observation sends whose last message is this
@@ -185,11 +192,20 @@ fn is_same(question: &mut Question<'_>) -> bool {
 fn is_sent(question: &mut Question<'_>, out: &mut Sheet) {
     let (age, pmin) = (question.natural(), question.natural());
     let pmax = pmax(question);
-    let word = question.rest();
-    if word != "triggered" && word != "quiet" {
-        question.refuse("neither triggered nor quiet");
+    let has_trigger = has_trigger(question);
+    put_yes_no(out, is_due(age, pmin, pmax, has_trigger));
+}
+
+/// Whether the last word says that there is a trigger.
+fn has_trigger(question: &mut Question<'_>) -> bool {
+    match question.rest() {
+        "triggered" => true,
+        "quiet" => false,
+        _ => {
+            question.refuse("neither triggered nor quiet");
+            false
+        }
     }
-    put_yes_no(out, is_due(age, pmin, pmax, word == "triggered"));
 }
 
 fn pmax(question: &mut Question<'_>) -> Option<u64> {

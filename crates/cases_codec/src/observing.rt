@@ -26,12 +26,22 @@ fn operations(question: &mut Question<'_>, out: &mut Sheet) {
     let mut kept = Observations::new(out.alloc());
     for operation in question.rest().split(';') {
         question.turn_to(operation.trim());
-        out.next("; ");
-        match question.rest() {
-            "copy" => copy(out, &observations, &mut kept),
-            "restore" => copy(out, &kept, &mut observations),
-            _ => operate(question, out, &mut observations),
-        }
+        take(question, out, &mut observations, &mut kept);
+    }
+}
+
+/// Adds what an operation answers.
+fn take(
+    question: &mut Question<'_>,
+    out: &mut Sheet,
+    observations: &mut Observations,
+    kept: &mut Observations,
+) {
+    out.next("; ");
+    match question.rest() {
+        "copy" => copy(out, observations, kept),
+        "restore" => copy(out, kept, observations),
+        _ => operate(question, out, observations),
     }
 }
 
@@ -47,15 +57,24 @@ fn copy(out: &mut Sheet, from: &Observations, to: &mut Observations) {
 
 fn operate(question: &mut Question<'_>, out: &mut Sheet, observations: &mut Observations) {
     match question.word() {
-        "register" => {
-            let token = last_bytes(question);
-            register(question, out, observations, token.as_slice());
-        }
+        "register" => register_named(question, out, observations),
         "fill" => fill(question, out, observations),
         "sent" => sent(question, out, observations),
         "open" => open(question, out, observations),
         "remove" => remove(question, out, observations),
         "pending" => pending(question, out, observations),
+        name => answer_to(question, out, observations, name),
+    }
+}
+
+/// A message of a server by which observations change.
+fn answer_to(
+    question: &mut Question<'_>,
+    out: &mut Sheet,
+    observations: &mut Observations,
+    name: &str,
+) {
+    match name {
         "cancel" => cancel(question, out, observations),
         "reset" => {
             let (server, mid) = (question.half(), question.last_half());
@@ -65,7 +84,7 @@ fn operate(question: &mut Question<'_>, out: &mut Sheet, observations: &mut Obse
             let (server, mid) = (question.half(), question.last_half());
             put_yes_no(out, observations.acknowledge(server, mid));
         }
-        name => ask(question, out, observations, name),
+        _ => ask(question, out, observations, name),
     }
 }
 
@@ -81,6 +100,12 @@ fn ask(question: &mut Question<'_>, out: &mut Sheet, observations: &Observations
         "place" => place(question, out, observations),
         _ => question.refuse("not an operation on observations"),
     }
+}
+
+/// `register TOKEN`.
+fn register_named(question: &mut Question<'_>, out: &mut Sheet, observations: &mut Observations) {
+    let token = last_bytes(question);
+    register(question, out, observations, token.as_slice());
 }
 
 /// Registers server 1's interest in the battery level 100, at second 0 by an acknowledgement with message ID 10.
@@ -228,26 +253,34 @@ fn open_bytes(question: &mut Question<'_>, out: &mut Sheet, observations: &Obser
 /// periods; `-` for no PMAX. CODE is a byte in decimal, and stands after `gone` alone.
 fn pending(question: &mut Question<'_>, out: &mut Sheet, observations: &mut Observations) {
     let place = usize::from(question.half());
-    let pending = match question.word() {
-        "idle" => Pending::Idle,
-        "changed" => Pending::Changed,
-        "gone" => Pending::Gone(question.byte()),
-        _ => {
-            question.refuse("not idle, changed or gone");
-            return;
-        }
-    };
-    let pmin = question.natural();
-    let pmax = if question.rest() == "-" {
-        None
-    } else {
-        Some(question.last_natural())
-    };
+    let pending = answered(question);
+    let (pmin, pmax) = (question.natural(), last_pmax(question));
     if place >= observations.len() {
         out.put("none");
     } else {
         observations.pending(place, pending, pmin, pmax);
         out.put("ok");
+    }
+}
+
+/// What the present answer of an observation is.
+fn answered(question: &mut Question<'_>) -> Pending {
+    match question.word() {
+        "idle" => Pending::Idle,
+        "changed" => Pending::Changed,
+        "gone" => Pending::Gone(question.byte()),
+        _ => {
+            question.refuse("not idle, changed or gone");
+            Pending::Idle
+        }
+    }
+}
+
+fn last_pmax(question: &mut Question<'_>) -> Option<u64> {
+    if question.rest() == "-" {
+        None
+    } else {
+        Some(question.last_natural())
     }
 }
 

@@ -6,14 +6,39 @@ use case_sheet::Sheet;
 use lwm2m_values::Text;
 use object_defs::{FullPath, InstancePath, Path, ResourcePath, path_text};
 
-/// The next word as a path.
+/// The next word as a path: one to four numbers, each after a slash.
 pub fn path(question: &mut Question<'_>) -> Path {
-    match scenario_words::path(question.word().as_bytes()) {
-        Ok((path, _)) => path,
-        Err(_) => {
+    match question.word().split_once('/') {
+        Some(("", numbers)) => path_of(question, numbers),
+        _ => {
             question.refuse("not a path");
             Path::Object(0)
         }
+    }
+}
+
+/// The path of these numbers.
+fn path_of(question: &mut Question<'_>, numbers: &str) -> Path {
+    let (object, rest) = front(question, numbers);
+    let Some(numbers) = rest else {
+        return Path::Object(object);
+    };
+    let (instance, rest) = front(question, numbers);
+    let Some(numbers) = rest else {
+        return Path::Instance(object, instance);
+    };
+    let (resource, rest) = front(question, numbers);
+    match rest {
+        None => Path::Resource(object, instance, resource),
+        Some(number) => Path::Part(object, instance, resource, question.half_of(number)),
+    }
+}
+
+/// The first of these numbers, and what stands after the slash behind it.
+fn front<'a>(question: &mut Question<'_>, numbers: &'a str) -> (u16, Option<&'a str>) {
+    match numbers.split_once('/') {
+        Some((number, rest)) => (question.half_of(number), Some(rest)),
+        None => (question.half_of(numbers), None),
     }
 }
 

@@ -172,10 +172,15 @@ impl Unfinished {
         if content == "(" {
             self.begin(question, name, id);
         } else {
-            let bytes = Bytes::from_vec(hex(question, content));
-            let node = leaf(question, name, id, bytes);
-            self.put(question, node);
+            self.put_leaf(question, name, id, content);
         }
+    }
+
+    /// Adds a record that holds these bytes.
+    fn put_leaf(&mut self, question: &mut Question<'_>, name: &str, id: u16, content: &str) {
+        let bytes = Bytes::from_vec(hex(question, content));
+        let node = leaf(question, name, id, bytes);
+        self.put(question, node);
     }
 
     /// Begins a record that holds records.

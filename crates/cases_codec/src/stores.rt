@@ -34,12 +34,17 @@ fn operations(question: &mut Question<'_>, out: &mut Sheet) {
     let mut kept = Store::new(out.alloc());
     for operation in operations.split(';') {
         question.turn_to(operation.trim());
-        out.next("; ");
-        match question.word() {
-            "copy" => copy(out, &store, &mut kept),
-            "restore" => copy(out, &kept, &mut store),
-            name => operate(question, out, &mut store, name),
-        }
+        take(question, out, &mut store, &mut kept);
+    }
+}
+
+/// Adds what an operation answers.
+fn take(question: &mut Question<'_>, out: &mut Sheet, store: &mut Store, kept: &mut Store) {
+    out.next("; ");
+    match question.word() {
+        "copy" => copy(out, store, kept),
+        "restore" => copy(out, kept, store),
+        name => operate(question, out, store, name),
     }
 }
 
@@ -55,22 +60,35 @@ fn copy(out: &mut Sheet, from: &Store, to: &mut Store) {
 
 fn operate(question: &mut Question<'_>, out: &mut Sheet, store: &mut Store, name: &str) {
     match name {
-        "add" => put_outcome(out, store.add_instance(last_place(question))),
-        "remove" => put_outcome(out, store.remove_instance(last_place(question))),
-        "clear" => put_outcome(out, store.clear_resource(last_resource(question))),
-        "put" => {
-            let path = path(question);
-            let value = value(question);
-            put_outcome(out, put(question, store, path, value));
+        "add" | "remove" | "delete" => {
+            let place = last_place(question);
+            put_outcome(out, change_instance(store, name, place));
         }
+        "clear" => put_outcome(out, store.clear_resource(last_resource(question))),
+        "put" => put_outcome(out, put_value_at(question, store)),
         "fill" => put_outcome(out, fill(question, store)),
         "create" => managing::create_by(question, out, store),
-        "delete" => put_outcome(out, delete(store, last_place(question))),
         "rights" | "may-create" | "free" | "number" | "room" => {
             managing::ask(question, out, store, name);
         }
         _ => ask(question, out, store, name),
     }
+}
+
+/// `add PLACE`, `remove PLACE`, `delete PLACE`.
+fn change_instance(store: &mut Store, name: &str, place: InstancePath) -> Result<(), StoreFault> {
+    match name {
+        "add" => store.add_instance(place),
+        "remove" => store.remove_instance(place),
+        _ => delete(store, place),
+    }
+}
+
+/// `put PATH VALUE`.
+fn put_value_at(question: &mut Question<'_>, store: &mut Store) -> Result<(), StoreFault> {
+    let path = path(question);
+    let value = value(question);
+    put(question, store, path, value)
 }
 
 /// Adds what a call that changes a store answers.
@@ -94,6 +112,13 @@ fn ask(question: &mut Question<'_>, out: &mut Sheet, store: &Store, name: &str) 
             question.end();
             out.put_number(store.len() as u64);
         }
+        _ => list(question, out, store, name),
+    }
+}
+
+/// The operations that list numbers, values or instances.
+fn list(question: &mut Question<'_>, out: &mut Sheet, store: &Store, name: &str) {
+    match name {
         "instances" => put_numbers(out, store.instances(question.last_half())),
         "resources" => put_list(out, store.resources(last_place(question))),
         "parts" => put_list(out, store.parts(last_resource(question))),

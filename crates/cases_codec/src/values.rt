@@ -1,19 +1,15 @@
-//! Values of resources, as plain text and as the bytes of TLV (OMA LwM2M 1.1 Core).
+//! Values of resources, and their words (OMA LwM2M 1.1 Core).
 
 use crate::forms::{self, put_hex, put_text};
 use crate::places::{self, put_yes_no};
 use crate::question::Question;
 use case_sheet::Sheet;
-use lwm2m_values::{Value, ValueFault, ValueKind, bytes_of, read_text, value_of, write_text};
+use lwm2m_values::{Value, ValueKind};
 use octets::Bytes;
 
 /// Answers a question of this subject; `false` where the subject is none of this module's.
 pub fn answer(subject: &str, question: &mut Question<'_>, out: &mut Sheet) -> bool {
     match subject {
-        "text" => from_text(question, out),
-        "write-text" => to_text(question, out),
-        "tlv-value" => from_bytes(question, out),
-        "write-tlv-value" => to_bytes(question, out),
         "good" => put_yes_no(out, value(question).is_good()),
         "copy" => copy(question, out),
         _ => return false,
@@ -21,64 +17,25 @@ pub fn answer(subject: &str, question: &mut Question<'_>, out: &mut Sheet) -> bo
     true
 }
 
-/// `text KIND TEXT`: the value whose plain text this is.
-fn from_text(question: &mut Question<'_>, out: &mut Sheet) {
-    let kind = kind(question);
-    let text = forms::text(question);
-    let found = read_text(out.alloc(), kind, text.as_slice());
-    put_found(out, found);
-}
-
-/// `write-text KIND VALUE`: the plain text of a value.
-fn to_text(question: &mut Question<'_>, out: &mut Sheet) {
-    match write_text(out.alloc(), &value(question)) {
-        Ok(text) => put_text(out, text.as_slice()),
-        Err(_) => out.cut(),
-    }
-}
-
-/// `tlv-value KIND HEX`: the value whose bytes in TLV these are.
-fn from_bytes(question: &mut Question<'_>, out: &mut Sheet) {
-    let kind = kind(question);
-    let bytes = forms::last_bytes(question);
-    let found = value_of(out.alloc(), kind, bytes.as_slice());
-    put_found(out, found);
-}
-
-/// `write-tlv-value KIND VALUE`: the bytes of a value in TLV.
-fn to_bytes(question: &mut Question<'_>, out: &mut Sheet) {
-    match bytes_of(out.alloc(), &value(question)) {
-        Ok(bytes) => put_hex(out, bytes.as_slice()),
-        Err(_) => out.cut(),
-    }
-}
-
 /// `copy KIND VALUE`: a copy of a value, and whether it equals its source.
 fn copy(question: &mut Question<'_>, out: &mut Sheet) {
     let value = value(question);
     match value.copy() {
-        Ok(copy) => {
-            out.put(if copy == value { "equal " } else { "unequal " });
-            put_value(out, &copy);
-        }
+        Ok(copy) => put_copy(out, &value, &copy),
         Err(_) => out.cut(),
     }
 }
 
-/// Adds the words of what was read, or its fault.
-fn put_found(out: &mut Sheet, found: Result<Value, ValueFault>) {
-    match found {
-        Ok(value) => put_value(out, &value),
-        Err(ValueFault::BadValue) => out.put("bad-value"),
-        Err(ValueFault::Memory) => out.cut(),
-    }
+fn put_copy(out: &mut Sheet, value: &Value, copy: &Value) {
+    out.put(if copy == value { "equal " } else { "unequal " });
+    put_value(out, copy);
 }
 
 /// Adds the words `KIND VALUE` of a value.
 pub fn put_value(out: &mut Sheet, value: &Value) {
     out.put_all(&[kind_name(value.kind()), " "]);
     match value {
-        Value::Text(text) => put_text(out, text.as_str().as_bytes()),
+        Value::Text(text) => put_text(out, text.as_str()),
         Value::Whole(number) | Value::Moment(number) => out.put_signed(*number),
         Value::Flag(flag) => out.put(if *flag { "true" } else { "false" }),
         Value::Opaque(bytes) => put_hex(out, bytes.as_slice()),
@@ -108,11 +65,14 @@ fn text(question: &mut Question<'_>) -> Value {
 }
 
 fn flag(question: &mut Question<'_>) -> bool {
-    let word = question.rest();
-    if word != "true" && word != "false" {
-        question.refuse("neither true nor false");
+    match question.rest() {
+        "true" => true,
+        "false" => false,
+        _ => {
+            question.refuse("neither true nor false");
+            false
+        }
     }
-    word == "true"
 }
 
 fn link(question: &mut Question<'_>) -> Value {
@@ -127,13 +87,7 @@ fn link(question: &mut Question<'_>) -> Value {
 
 /// The kind that the next word names.
 pub fn kind(question: &mut Question<'_>) -> ValueKind {
-    let word = question.word();
-    kind_of(question, word)
-}
-
-/// The kind that a word names.
-pub fn kind_of(question: &mut Question<'_>, word: &str) -> ValueKind {
-    match word {
+    match question.word() {
         "text" => ValueKind::Text,
         "whole" => ValueKind::Whole,
         "flag" => ValueKind::Flag,

@@ -4,6 +4,7 @@ use crate::given::Given;
 use crate::line::Line;
 use crate::marks::Marks;
 use device_machine::{Device, Event, StepFault, Template};
+use object_defs::Path;
 use scenario_image::{Step, take_step};
 use scenario_words::{path, spell};
 use std::alloc::AllocError;
@@ -23,23 +24,31 @@ pub fn step(given: &Given, marks: &mut Marks, line: &mut Line) {
     let (Some(class), Some((_, steps))) = (given.scenario.class(0), given.scenario.row(0)) else {
         return line.add("no row");
     };
-    let count = given.number(0);
-    let Some((before, rest)) = steps.split_at_checked(count) else {
-        return line.add("no step");
+    match turn_of(class, steps, given.number(0)) {
+        Some(turn) => take_turn(given, &turn, marks, line),
+        None => line.add("no event"),
+    }
+}
+
+/// The turn of the step of this number, if it is an event.
+fn turn_of<'a>(class: &'a Template, steps: &'a [Step], number: usize) -> Option<Turn<'a>> {
+    let (before, rest) = steps.split_at_checked(number)?;
+    let Step::Event(event) = rest.first()? else {
+        return None;
     };
-    let Some(Step::Event(event)) = rest.first() else {
-        return line.add("no event");
-    };
-    let turn = Turn {
+    Some(Turn {
         class,
         before,
         event,
         rest,
-    };
-    step_first(given, &turn, marks, line);
+    })
+}
+
+fn take_turn(given: &Given, turn: &Turn, marks: &mut Marks, line: &mut Line) {
+    step_first(given, turn, marks, line);
     if line.is_refused() {
         line.add("then");
-        step_again(&turn, marks, line);
+        step_again(turn, marks, line);
     }
 }
 
@@ -118,14 +127,18 @@ fn add_shown(device: &Device, words: &str, line: &mut Line) {
     }
     line.add_count("clock", clock);
     line.add_count("observations", observations as u64);
-    let Ok((path, _)) = path(word.as_bytes()) else {
-        return line.add("no path");
+    match path(word.as_bytes()) {
+        Ok((path, _)) => add_value(device, path, line),
+        Err(_) => line.add("no path"),
+    }
+}
+
+fn add_value(device: &Device, path: Path, line: &mut Line) {
+    let Some(value) = device.value(&path) else {
+        return line.add("no value");
     };
-    match device.value(&path) {
-        Some(value) => match spell(line.alloc(), value) {
-            Ok(value) => line.add(value.as_str()),
-            Err(_) => line.cut(),
-        },
-        None => line.add("no value"),
+    match spell(line.alloc(), value) {
+        Ok(value) => line.add(value.as_str()),
+        Err(_) => line.cut(),
     }
 }

@@ -87,16 +87,24 @@ fn commit_spent(fleet: &mut Fleet, devices: usize, line: &mut Line) {
     for _ in 0..devices {
         if fleet.enabled(device) {
             asked = asked.saturating_add(1);
-            match fleet.commit(1, device) {
-                Ok(()) => line.add("committed,"),
-                Err(CommitFault::Memory) => line.refuse(),
-                Err(CommitFault::Spent) => refused = refused.saturating_add(1),
-                Err(CommitFault::NotEnabled) => line.add("not enabled,"),
+            if is_spent(fleet, device, line) {
+                refused = refused.saturating_add(1);
             }
         }
         device = device.saturating_add(1);
     }
     line.add_spent(refused, asked);
+}
+
+/// Whether a commit is refused since the fleet is spent; else adds what comes of it.
+fn is_spent(fleet: &mut Fleet, device: u16, line: &mut Line) -> bool {
+    match fleet.commit(1, device) {
+        Ok(()) => line.add("committed,"),
+        Err(CommitFault::Memory) => line.refuse(),
+        Err(CommitFault::Spent) => return true,
+        Err(CommitFault::NotEnabled) => line.add("not enabled,"),
+    }
+    false
 }
 
 /// Adds how many entries there are, whether the device is enabled, and how many posts there are to group 1.

@@ -107,17 +107,15 @@ fn readings_of(steps: &[Step], line: &mut Line) -> Vec<u64> {
 fn begins(first: &[Packet], second: &[Packet]) -> bool {
     for (place, packet) in first.iter().enumerate() {
         match second.get(place) {
-            Some(other) => {
-                if packet.server != other.server
-                    || packet.bytes.as_slice() != other.bytes.as_slice()
-                {
-                    return false;
-                }
-            }
-            None => return false,
+            Some(other) if is_same(packet, other) => {}
+            _ => return false,
         }
     }
     true
+}
+
+fn is_same(packet: &Packet, other: &Packet) -> bool {
+    packet.server == other.server && packet.bytes.as_slice() == other.bytes.as_slice()
 }
 
 /// Adds how a session ended, how many steps it has, and what was sent.

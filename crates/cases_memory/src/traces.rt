@@ -1,9 +1,12 @@
 //! `check TEXT [N]`, `unfinished TEXT [N]`, `write_entries TEXT`: the entries of the serial run, without entry N where
-//! there is one, counted from 1; `read_entries - HEX`: a trace file.
+//! there is one, counted from 1; `read_entries - HEX`: a trace file; `write_sized - N`: an entry with a datagram of N
+//! bytes.
 use crate::given::Given;
 use crate::line::Line;
 use crate::marks::Marks;
+use device_machine::{Output, Outputs};
 use fleet_core::{Verdict, check, run_serial, unfinished};
+use octets::Bytes;
 use std::alloc::AllocError;
 use trace_file::{Entries, Entry, WriteFault, read_entries, write_entries};
 
@@ -65,6 +68,29 @@ pub fn write_run(given: &Given, marks: &mut Marks, line: &mut Line) {
         Ok(entries) => write(&entries, marks, line),
         Err(_) => line.cut(),
     }
+}
+
+/// The trace file of one entry, whose one output is a datagram of this many bytes.
+pub fn write_sized(given: &Given, marks: &mut Marks, line: &mut Line) {
+    let mut bytes = Vec::new(given.alloc);
+    for _ in 0..given.number(0) {
+        line.need(bytes.push(0).is_ok());
+    }
+    let mut outputs = Vec::new(given.alloc);
+    let output = Output::Send {
+        server: 1,
+        bytes: Bytes::from_vec(bytes),
+    };
+    line.need(outputs.push(output).is_ok());
+    let mut entries = Entries::new(given.alloc);
+    let entry = Entry {
+        worker: 0,
+        device: 0,
+        step: 0,
+        outputs: Outputs::from_vec(outputs),
+    };
+    line.need(entries.push(entry).is_ok());
+    write(&entries, marks, line);
 }
 
 fn write(entries: &Entries, marks: &mut Marks, line: &mut Line) {
