@@ -1,0 +1,5 @@
+pub mod Ends
+pub mod Traffic
+pub mod Serving
+pub mod Timing
+pub mod Memory
