@@ -253,3 +253,7 @@ pub next_at : (s : Scenario) (before between : ℕ → Option Traffic) (slots : 
     → AreAt (slice_set slots place new) (place + 1) now
 next_at s before between slots now place slot new h at reached stand =
     at_next slots (slice_set slots place new) now place new refl stand (reached (h.early place slot at))
+
+pub always : {T E P : Type 0} (r : Result T E) → P → OnOk r P
+always (Ok x) p = p
+always (Err e) p = tt

@@ -4,3 +4,5 @@ pub mod Fleets
 pub mod Seconds
 pub mod Started
 pub mod Noted
+pub mod Played
+pub mod Rows

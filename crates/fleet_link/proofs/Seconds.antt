@@ -48,10 +48,10 @@ seconds_more rs ss r s h e =
         a ∙ e ∙ ap second_of (sym t)
 
 -- the clock was read, and then the ports were asked
-pub asked_more : (rb ra rz ab aa az : Option (List ℕ)) (first next : Option ℕ) (now then r : ℕ)
-    → AreAsked rb ra ab aa first now → AreRead ra rz (r ∷ []) → AreRead aa az (then ∷ [])
-    → next ≡ Some (unwrap_or first r) → then ≡ max now (r - unwrap_or first r) → AreAsked rb rz ab az next then
-asked_more rb ra rz ab aa az first next now then r h read asked next_is then_is =
+pub asked_more : (rb ra rz ab aa az : Option (List ℕ)) (first next : Option ℕ) (now then r calls : ℕ)
+    → AreAsked rb ra ab aa first now calls → AreRead ra rz (r ∷ []) → AreRead aa az (then ∷ [])
+    → next ≡ Some (unwrap_or first r) → then ≡ max now (r - unwrap_or first r) → AreAsked rb rz ab az next then (calls + 1)
+asked_more rb ra rz ab aa az first next now then r calls h read asked next_is then_is =
     let second : then ≡ second_of (h.readings ++ r ∷ []) =
     then_is ∙ ap (λ o. max now (r - unwrap_or o r)) h.first_is
     ∙ ap (λ n. max n (r - unwrap_or (slice_get h.readings 0) r)) h.now_is ∙ sym (second_push h.readings r) in
@@ -61,20 +61,23 @@ asked_more rb ra rz ab aa az first next now then r h read asked next_is then_is 
       seconds = h.seconds ++ then ∷ [];
       asked = read_both ab aa az h.seconds (then ∷ []) _ h.asked asked refl;
       are = seconds_more h.readings h.seconds r then h.are second;
+      often = omega (arith, h.often, length-append h.seconds (then ∷ []));
       first_is = next_is ∙ ap (λ o. Some (unwrap_or o r)) h.first_is ∙ sym (first_push h.readings r);
       now_is = second;
     }
 
 -- the ports did something else
-pub asked_on : (rb ra ab aa az : Option (List ℕ)) (first next : Option ℕ) (now then : ℕ)
-    → AreAsked rb ra ab aa first now → AreRead aa az [] → next ≡ first → then ≡ now → AreAsked rb ra ab az next then
-asked_on rb ra ab aa az first next now then h none next_is then_is =
+pub asked_on : (rb ra ab aa az : Option (List ℕ)) (first next : Option ℕ) (now then calls : ℕ)
+    → AreAsked rb ra ab aa first now calls → AreRead aa az [] → next ≡ first → then ≡ now
+    → AreAsked rb ra ab az next then calls
+asked_on rb ra ab aa az first next now then calls h none next_is then_is =
     record {
       readings = h.readings;
       read = h.read;
       seconds = h.seconds;
       asked = read_both ab aa az h.seconds [] _ h.asked none (append_none h.seconds);
       are = h.are;
+      often = h.often;
       first_is = next_is ∙ h.first_is;
       now_is = then_is ∙ h.now_is;
     }
@@ -82,3 +85,17 @@ asked_on rb ra ab aa az first next now then h none next_is then_is =
     append_none : (xs : List ℕ) → xs ++ [] ≡ xs
     append_none [] = refl
     append_none (x ∷ xs) = ap (λ l. x ∷ l) (append_none xs)
+
+pub asked_less : (rb ra ab aa : Option (List ℕ)) (first : Option ℕ) (now calls fewer : ℕ)
+    → AreAsked rb ra ab aa first now calls → fewer ≤ calls → AreAsked rb ra ab aa first now fewer
+asked_less rb ra ab aa first now calls fewer h le =
+    record {
+      readings = h.readings;
+      read = h.read;
+      seconds = h.seconds;
+      asked = h.asked;
+      are = h.are;
+      often = omega (arith, h.often, le);
+      first_is = h.first_is;
+      now_is = h.now_is;
+    }

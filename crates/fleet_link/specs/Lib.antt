@@ -3,3 +3,4 @@ pub mod Traffic
 pub mod Serving
 pub mod Timing
 pub mod Memory
+pub mod Saved

@@ -93,4 +93,11 @@ impl Recording {
     {
         self.complete
     }
+
+    /// The recorded steps.
+    pub(crate) fn into_steps(self) -> Vec<Step>
+        ensures { result.items ≡ self.steps.items }
+    {
+        self.steps
+    }
 }

@@ -1,6 +1,6 @@
 //! All devices of a fleet are served: what arrives at their ports is what they receive, and the seconds of a clock are
 //! their ticks.
-ghost use Rattle.std.specs.Prelude.{◌≡◌, ◌-◌, ◌≤◌, ◌∷◌, [], ℕ, List, Option, Some, Ok};
+ghost use Rattle.std.specs.Prelude.{◌≡◌, ◌+◌, ◌-◌, ◌≤◌, ◌⊎◌, [], ℕ, List, Option, Some, Ok};
 ghost use Rattle.std.specs.Prelude.{OnOk, is_err, false, length, max, unwrap_or};
 ghost use Rattle.live_link.specs.Wire.{AreRead};
 ghost use Rattle.scenario_image.specs.Scenario.{Scenario};
@@ -127,10 +127,11 @@ impl Fleet {
             → IsFleet s before self.old.slots.items self.old.second false (P.told ports.old)
             → (n second : ℕ) → second ≤ self.old.second → AreSwept self.old.slots.items n second
             → AreSwept self.new.slots.items n second }
-        ensures asked { (read_before asked_before : Option (List ℕ)) → AreAsked read_before (C.read clock.old)
-            asked_before (P.asked ports.old) self.old.began self.old.second
+        ensures asked { (read_before asked_before : Option (List ℕ)) (calls : ℕ)
+            → AreAsked read_before (C.read clock.old) asked_before (P.asked ports.old) self.old.began
+            self.old.second calls
             → AreAsked read_before (C.read clock.new) asked_before (P.asked ports.new) self.new.began
-            self.new.second }
+            self.new.second (calls + 1) }
         ensures later { self.old.second ≤ self.new.second }
         ensures count { length self.new.slots.items ≡ length self.old.slots.items }
     {
@@ -155,10 +156,16 @@ impl Fleet {
             → IsFleet s before self.old.slots.items self.old.second false (P.told ports.old)
             → (n second : ℕ) → second ≤ self.old.second → AreSwept self.old.slots.items n second
             → OnOk result (AreSwept self.new.slots.items n second) }
-        ensures asked { (read_before asked_before : Option (List ℕ)) → AreAsked read_before (C.read clock.old)
-            asked_before (P.asked ports.old) self.old.began self.old.second
+        ensures asked { (read_before asked_before : Option (List ℕ)) (calls : ℕ)
+            → AreAsked read_before (C.read clock.old) asked_before (P.asked ports.old) self.old.began
+            self.old.second calls
             → AreAsked read_before (C.read clock.new) asked_before (P.asked ports.new) self.new.began
-            self.new.second }
+            self.new.second calls }
+        ensures heard { (read_before asked_before : Option (List ℕ)) (calls : ℕ)
+            → AreAsked read_before (C.read clock.old) asked_before (P.asked ports.old) self.old.began
+            self.old.second calls
+            → OnOk result (AreAsked read_before (C.read clock.new) asked_before (P.asked ports.new) self.new.began
+            self.new.second (calls + 1)) }
         ensures later { self.old.second ≤ self.new.second }
         ensures count { length self.new.slots.items ≡ length self.old.slots.items }
     {
@@ -184,10 +191,16 @@ impl Fleet {
             → IsFleet s before self.old.slots.items self.old.second false (P.told ports.old)
             → (n second : ℕ) → second ≤ self.old.second → AreSwept self.old.slots.items n second
             → OnOk result (AreSwept self.new.slots.items n second) }
-        ensures asked { (read_before asked_before : Option (List ℕ)) → AreAsked read_before (C.read clock.old)
-            asked_before (P.asked ports.old) self.old.began self.old.second
+        ensures asked { (read_before asked_before : Option (List ℕ)) (calls : ℕ)
+            → AreAsked read_before (C.read clock.old) asked_before (P.asked ports.old) self.old.began
+            self.old.second calls
             → AreAsked read_before (C.read clock.new) asked_before (P.asked ports.new) self.new.began
-            self.new.second }
+            self.new.second calls }
+        ensures heard { (read_before asked_before : Option (List ℕ)) (calls : ℕ)
+            → AreAsked read_before (C.read clock.old) asked_before (P.asked ports.old) self.old.began
+            self.old.second calls
+            → OnOk result (AreAsked read_before (C.read clock.new) asked_before (P.asked ports.new) self.new.began
+            self.new.second (calls + 1)) }
         ensures later { self.old.second ≤ self.new.second }
         ensures count { length self.new.slots.items ≡ length self.old.slots.items }
     {
@@ -235,9 +248,16 @@ impl Fleet {
         ensures swept { (s : Scenario) (before : ℕ → Option Traffic)
             → IsFleet s before self.old.slots.items self.old.second false (P.told ports.old)
             → OnOk result (AreSwept self.new.slots.items (length self.new.slots.items) self.old.second) }
-        ensures asked { (read_before asked_before : Option (List ℕ)) → AreAsked read_before (C.read clock.old)
-            asked_before (P.asked ports.old) self.old.began self.old.second
-            → AreAsked read_before (C.read clock.new) asked_before (P.asked ports.new) self.new.began self.new.second }
+        ensures asked { (read_before asked_before : Option (List ℕ)) (calls : ℕ)
+            → AreAsked read_before (C.read clock.old) asked_before (P.asked ports.old) self.old.began
+            self.old.second calls
+            → AreAsked read_before (C.read clock.new) asked_before (P.asked ports.new) self.new.began
+            self.new.second calls }
+        ensures heard { (read_before asked_before : Option (List ℕ)) (calls : ℕ)
+            → AreAsked read_before (C.read clock.old) asked_before (P.asked ports.old) self.old.began
+            self.old.second calls
+            → OnOk result (AreAsked read_before (C.read clock.new) asked_before (P.asked ports.new) self.new.began
+            self.new.second (calls + 1)) }
         ensures later { self.old.second ≤ self.new.second }
         ensures count { length self.new.slots.items ≡ length self.old.slots.items }
     {
@@ -289,9 +309,16 @@ impl Fleet {
         ensures finished { (s : Scenario) (before : ℕ → Option Traffic)
             → IsFleet s before self.old.slots.items self.old.second false (P.told ports.old)
             → OnOk result (AreAt self.new.slots.items (length self.new.slots.items) self.new.second) }
-        ensures asked { (read_before asked_before : Option (List ℕ)) → AreAsked read_before (C.read clock.old)
-            asked_before (P.asked ports.old) self.old.began self.old.second
-            → AreAsked read_before (C.read clock.new) asked_before (P.asked ports.new) self.new.began self.new.second }
+        ensures asked { (read_before asked_before : Option (List ℕ)) (calls : ℕ)
+            → AreAsked read_before (C.read clock.old) asked_before (P.asked ports.old) self.old.began
+            self.old.second calls
+            → AreAsked read_before (C.read clock.new) asked_before (P.asked ports.new) self.new.began
+            self.new.second calls }
+        ensures stop { (read_before asked_before : Option (List ℕ)) (calls : ℕ)
+            → AreAsked read_before (C.read clock.old) asked_before (P.asked ports.old) self.old.began
+            self.old.second calls
+            → OnOk result ((until ≤ self.new.second) ⊎ AreAsked read_before (C.read clock.new) asked_before
+            (P.asked ports.new) self.new.began self.new.second (calls + turns)) }
     {
         for _turn in 0..turns {
             if self.second >= until {

@@ -96,6 +96,20 @@ impl Slot {
         self.end
     }
 
+    /// Whether all of its steps are recorded.
+    pub fn is_recorded(&self) -> bool
+        ensures { result ≡ self.now.recording.complete }
+    {
+        self.recording.is_complete()
+    }
+
+    /// Its recorded steps.
+    pub(crate) fn into_steps(self) -> Vec<Step>
+        ensures { result.items ≡ self.recording.steps.items }
+    {
+        self.recording.into_steps()
+    }
+
     /// Lets the device react to an event, and makes room to record it.
     #[tactic(auto, using(crate::proofs::Served::accepted))]
     fn react(&mut self, event: &Event) -> Result<Outputs, DeviceEnd>

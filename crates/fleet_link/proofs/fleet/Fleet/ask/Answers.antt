@@ -21,7 +21,7 @@ returns-in_err-receipt-clause-swept g c =
 
 pub returns-in_err-receipt-clause-asked : goal.returns-in_err-receipt-clause-asked
 returns-in_err-receipt-clause-asked g c =
-    λ read_before asked_before h. asked_more read_before _ _ asked_before _ _ _ _ _ _ c.now-reading.result h
+    λ read_before asked_before calls h. asked_more read_before _ _ asked_before _ _ _ _ _ _ c.now-reading.result calls h
     c.now-reading.ensures c.receive.ensures.asked c.pass.ensures.began c.pass.ensures.second
 
 pub returns-in_err-take_receipt-clause-fleet : goal.returns-in_err-take_receipt-clause-fleet
@@ -45,8 +45,8 @@ returns-in_err-take_receipt-clause-swept g c =
 
 pub returns-in_err-take_receipt-clause-asked : goal.returns-in_err-take_receipt-clause-asked
 returns-in_err-take_receipt-clause-asked g c =
-    λ read_before asked_before h. asked_on read_before _ asked_before _ _ _ _ _ _
-    (asked_more read_before _ _ asked_before _ _ _ _ _ _ c.now-reading.result h c.now-reading.ensures
+    λ read_before asked_before calls h. asked_on read_before _ asked_before _ _ _ _ _ _ _
+    (asked_more read_before _ _ asked_before _ _ _ _ _ _ c.now-reading.result calls h c.now-reading.ensures
     c.receive.ensures.asked c.pass.ensures.began c.pass.ensures.second) c.take_receipt.ensures.asked
     c.take_receipt.ensures.began c.take_receipt.ensures.second
 
@@ -68,7 +68,7 @@ returns-clause-swept g c =
 
 pub returns-clause-asked : goal.returns-clause-asked
 returns-clause-asked g c =
-    λ read_before asked_before h. asked_on read_before _ asked_before _ _ _ _ _ _
-    (asked_more read_before _ _ asked_before _ _ _ _ _ _ c.now-reading.result h c.now-reading.ensures
+    λ read_before asked_before calls h. asked_on read_before _ asked_before _ _ _ _ _ _ _
+    (asked_more read_before _ _ asked_before _ _ _ _ _ _ c.now-reading.result calls h c.now-reading.ensures
     c.receive.ensures.asked c.pass.ensures.began c.pass.ensures.second) c.take_receipt.ensures.asked
     c.take_receipt.ensures.began c.take_receipt.ensures.second

@@ -13,8 +13,8 @@ returns-in_err-wait-clause-fleet g c =
 
 pub returns-in_err-wait-clause-asked : goal.returns-in_err-wait-clause-asked
 returns-in_err-wait-clause-asked g c =
-    λ read_before asked_before h.
-    asked_on read_before _ asked_before _ _ _ _ _ _ h c.wait.ensures.asked refl refl
+    λ read_before asked_before calls h.
+    asked_on read_before _ asked_before _ _ _ _ _ _ calls h c.wait.ensures.asked refl refl
 
 pub returns-clause-fleet : goal.returns-clause-fleet
 returns-clause-fleet g c =
@@ -30,5 +30,10 @@ returns-clause-swept g c =
 
 pub returns-clause-asked : goal.returns-clause-asked
 returns-clause-asked g c =
-    λ read_before asked_before h. c.serve_arrivals.ensures.asked read_before asked_before
-    (asked_on read_before _ asked_before _ _ _ _ _ _ h c.wait.ensures.asked refl refl)
+    λ read_before asked_before calls h. c.serve_arrivals.ensures.asked read_before asked_before calls
+    (asked_on read_before _ asked_before _ _ _ _ _ _ calls h c.wait.ensures.asked refl refl)
+
+pub returns-clause-heard : goal.returns-clause-heard
+returns-clause-heard g c =
+    λ read_before asked_before calls h. c.serve_arrivals.ensures.heard read_before asked_before calls
+    (asked_on read_before _ asked_before _ _ _ _ _ _ calls h c.wait.ensures.asked refl refl)
