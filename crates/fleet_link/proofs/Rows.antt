@@ -1,7 +1,9 @@
 -- A scenario that is put together row by row.
-use Rattle.std.proofs.Common.{◌≡◌, ℕ, zero, suc, ◌+◌, ◌-◌, ◌<◌, ◌⊎◌, inl, inr, List, [], ◌∷◌, ◌++◌, length, take, Option}
+use Rattle.std.proofs.Common.{◌≡◌, ℕ, zero, suc, ◌+◌, ◌-◌, ◌<◌, ◌⊎◌, inl, inr, List, [], ◌∷◌, ◌++◌, length, take, get_or, count_by, cond, not, Option}
 use Rattle.std.proofs.Common.{None, Some, slice_get, refl, sym, ap, subst, ◌∙◌, append_assoc, arith, length-append}
 use Rattle.std.specs.List.{slice_set}
+use Rattle.std.proofs.lemmas.Grind.{take_at_read}
+use Rattle.std.proofs.lemmas.List.Sums.{sum_by_push}
 use Rattle.lemmas.proofs.Lists.{item_pushed, length_pushed, pushed_cases}
 use Rattle.scenario_image.specs.declared.step.Step.{Step}
 use Rattle.scenario_image.specs.Scenario.{last_row, longer, with_last, with_row, with_step, Row, Scenario}
@@ -104,3 +106,17 @@ none_saved s saved classes rows =
   where
     never : (k : ℕ) (x : Slot) → slice_get [] k ≡ Some x → ⊥
     never k x h = let e : None ≡ Some x = h in cc
+
+-- ---- devices whose steps are not all recorded
+
+pub cut_more : (slots : List Slot) (i : ℕ) (x : Slot) (cut one : ℕ) → i < length slots → x ≡ get_or slots i x
+    → cut ≡ count_by (λ (slot : Slot). not slot.recording.complete) (take i slots)
+    → one ≡ cond (not x.recording.complete) 1 0
+    → cut + one ≡ count_by (λ (slot : Slot). not slot.recording.complete) (take (i + 1) slots)
+cut_more slots i x cut one l e so_far is =
+    let taken : take (i + 1) slots ≡ take i slots ++ x ∷ [] =
+    (take_at_read slots i x l).1 ∙ ap (λ y. take i slots ++ y ∷ []) (sym e) in
+    ap (λ n. n + one) so_far
+    ∙ ap (λ n. count_by (λ (slot : Slot). not slot.recording.complete) (take i slots) + n) is
+    ∙ sym (sum_by_push (λ (slot : Slot). cond (not slot.recording.complete) 1 0) (take i slots) x)
+    ∙ ap (count_by (λ (slot : Slot). not slot.recording.complete)) (sym taken)

@@ -4,3 +4,4 @@ pub mod Serving
 pub mod Timing
 pub mod Memory
 pub mod Saved
+pub mod Counting

@@ -1,8 +1,9 @@
 //! The recorded rows of a fleet, as a scenario.
-ghost use Rattle.std.specs.Prelude.{◌≡◌, ◌∷◌, ◌++◌, [], count_by, IfOk, OnOk, not};
+ghost use Rattle.std.specs.Prelude.{◌≡◌, ◌≤◌, ◌∷◌, ◌++◌, [], count_by, if◌then◌else◌, IfOk, OnOk, not};
 ghost use Rattle.fleet_link.specs.Saved.{IsSaved};
 
 use crate::fleet::Fleet;
+use crate::slot::Slot;
 use scenario_image::{Scenario, ScenarioFault, Step};
 use std::alloc::Global;
 
@@ -37,12 +38,24 @@ fn add_row(scenario: &mut Scenario, class: u16, steps: Vec<Step>) -> Result<(), 
     Ok(())
 }
 
+/// 1 where the device has steps that were not recorded.
+fn cut_of(slot: &Slot) -> usize
+    ensures one { result ≡ (if not slot.now.recording.complete then 1 else 0) }
+    ensures few { result ≤ 1 }
+{
+    if slot.is_recorded() { 0 } else { 1 }
+}
+
 impl Fleet {
     /// How many devices have steps that were not recorded, since there was no room for them.
     pub fn cut_rows(&self) -> usize
         ensures { result ≡ count_by (λ slot. not slot.recording.complete) self.now.slots.items }
     {
-        self.slots.iter().filter(|slot| !slot.is_recorded()).count()
+        let mut cut = 0usize;
+        for slot in &self.slots {
+            cut += cut_of(slot);
+        }
+        cut
     }
 
     /// A scenario of the same classes, with a row for each device, which has its recorded steps. It is refused where a

@@ -1,5 +1,6 @@
 //! Ports over UDP: a socket for each device. Nothing is claimed of what a socket carries, so these ports tell nothing.
-ghost use Rattle.std.specs.Prelude.{None};
+ghost use Rattle.std.specs.Prelude.{◌≡◌, None, Ok, IfOk, OnErr};
+ghost use Rattle.fleet_link.specs.Counting.{counts_after, counts_if, none_counted, IsSentOrLost};
 
 use crate::directory::{Directory, FixedServer};
 use crate::ports::{Arrival, Ports, PortsFault, Receipt};
@@ -184,7 +185,9 @@ impl UdpPorts {
         ip: IpAddr,
         port: u16,
         servers: Vec<FixedServer>,
-    ) -> Result<UdpPorts, BindFault> {
+    ) -> Result<UdpPorts, BindFault>
+        ensures { IfOk result (λ ports. ports.counts ≡ none_counted) }
+    {
         let devices = scenario.rows();
         if devices > usize::from(u16::MAX - port) + 1 {
             return Err(BindFault::PastLast);
@@ -225,12 +228,16 @@ impl UdpPorts {
     }
 
     /// How many datagrams went through the ports.
-    pub fn counts(&self) -> Counts {
+    pub fn counts(&self) -> Counts
+        ensures { result ≡ self.now.counts }
+    {
         self.counts
     }
 
     /// Puts the sockets that the system named into the queue, each once.
-    fn queue_named(&mut self) -> Result<(), AllocError> {
+    fn queue_named(&mut self) -> Result<(), AllocError>
+        ensures { self.new.counts ≡ self.old.counts }
+    {
         for event in self.events.iter() {
             let place = event.token().0;
             if let Some(door) = self.doors.get_mut(place) {
@@ -249,7 +256,10 @@ impl UdpPorts {
         place: usize,
         count: usize,
         address: SocketAddr,
-    ) -> Result<Receipt, AllocError> {
+    ) -> Result<Receipt, AllocError>
+        ensures counted { IfOk result (λ receipt. self.new.counts ≡ counts_after self.old.counts (Ok receipt)) }
+        ensures same { OnErr result (self.new.counts ≡ self.old.counts) }
+    {
         let account = match self.doors.get_mut(place) {
             Some(door) if count <= MOST_BYTES => {
                 door.directory.account_of(self.servers.as_slice(), address)
@@ -273,7 +283,10 @@ impl UdpPorts {
     }
 
     /// Asks the socket at this place, which was taken from the queue. None: it has nothing.
-    fn ask_at(&mut self, place: usize) -> Result<Option<Receipt>, AllocError> {
+    fn ask_at(&mut self, place: usize) -> Result<Option<Receipt>, AllocError>
+        ensures counted { IfOk result (λ receipt. self.new.counts ≡ counts_if self.old.counts receipt) }
+        ensures same { OnErr result (self.new.counts ≡ self.old.counts) }
+    {
         let Some(door) = self.doors.get_mut(place) else {
             return Ok(None);
         };
@@ -301,7 +314,9 @@ impl Ports for UdpPorts {
     ghost asked = { λ _. None };
 
     /// What a socket of the queue has, one after another: so none that has much keeps the others waiting.
-    fn receive(&mut self, _second: u64) -> Result<Receipt, PortsFault> {
+    fn receive(&mut self, _second: u64) -> Result<Receipt, PortsFault>
+        ensures { self.new.counts ≡ counts_after self.old.counts result }
+    {
         for _asked in 0..self.queue.len() {
             let Some(place) = self.queue.pop_front() else {
                 return Ok(Receipt::Nothing);
@@ -314,7 +329,9 @@ impl Ports for UdpPorts {
     }
 
     /// What cannot be sent is lost: the address of the account is not known, or the system refuses it.
-    fn send(&mut self, device: usize, server: u16, bytes: &[u8]) {
+    fn send(&mut self, device: usize, server: u16, bytes: &[u8])
+        ensures { IsSentOrLost self.old.counts self.new.counts }
+    {
         let sent = match self.doors.get(device) {
             None => false,
             Some(door) => match door.directory.address_of(server) {
@@ -330,7 +347,9 @@ impl Ports for UdpPorts {
     }
 
     /// It does not wait where a socket is in the queue.
-    fn wait(&mut self, millis: u32) -> Result<(), PortsFault> {
+    fn wait(&mut self, millis: u32) -> Result<(), PortsFault>
+        ensures { self.new.counts ≡ self.old.counts }
+    {
         let millis = if self.queue.is_empty() { millis } else { 0 };
         match self.poll.poll(
             &mut self.events,
