@@ -1,16 +1,15 @@
 -- What ports in memory tell, with one datagram more.
-use Rattle.std.proofs.Common.{◌≡◌, ℕ, ◌+◌, ◌⊎◌, inl, inr, cond, Bool, true, false, List, [], ◌∷◌, ◌++◌, Option, None, Some}
-use Rattle.std.proofs.Common.{refl, sym, ap, subst, ◌∙◌, append-nil, add-zero}
+use Rattle.std.proofs.Common.{◌≡◌, ℕ, ◌⊎◌, inl, inr, cond, Bool, true, false, List, [], ◌∷◌, ◌++◌, Option, None, Some}
+use Rattle.std.proofs.Common.{sym, ap, subst, ◌∙◌, append-nil, add-zero}
 use Rattle.std.specs.List.{filter_map}
 use Rattle.std.proofs.lemmas.Bool.{cases_eq, eq-eqb, ne_eqb}
 use Rattle.std.proofs.lemmas.List.Elements.{filter_map-append}
 use Rattle.live_link.specs.declared.packet.Packet.{Packet}
-use Rattle.fleet_link.specs.declared.memory.Calls.{Calls}
 use Rattle.fleet_link.specs.declared.memory.ScriptedPorts.{ScriptedPorts}
 use Rattle.fleet_link.specs.declared.memory.Sending.{Sending}
 use Rattle.fleet_link.specs.Memory.{received_by, sent_if, sent_in, told_by}
 use Rattle.fleet_link.specs.Traffic.{Carries, Traffic, at_port, sent_all, traffic_and}
-use Rattle.fleet_link.proofs.Told.{at_port_other, at_port_same, carries_same, traffic_of}
+use Rattle.fleet_link.proofs.Told.{carries_same, traffic_of}
 
 -- what the one more sends from a port
 part : (sending : Sending) (e : ℕ) → List Packet

@@ -1,14 +1,13 @@
 -- The scenario of a session, played back.
 use Rattle.std.proofs.Common.{◌≡◌, ℕ, zero, suc, ◌+◌, ◌<◌, ◌≤◌, eqb, Bool, true, false, cond, ◌⊎◌, inl, inr, List, []}
 use Rattle.std.proofs.Common.{◌∷◌, ◌++◌, length, take, map, filter, Option, None, Some, slice_get, refl, sym, ap, subst}
-use Rattle.std.proofs.Common.{◌∙◌, append-nil, append_assoc, arith}
+use Rattle.std.proofs.Common.{◌∙◌, append-nil, arith}
 use Rattle.std.specs.List.{flat_map, AllByRecursion}
 use Rattle.std.proofs.lemmas.Bool.{cases_eq, cases_lt, eq-eqb, ne_eqb}
 use Rattle.std.proofs.lemmas.Grind.{flat_map-append}
 use Rattle.std.proofs.lemmas.List.{map-append, take_all}
 use Rattle.std.proofs.lemmas.List.Elements.{filter-append}
 use Rattle.lemmas.proofs.Lists.{each_at, item_at, take_none, take_one_more}
-use Rattle.device_machine.specs.declared.event.Event.TheVariants.{Recv, Put, Firmware, Tick}
 use Rattle.device_machine.specs.declared.output.Output.{Output}
 use Rattle.device_machine.specs.State.{Machine}
 use Rattle.device_template.specs.Template.{Template}
@@ -23,13 +22,12 @@ use Rattle.live_link.specs.Live.{packets_in, sent_by, IsLiveStep}
 use Rattle.scenario_image.specs.declared.step.Step.{Step}
 use Rattle.scenario_image.specs.declared.step.Step.TheVariants.{Event, Post, Need}
 use Rattle.scenario_image.specs.Play.{start, state_at, step_outputs, IsRowOf}
-use Rattle.scenario_image.specs.Scenario.{Row, Scenario}
+use Rattle.scenario_image.specs.Scenario.{Scenario}
 use Rattle.trace_file.specs.declared.entry.Entry.{Entry}
 use Rattle.fleet_link.specs.declared.slot.Slot.{Slot}
-use Rattle.fleet_link.specs.Saved.{saved_row, IsPlayedBack, IsSaved}
+use Rattle.fleet_link.specs.Saved.{IsPlayedBack, IsSaved}
 use Rattle.fleet_link.specs.Serving.{IsFleet}
 use Rattle.fleet_link.specs.Traffic.{Carries, Heard, Traffic}
-use Rattle.fleet_link.proofs.Told.{traffic_of}
 
 -- ---- what the entries of a device output
 

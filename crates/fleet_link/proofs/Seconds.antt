@@ -1,11 +1,11 @@
 -- One reading of the clock more.
-use Rattle.std.proofs.Common.{◌≡◌, ℕ, zero, suc, ◌+◌, ◌-◌, ◌<◌, ◌≤◌, max, List, [], ◌∷◌, ◌++◌, length, take, slice_index}
-use Rattle.std.proofs.Common.{slice_get, Option, None, Some, unwrap_or, refl, sym, ap, subst, ◌∙◌, arith, length-append}
+use Rattle.std.proofs.Common.{◌≡◌, ℕ, ◌+◌, ◌-◌, ◌<◌, ◌≤◌, max, List, [], ◌∷◌, ◌++◌, length, take, slice_index}
+use Rattle.std.proofs.Common.{slice_get, Option, Some, unwrap_or, refl, sym, ap, ◌∙◌, arith, length-append}
 use Rattle.std.proofs.lemmas.List.{get_or_append_left, get_or_push, take-append-le, take_all}
 use borrow.Author.Count.{below_more}
 use Rattle.live_link.specs.Wire.{AreRead}
 use Rattle.fleet_link.specs.Timing.{greatest, second_of, AreAsked, AreSecondsOf}
-use Rattle.fleet_link.proofs.Told.{read_both, read_none}
+use Rattle.fleet_link.proofs.Told.{read_both}
 
 greatest_push : (xs : List ℕ) (x : ℕ) → greatest (xs ++ x ∷ []) ≡ max (greatest xs) x
 greatest_push [] x = omega arith

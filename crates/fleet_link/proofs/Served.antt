@@ -1,11 +1,9 @@
 -- One device, step by step.
-use Rattle.std.proofs.Common.{◌≡◌, ◌≢◌, ◌⊎◌, inl, inr, ℕ, ◌+◌, ◌≤◌, ◌<◌, Bool, ◌||◌, true, false, List, [], ◌∷◌, ◌++◌}
-use Rattle.std.proofs.Common.{Option, None, Some, Result, Ok, Err, ◌↔◌, OnOk, OnErr, IfErr, IfOk, refl, sym, ap, subst, ◌∙◌}
-use Rattle.std.proofs.Common.{append_assoc, append-nil, arith, zero-add, add-zero}
+use Rattle.std.proofs.Common.{◌≡◌, ◌⊎◌, inl, inr, ℕ, ◌+◌, ◌≤◌, ◌<◌, Bool, ◌||◌, true, false, List, [], ◌∷◌, ◌++◌}
+use Rattle.std.proofs.Common.{Option, None, Some, Result, Ok, Err, ◌↔◌, OnOk, IfErr, refl, sym, ap, subst, ◌∙◌}
+use Rattle.std.proofs.Common.{append_assoc, append-nil, arith, add-zero}
 use Rattle.std.specs.Bool.{IsTrue}
-use Rattle.std.specs.List.{AllByRecursion}
 use Rattle.std.specs.Option.{IfSome, MatchOption}
-use Rattle.std.specs.Result.{is_err}
 use Rattle.lemmas.proofs.Lists.{each_pushed}
 use Rattle.device_machine.specs.declared.event.Event.{Event as Happening}
 use Rattle.device_machine.specs.declared.event.Event.TheVariants.{Recv, Put, Firmware, Tick}
@@ -17,7 +15,7 @@ use Rattle.device_template.specs.Template.{Template}
 use Rattle.fleet_core.proofs.Clock.{recv_clock, put_clock, firmware_clock}
 use Rattle.scenario_image.specs.declared.step.Step.{Step}
 use Rattle.scenario_image.specs.declared.step.Step.TheVariants.{Event, Post, Need}
-use Rattle.scenario_image.specs.Play.{start, state_after, step_after, step_outputs}
+use Rattle.scenario_image.specs.Play.{start, state_after, step_after}
 use Rattle.live_link.proofs.Served.{sent_push}
 use Rattle.live_link.specs.declared.packet.Packet.{Packet}
 use Rattle.live_link.specs.Live.{packets_in, sent_by, IsLiveStep}
@@ -28,7 +26,7 @@ use Rattle.fleet_link.specs.declared.slot.Slot.{Slot}
 use Rattle.fleet_link.specs.Serving.{heard_at, heard_by, second_after, second_by, IsDue, IsEndOf, IsNearEnd}
 use Rattle.fleet_link.specs.Serving.{IsRecorded, IsServed, IsServing}
 use Rattle.fleet_link.specs.Traffic.{Carries, Heard, Traffic, failed_once, handed_at, no_traffic, sent_all, traffic_and}
-use Rattle.fleet_link.proofs.Told.{carries_both, carries_on, carries_same, traffic_of}
+use Rattle.fleet_link.proofs.Told.{carries_both, carries_on, traffic_of}
 
 -- ---- one step more
 

@@ -1,5 +1,5 @@
 -- Devices at second 0.
-use Rattle.std.proofs.Common.{◌≡◌, ℕ, ◌+◌, ◌<◌, ◌≤◌, ◌⊎◌, inl, inr, List, [], ◌∷◌, ◌++◌, length, None, Some, slice_get, true, false}
+use Rattle.std.proofs.Common.{◌≡◌, ℕ, ◌+◌, ◌<◌, ◌≤◌, ◌⊎◌, inl, inr, List, [], ◌∷◌, ◌++◌, length, None, Some, slice_get, false}
 use Rattle.std.proofs.Common.{Option, refl, sym, ap, subst, ◌∙◌, arith, length-append}
 use Rattle.lemmas.proofs.Lists.{pushed_cases}
 use Rattle.device_machine.specs.State.{Device, Shows}
@@ -11,7 +11,7 @@ use Rattle.fleet_core.proofs.Valid.{all_at}
 use Rattle.lemmas.proofs.Lists.{item_at}
 use Rattle.fleet_link.specs.declared.recording.Recording.{Recording}
 use Rattle.fleet_link.specs.declared.slot.Slot.{Slot}
-use Rattle.fleet_link.specs.Serving.{IsDue, IsFleet, IsRowServed, IsServed, IsServing}
+use Rattle.fleet_link.specs.Serving.{IsDue, IsFleet, IsRowServed, IsServed}
 use Rattle.fleet_link.specs.Traffic.{Traffic}
 use Rattle.fleet_link.proofs.Served.{rests}
 use Rattle.fleet_link.proofs.Told.{carries_none}

@@ -1,7 +1,7 @@
 -- What goes through ports, one call after another.
-use Rattle.std.proofs.Common.{◌≡◌, ◌≢◌, ℕ, ◌+◌, ◌<◌, List, [], ◌∷◌, ◌++◌, take, length, get_or, Option, None, Some}
+use Rattle.std.proofs.Common.{◌≡◌, ℕ, ◌+◌, ◌<◌, List, [], ◌∷◌, ◌++◌, take, length, get_or, Option, None, Some}
 use Rattle.std.proofs.Common.{◌⊎◌, inl, inr, cond, refl, sym, ap, subst, ◌∙◌, append_assoc, append-nil, add_assoc}
-use Rattle.std.proofs.Common.{add-zero, zero-add, eqb}
+use Rattle.std.proofs.Common.{add-zero, zero-add}
 use Rattle.std.proofs.lemmas.Bool.{cases_eq, eq-eqb, ne_eqb}
 use Rattle.device_machine.specs.declared.output.Output.{Output}
 use Rattle.live_link.proofs.Sent.{packets_more}

@@ -1,5 +1,5 @@
 -- What goes through the ports of a fleet, device by device, and what calls add to that.
-use Rattle.std.specs.Prelude.{◌≡◌, ℕ, ◌+◌, ◌==◌, List, [], ◌∷◌, ◌++◌, Option, None, Some, Result, Ok, Err}
+use Rattle.std.specs.Prelude.{◌≡◌, ℕ, ◌+◌, ◌==◌, List, [], ◌∷◌, ◌++◌, Option, Result, Ok, Err}
 use Rattle.std.specs.Prelude.{if◌then◌else◌}
 use Rattle.live_link.specs.declared.packet.Packet.{Packet}
 use Rattle.live_link.specs.Wire.{WhereTold}

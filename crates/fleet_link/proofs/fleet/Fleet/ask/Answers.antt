@@ -1,6 +1,4 @@
-use Rattle.std.proofs.Common.{◌≤◌, ℕ, List, Option, true, arith}
-use Rattle.scenario_image.specs.Scenario.{Scenario}
-use Rattle.fleet_link.specs.Traffic.{Traffic}
+use Rattle.std.proofs.Common.{◌≤◌, true, arith}
 use Rattle.fleet_link.proofs.Fleets.{breaks, errs, passed, still_served, swept_same}
 use Rattle.fleet_link.proofs.Seconds.{asked_more, asked_on}
 use Rattle.fleet_link.proofs.fleet.Fleet.ask.Goals as goal

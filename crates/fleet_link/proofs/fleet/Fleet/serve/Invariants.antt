@@ -1,5 +1,5 @@
 -- All devices are served so far.
-use Rattle.std.proofs.Common.{◌≡◌, ◌+◌, ℕ, List, false, Option}
+use Rattle.std.proofs.Common.{◌+◌, ℕ, List, false, Option}
 use Rattle.scenario_image.specs.Scenario.{Scenario}
 use Rattle.fleet_link.specs.Serving.{IsFleet}
 use Rattle.fleet_link.specs.Timing.{AreAsked}

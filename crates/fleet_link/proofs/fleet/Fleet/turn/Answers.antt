@@ -1,4 +1,4 @@
-use Rattle.std.proofs.Common.{◌≡◌, ◌≤◌, ◌*◌, ◌+◌, min, length, true, false, ◌∙◌, refl, arith}
+use Rattle.std.proofs.Common.{◌≡◌, ◌≤◌, ◌*◌, ◌+◌, min, length, true, ◌∙◌, refl, arith}
 use Rattle.fleet_link.proofs.Fleets.{breaks, errs, swept_at}
 use Rattle.fleet_link.proofs.Seconds.{asked_less, asked_on}
 use Rattle.fleet_link.proofs.fleet.Fleet.turn.Goals as goal

@@ -1,4 +1,4 @@
-use Rattle.fleet_link.proofs.Served.{now_fails, over_fails, some_over}
+use Rattle.fleet_link.proofs.Served.{over_fails, some_over}
 use Rattle.fleet_link.proofs.slot.Slot.fail.Goals as goal
 
 pub returns-in-Some-clause-served : goal.returns-in-Some-clause-served

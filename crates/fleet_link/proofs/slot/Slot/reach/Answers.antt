@@ -1,7 +1,7 @@
 use Rattle.std.proofs.Common.{[]}
 use Rattle.std.specs.Result.{is_err}
 use Rattle.scenario_image.specs.Play.{start}
-use Rattle.fleet_link.proofs.Served.{goes_on, served_on, settled}
+use Rattle.fleet_link.proofs.Served.{goes_on, settled}
 use Rattle.fleet_link.proofs.slot.Slot.reach.Goals as goal
 
 pub returns-in-None-clause-served : goal.returns-in-None-clause-served
