@@ -1,5 +1,5 @@
 -- Devices at second 0.
-use Rattle.std.proofs.Common.{◌≡◌, ℕ, ◌+◌, ◌<◌, ◌≤◌, ◌⊎◌, inl, inr, List, [], ◌∷◌, ◌++◌, length, None, Some, slice_get, false}
+use Rattle.std.proofs.Common.{◌≡◌, true, ℕ, ◌+◌, ◌<◌, ◌≤◌, ◌⊎◌, inl, inr, List, [], ◌∷◌, ◌++◌, length, None, Some, slice_get, false}
 use Rattle.std.proofs.Common.{Option, refl, sym, ap, subst, ◌∙◌, arith, length-append}
 use Rattle.lemmas.proofs.Lists.{pushed_cases}
 use Rattle.device_machine.specs.State.{Device, Shows}
@@ -11,7 +11,7 @@ use Rattle.fleet_core.proofs.Valid.{all_at}
 use Rattle.lemmas.proofs.Lists.{item_at}
 use Rattle.fleet_link.specs.declared.recording.Recording.{Recording}
 use Rattle.fleet_link.specs.declared.slot.Slot.{Slot}
-use Rattle.fleet_link.specs.Serving.{IsDue, IsFleet, IsRowServed, IsServed}
+use Rattle.fleet_link.specs.Serving.{AreRecorded, IsDue, IsFleet, IsRowServed, IsServed}
 use Rattle.fleet_link.specs.Traffic.{Traffic}
 use Rattle.fleet_link.proofs.Served.{rests}
 use Rattle.fleet_link.proofs.Told.{carries_none}
@@ -103,3 +103,12 @@ all_first s slots now told h zero =
       each = λ e x at. h.each (told e) e x at;
       early = λ e x at. let k : x.second ≤ 0 = h.early e x at in omega arith;
     }
+
+pub none_recorded : (slots : List Slot) → slots ≡ [] → AreRecorded slots
+none_recorded slots none e slot h = let k : None ≡ Some slot = ap (λ l. slice_get l e) (sym none) ∙ h in absurd cc
+
+pub more_recorded : (slots more : List Slot) (y : Slot) → AreRecorded slots → more ≡ slots ++ y ∷ []
+    → y.recording.complete ≡ true → AreRecorded more
+more_recorded slots more y h is here e x at =
+    by_place (λ k z. z.recording.complete ≡ true) (length slots) e slots x y refl here (h e x)
+    (pushed_cases slots y e x (ap (λ l. slice_get l e) (sym is) ∙ at))

@@ -129,3 +129,7 @@ AreSwept slots n second =
 abbrev pub AreAt : List Slot → ℕ → ℕ → Type 0
 AreAt slots n second =
     (e : ℕ) (slot : Slot) → e < n → slice_get slots e ≡ Some slot → slot.end ≡ None → slot.second ≡ second
+
+-- all steps of each device are recorded
+abbrev pub AreRecorded : List Slot → Type 0
+AreRecorded slots = (e : ℕ) (slot : Slot) → slice_get slots e ≡ Some slot → slot.recording.complete ≡ true

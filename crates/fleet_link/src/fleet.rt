@@ -1,7 +1,7 @@
 //! A fleet: the devices of a scenario.
 ghost use Rattle.std.specs.Prelude.{◌≡◌, ◌<◌, [], ℕ, Option, IfOk, None, false, true, length};
 ghost use Rattle.fleet_link.specs.Traffic.{Traffic};
-ghost use Rattle.fleet_link.specs.Serving.{IsFleet, IsRowServed};
+ghost use Rattle.fleet_link.specs.Serving.{AreRecorded, IsFleet, IsRowServed};
 
 use crate::recording::Recording;
 use crate::slot::Slot;
@@ -26,6 +26,7 @@ pub struct Fleet {
 fn recording_of(alloc: Global, rows: usize, saved: bool) -> Recording
     ensures steps { result.steps.items ≡ [] }
     ensures complete { result.complete ≡ true → saved ≡ true }
+    ensures saved { saved ≡ true → 0 < rows → result.complete ≡ true }
 {
     if !saved || rows == 0 {
         return Recording::none(alloc);
@@ -45,6 +46,7 @@ fn slot_of_row(
     ensures served { IfOk result (λ slot. (told : Option Traffic)
         → IsRowServed scenario.now device told slot false told) }
     ensures second { IfOk result (λ slot. slot.second ≡ 0) }
+    ensures recorded { IfOk result (λ slot. saved ≡ true → slot.recording.complete ≡ true) }
 {
     let rows = scenario.rows();
     let device = start_of_row(scenario, device)?;
@@ -58,6 +60,7 @@ impl Fleet {
         ensures fleet { (told : ℕ → Option Traffic)
             → IfOk result (λ fleet. IsFleet scenario.now told fleet.slots.items fleet.second false told) }
         ensures second { IfOk result (λ fleet. fleet.second ≡ 0) }
+        ensures recorded { IfOk result (λ fleet. saved ≡ true → AreRecorded fleet.slots.items) }
         ensures began { IfOk result (λ fleet. fleet.began ≡ None) }
     {
         let rows = scenario.rows();
