@@ -36,7 +36,8 @@ pub read_at : {X : Type 0} (xs : List X) (i : ℕ) (x : X) → i < length xs →
 read_at xs i x l e = slice_get_read xs (length xs) i x refl l e
 
 -- what holds of the one that was set, and of each of the others, holds of each
-pub each_set : {X : Type 0} (P : ℕ → X → Type 0) (xs more : List X) (place : ℕ) (new : X) → more ≡ slice_set xs place new
+pub each_set : {X : Type 0} (P : ℕ → X → Type 0) (xs more : List X) (place : ℕ) (new : X)
+    → more ≡ slice_set xs place new
     → P place new → ((e : ℕ) (x : X) → (e ≡ place → ⊥) → slice_get xs e ≡ Some x → P e x)
     → (e : ℕ) (x : X) → slice_get more e ≡ Some x → P e x
 each_set P xs more place new is here others e x got = at (cases_eq place e)

@@ -52,7 +52,8 @@ unfolding told_of part
 sent_more old new sending sent calls whole e =
     let grows : sent_in new.sent.items e ≡ sent_in old.sent.items e ++ part sending e =
     ap (λ s. sent_in s e) sent ∙ filter_map-append (sent_if e) old.sent.items (sending ∷ []) in
-    let after : told_of old.whole (received_by old.calls e) (sent_in old.sent.items e ++ part sending e) ≡ told_by new e =
+    let after : told_of old.whole (received_by old.calls e) (sent_in old.sent.items e ++ part sending e)
+    ≡ told_by new e =
     ap (told_of old.whole (received_by old.calls e)) (sym grows)
     ∙ ap (λ r. told_of old.whole (received_by r e) (sent_in new.sent.items e)) (sym calls)
     ∙ ap (λ w. told_of w (received_by new.calls e) (sent_in new.sent.items e)) (sym whole) in

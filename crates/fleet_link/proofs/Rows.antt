@@ -71,7 +71,8 @@ one_row_more s slots slot old new class row count here is more each e r x at got
         ∙ ap (λ c. Some (saved_row c slot)) (is ∙ ap (λ (w : Row). w.class) same)
         ∙ ap (λ w. Some (saved_row r.class w)) h.1
 
-pub saved_more : (s : Scenario) (slots more : List Slot) (slot : Slot) (old new : Scenario) (class device next : ℕ) (row : Row)
+pub saved_more : (s : Scenario) (slots more : List Slot) (slot : Slot) (old new : Scenario) (class device next : ℕ)
+    (row : Row)
     → AreSaved s slots old device → slice_get s.rows device ≡ Some row → class ≡ row.class
     → new.classes ≡ old.classes
     → new.rows ≡ old.rows ++ record { class = class; steps = slot.recording.steps.items } ∷ []

@@ -50,7 +50,8 @@ seconds_more rs ss r s h e =
 -- the clock was read, and then the ports were asked
 pub asked_more : (rb ra rz ab aa az : Option (List ℕ)) (first next : Option ℕ) (now then r calls : ℕ)
     → AreAsked rb ra ab aa first now calls → AreRead ra rz (r ∷ []) → AreRead aa az (then ∷ [])
-    → next ≡ Some (unwrap_or first r) → then ≡ max now (r - unwrap_or first r) → AreAsked rb rz ab az next then (calls + 1)
+    → next ≡ Some (unwrap_or first r) → then ≡ max now (r - unwrap_or first r)
+    → AreAsked rb rz ab az next then (calls + 1)
 asked_more rb ra rz ab aa az first next now then r calls h read asked next_is then_is =
     let second : then ≡ second_of (h.readings ++ r ∷ []) =
     then_is ∙ ap (λ o. max now (r - unwrap_or o r)) h.first_is

@@ -224,12 +224,14 @@ rests class before slot broken after h e due =
 
 pub is_over : (class : Template) (before : Option Traffic) (pending : List Heard) (end : DeviceEnd) (slot : Slot)
     (broken : Bool) (after : Option Traffic)
-    → IsServing (start class) before pending (Some end) slot.device slot.second slot.recording after → slot.end ≡ Some end
+    → IsServing (start class) before pending (Some end) slot.device slot.second slot.recording after
+    → slot.end ≡ Some end
     → (slot.end ≡ Some Memory → broken ≡ true) → IsServed class before slot broken after
 is_over class before pending end slot broken after h e memory =
     record {
       unheard = pending;
-      serving = subst (λ x. IsServing (start class) before pending x slot.device slot.second slot.recording after) (sym e) h;
+      serving = subst (λ x. IsServing (start class) before pending x slot.device slot.second slot.recording after)
+          (sym e) h;
       heard = λ k. let m : Some end ≡ None = sym e ∙ k in absurd cc;
       due = λ k. let m : Some end ≡ None = sym e ∙ k in absurd cc;
       later = λ k. let m : Some end ≡ None = sym e ∙ k in absurd cc;

@@ -55,7 +55,8 @@ slot_served s d device slot recording valid within shows is second end due kept 
       class = row.0;
       steps = found.0.steps;
       row = row.1;
-      served = slot_starts row.0 slot told (subst (λ x. Shows x (start row.0)) (sym is) (shows row.0 found.0.steps row.1))
+      served = slot_starts row.0 slot told
+          (subst (λ x. Shows x (start row.0)) (sym is) (shows row.0 found.0.steps row.1))
           second end (subst (λ x. IsDue x slot.due) (sym is) due) (ap (λ r. r.steps.items) kept ∙ none);
     }
 
@@ -95,7 +96,8 @@ more_first s n slots more y h is here second =
           (pushed_cases slots y e x (ap (λ l. slice_get l e) (sym is) ∙ at));
     }
 
-pub all_first : (s : Scenario) (slots : List Slot) (now : ℕ) (told : ℕ → Option Traffic) → AreFirst s (length s.rows) slots
+pub all_first : (s : Scenario) (slots : List Slot) (now : ℕ) (told : ℕ → Option Traffic)
+    → AreFirst s (length s.rows) slots
     → now ≡ 0 → IsFleet s told slots now false told
 all_first s slots now told h zero =
     record {

@@ -89,8 +89,8 @@ pub record IsServing (f : Machine) (before : Option Traffic) (pending : List Hea
 abbrev pub IsDue : Device → Option ℕ → Type 0
 IsDue device due = (f : Machine) → Shows device f → MatchOption due (IsSilent f) (IsNextSending f)
 
--- A device of a class is served from its start. While it goes on nothing is pending, and its next second is known, and still to come. One that
--- has ended hears no more. It ended for want of memory only if it may have.
+-- A device of a class is served from its start. While it goes on nothing is pending, and the second in which it is due
+-- next is known, and still to come. One that has ended hears no more. It ended for want of memory only if it may have.
 pub record IsServed (class : Template) (before : Option Traffic) (slot : Slot) (broken : Bool)
     (after : Option Traffic) : Type 0 where
   pub unheard : List Heard

@@ -284,7 +284,8 @@ impl Slot {
         now: u64,
         packet: Packet,
     ) -> Result<(), AllocError>
-        ensures served { (class : Template) (before between : Option Traffic) → IsServed class before self.old false between
+        ensures served { (class : Template) (before between : Option Traffic)
+            → IsServed class before self.old false between
             → Carries between (P.told ports.old place) (handed_at now packet) → self.old.second ≤ now
             → IsServed class before self.new (is_err result) (P.told ports.new place) }
         ensures others { (e : ℕ) → e ≢ place → Carries (P.told ports.old e) (P.told ports.new e) no_traffic }

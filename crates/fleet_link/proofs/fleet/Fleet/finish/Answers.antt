@@ -36,7 +36,8 @@ loop-place-preserved g c =
       finished = λ s before h.
           next_at s before (g.P.Ports.told at.ports) slots.items at.self.second at.place c.index_mut.result.now
           c.reach.new.self (at.invariant.fleet s before h) got
-          (λ early e. c.reach.ensures.second (omega (arith, early, at.invariant.second)) e ∙ omega (arith, at.invariant.second))
+          (λ early e. c.reach.ensures.second (omega (arith, early, at.invariant.second)) e
+          ∙ omega (arith, at.invariant.second))
           (at.invariant.finished s before h);
       asked = still_none _ _ _ at.invariant.asked c.reach.ensures.asked;
       second = at.invariant.second;
