@@ -1,0 +1,260 @@
+-- All devices, where one of them goes on.
+use Rattle.std.proofs.Common.{◌≡◌, ◌⊎◌, inl, inr, ℕ, zero, suc, ◌+◌, ◌≤◌, ◌<◌, Bool, true, false, List, [], ◌∷◌}
+use Rattle.std.proofs.Common.{length, get_or, max, Option, None, Some, slice_get, Result, Ok, Err, OnOk, refl, sym, ap, subst, ◌∙◌, arith}
+use Rattle.std.proofs.Math.ListN.{length-set}
+use Rattle.std.proofs.lemmas.Bool.{cases_eq}
+use Rattle.std.proofs.lemmas.Option.{slice_get_read, slice_get_within}
+use Rattle.std.specs.List.{slice_set}
+use Rattle.std.specs.Option.{IfSome}
+use Rattle.std.specs.Result.{is_err, IsErr}
+use Rattle.device_template.specs.Template.{Template}
+use Rattle.scenario_image.specs.Scenario.{Scenario}
+use Rattle.fleet_link.specs.declared.fleet.Fleet.{Fleet}
+use Rattle.fleet_link.specs.declared.ports.Receipt.{Receipt}
+use Rattle.fleet_link.specs.declared.slot.Slot.{Slot}
+use Rattle.fleet_link.specs.Serving.{AreAt, AreSwept, IsFleet, IsRowServed, IsServed}
+use Rattle.fleet_link.specs.Traffic.{Carries, Traffic, at_port, failed_once, no_traffic, traffic_of_receipt}
+use Rattle.fleet_link.proofs.Served.{due_after, served_on}
+use Rattle.fleet_link.proofs.Told.{at_port_other, at_port_same, carries_none, carries_on, carries_same}
+
+-- ---- lists
+
+get-set_same : {X : Type 0} (xs : List X) (i : ℕ) (y x : X) → slice_get (slice_set xs i y) i ≡ Some x → y ≡ x
+get-set_same [] i y x h = let e : None ≡ Some x = h in absurd cc
+get-set_same (z ∷ zs) zero y x h = let e : Some y ≡ Some x = h in cc
+get-set_same (z ∷ zs) (suc i) y x h = get-set_same zs i y x h
+
+get-set_other : {X : Type 0} (xs : List X) (i j : ℕ) (y : X) → (i ≡ j → ⊥)
+    → slice_get (slice_set xs i y) j ≡ slice_get xs j
+get-set_other [] i j y h = refl
+get-set_other (z ∷ zs) zero zero y h = absurd (h refl)
+get-set_other (z ∷ zs) zero (suc j) y h = refl
+get-set_other (z ∷ zs) (suc i) zero y h = refl
+get-set_other (z ∷ zs) (suc i) (suc j) y h = get-set_other zs i j y (λ e. h (ap suc e))
+
+pub read_at : {X : Type 0} (xs : List X) (i : ℕ) (x : X) → i < length xs → x ≡ get_or xs i x → slice_get xs i ≡ Some x
+read_at xs i x l e = slice_get_read xs (length xs) i x refl l e
+
+-- what holds of the one that was set, and of each of the others, holds of each
+pub each_set : {X : Type 0} (P : ℕ → X → Type 0) (xs more : List X) (place : ℕ) (new : X)
+    → more ≡ slice_set xs place new
+    → P place new → ((e : ℕ) (x : X) → (e ≡ place → ⊥) → slice_get xs e ≡ Some x → P e x)
+    → (e : ℕ) (x : X) → slice_get more e ≡ Some x → P e x
+each_set P xs more place new is here others e x got = at (cases_eq place e)
+  where
+    set : slice_get (slice_set xs place new) e ≡ Some x
+    set = ap (λ l. slice_get l e) (sym is) ∙ got
+
+    at : (place ≡ e) ⊎ (place ≡ e → ⊥) → P e x
+    at (inl same) =
+        let y : new ≡ x = get-set_same xs place new x
+        (subst (λ i. slice_get (slice_set xs place new) i ≡ Some x) (sym same) set) in
+        subst (λ i. P i x) same (subst (P place) y here)
+    at (inr other) = others e x (λ q. other (sym q)) (sym (get-set_other xs place e new other) ∙ set)
+
+-- ---- a fleet
+
+served_row : (s : Scenario) (e : ℕ) (before between after : Option Traffic) (slot new : Slot) (broken : Bool)
+    → IsRowServed s e before slot false between
+    → ((class : Template) → IsServed class before slot false between → IsServed class before new broken after)
+    → IsRowServed s e before new broken after
+served_row s e before between after slot new broken h f =
+    record { class = h.class; steps = h.steps; row = h.row; served = f h.class h.served }
+
+-- one device went on, nothing went through the ports of the others
+pub one_served : (s : Scenario) (before between after : ℕ → Option Traffic) (slots more : List Slot) (now : ℕ)
+    (broken : Bool) (place : ℕ) (slot new : Slot) → IsFleet s before slots now false between
+    → slice_get slots place ≡ Some slot → more ≡ slice_set slots place new
+    → ((class : Template) → IsServed class (before place) slot false (between place)
+    → IsServed class (before place) new broken (after place))
+    → ((e : ℕ) → (e ≡ place → ⊥) → Carries (between e) (after e) no_traffic) → new.second ≤ now
+    → IsFleet s before more now broken after
+one_served s before between after slots more now broken place slot new h at is here others early =
+    record {
+      count = ap length is ∙ length-set slots place new ∙ h.count;
+      each = each_set (λ e x. IsRowServed s e (before e) x broken (after e)) slots more place new is
+          (served_row s place (before place) (between place) (after place) slot new broken (h.each place slot at) here)
+          (λ e x o got. served_row s e (before e) (between e) (after e) x x broken (h.each e x got)
+          (λ class k. served_on class (before e) x broken (between e) (after e) k (others e o)));
+      early = each_set (λ e x. x.second ≤ now) slots more place new is early (λ e x o got. h.early e x got);
+    }
+
+-- nothing went through the port of any device
+pub none_served : (s : Scenario) (before between after : ℕ → Option Traffic) (slots : List Slot) (now later : ℕ)
+    (broken : Bool) → IsFleet s before slots now false between
+    → ((e : ℕ) → e < length slots → Carries (between e) (after e) no_traffic) → now ≤ later
+    → IsFleet s before slots later broken after
+none_served s before between after slots now later broken h none le =
+    record {
+      count = h.count;
+      each = λ e x got. served_row s e (before e) (between e) (after e) x x broken (h.each e x got)
+          (λ class k. served_on class (before e) x broken (between e) (after e) k
+          (none e (slice_get_within slots e x got)));
+      early = λ e x got. let k : x.second ≤ now = h.early e x got in omega arith;
+    }
+
+-- ---- which are due
+
+pub swept_set : (slots more : List Slot) (n second place : ℕ) (new : Slot) → more ≡ slice_set slots place new
+    → AreSwept slots n second → (new.end ≡ None → IfSome new.due (λ d. second < d)) → AreSwept more n second
+swept_set slots more n second place new is h here =
+    λ e x l got. each_set (λ i y. i < n → y.end ≡ None → IfSome y.due (λ d. second < d)) slots more place new is
+    (λ _. here) (λ i y o at k. h i y k at) e x got l
+
+pub swept_next : (slots more : List Slot) (second place : ℕ) (new : Slot) → more ≡ slice_set slots place new
+    → AreSwept slots place second → (new.end ≡ None → IfSome new.due (λ d. second < d))
+    → AreSwept more (place + 1) second
+swept_next slots more second place new is h here =
+    λ e x l got. each_set (λ i y. i < place + 1 → y.end ≡ None → IfSome y.due (λ d. second < d)) slots more place new is
+    (λ _. here) (λ i y o at k. h i y (below i o k) at) e x got l
+  where
+    below : (i : ℕ) → (i ≡ place → ⊥) → i < place + 1 → i < place
+    below i o k = omega (arith, o)
+
+pub at_next : (slots more : List Slot) (second place : ℕ) (new : Slot) → more ≡ slice_set slots place new
+    → AreAt slots place second → (new.end ≡ None → new.second ≡ second) → AreAt more (place + 1) second
+at_next slots more second place new is h here =
+    λ e x l got. each_set (λ i y. i < place + 1 → y.end ≡ None → y.second ≡ second) slots more place new is
+    (λ _. here) (λ i y o at k. h i y (below i o k) at) e x got l
+  where
+    below : (i : ℕ) → (i ≡ place → ⊥) → i < place + 1 → i < place
+    below i o k = omega (arith, o)
+
+-- ---- ports that fail
+
+pub failed_at : (s : Scenario) (before between after : ℕ → Option Traffic) (slots : List Slot) (now : ℕ)
+    (device : ℕ) (slot new : Slot) → IsFleet s before slots now false between
+    → ((e : ℕ) → Carries (between e) (after e) (at_port device e failed_once))
+    → slice_get slots device ≡ Some slot
+    → ((class : Template) (b x y : Option Traffic) → IsServed class b slot false x → Carries x y failed_once
+    → IsServed class b new false y) → new.second ≡ slot.second
+    → IsFleet s before (slice_set slots device new) now false after
+failed_at s before between after slots now device slot new h went at served second =
+    let le : slot.second ≤ now = h.early device slot at in
+    one_served s before between after slots (slice_set slots device new) now false device slot new h at refl
+    (λ class k. served class (before device) (between device) (after device) k
+    (carries_same (between device) (after device) _ _ (went device) (at_port_same device failed_once)))
+    (λ e o. carries_same (between e) (after e) _ _ (went e) (at_port_other device e failed_once o)) (omega arith)
+
+-- what went through a port past those of the devices has no part in it
+pub beyond : (s : Scenario) (before between after : ℕ → Option Traffic) (slots : List Slot) (now device : ℕ)
+    (broken : Bool) (more : Traffic) → IsFleet s before slots now false between
+    → ((e : ℕ) → Carries (between e) (after e) (at_port device e more)) → length slots ≤ device
+    → IsFleet s before slots now broken after
+beyond s before between after slots now device broken more h went past =
+    none_served s before between after slots now now broken h
+    (λ e l. carries_same (between e) (after e) _ _ (went e) (at_port_other device e more (below e l))) (omega arith)
+  where
+    below : (e : ℕ) → e < length slots → e ≡ device → ⊥
+    below e l q = absurd (omega (arith, l, q, past))
+
+-- ---- a device that goes on
+
+-- something went through its port, and then it went on
+pub gone_on : (s : Scenario) (before between mid after : ℕ → Option Traffic) (slots : List Slot) (now place : ℕ)
+    (broken : Bool) (more : Traffic) (slot new : Slot) → IsFleet s before slots now false between
+    → ((e : ℕ) → Carries (between e) (mid e) (at_port place e more)) → slice_get slots place ≡ Some slot
+    → ((class : Template) (b x : Option Traffic) → IsServed class b slot false x → Carries x (mid place) more
+    → slot.second ≤ now → IsServed class b new broken (after place))
+    → ((e : ℕ) → (e ≡ place → ⊥) → Carries (mid e) (after e) no_traffic)
+    → ((most : ℕ) → slot.second ≤ most → now ≤ most → new.second ≤ most)
+    → IsFleet s before (slice_set slots place new) now broken after
+gone_on s before between mid after slots now place broken more slot new h went at served others most =
+    let early : slot.second ≤ now = h.early place slot at in
+    one_served s before between after slots (slice_set slots place new) now broken place slot new h at refl
+    (λ class k. served class (before place) (between place) k
+    (carries_same (between place) (mid place) _ _ (went place) (at_port_same place more)) early)
+    (λ e o. carries_on (between e) (mid e) (after e) no_traffic
+    (carries_same (between e) (mid e) _ _ (went e) (at_port_other place e more o)) (others e o))
+    (most now early (omega arith))
+
+-- when it is due then
+pub gone_due : (s : Scenario) (before between mid after : ℕ → Option Traffic) (slots : List Slot) (now place : ℕ)
+    (broken : Bool) (more : Traffic) (slot new : Slot) → IsFleet s before slots now false between
+    → ((e : ℕ) → Carries (between e) (mid e) (at_port place e more)) → slice_get slots place ≡ Some slot
+    → ((class : Template) (b x : Option Traffic) → IsServed class b slot false x → Carries x (mid place) more
+    → slot.second ≤ now → IsServed class b new broken (after place))
+    → (slot.second ≤ now → new.end ≡ None → new.second ≡ now) → (n second : ℕ) → second ≤ now → AreSwept slots n second
+    → AreSwept (slice_set slots place new) n second
+gone_due s before between mid after slots now place broken more slot new h went at served reached n second le swept =
+    let early : slot.second ≤ now = h.early place slot at in
+    let row = h.each place slot at in
+    let k = served row.class (before place) (between place) row.served
+    (carries_same (between place) (mid place) _ _ (went place) (at_port_same place more)) early in
+    swept_set slots (slice_set slots place new) n second place new refl swept
+    (λ e. due_after row.class (before place) new broken (after place) now second k e (reached early e) le)
+
+-- ---- a reading of the clock
+
+pub errs : {T E : Type 0} (r : Result T E) → IsErr r → true ≡ is_err r
+errs r h = sym h
+
+-- the second of the session is set on
+pub passed : (s : Scenario) (before after : ℕ → Option Traffic) (old new : Fleet) (n : ℕ)
+    → IsFleet s before old.slots.items old.second false after → new.second ≡ max old.second n → new.slots ≡ old.slots
+    → IsFleet s before new.slots.items new.second false after
+passed s before after old new n h second slots =
+    subst (λ x. IsFleet s before x.items new.second false after) (sym slots)
+    (none_served s before after after old.slots.items old.second new.second false h (λ e l. carries_none (after e))
+    (omega (arith, second)))
+
+pub swept_same : (old new : Fleet) (n second : ℕ) → new.slots ≡ old.slots → AreSwept old.slots.items n second
+    → AreSwept new.slots.items n second
+swept_same old new n second slots h = subst (λ x. AreSwept x.items n second) (sym slots) h
+
+-- the ports did nothing for any device
+pub still_served : (s : Scenario) (before between after : ℕ → Option Traffic) (slots : List Slot) (now : ℕ)
+    (broken : Bool) → IsFleet s before slots now false between
+    → ((e : ℕ) → Carries (between e) (after e) no_traffic) → IsFleet s before slots now broken after
+still_served s before between after slots now broken h none =
+    none_served s before between after slots now now broken h (λ e l. none e) (omega arith)
+
+-- a session that is broken off may have been whole
+pub breaks : (s : Scenario) (before after : ℕ → Option Traffic) (slots : List Slot) (now : ℕ) (broken other : Bool)
+    → broken ≡ other → IsFleet s before slots now broken after → IsFleet s before slots now other after
+breaks s before after slots now broken other e h = subst (λ b. IsFleet s before slots now b after) e h
+
+-- ---- receipts
+
+pub carries_at : (x y : Option Traffic) (second e : ℕ) (a b : Receipt) → a ≡ b
+    → Carries x y (traffic_of_receipt second (Ok a) e) → Carries x y (traffic_of_receipt second (Ok b) e)
+carries_at x y second e a b is h = subst (λ r. Carries x y (traffic_of_receipt second (Ok r) e)) is h
+
+-- ---- one device after another
+
+pub swept_at : (slots : List Slot) (n m second : ℕ) → n ≡ m → AreSwept slots n second → AreSwept slots m second
+swept_at slots n m second e h = subst (λ k. AreSwept slots k second) e h
+
+pub stand_at : (slots : List Slot) (n m second : ℕ) → n ≡ m → AreAt slots n second → AreAt slots m second
+stand_at slots n m second e h = subst (λ k. AreAt slots k second) e h
+
+-- the device at this place was brought to a second, or was not due
+pub next_served : (s : Scenario) (before between after : ℕ → Option Traffic) (slots : List Slot) (now place to : ℕ)
+    (broken : Bool) (slot new : Slot) → IsFleet s before slots now false between → slice_get slots place ≡ Some slot
+    → ((class : Template) (b : Option Traffic) → IsServed class b slot false (between place)
+    → IsServed class b new broken (after place))
+    → ((e : ℕ) → (e ≡ place → ⊥) → Carries (between e) (after e) no_traffic)
+    → ((most : ℕ) → slot.second ≤ most → to ≤ most → new.second ≤ most) → to ≤ now
+    → IsFleet s before (slice_set slots place new) now broken after
+next_served s before between after slots now place to broken slot new h at served others most le =
+    one_served s before between after slots (slice_set slots place new) now broken place slot new h at refl
+    (λ class k. served class (before place) k) others (most now (h.early place slot at) le)
+
+pub next_swept : (s : Scenario) (before between : ℕ → Option Traffic) (slots : List Slot) (now place to : ℕ)
+    (slot new : Slot) → IsFleet s before slots now false between → slice_get slots place ≡ Some slot
+    → ((class : Template) (b : Option Traffic) → IsServed class b slot false (between place) → new.end ≡ None
+    → IfSome new.due (λ d. to < d)) → AreSwept slots place to → AreSwept (slice_set slots place new) (place + 1) to
+next_swept s before between slots now place to slot new h at due swept =
+    let row = h.each place slot at in
+    swept_next slots (slice_set slots place new) to place new refl swept (due row.class (before place) row.served)
+
+pub next_at : (s : Scenario) (before between : ℕ → Option Traffic) (slots : List Slot) (now place : ℕ)
+    (slot new : Slot) → IsFleet s before slots now false between → slice_get slots place ≡ Some slot
+    → (slot.second ≤ now → new.end ≡ None → new.second ≡ now) → AreAt slots place now
+    → AreAt (slice_set slots place new) (place + 1) now
+next_at s before between slots now place slot new h at reached stand =
+    at_next slots (slice_set slots place new) now place new refl stand (reached (h.early place slot at))
+
+pub always : {T E P : Type 0} (r : Result T E) → P → OnOk r P
+always (Ok x) p = p
+always (Err e) p = tt

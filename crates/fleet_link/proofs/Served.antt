@@ -1,0 +1,454 @@
+-- One device, step by step.
+use Rattle.std.proofs.Common.{◌≡◌, ◌⊎◌, inl, inr, ℕ, ◌+◌, ◌≤◌, ◌<◌, Bool, ◌||◌, true, false, List, [], ◌∷◌, ◌++◌}
+use Rattle.std.proofs.Common.{Option, None, Some, Result, Ok, Err, ◌↔◌, OnOk, IfErr, refl, sym, ap, subst, ◌∙◌}
+use Rattle.std.proofs.Common.{append_assoc, append-nil, arith, add-zero}
+use Rattle.std.specs.Bool.{IsTrue}
+use Rattle.std.specs.Option.{IfSome, MatchOption}
+use Rattle.lemmas.proofs.Lists.{each_pushed}
+use Rattle.device_machine.specs.declared.event.Event.{Event as Happening}
+use Rattle.device_machine.specs.declared.event.Event.TheVariants.{Recv, Put, Firmware, Tick}
+use Rattle.device_machine.specs.declared.fault.StepFault.TheVariants as faults
+use Rattle.device_machine.specs.Held.{IsNextSending, IsSilent}
+use Rattle.device_machine.specs.State.{Machine, Device, Shows}
+use Rattle.device_machine.specs.Reactions.{outputs_of, flat_after, is_refused, passes_end}
+use Rattle.device_template.specs.Template.{Template}
+use Rattle.fleet_core.proofs.Clock.{recv_clock, put_clock, firmware_clock}
+use Rattle.scenario_image.specs.declared.step.Step.{Step}
+use Rattle.scenario_image.specs.declared.step.Step.TheVariants.{Event, Post, Need}
+use Rattle.scenario_image.specs.Play.{start, state_after, step_after}
+use Rattle.live_link.proofs.Served.{sent_push}
+use Rattle.live_link.specs.declared.packet.Packet.{Packet}
+use Rattle.live_link.specs.Live.{packets_in, sent_by, IsLiveStep}
+use Rattle.fleet_link.specs.declared.recording.Recording.{Recording}
+use Rattle.fleet_link.specs.declared.slot.DeviceEnd.{DeviceEnd}
+use Rattle.fleet_link.specs.declared.slot.DeviceEnd.TheVariants.{Memory, Port, Spent}
+use Rattle.fleet_link.specs.declared.slot.Slot.{Slot}
+use Rattle.fleet_link.specs.Serving.{heard_at, heard_by, second_after, second_by, IsDue, IsEndOf, IsNearEnd}
+use Rattle.fleet_link.specs.Serving.{IsRecorded, IsServed, IsServing}
+use Rattle.fleet_link.specs.Traffic.{Carries, Heard, Traffic, failed_once, handed_at, no_traffic, sent_all, traffic_and}
+use Rattle.fleet_link.proofs.Told.{carries_both, carries_on, traffic_of}
+
+-- ---- one step more
+
+state_push : (f : Machine) (steps : List Step) (step : Step)
+    → state_after f (steps ++ step ∷ []) ≡ step_after (state_after f steps) step
+state_push f [] step = refl
+state_push f (s ∷ steps) step = state_push (step_after f s) steps step
+
+second_push : (n : ℕ) (steps : List Step) (step : Step)
+    → second_by n (steps ++ step ∷ []) ≡ second_after (second_by n steps) step
+second_push n [] step = refl
+second_push n (s ∷ steps) step = second_push (second_after n s) steps step
+
+heard_push : (n : ℕ) (steps : List Step) (step : Step)
+    → heard_by n (steps ++ step ∷ []) ≡ heard_by n steps ++ heard_at (second_by n steps) step
+heard_push n [] step = append-nil (heard_at n step)
+heard_push n (s ∷ steps) step =
+    ap (λ hs. heard_at n s ++ hs) (heard_push (second_after n s) steps step)
+    ∙ sym (append_assoc (heard_at n s) (heard_by (second_after n s) steps)
+    (heard_at (second_by (second_after n s) steps) step))
+
+-- what was pending is received
+heard_more : (steps : List Step) (step : Step) (rest : List Heard)
+    → heard_by 0 steps ++ (heard_at (second_by 0 steps) step ++ rest) ≡ heard_by 0 (steps ++ step ∷ []) ++ rest
+heard_more steps step rest =
+    sym (append_assoc (heard_by 0 steps) (heard_at (second_by 0 steps) step) rest)
+    ∙ ap (λ hs. hs ++ rest) (sym (heard_push 0 steps step))
+
+-- ---- a device's own clock
+
+step_clock : (f : Machine) (step : Step) → (step_after f step).kept.clock ≡ second_after f.kept.clock step
+step_clock f (Event (Recv server bytes)) = recv_clock f server bytes
+step_clock f (Event (Put path value)) = put_clock f path value
+step_clock f (Event (Firmware code)) = firmware_clock f code
+step_clock f (Event (Tick seconds)) = refl
+step_clock f (Post group) = refl
+step_clock f (Need group count) = refl
+
+-- the clock of a device shows the second of its steps
+pub clock_by : (f : Machine) (steps : List Step) → (state_after f steps).kept.clock ≡ second_by f.kept.clock steps
+clock_by f [] = refl
+clock_by f (step ∷ steps) =
+    clock_by (step_after f step) steps ∙ ap (λ n. second_by n steps) (step_clock f step)
+
+-- ---- an event
+
+pub accepted : {T : Type 0} (o : T) (b : Bool) → ((Ok o ≡ Err faults.Spent) ↔ IsTrue b) → b ≡ false
+accepted o false h = refl
+accepted o true h = let e : Ok o ≡ Err faults.Spent = h.1 refl in absurd cc
+
+-- the step was taken, and all that it output was sent
+pub step_served : (f : Machine) (before : Option Traffic) (rest : List Heard) (device newer : Device) (second : ℕ)
+    (recording longer : Recording) (between after : Option Traffic) (event : Happening) (gone : List Packet)
+    → IsServing f before (heard_at second (Event event) ++ rest) None device second recording between
+    → IsLiveStep (Event event)
+    → ((g : Machine) → Shows device g → Shows newer (flat_after g event))
+    → ((g : Machine) → Shows device g → gone ≡ packets_in (outputs_of g event))
+    → Carries between after (sent_all gone)
+    → ((steps : List Step) → IsRecorded recording steps → IsRecorded longer (steps ++ Event event ∷ []))
+    → IsServing f before rest None newer (second_after second (Event event)) longer after
+step_served f before rest device newer second recording longer between after event gone h live shows put_out went
+    noted =
+    let showed : Shows device (state_after f h.steps) = h.shows refl in
+    let heard : heard_by 0 h.steps ++ (heard_at second (Event event) ++ rest)
+    ≡ heard_by 0 (h.steps ++ Event event ∷ []) ++ rest =
+    ap (λ n. heard_by 0 h.steps ++ (heard_at n (Event event) ++ rest)) h.clock
+    ∙ heard_more h.steps (Event event) rest in
+    let sent : sent_by f h.steps ++ gone ≡ sent_by f (h.steps ++ Event event ∷ []) =
+    ap (λ ps. sent_by f h.steps ++ ps) (put_out (state_after f h.steps) showed)
+    ∙ sym (sent_push f h.steps (Event event)) in
+    record {
+      steps = h.steps ++ Event event ∷ [];
+      failures = h.failures;
+      told = carries_both before between after _ (sent_all gone) _ h.told went
+          (same_traffic _ _ _ _ _ _ (append-nil _ ∙ heard) sent (add-zero h.failures));
+      clock = ap (λ n. second_after n (Event event)) h.clock ∙ sym (second_push 0 h.steps (Event event));
+      live = each_pushed IsLiveStep h.steps (Event event) h.live live;
+      shows = λ e. subst (Shows newer) (sym (state_push f h.steps (Event event)))
+          (shows (state_after f h.steps) showed);
+      ended = h.ended;
+      recorded = noted h.steps h.recorded;
+    }
+  where
+    same_traffic : (a b : List Heard) (p q : List Packet) (m n : ℕ) → a ≡ b → p ≡ q → m ≡ n
+        → traffic_of a p m ≡ traffic_of b q n
+    same_traffic a b p q m n x y z = cc
+
+-- a device that is not spent refuses nothing but what passes its last second
+refused_late : (device : Device) (f : Machine) (event : Happening) → Shows device f → is_refused device event ≡ true
+    → passes_end f.kept.clock event ≡ true
+refused_late device f event h refused =
+    ap (λ (g : Machine). passes_end g.kept.clock event) (sym h.holds)
+    ∙ ap (λ b. b || passes_end device.flat.kept.clock event) (sym h.ready) ∙ refused
+
+near_end : (f : Machine) (steps : List Step) (event : Happening) → IsLiveStep (Event event)
+    → passes_end (state_after f steps).kept.clock event ≡ true → IsNearEnd f steps
+near_end f steps (Recv server bytes) live h = let e : false ≡ true = h in absurd cc
+near_end f steps (Put path value) live h = absurd live
+near_end f steps (Firmware code) live h = absurd live
+near_end f steps (Tick seconds) live h = record { seconds = seconds; few = live.1; passes = h }
+
+end_refused : (end : DeviceEnd) (f : Machine) (steps : List Step) (device : Device) (event : Happening)
+    → Shows device (state_after f steps) → IsLiveStep (Event event)
+    → (end ≡ Memory) ⊎ ((end ≡ Spent) × IsTrue (is_refused device event)) → (failures : ℕ)
+    → IsEndOf (Some end) f steps failures
+end_refused end f steps device event shows live (inl m) failures =
+    subst (λ x. IsEndOf (Some x) f steps failures) (sym m) tt
+end_refused end f steps device event shows live (inr (m, refused)) failures =
+    subst (λ x. IsEndOf (Some x) f steps failures) (sym m)
+    (near_end f steps event live (refused_late device (state_after f steps) event shows refused))
+
+pub recorded_on : (recording other : Recording) (steps : List Step) → other.steps.items ≡ recording.steps.items
+    → (other.complete ≡ true → recording.complete ≡ true) → IsRecorded recording steps → IsRecorded other steps
+recorded_on recording other steps same full h =
+    record {
+      rest = h.rest;
+      begins = h.begins ∙ ap (λ s. s ++ h.rest) (sym same);
+      whole = λ e. h.whole (full e);
+    }
+
+-- the step was refused, or no memory was left for it: nothing was sent
+pub step_refused : (end : DeviceEnd) (f : Machine) (before : Option Traffic) (pending : List Heard)
+    (device newer : Device) (second : ℕ) (recording other : Recording) (after : Option Traffic) (event : Happening)
+    → IsServing f before pending None device second recording after → IsLiveStep (Event event)
+    → (end ≡ Memory) ⊎ ((end ≡ Spent) × IsTrue (is_refused device event))
+    → other.steps.items ≡ recording.steps.items → (other.complete ≡ true → recording.complete ≡ true)
+    → IsServing f before pending (Some end) newer second other after
+step_refused end f before pending device newer second recording other after event h live kind same full =
+    record {
+      steps = h.steps;
+      failures = h.failures;
+      told = h.told;
+      clock = h.clock;
+      live = h.live;
+      shows = λ e. absurd cc;
+      ended = end_refused end f h.steps device event (h.shows refl) live kind h.failures;
+      recorded = recorded_on recording other h.steps same full h.recorded;
+    }
+
+pub not_port : (end : DeviceEnd) (b : Bool) → (end ≡ Memory) ⊎ ((end ≡ Spent) × IsTrue b) → end ≡ Port → ⊥
+not_port end b (inl m) e = let k : Memory ≡ Port = sym m ∙ e in cc
+not_port end b (inr (m, refused)) e = let k : Spent ≡ Port = sym m ∙ e in cc
+
+-- ---- recording
+
+pub recorded_more : (old new : Recording) (step : Step) (steps : List Step) → new.complete ≡ old.complete
+    → new.steps.items ≡ old.steps.items ++ step ∷ [] → old.complete ≡ true → IsRecorded old steps
+    → IsRecorded new (steps ++ step ∷ [])
+recorded_more old new step steps full more is h =
+    record {
+      rest = [];
+      begins = ap (λ s. s ++ step ∷ []) (h.begins ∙ ap (λ r. old.steps.items ++ r) (h.whole is)
+          ∙ append-nil old.steps.items) ∙ sym more ∙ sym (append-nil new.steps.items);
+      whole = λ e. refl;
+    }
+
+pub recorded_less : (old : Recording) (step : Step) (steps : List Step) → old.complete ≡ false → IsRecorded old steps
+    → IsRecorded old (steps ++ step ∷ [])
+recorded_less old step steps closed h =
+    record {
+      rest = h.rest ++ step ∷ [];
+      begins = ap (λ s. s ++ step ∷ []) h.begins ∙ append_assoc old.steps.items h.rest (step ∷ []);
+      whole = λ e. let k : false ≡ true = sym closed ∙ e in absurd cc;
+    }
+
+-- ---- a device at rest
+
+-- its clock shows its second
+shown_clock : (class : Template) (before : Option Traffic) (pending : List Heard) (device : Device) (second : ℕ)
+    (recording : Recording) (after : Option Traffic)
+    (h : IsServing (start class) before pending None device second recording after)
+    → (state_after (start class) h.steps).kept.clock ≡ second
+shown_clock class before pending device second recording after h = clock_by (start class) h.steps ∙ sym h.clock
+
+later_than : (f : Machine) (due : Option ℕ) (second : ℕ) → f.kept.clock ≡ second
+    → MatchOption due (IsSilent f) (IsNextSending f) → IfSome due (λ d. second < d)
+later_than f None second e h = tt
+later_than f (Some d) second e h = subst (λ n. n < d) e h.later
+
+pub rests : (class : Template) (before : Option Traffic) (slot : Slot) (broken : Bool) (after : Option Traffic)
+    → IsServing (start class) before [] None slot.device slot.second slot.recording after → slot.end ≡ None
+    → IsDue slot.device slot.due → IsServed class before slot broken after
+rests class before slot broken after h e due =
+    record {
+      unheard = [];
+      serving = subst (λ x. IsServing (start class) before [] x slot.device slot.second slot.recording after) (sym e)
+          h;
+      heard = λ _. refl;
+      due = λ _. due;
+      later = λ _. later_than (state_after (start class) h.steps) slot.due slot.second
+          (shown_clock class before [] slot.device slot.second slot.recording after h)
+          (due (state_after (start class) h.steps) (h.shows refl));
+      memory = λ m. let k : None ≡ Some Memory = sym e ∙ m in absurd cc;
+    }
+
+pub is_over : (class : Template) (before : Option Traffic) (pending : List Heard) (end : DeviceEnd) (slot : Slot)
+    (broken : Bool) (after : Option Traffic)
+    → IsServing (start class) before pending (Some end) slot.device slot.second slot.recording after
+    → slot.end ≡ Some end
+    → (slot.end ≡ Some Memory → broken ≡ true) → IsServed class before slot broken after
+is_over class before pending end slot broken after h e memory =
+    record {
+      unheard = pending;
+      serving = subst (λ x. IsServing (start class) before pending x slot.device slot.second slot.recording after)
+          (sym e) h;
+      heard = λ k. let m : Some end ≡ None = sym e ∙ k in absurd cc;
+      due = λ k. let m : Some end ≡ None = sym e ∙ k in absurd cc;
+      later = λ k. let m : Some end ≡ None = sym e ∙ k in absurd cc;
+      memory = memory;
+    }
+
+serving_as : (f : Machine) (before : Option Traffic) (pending : List Heard) (end : Option DeviceEnd) (old new : Slot)
+    (after : Option Traffic) → new.device ≡ old.device → new.second ≡ old.second → new.recording ≡ old.recording
+    → IsServing f before pending end old.device old.second old.recording after
+    → IsServing f before pending end new.device new.second new.recording after
+serving_as f before pending end old new after d s r h =
+    subst (λ x. IsServing f before pending end x new.second new.recording after) (sym d)
+    (subst (λ x. IsServing f before pending end old.device x new.recording after) (sym s)
+    (subst (λ x. IsServing f before pending end old.device old.second x after) (sym r) h))
+
+-- what a step came to, and how the device is then
+pub settled : {T : Type 0} (class : Template) (before : Option Traffic) (pending : List Heard)
+    (taken : Result T DeviceEnd) (broken : Bool) (stepped slot : Slot) (after : Option Traffic)
+    → OnOk taken (IsServing (start class) before [] None stepped.device stepped.second stepped.recording after)
+    → IfErr taken (λ end. IsServing (start class) before pending (Some end) stepped.device stepped.second
+    stepped.recording after)
+    → slot.device ≡ stepped.device → slot.second ≡ stepped.second → slot.recording ≡ stepped.recording
+    → OnOk taken ((slot.end ≡ None) × IsDue slot.device slot.due) → IfErr taken (λ end. slot.end ≡ Some end)
+    → (slot.end ≡ Some Memory → broken ≡ true) → IsServed class before slot broken after
+settled class before pending (Ok x) broken stepped slot after served refused d s r ok ended memory =
+    rests class before slot broken after (serving_as (start class) before [] None stepped slot after d s r served) ok.0
+    ok.1
+settled class before pending (Err end) broken stepped slot after served refused d s r ok ended memory =
+    is_over class before pending end slot broken after
+    (serving_as (start class) before pending (Some end) stepped slot after d s r refused) ended memory
+
+pub some_over : {X : Type 0} (o : Option X) (x : X) → o ≡ Some x → o ≡ None → ⊥
+some_over o x is none = let e : Some x ≡ None = sym is ∙ none in cc
+
+-- ---- when a device is due
+
+pub due_after : (class : Template) (before : Option Traffic) (slot : Slot) (broken : Bool) (after : Option Traffic)
+    (now second : ℕ) → IsServed class before slot broken after → slot.end ≡ None → slot.second ≡ now → second ≤ now
+    → IfSome slot.due (λ d. second < d)
+due_after class before slot broken after now second h e at le = later slot.due (h.later e)
+  where
+    later : (o : Option ℕ) → IfSome o (λ d. slot.second < d) → IfSome o (λ d. second < d)
+    later None k = tt
+    later (Some d) k = omega (arith, k, at, le)
+
+some_due : (o : Option ℕ) (d second : ℕ) → o ≡ Some d → IfSome o (λ x. second < x) → second < d
+some_due None d second e h = let k : None ≡ Some d = e in absurd cc
+some_due (Some x) d second e h = let k : x ≡ d = cc in subst (λ y. second < y) k h
+
+-- one that was due, and was brought to this second
+pub swept_by : (class : Template) (before : Option Traffic) (old new : Slot) (broken : Bool) (x y : Option Traffic)
+    (d now : ℕ) → IsServed class before old false x → IsServed class before new broken y → old.due ≡ Some d → d ≤ now
+    → (old.second ≤ now → new.end ≡ None → new.second ≡ now) → ((old.end ≡ None → ⊥) → new ≡ old)
+    → new.end ≡ None → IfSome new.due (λ n. now < n)
+swept_by class before old new broken x y d now h k due le reached over e = by_end old.end refl
+  where
+    by_end : (o : Option DeviceEnd) → old.end ≡ o → IfSome new.due (λ n. now < n)
+    by_end None is =
+        let early : old.second < d = some_due old.due d old.second due (h.later is) in
+        due_after class before new broken y now now k e (reached (omega (arith, early, le)) e) (omega arith)
+    by_end (Some end) is =
+        let same : new ≡ old = over (some_over old.end end is) in
+        absurd (some_over old.end end is (ap (λ (s : Slot). s.end) (sym same) ∙ e))
+
+-- ---- what goes on elsewhere
+
+serving_on : (f : Machine) (before : Option Traffic) (pending : List Heard) (end : Option DeviceEnd)
+    (device : Device) (second : ℕ) (recording : Recording) (between after : Option Traffic)
+    → IsServing f before pending end device second recording between → Carries between after no_traffic
+    → IsServing f before pending end device second recording after
+serving_on f before pending end device second recording between after h k =
+    record {
+      steps = h.steps;
+      failures = h.failures;
+      told = carries_on before between after _ h.told k;
+      clock = h.clock;
+      live = h.live;
+      shows = h.shows;
+      ended = h.ended;
+      recorded = h.recorded;
+    }
+
+-- nothing went through the port of this device; the session may be broken off
+pub served_on : (class : Template) (before : Option Traffic) (slot : Slot) (broken : Bool)
+    (between after : Option Traffic) → IsServed class before slot false between → Carries between after no_traffic
+    → IsServed class before slot broken after
+served_on class before slot broken between after h k =
+    record {
+      unheard = h.unheard;
+      serving = serving_on (start class) before h.unheard slot.end slot.device slot.second slot.recording between after
+          h.serving k;
+      heard = h.heard;
+      due = h.due;
+      later = h.later;
+      memory = λ e. let m : false ≡ true = h.memory e in absurd cc;
+    }
+
+-- the port has handed out one more
+pub handed_more : (f : Machine) (before : Option Traffic) (pending : List Heard) (end : Option DeviceEnd)
+    (device : Device) (second : ℕ) (recording : Recording) (between after : Option Traffic) (now : ℕ)
+    (packet : Packet) → IsServing f before pending end device second recording between
+    → Carries between after (handed_at now packet)
+    → IsServing f before (pending ++ record { second = now; packet = packet } ∷ []) end device second recording after
+handed_more f before pending end device second recording between after now packet h k =
+    record {
+      steps = h.steps;
+      failures = h.failures;
+      told = carries_both before between after _ (handed_at now packet) _ h.told k
+          (same_traffic _ _ _ _ _ _ (append_assoc (heard_by 0 h.steps) pending _) (append-nil _)
+          (add-zero h.failures));
+      clock = h.clock;
+      live = h.live;
+      shows = h.shows;
+      ended = h.ended;
+      recorded = h.recorded;
+    }
+  where
+    same_traffic : (a b : List Heard) (p q : List Packet) (m n : ℕ) → a ≡ b → p ≡ q → m ≡ n
+        → traffic_of a p m ≡ traffic_of b q n
+    same_traffic a b p q m n x y z = cc
+
+-- a device that has ended does not hear it
+pub over_hears : (class : Template) (before : Option Traffic) (slot : Slot) (between after : Option Traffic) (now : ℕ)
+    (packet : Packet) → IsServed class before slot false between → Carries between after (handed_at now packet)
+    → (slot.end ≡ None → ⊥) → IsServed class before slot false after
+over_hears class before slot between after now packet h k over =
+    record {
+      unheard = h.unheard ++ record { second = now; packet = packet } ∷ [];
+      serving = handed_more (start class) before h.unheard slot.end slot.device slot.second slot.recording between
+          after now packet h.serving k;
+      heard = λ e. absurd (over e);
+      due = h.due;
+      later = h.later;
+      memory = h.memory;
+    }
+
+-- one that goes on has it pending
+pub goes_on : (class : Template) (before : Option Traffic) (slot : Slot) (between : Option Traffic)
+    → IsServed class before slot false between → slot.end ≡ None
+    → IsServing (start class) before [] None slot.device slot.second slot.recording between
+goes_on class before slot between h e =
+    subst (λ x. IsServing (start class) before [] x slot.device slot.second slot.recording between) e
+    (subst (λ u. IsServing (start class) before u slot.end slot.device slot.second slot.recording between) (h.heard e)
+    h.serving)
+
+pub pends : (class : Template) (before : Option Traffic) (slot : Slot) (between after : Option Traffic) (now : ℕ)
+    (packet : Packet) → IsServed class before slot false between → Carries between after (handed_at now packet)
+    → slot.end ≡ None
+    → IsServing (start class) before (record { second = now; packet = packet } ∷ []) None slot.device slot.second
+    slot.recording after
+pends class before slot between after now packet h k e =
+    handed_more (start class) before [] None slot.device slot.second slot.recording between after now packet
+    (goes_on class before slot between h e) k
+
+-- ---- its port failed
+
+failures_more : (end : Option DeviceEnd) (f : Machine) (steps : List Step) (n : ℕ) → (end ≡ None → ⊥)
+    → IsEndOf end f steps n → IsEndOf end f steps (n + 1)
+failures_more None f steps n over h = absurd (over refl)
+failures_more (Some Port) f steps n over h = omega arith
+failures_more (Some Spent) f steps n over h = h
+failures_more (Some Memory) f steps n over h = tt
+
+failed_traffic : (a : List Heard) (p : List Packet) (n : ℕ)
+    → traffic_and (traffic_of a p n) failed_once ≡ traffic_of a p (n + 1)
+failed_traffic a p n =
+    let x = append-nil a in
+    let y = append-nil p in
+    cc
+
+-- one that had ended before
+pub over_fails : (class : Template) (before : Option Traffic) (slot : Slot) (between after : Option Traffic)
+    → IsServed class before slot false between → Carries between after failed_once → (slot.end ≡ None → ⊥)
+    → IsServed class before slot false after
+over_fails class before slot between after h k over =
+    let s = h.serving in
+    record {
+      unheard = h.unheard;
+      serving = record {
+        steps = s.steps;
+        failures = s.failures + 1;
+        told = carries_both before between after _ failed_once _ s.told k
+            (failed_traffic (heard_by 0 s.steps ++ h.unheard) (sent_by (start class) s.steps) s.failures);
+        clock = s.clock;
+        live = s.live;
+        shows = s.shows;
+        ended = failures_more slot.end (start class) s.steps s.failures over s.ended;
+        recorded = s.recorded;
+      };
+      heard = h.heard;
+      due = h.due;
+      later = h.later;
+      memory = h.memory;
+    }
+
+-- one that went on ends
+pub now_fails : (class : Template) (before : Option Traffic) (slot other : Slot) (between after : Option Traffic)
+    → IsServed class before slot false between → Carries between after failed_once → slot.end ≡ None
+    → other ≡ record slot { end = Some Port } → IsServed class before other false after
+now_fails class before slot other between after h k e is =
+    let s = h.serving in
+    let served : IsServed class before (record slot { end = Some Port }) false after = record {
+      unheard = h.unheard;
+      serving = record {
+        steps = s.steps;
+        failures = s.failures + 1;
+        told = carries_both before between after _ failed_once _ s.told k
+            (failed_traffic (heard_by 0 s.steps ++ h.unheard) (sent_by (start class) s.steps) s.failures);
+        clock = s.clock;
+        live = s.live;
+        shows = λ k. absurd cc;
+        ended = omega arith;
+        recorded = s.recorded;
+      };
+      heard = λ k. absurd cc;
+      due = λ k. absurd cc;
+      later = λ k. absurd cc;
+      memory = λ k. absurd cc;
+    } in
+    subst (λ x. IsServed class before x false after) (sym is) served

@@ -1,0 +1,116 @@
+-- Devices at second 0.
+use Rattle.std.proofs.Common.{◌≡◌, true, ℕ, ◌+◌, ◌<◌, ◌≤◌, ◌⊎◌, inl, inr, List, [], ◌∷◌, ◌++◌, length, None, Some, slice_get, false}
+use Rattle.std.proofs.Common.{Option, refl, sym, ap, subst, ◌∙◌, arith, length-append}
+use Rattle.lemmas.proofs.Lists.{pushed_cases}
+use Rattle.device_machine.specs.State.{Device, Shows}
+use Rattle.device_template.specs.Template.{Template}
+use Rattle.scenario_image.specs.declared.step.Step.{Step}
+use Rattle.scenario_image.specs.Play.{start, IsRowOf}
+use Rattle.scenario_image.specs.Scenario.{Row, Scenario, IsGoodRow, IsValid}
+use Rattle.fleet_core.proofs.Valid.{all_at}
+use Rattle.lemmas.proofs.Lists.{item_at}
+use Rattle.fleet_link.specs.declared.recording.Recording.{Recording}
+use Rattle.fleet_link.specs.declared.slot.Slot.{Slot}
+use Rattle.fleet_link.specs.Serving.{AreRecorded, IsDue, IsFleet, IsRowServed, IsServed}
+use Rattle.fleet_link.specs.Traffic.{Traffic}
+use Rattle.fleet_link.proofs.Served.{rests}
+use Rattle.fleet_link.proofs.Told.{carries_none}
+
+row_of : (s : Scenario) (d : ℕ) → IsValid s → (row : Row) → slice_get s.rows d ≡ Some row → (class : Template)
+    × IsRowOf s d class row.steps
+row_of s d valid row at =
+    let good : IsGoodRow s.classes row = all_at (IsGoodRow s.classes) s.rows d row valid.each at in
+    (good.class, record { place = row.class; row = at; stated = good.stated })
+
+-- a device of a class at its start, with nothing recorded
+pub slot_starts : (class : Template) (slot : Slot) (told : Option Traffic) → Shows slot.device (start class)
+    → slot.second ≡ 0 → slot.end ≡ None → IsDue slot.device slot.due → slot.recording.steps.items ≡ []
+    → IsServed class told slot false told
+slot_starts class slot told shows second end due none =
+    rests class told slot false told (record {
+      steps = [];
+      failures = 0;
+      told = carries_none told;
+      clock = second;
+      live = tt;
+      shows = λ e. shows;
+      ended = refl;
+      recorded = record { rest = []; begins = sym none ∙ nothing slot.recording.steps.items; whole = λ e. refl };
+    }) end due
+  where
+    nothing : {X : Type 0} (xs : List X) → xs ≡ xs ++ []
+    nothing [] = refl
+    nothing (x ∷ xs) = ap (λ l. x ∷ l) (nothing xs)
+
+pub slot_served : (s : Scenario) (d : ℕ) (device : Device) (slot : Slot) (recording : Recording) → IsValid s
+    → d < length s.rows
+    → ((class : Template) (steps : List Step) → IsRowOf s d class steps → Shows device (start class))
+    → slot.device ≡ device → slot.second ≡ 0 → slot.end ≡ None → IsDue device slot.due
+    → slot.recording ≡ recording → recording.steps.items ≡ [] → (told : Option Traffic)
+    → IsRowServed s d told slot false told
+slot_served s d device slot recording valid within shows is second end due kept none told =
+    let found = item_at s.rows d within in
+    let row = row_of s d valid found.0 found.1 in
+    record {
+      class = row.0;
+      steps = found.0.steps;
+      row = row.1;
+      served = slot_starts row.0 slot told
+          (subst (λ x. Shows x (start row.0)) (sym is) (shows row.0 found.0.steps row.1))
+          second end (subst (λ x. IsDue x slot.due) (sym is) due) (ap (λ r. r.steps.items) kept ∙ none);
+    }
+
+-- the devices of the first rows
+pub record AreFirst (s : Scenario) (n : ℕ) (slots : List Slot) : Type 0 where
+  pub count : length slots ≡ n
+  pub each : (told : Option Traffic) (e : ℕ) (slot : Slot) → slice_get slots e ≡ Some slot
+      → IsRowServed s e told slot false told
+  pub early : (e : ℕ) (slot : Slot) → slice_get slots e ≡ Some slot → slot.second ≤ 0
+
+pub none_first : (s : Scenario) (slots : List Slot) → slots ≡ [] → AreFirst s 0 slots
+none_first s slots none =
+    subst (AreFirst s 0) (sym none) (record {
+      count = refl;
+      each = λ told e slot h. absurd (never e slot h);
+      early = λ e slot h. absurd (never e slot h);
+    })
+  where
+    never : (k : ℕ) (x : Slot) → slice_get [] k ≡ Some x → ⊥
+    never k x h = let e : None ≡ Some x = h in cc
+
+by_place : (P : ℕ → Slot → Type 0) (n e : ℕ) (slots : List Slot) (x y : Slot) → length slots ≡ n → P n y
+    → (slice_get slots e ≡ Some x → P e x) → (slice_get slots e ≡ Some x) ⊎ ((e ≡ length slots) × (y ≡ x)) → P e x
+by_place P n e slots x y count here before (inl h) = before h
+by_place P n e slots x y count here before (inr h) =
+    subst (λ k. P k x) (sym (h.0 ∙ count)) (subst (P n) h.1 here)
+
+pub more_first : (s : Scenario) (n : ℕ) (slots more : List Slot) (y : Slot) → AreFirst s n slots
+    → more ≡ slots ++ y ∷ [] → ((told : Option Traffic) → IsRowServed s n told y false told) → y.second ≡ 0
+    → AreFirst s (n + 1) more
+more_first s n slots more y h is here second =
+    record {
+      count = omega (arith, h.count, ap length is, length-append slots (y ∷ []));
+      each = λ told e x at. by_place (λ k z. IsRowServed s k told z false told) n e slots x y h.count (here told)
+          (h.each told e x) (pushed_cases slots y e x (ap (λ l. slice_get l e) (sym is) ∙ at));
+      early = λ e x at. by_place (λ k z. z.second ≤ 0) n e slots x y h.count (omega (arith, second)) (h.early e x)
+          (pushed_cases slots y e x (ap (λ l. slice_get l e) (sym is) ∙ at));
+    }
+
+pub all_first : (s : Scenario) (slots : List Slot) (now : ℕ) (told : ℕ → Option Traffic)
+    → AreFirst s (length s.rows) slots
+    → now ≡ 0 → IsFleet s told slots now false told
+all_first s slots now told h zero =
+    record {
+      count = h.count;
+      each = λ e x at. h.each (told e) e x at;
+      early = λ e x at. let k : x.second ≤ 0 = h.early e x at in omega arith;
+    }
+
+pub none_recorded : (slots : List Slot) → slots ≡ [] → AreRecorded slots
+none_recorded slots none e slot h = let k : None ≡ Some slot = ap (λ l. slice_get l e) (sym none) ∙ h in absurd cc
+
+pub more_recorded : (slots more : List Slot) (y : Slot) → AreRecorded slots → more ≡ slots ++ y ∷ []
+    → y.recording.complete ≡ true → AreRecorded more
+more_recorded slots more y h is here e x at =
+    by_place (λ k z. z.recording.complete ≡ true) (length slots) e slots x y refl here (h e x)
+    (pushed_cases slots y e x (ap (λ l. slice_get l e) (sym is) ∙ at))

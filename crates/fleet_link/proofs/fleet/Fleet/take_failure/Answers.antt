@@ -1,0 +1,25 @@
+use Rattle.std.proofs.Common.{◌<◌, ◌≤◌, length, refl, arith, false}
+use Rattle.fleet_link.specs.Traffic.{failed_once}
+use Rattle.fleet_link.proofs.Fleets.{beyond, failed_at, read_at, swept_set}
+use Rattle.fleet_link.proofs.fleet.Fleet.take_failure.Goals as goal
+
+pub returns-then-device-len-clause-fleet : goal.returns-then-device-len-clause-fleet
+returns-then-device-len-clause-fleet c =
+    let slots = c.args.self.now.slots in
+    let within : c.args.device < length slots.items = omega (arith, slots.ok.0, c.len.ensures) in
+    λ s before between after h went.
+    failed_at s before between after slots.items c.args.self.now.second c.args.device c.index_mut.result.now
+    c.fail.new.self h went (read_at slots.items c.args.device c.index_mut.result.now within c.index_mut.ensures.value)
+    c.fail.ensures.served c.fail.ensures.second
+
+pub returns-then-device-len-clause-swept : goal.returns-then-device-len-clause-swept
+returns-then-device-len-clause-swept c =
+    λ n second h. swept_set c.args.self.now.slots.items _ n second c.args.device c.fail.new.self refl h
+    (λ e. absurd (c.fail.ensures.ended e))
+
+pub returns-else-device-len-clause-fleet : goal.returns-else-device-len-clause-fleet
+returns-else-device-len-clause-fleet c =
+    let slots = c.args.self.now.slots in
+    let past : length slots.items ≤ c.args.device = omega (arith, slots.ok.0, c.len.ensures) in
+    λ s before between after h went.
+    beyond s before between after slots.items c.args.self.now.second c.args.device false failed_once h went past

@@ -1,0 +1,8 @@
+use Rattle.fleet_link.proofs.Started.{slot_served}
+use Rattle.fleet_link.proofs.fleet.slot_of_row.Goals as goal
+
+pub returns-clause-served : goal.returns-clause-served
+returns-clause-served c =
+    slot_served c.args.scenario.now c.args.device c.in_ok-device.device c.new.result c.recording_of.result
+    c.rows-rows.ensures.valid c.requires c.in_ok-device.ensures c.new.ensures.device c.new.ensures.second
+    c.new.ensures.end c.new.ensures.due c.new.ensures.recording c.recording_of.ensures.steps

@@ -1,0 +1,7 @@
+pub mod Ends
+pub mod Traffic
+pub mod Serving
+pub mod Timing
+pub mod Memory
+pub mod Saved
+pub mod Counting

@@ -1,0 +1,135 @@
+-- A fleet that is served: what each of its devices is, of what its port handed out and took in.
+use Rattle.std.specs.Prelude.{◌≡◌, ℕ, ◌+◌, ◌≤◌, ◌<◌, Bool, true, List, [], ◌∷◌, ◌++◌, length, slice_get, Option, None}
+use Rattle.std.specs.Prelude.{Some, IfSome, MatchOption}
+use Rattle.std.specs.List.{AllByRecursion}
+use Rattle.device_machine.specs.declared.event.Event.TheVariants.{Recv, Put, Firmware, Tick}
+use Rattle.device_machine.specs.Held.{IsNextSending, IsSilent}
+use Rattle.device_machine.specs.Reactions.{passes_end}
+use Rattle.device_machine.specs.State.{Machine, Device, Shows}
+use Rattle.device_template.specs.Template.{Template}
+use Rattle.live_link.specs.Live.{sent_by, IsLiveStep}
+use Rattle.scenario_image.specs.declared.step.Step.{Step}
+use Rattle.scenario_image.specs.declared.step.Step.TheVariants.{Event, Post, Need}
+use Rattle.scenario_image.specs.Play.{start, state_after, IsRowOf}
+use Rattle.scenario_image.specs.Scenario.{Scenario}
+use Rattle.fleet_link.specs.declared.recording.Recording.{Recording}
+use Rattle.fleet_link.specs.declared.slot.DeviceEnd.{DeviceEnd}
+use Rattle.fleet_link.specs.declared.slot.DeviceEnd.TheVariants.{Memory, Port, Spent}
+use Rattle.fleet_link.specs.declared.slot.Slot.{Slot}
+use Rattle.fleet_link.specs.Traffic.{Carries, Heard, Traffic}
+
+-- ---- the seconds of steps
+
+-- the second after a step: a tick alone sets it on
+abbrev pub second_after : ℕ → Step → ℕ
+second_after second (Event (Recv server bytes)) = second
+second_after second (Event (Put path value)) = second
+second_after second (Event (Firmware code)) = second
+second_after second (Event (Tick seconds)) = second + seconds
+second_after second (Post group) = second
+second_after second (Need group count) = second
+
+-- the second after steps, one after another
+abbrev pub second_by : ℕ → List Step → ℕ
+second_by second [] = second
+second_by second (step ∷ steps) = second_by (second_after second step) steps
+
+-- the datagram that a step receives at this second
+abbrev pub heard_at : ℕ → Step → List Heard
+heard_at second (Event (Recv server bytes)) =
+    record { second = second; packet = record { server = server; bytes = bytes } } ∷ []
+heard_at second (Event (Put path value)) = []
+heard_at second (Event (Firmware code)) = []
+heard_at second (Event (Tick seconds)) = []
+heard_at second (Post group) = []
+heard_at second (Need group count) = []
+
+-- the datagrams that steps receive, in order, each with the second of the device that receives it
+abbrev pub heard_by : ℕ → List Step → List Heard
+heard_by second [] = []
+heard_by second (step ∷ steps) = heard_at second step ++ heard_by (second_after second step) steps
+
+-- ---- a device
+
+-- its clock stands within a day of the last second that it can show
+pub record IsNearEnd (f : Machine) (steps : List Step) : Type 0 where
+  pub seconds : ℕ
+  pub few : seconds ≤ 86400
+  pub passes : passes_end (state_after f steps).kept.clock (Tick seconds) ≡ true
+
+-- a device that goes on, or has ended so, after these steps: its port has failed so often
+abbrev pub IsEndOf : Option DeviceEnd → Machine → List Step → ℕ → Type 0
+IsEndOf None f steps failures = failures ≡ 0
+IsEndOf (Some Port) f steps failures = 1 ≤ failures
+IsEndOf (Some Spent) f steps failures = IsNearEnd f steps
+IsEndOf (Some Memory) f steps failures = Unit {0}
+
+-- what is recorded of steps: all of them while it is complete, and else a beginning
+pub record IsRecorded (recording : Recording) (steps : List Step) : Type 0 where
+  pub rest : List Step
+  pub begins : steps ≡ recording.steps.items ++ rest
+  pub whole : recording.complete ≡ true → rest ≡ []
+
+-- A device began in the flat state f, at second 0, with a port that told this before and tells this now. It has taken
+-- steps: what the port handed out is what they receive, each datagram at its second, and then what is still pending;
+-- and all that they output was sent. The steps of other devices have no part in it.
+pub record IsServing (f : Machine) (before : Option Traffic) (pending : List Heard) (end : Option DeviceEnd)
+    (device : Device) (second : ℕ) (recording : Recording) (after : Option Traffic) : Type 0 where
+  pub steps : List Step
+  pub failures : ℕ
+  pub told : Carries before after
+      (record { handed = heard_by 0 steps ++ pending; sent = sent_by f steps; failures = failures })
+  pub clock : second ≡ second_by 0 steps
+  pub live : AllByRecursion IsLiveStep steps
+  pub shows : end ≡ None → Shows device (state_after f steps)
+  pub ended : IsEndOf end f steps failures
+  pub recorded : IsRecorded recording steps
+
+-- this is the first second in which a device sends something by itself, if there is one
+abbrev pub IsDue : Device → Option ℕ → Type 0
+IsDue device due = (f : Machine) → Shows device f → MatchOption due (IsSilent f) (IsNextSending f)
+
+-- A device of a class is served from its start. While it goes on nothing is pending, and the second in which it is due
+-- next is known, and still to come. One that has ended hears no more. It ended for want of memory only if it may have.
+pub record IsServed (class : Template) (before : Option Traffic) (slot : Slot) (broken : Bool)
+    (after : Option Traffic) : Type 0 where
+  pub unheard : List Heard
+  pub serving : IsServing (start class) before unheard slot.end slot.device slot.second slot.recording after
+  pub heard : slot.end ≡ None → unheard ≡ []
+  pub due : slot.end ≡ None → IsDue slot.device slot.due
+  pub later : slot.end ≡ None → IfSome slot.due (λ d. slot.second < d)
+  pub memory : slot.end ≡ Some Memory → broken ≡ true
+
+-- ---- all devices
+
+-- the device of a row is served from the start of its class
+pub record IsRowServed (s : Scenario) (e : ℕ) (before : Option Traffic) (slot : Slot) (broken : Bool)
+    (after : Option Traffic) : Type 0 where
+  pub class : Template
+  pub steps : List Step
+  pub row : IsRowOf s e class steps
+  pub served : IsServed class before slot broken after
+
+-- the devices of a scenario are served, each on its port, and at most to this second. One of them ended for want of
+-- memory only if the session is broken off
+pub record IsFleet (s : Scenario) (before : ℕ → Option Traffic) (slots : List Slot) (now : ℕ) (broken : Bool)
+    (after : ℕ → Option Traffic) : Type 0 where
+  pub count : length slots ≡ length s.rows
+  pub each : (e : ℕ) (slot : Slot) → slice_get slots e ≡ Some slot
+      → IsRowServed s e (before e) slot broken (after e)
+  pub early : (e : ℕ) (slot : Slot) → slice_get slots e ≡ Some slot → slot.second ≤ now
+
+-- of the first n devices none that goes on is due at this second or before
+abbrev pub AreSwept : List Slot → ℕ → ℕ → Type 0
+AreSwept slots n second =
+    (e : ℕ) (slot : Slot) → e < n → slice_get slots e ≡ Some slot → slot.end ≡ None
+    → IfSome slot.due (λ d. second < d)
+
+-- of the first n devices each that goes on stands at this second
+abbrev pub AreAt : List Slot → ℕ → ℕ → Type 0
+AreAt slots n second =
+    (e : ℕ) (slot : Slot) → e < n → slice_get slots e ≡ Some slot → slot.end ≡ None → slot.second ≡ second
+
+-- all steps of each device are recorded
+abbrev pub AreRecorded : List Slot → Type 0
+AreRecorded slots = (e : ℕ) (slot : Slot) → slice_get slots e ≡ Some slot → slot.recording.complete ≡ true

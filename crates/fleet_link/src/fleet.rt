@@ -1,0 +1,91 @@
+//! A fleet: the devices of a scenario.
+ghost use Rattle.std.specs.Prelude.{◌≡◌, ◌<◌, [], ℕ, Option, IfOk, None, false, true, length};
+ghost use Rattle.fleet_link.specs.Traffic.{Traffic};
+ghost use Rattle.fleet_link.specs.Serving.{AreRecorded, IsFleet, IsRowServed};
+
+use crate::recording::Recording;
+use crate::slot::Slot;
+use fleet_core::start_of_row;
+use scenario_image::Scenario;
+use std::alloc::{AllocError, Global};
+
+/// How many bytes the recorded rows of a fleet take in an image at most, together.
+const MOST_BYTES: usize = 64 << 20;
+
+/// The devices of a scenario, each on a port, at a second of its own. Contracts see its parts.
+#[derive(Drop)]
+pub struct Fleet {
+    pub(crate) slots: Vec<Slot>,
+    /// What the clock showed at its first reading; none before that.
+    pub(crate) began: Option<u64>,
+    /// The second of the session.
+    pub(crate) second: u64,
+}
+
+/// What is recorded of each of so many rows, if they are saved: each has an equal part of the bytes.
+fn recording_of(alloc: Global, rows: usize, saved: bool) -> Recording
+    ensures steps { result.steps.items ≡ [] }
+    ensures complete { result.complete ≡ true → saved ≡ true }
+    ensures saved { saved ≡ true → 0 < rows → result.complete ≡ true }
+{
+    if !saved || rows == 0 {
+        return Recording::none(alloc);
+    }
+    Recording::new(alloc, MOST_BYTES / rows)
+}
+
+/// The device of a row, at second 0.
+#[tactic(auto, using(crate::proofs::Started::slot_served))]
+fn slot_of_row(
+    alloc: Global,
+    scenario: &Scenario,
+    device: u16,
+    saved: bool,
+) -> Result<Slot, AllocError>
+    requires { device < length scenario.now.rows }
+    ensures served { IfOk result (λ slot. (told : Option Traffic)
+        → IsRowServed scenario.now device told slot false told) }
+    ensures second { IfOk result (λ slot. slot.second ≡ 0) }
+    ensures recorded { IfOk result (λ slot. saved ≡ true → slot.recording.complete ≡ true) }
+{
+    let rows = scenario.rows();
+    let device = start_of_row(scenario, device)?;
+    Ok(Slot::new(device, recording_of(alloc, rows, saved)))
+}
+
+impl Fleet {
+    /// The devices of a scenario, each at the start of its row's class, at second 0. Their steps are recorded if they
+    /// are to be saved.
+    pub fn start(alloc: Global, scenario: &Scenario, saved: bool) -> Result<Fleet, AllocError>
+        ensures fleet { (told : ℕ → Option Traffic)
+            → IfOk result (λ fleet. IsFleet scenario.now told fleet.slots.items fleet.second false told) }
+        ensures second { IfOk result (λ fleet. fleet.second ≡ 0) }
+        ensures recorded { IfOk result (λ fleet. saved ≡ true → AreRecorded fleet.slots.items) }
+        ensures began { IfOk result (λ fleet. fleet.began ≡ None) }
+    {
+        let rows = scenario.rows();
+        let mut slots = Vec::with_capacity(alloc, rows)?;
+        for device in 0..rows {
+            slots.push(slot_of_row(alloc, scenario, device as u16, saved)?)?;
+        }
+        Ok(Fleet {
+            slots,
+            began: None,
+            second: 0,
+        })
+    }
+
+    /// The devices, in the order of their rows.
+    pub fn devices(&self) -> &[Slot]
+        ensures { result.now ≡ self.now.slots.items }
+    {
+        self.slots.as_slice()
+    }
+
+    /// The second of the session.
+    pub fn second(&self) -> u64
+        ensures { result ≡ self.now.second }
+    {
+        self.second
+    }
+}

@@ -1,0 +1,26 @@
+//! All devices of a scenario on ports: each receives what arrives at its own, what it outputs is sent from there, and a
+//! clock is their ticks.
+#![tactic(auto)]
+
+mod directory;
+mod fault;
+mod fleet;
+mod laws;
+mod memory;
+mod ports;
+mod recording;
+mod saving;
+mod sending;
+mod serving;
+mod slot;
+mod udp;
+
+pub use directory::FixedServer;
+pub use fault::FleetFault;
+pub use fleet::Fleet;
+pub use laws::{clocks_show_seconds, saved_rows_play_back};
+pub use memory::{ScriptedPorts, Sending};
+pub use ports::{Arrival, Ports, PortsFault, Receipt};
+pub use recording::Recording;
+pub use slot::{DeviceEnd, Slot};
+pub use udp::{BindFault, Counts, UdpPorts};

@@ -1,0 +1,331 @@
+//! All devices of a fleet are served: what arrives at their ports is what they receive, and the seconds of a clock are
+//! their ticks.
+ghost use Rattle.std.specs.Prelude.{◌≡◌, ◌+◌, ◌-◌, ◌≤◌, ◌⊎◌, [], ℕ, List, Option, Some, Ok};
+ghost use Rattle.std.specs.Prelude.{OnOk, is_err, false, length, max, unwrap_or};
+ghost use Rattle.live_link.specs.Wire.{AreRead};
+ghost use Rattle.scenario_image.specs.Scenario.{Scenario};
+ghost use Rattle.fleet_link.specs.Traffic.{Traffic, Carries, at_port, failed_once, handed_at, traffic_of_receipt};
+ghost use Rattle.fleet_link.specs.Timing.{AreAsked};
+ghost use Rattle.fleet_link.specs.Serving.{AreAt, AreSwept, IsFleet};
+
+use crate::fault::FleetFault;
+use crate::fleet::Fleet;
+use crate::ports::{Arrival, Ports, Receipt};
+use live_link::Seconds;
+use std::alloc::AllocError;
+
+/// How many devices are looked at before arrivals are served again; and at most how many arrivals are served before the
+/// next devices are looked at.
+const SLICE: usize = 64;
+
+/// For how many milliseconds arrivals are waited for at most, after a slice of devices: a tenth of a second.
+const LONGEST_WAIT: usize = 100;
+
+/// What the devices do in a second is spread over it.
+const MILLIS: usize = 1000;
+
+/// For how many milliseconds arrivals are waited for after each of so many slices, at most.
+fn wait_of(slices: usize) -> u32 {
+    if slices == 0 {
+        return LONGEST_WAIT as u32;
+    }
+    (MILLIS / slices).min(LONGEST_WAIT) as u32
+}
+
+impl Fleet {
+    /// Lets the device receive a datagram that has arrived at its port. There may be no such device.
+    fn take_arrival<P: Ports>(&mut self, ports: &mut P, arrival: Arrival) -> Result<(), AllocError>
+        ensures fleet { (s : Scenario) (before between : ℕ → Option Traffic)
+            → IsFleet s before self.old.slots.items self.old.second false between
+            → ((e : ℕ) → Carries (between e) (P.told ports.old e)
+            (at_port arrival.device e (handed_at self.old.second arrival.packet)))
+            → IsFleet s before self.new.slots.items self.new.second (is_err result) (P.told ports.new) }
+        ensures swept { (s : Scenario) (before between : ℕ → Option Traffic)
+            → IsFleet s before self.old.slots.items self.old.second false between
+            → ((e : ℕ) → Carries (between e) (P.told ports.old e)
+            (at_port arrival.device e (handed_at self.old.second arrival.packet)))
+            → (n second : ℕ) → second ≤ self.old.second → AreSwept self.old.slots.items n second
+            → AreSwept self.new.slots.items n second }
+        ensures asked { AreRead (P.asked ports.old) (P.asked ports.new) [] }
+        ensures second { self.new.second ≡ self.old.second }
+        ensures began { self.new.began ≡ self.old.began }
+        ensures count { length self.new.slots.items ≡ length self.old.slots.items }
+    {
+        let place = arrival.device;
+        if place >= self.slots.len() {
+            return Ok(());
+        }
+        let now = self.second;
+        self.slots[place].hear(ports, place, now, arrival.packet)
+    }
+
+    /// Notes that the port of a device failed. There may be no such device.
+    fn take_failure(&mut self, device: usize)
+        ensures fleet { (s : Scenario) (before between after : ℕ → Option Traffic)
+            → IsFleet s before self.old.slots.items self.old.second false between
+            → ((e : ℕ) → Carries (between e) (after e) (at_port device e failed_once))
+            → IsFleet s before self.new.slots.items self.new.second false after }
+        ensures swept { (n second : ℕ) → AreSwept self.old.slots.items n second
+            → AreSwept self.new.slots.items n second }
+        ensures second { self.new.second ≡ self.old.second }
+        ensures began { self.new.began ≡ self.old.began }
+        ensures count { length self.new.slots.items ≡ length self.old.slots.items }
+    {
+        if device < self.slots.len() {
+            self.slots[device].fail();
+        }
+    }
+
+    /// Sets the session's second by a reading of its clock.
+    fn pass(&mut self, reading: u64)
+        ensures began { self.new.began ≡ Some (unwrap_or self.old.began reading) }
+        ensures second { self.new.second ≡ max self.old.second (reading - unwrap_or self.old.began reading) }
+        ensures slots { self.new.slots ≡ self.old.slots }
+    {
+        let first = self.began.unwrap_or(reading);
+        self.began = Some(first);
+        self.second = self.second.max(reading.saturating_sub(first));
+    }
+
+    /// Lets the devices know what came of asking the ports.
+    fn take_receipt<P: Ports>(&mut self, ports: &mut P, receipt: Receipt) -> Result<(), AllocError>
+        ensures fleet { (s : Scenario) (before between : ℕ → Option Traffic)
+            → IsFleet s before self.old.slots.items self.old.second false between
+            → ((e : ℕ) → Carries (between e) (P.told ports.old e) (traffic_of_receipt self.old.second (Ok receipt) e))
+            → IsFleet s before self.new.slots.items self.new.second (is_err result) (P.told ports.new) }
+        ensures swept { (s : Scenario) (before between : ℕ → Option Traffic)
+            → IsFleet s before self.old.slots.items self.old.second false between
+            → ((e : ℕ) → Carries (between e) (P.told ports.old e) (traffic_of_receipt self.old.second (Ok receipt) e))
+            → (n second : ℕ) → second ≤ self.old.second → AreSwept self.old.slots.items n second
+            → AreSwept self.new.slots.items n second }
+        ensures asked { AreRead (P.asked ports.old) (P.asked ports.new) [] }
+        ensures second { self.new.second ≡ self.old.second }
+        ensures began { self.new.began ≡ self.old.began }
+        ensures count { length self.new.slots.items ≡ length self.old.slots.items }
+    {
+        match receipt {
+            Receipt::Nothing => Ok(()),
+            Receipt::Dropped => Ok(()),
+            Receipt::Failed(device) => {
+                self.take_failure(device);
+                Ok(())
+            }
+            Receipt::Arrived(arrival) => self.take_arrival(ports, arrival),
+        }
+    }
+
+    /// Reads the clock, and serves one arrival, if something has arrived. The result says whether there may be more.
+    fn ask<P: Ports, C: Seconds>(
+        &mut self,
+        ports: &mut P,
+        clock: &mut C,
+    ) -> Result<bool, FleetFault>
+        ensures fleet { (s : Scenario) (before : ℕ → Option Traffic)
+            → IsFleet s before self.old.slots.items self.old.second false (P.told ports.old)
+            → IsFleet s before self.new.slots.items self.new.second (is_err result) (P.told ports.new) }
+        ensures swept { (s : Scenario) (before : ℕ → Option Traffic)
+            → IsFleet s before self.old.slots.items self.old.second false (P.told ports.old)
+            → (n second : ℕ) → second ≤ self.old.second → AreSwept self.old.slots.items n second
+            → AreSwept self.new.slots.items n second }
+        ensures asked { (read_before asked_before : Option (List ℕ)) (calls : ℕ)
+            → AreAsked read_before (C.read clock.old) asked_before (P.asked ports.old) self.old.began
+            self.old.second calls
+            → AreAsked read_before (C.read clock.new) asked_before (P.asked ports.new) self.new.began
+            self.new.second (calls + 1) }
+        ensures later { self.old.second ≤ self.new.second }
+        ensures count { length self.new.slots.items ≡ length self.old.slots.items }
+    {
+        let reading = clock.now();
+        self.pass(reading);
+        let receipt = ports.receive(self.second)?;
+        let more = receipt.has_come();
+        self.take_receipt(ports, receipt)?;
+        Ok(more)
+    }
+
+    /// Serves what has arrived, as long as something has, and no longer than a slice.
+    fn serve_arrivals<P: Ports, C: Seconds>(
+        &mut self,
+        ports: &mut P,
+        clock: &mut C,
+    ) -> Result<(), FleetFault>
+        ensures fleet { (s : Scenario) (before : ℕ → Option Traffic)
+            → IsFleet s before self.old.slots.items self.old.second false (P.told ports.old)
+            → IsFleet s before self.new.slots.items self.new.second (is_err result) (P.told ports.new) }
+        ensures swept { (s : Scenario) (before : ℕ → Option Traffic)
+            → IsFleet s before self.old.slots.items self.old.second false (P.told ports.old)
+            → (n second : ℕ) → second ≤ self.old.second → AreSwept self.old.slots.items n second
+            → OnOk result (AreSwept self.new.slots.items n second) }
+        ensures asked { (read_before asked_before : Option (List ℕ)) (calls : ℕ)
+            → AreAsked read_before (C.read clock.old) asked_before (P.asked ports.old) self.old.began
+            self.old.second calls
+            → AreAsked read_before (C.read clock.new) asked_before (P.asked ports.new) self.new.began
+            self.new.second calls }
+        ensures heard { (read_before asked_before : Option (List ℕ)) (calls : ℕ)
+            → AreAsked read_before (C.read clock.old) asked_before (P.asked ports.old) self.old.began
+            self.old.second calls
+            → OnOk result (AreAsked read_before (C.read clock.new) asked_before (P.asked ports.new) self.new.began
+            self.new.second (calls + 1)) }
+        ensures later { self.old.second ≤ self.new.second }
+        ensures count { length self.new.slots.items ≡ length self.old.slots.items }
+    {
+        for _turn in 0..SLICE {
+            if !self.ask(ports, clock)? {
+                return Ok(());
+            }
+        }
+        Ok(())
+    }
+
+    /// Serves what arrives, after at most so many milliseconds.
+    fn listen<P: Ports, C: Seconds>(
+        &mut self,
+        ports: &mut P,
+        clock: &mut C,
+        millis: u32,
+    ) -> Result<(), FleetFault>
+        ensures fleet { (s : Scenario) (before : ℕ → Option Traffic)
+            → IsFleet s before self.old.slots.items self.old.second false (P.told ports.old)
+            → IsFleet s before self.new.slots.items self.new.second (is_err result) (P.told ports.new) }
+        ensures swept { (s : Scenario) (before : ℕ → Option Traffic)
+            → IsFleet s before self.old.slots.items self.old.second false (P.told ports.old)
+            → (n second : ℕ) → second ≤ self.old.second → AreSwept self.old.slots.items n second
+            → OnOk result (AreSwept self.new.slots.items n second) }
+        ensures asked { (read_before asked_before : Option (List ℕ)) (calls : ℕ)
+            → AreAsked read_before (C.read clock.old) asked_before (P.asked ports.old) self.old.began
+            self.old.second calls
+            → AreAsked read_before (C.read clock.new) asked_before (P.asked ports.new) self.new.began
+            self.new.second calls }
+        ensures heard { (read_before asked_before : Option (List ℕ)) (calls : ℕ)
+            → AreAsked read_before (C.read clock.old) asked_before (P.asked ports.old) self.old.began
+            self.old.second calls
+            → OnOk result (AreAsked read_before (C.read clock.new) asked_before (P.asked ports.new) self.new.began
+            self.new.second (calls + 1)) }
+        ensures later { self.old.second ≤ self.new.second }
+        ensures count { length self.new.slots.items ≡ length self.old.slots.items }
+    {
+        ports.wait(millis)?;
+        self.serve_arrivals(ports, clock)
+    }
+
+    /// Brings each device from one place up to another to this second, if it is due then or before.
+    fn sweep<P: Ports>(
+        &mut self,
+        ports: &mut P,
+        from: usize,
+        to: usize,
+        second: u64,
+    ) -> Result<(), AllocError>
+        requires { to ≤ length self.old.slots.items }
+        ensures fleet { (s : Scenario) (before : ℕ → Option Traffic) → second ≤ self.old.second
+            → IsFleet s before self.old.slots.items self.old.second false (P.told ports.old)
+            → IsFleet s before self.new.slots.items self.new.second (is_err result) (P.told ports.new) }
+        ensures swept { (s : Scenario) (before : ℕ → Option Traffic) → second ≤ self.old.second
+            → IsFleet s before self.old.slots.items self.old.second false (P.told ports.old)
+            → from ≤ to → AreSwept self.old.slots.items from second
+            → OnOk result (AreSwept self.new.slots.items to second) }
+        ensures asked { AreRead (P.asked ports.old) (P.asked ports.new) [] }
+        ensures second { self.new.second ≡ self.old.second }
+        ensures began { self.new.began ≡ self.old.began }
+        ensures count { length self.new.slots.items ≡ length self.old.slots.items }
+    {
+        for place in from..to {
+            self.slots[place].sweep(ports, place, second)?;
+        }
+        Ok(())
+    }
+
+    /// Makes a turn: each device that is due is brought to the second at which the turn begins, slice by slice, and
+    /// after each slice arrivals are served, each at the second of its own.
+    pub fn turn<P: Ports, C: Seconds>(
+        &mut self,
+        ports: &mut P,
+        clock: &mut C,
+    ) -> Result<(), FleetFault>
+        ensures fleet { (s : Scenario) (before : ℕ → Option Traffic)
+            → IsFleet s before self.old.slots.items self.old.second false (P.told ports.old)
+            → IsFleet s before self.new.slots.items self.new.second (is_err result) (P.told ports.new) }
+        ensures swept { (s : Scenario) (before : ℕ → Option Traffic)
+            → IsFleet s before self.old.slots.items self.old.second false (P.told ports.old)
+            → OnOk result (AreSwept self.new.slots.items (length self.new.slots.items) self.old.second) }
+        ensures asked { (read_before asked_before : Option (List ℕ)) (calls : ℕ)
+            → AreAsked read_before (C.read clock.old) asked_before (P.asked ports.old) self.old.began
+            self.old.second calls
+            → AreAsked read_before (C.read clock.new) asked_before (P.asked ports.new) self.new.began
+            self.new.second calls }
+        ensures heard { (read_before asked_before : Option (List ℕ)) (calls : ℕ)
+            → AreAsked read_before (C.read clock.old) asked_before (P.asked ports.old) self.old.began
+            self.old.second calls
+            → OnOk result (AreAsked read_before (C.read clock.new) asked_before (P.asked ports.new) self.new.began
+            self.new.second (calls + 1)) }
+        ensures later { self.old.second ≤ self.new.second }
+        ensures count { length self.new.slots.items ≡ length self.old.slots.items }
+    {
+        let second = self.second;
+        let devices = self.slots.len();
+        let slices = devices / SLICE + 1;
+        let millis = wait_of(slices);
+        for slice in 0..slices {
+            let from = slice * SLICE;
+            let to = devices.min(from + SLICE);
+            self.sweep(ports, from, to, second)?;
+            self.listen(ports, clock, millis)?;
+        }
+        Ok(())
+    }
+
+    /// Brings each device to the second of the session.
+    pub fn finish<P: Ports>(&mut self, ports: &mut P) -> Result<(), FleetFault>
+        ensures fleet { (s : Scenario) (before : ℕ → Option Traffic)
+            → IsFleet s before self.old.slots.items self.old.second false (P.told ports.old)
+            → IsFleet s before self.new.slots.items self.new.second (is_err result) (P.told ports.new) }
+        ensures finished { (s : Scenario) (before : ℕ → Option Traffic)
+            → IsFleet s before self.old.slots.items self.old.second false (P.told ports.old)
+            → OnOk result (AreAt self.new.slots.items (length self.new.slots.items) self.new.second) }
+        ensures asked { AreRead (P.asked ports.old) (P.asked ports.new) [] }
+        ensures second { self.new.second ≡ self.old.second }
+        ensures began { self.new.began ≡ self.old.began }
+        ensures count { length self.new.slots.items ≡ length self.old.slots.items }
+    {
+        let now = self.second;
+        for place in 0..self.slots.len() {
+            self.slots[place].reach(ports, place, now)?;
+        }
+        Ok(())
+    }
+
+    /// Serves the devices until this second of the session, for at most so many turns, and then brings each to the
+    /// second of the session.
+    pub fn serve<P: Ports, C: Seconds>(
+        &mut self,
+        ports: &mut P,
+        clock: &mut C,
+        turns: u64,
+        until: u64,
+    ) -> Result<(), FleetFault>
+        ensures fleet { (s : Scenario) (before : ℕ → Option Traffic)
+            → IsFleet s before self.old.slots.items self.old.second false (P.told ports.old)
+            → IsFleet s before self.new.slots.items self.new.second (is_err result) (P.told ports.new) }
+        ensures finished { (s : Scenario) (before : ℕ → Option Traffic)
+            → IsFleet s before self.old.slots.items self.old.second false (P.told ports.old)
+            → OnOk result (AreAt self.new.slots.items (length self.new.slots.items) self.new.second) }
+        ensures asked { (read_before asked_before : Option (List ℕ)) (calls : ℕ)
+            → AreAsked read_before (C.read clock.old) asked_before (P.asked ports.old) self.old.began
+            self.old.second calls
+            → AreAsked read_before (C.read clock.new) asked_before (P.asked ports.new) self.new.began
+            self.new.second calls }
+        ensures stop { (read_before asked_before : Option (List ℕ)) (calls : ℕ)
+            → AreAsked read_before (C.read clock.old) asked_before (P.asked ports.old) self.old.began
+            self.old.second calls
+            → OnOk result ((until ≤ self.new.second) ⊎ AreAsked read_before (C.read clock.new) asked_before
+            (P.asked ports.new) self.new.began self.new.second (calls + turns)) }
+    {
+        for _turn in 0..turns {
+            if self.second >= until {
+                return self.finish(ports);
+            }
+            self.turn(ports, clock)?;
+        }
+        self.finish(ports)
+    }
+}

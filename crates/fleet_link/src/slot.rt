@@ -1,0 +1,371 @@
+//! One device of a fleet: its second, its steps.
+ghost use Rattle.std.specs.Prelude.{◌≡◌, ◌≢◌, ◌⊎◌, ◌+◌, ◌^◌, ◌≤◌, ◌<◌, ◌∷◌, ◌++◌, [], ℕ, List, Option, Some, None, Err};
+ghost use Rattle.std.specs.Prelude.{IfErr, IfOk, IfSome, OnErr, OnOk, IsTrue, false, true, is_err, vec_capacity, vec_len};
+ghost use Rattle.device_machine.specs.State.{Machine, Shows};
+ghost use Rattle.device_machine.specs.Reactions.{flat_after, is_refused, outputs_of};
+ghost use Rattle.device_template.specs.Template.{Template};
+ghost use Rattle.live_link.specs.Live.{IsLiveStep};
+ghost use Rattle.live_link.specs.Wire.{AreRead};
+ghost use Rattle.scenario_image.specs.declared.step.Step.TheVariants.{Event as event_step};
+ghost use Rattle.fleet_link.specs.Traffic.{Carries, Heard, Traffic, failed_once, handed_at, no_traffic};
+ghost use Rattle.fleet_link.specs.Serving.{heard_at, second_after, IsDue, IsRecorded, IsServed, IsServing};
+
+use crate::ports::Ports;
+use crate::recording::Recording;
+use crate::sending::send_all;
+use device_machine::{Device, Event, Outputs, StepFault};
+use live_link::Packet;
+use scenario_image::Step;
+use std::alloc::{AllocError, AllocFailed};
+
+/// The most seconds that pass in a step: a day.
+const MOST_SECONDS: u64 = 86_400;
+
+/// How a device ended, while others of its fleet go on.
+#[derive(Clone, Copy, Debug, PartialEq, Eq)]
+pub enum DeviceEnd {
+    /// Its port failed.
+    Port,
+    /// A tick would have taken its clock past its last second.
+    Spent,
+    /// No memory was left for a step. This ends the session of all devices.
+    Memory,
+}
+
+impl From<AllocError> for DeviceEnd {
+    ghost use Rattle.std.specs.Prelude.{◌≡◌};
+    ghost use Rattle.fleet_link.specs.declared.slot.DeviceEnd.TheVariants.{Memory};
+
+    ghost from_gives = { λ _ e. e ≡ Memory };
+
+    fn from(_e: AllocError) -> DeviceEnd {
+        DeviceEnd::Memory
+    }
+}
+
+impl From<StepFault> for DeviceEnd {
+    ghost use Rattle.std.specs.Prelude.{◌≡◌};
+    ghost use Rattle.fleet_link.specs.Ends.{end_at};
+
+    ghost from_gives = { λ fault e. e ≡ end_at fault };
+
+    fn from(fault: StepFault) -> DeviceEnd {
+        match fault {
+            StepFault::Memory => DeviceEnd::Memory,
+            StepFault::Spent => DeviceEnd::Spent,
+        }
+    }
+}
+
+/// A device of a fleet.
+#[derive(Drop)]
+pub struct Slot {
+    device: Device,
+    /// The second of the session up to which it has stepped.
+    second: u64,
+    /// The next second in which it sends something by itself, if it does.
+    due: Option<u64>,
+    /// How it ended; none while it goes on.
+    end: Option<DeviceEnd>,
+    recording: Recording,
+}
+
+impl Slot {
+    /// A device at second 0.
+    pub(crate) fn new(device: Device, recording: Recording) -> Slot
+        ensures device { result.device ≡ device }
+        ensures second { result.second ≡ 0 }
+        ensures end { result.end ≡ None }
+        ensures due { IsDue device result.due }
+        ensures recording { result.recording ≡ recording }
+    {
+        let due = device.due();
+        Slot {
+            device,
+            second: 0,
+            due,
+            end: None,
+            recording,
+        }
+    }
+
+    /// How it ended; none while it goes on.
+    pub fn end(&self) -> Option<DeviceEnd>
+        ensures { result ≡ self.now.end }
+    {
+        self.end
+    }
+
+    /// Whether all of its steps are recorded.
+    pub fn is_recorded(&self) -> bool
+        ensures { result ≡ self.now.recording.complete }
+    {
+        self.recording.is_complete()
+    }
+
+    /// Its recorded steps.
+    pub(crate) fn into_steps(self) -> Vec<Step>
+        ensures { result.items ≡ self.recording.steps.items }
+    {
+        self.recording.into_steps()
+    }
+
+    /// Lets the device react to an event, and makes room to record it.
+    #[tactic(auto, using(crate::proofs::Served::accepted))]
+    fn react(&mut self, event: &Event) -> Result<Outputs, DeviceEnd>
+        ensures taken { IfOk result (λ outputs. is_refused self.old.device event.now ≡ false) }
+        ensures shows { IfOk result (λ outputs. (f : Machine) → Shows self.old.device f
+            → Shows self.new.device (flat_after f event.now)) }
+        ensures output { IfOk result (λ outputs. (f : Machine) → Shows self.old.device f
+            → outputs ≡ outputs_of f event.now) }
+        ensures refused { IfErr result (λ end. (end ≡ DeviceEnd.Memory)
+            ⊎ ((end ≡ DeviceEnd.Spent) × IsTrue (is_refused self.old.device event.now))) }
+        ensures recorded { self.new.recording.steps.items ≡ self.old.recording.steps.items }
+        ensures complete { self.new.recording.complete ≡ true → self.old.recording.complete ≡ true }
+        ensures room { OnOk result (self.new.recording.complete ≡ true
+            → vec_len self.new.recording.steps < vec_capacity self.new.recording.steps) }
+        ensures second { self.new.second ≡ self.old.second }
+        ensures due { self.new.due ≡ self.old.due }
+        ensures end { self.new.end ≡ self.old.end }
+    {
+        self.recording.make_room(event)?;
+        let outputs = self.device.step(event)?;
+        Ok(outputs)
+    }
+
+    /// Lets the device take an event, and sends what it outputs. Where it is refused, nothing is sent.
+    fn take_event<P: Ports>(
+        &mut self,
+        ports: &mut P,
+        place: usize,
+        event: Event,
+    ) -> Result<(), DeviceEnd>
+        ensures served { (f : Machine) (before : Option Traffic) (rest : List Heard) → IsLiveStep (event_step event)
+            → IsServing f before (heard_at self.old.second (event_step event) ++ rest) None self.old.device
+            self.old.second self.old.recording (P.told ports.old place)
+            → OnOk result (IsServing f before rest None self.new.device
+            (second_after self.old.second (event_step event)) self.new.recording (P.told ports.new place)) }
+        ensures refused { (f : Machine) (before : Option Traffic) (pending : List Heard) → IsLiveStep (event_step event)
+            → IsServing f before pending None self.old.device self.old.second self.old.recording
+            (P.told ports.old place)
+            → IfErr result (λ end. IsServing f before pending (Some end) self.new.device self.old.second
+            self.new.recording (P.told ports.new place)) }
+        ensures others { (e : ℕ) → e ≢ place → Carries (P.told ports.old e) (P.told ports.new e) no_traffic }
+        ensures asked { AreRead (P.asked ports.old) (P.asked ports.new) [] }
+        ensures second { self.new.second ≡ self.old.second }
+        ensures due { self.new.due ≡ self.old.due }
+        ensures end { self.new.end ≡ self.old.end }
+        ensures kind { IfErr result (λ end. end ≢ DeviceEnd.Port) }
+    {
+        let outputs = self.react(&event)?;
+        send_all(ports, place, outputs.as_slice());
+        self.recording.note(Step::Event(event));
+        Ok(())
+    }
+
+    /// Lets seconds pass.
+    fn tick<P: Ports>(&mut self, ports: &mut P, place: usize, seconds: u32) -> Result<(), DeviceEnd>
+        requires some { 1 ≤ seconds }
+        requires few { seconds ≤ 86400 }
+        requires fits { self.old.second + seconds < 2 ^ 64 }
+        ensures served { (f : Machine) (before : Option Traffic) (pending : List Heard)
+            → IsServing f before pending None self.old.device self.old.second self.old.recording
+            (P.told ports.old place)
+            → OnOk result (IsServing f before pending None self.new.device self.new.second self.new.recording
+            (P.told ports.new place)) }
+        ensures refused { (f : Machine) (before : Option Traffic) (pending : List Heard)
+            → IsServing f before pending None self.old.device self.old.second self.old.recording
+            (P.told ports.old place)
+            → IfErr result (λ end. IsServing f before pending (Some end) self.new.device self.new.second
+            self.new.recording (P.told ports.new place)) }
+        ensures others { (e : ℕ) → e ≢ place → Carries (P.told ports.old e) (P.told ports.new e) no_traffic }
+        ensures asked { AreRead (P.asked ports.old) (P.asked ports.new) [] }
+        ensures second { OnOk result (self.new.second ≡ self.old.second + seconds) }
+        ensures left { OnErr result (self.new.second ≡ self.old.second) }
+        ensures due { self.new.due ≡ self.old.due }
+        ensures end { self.new.end ≡ self.old.end }
+    {
+        self.take_event(ports, place, Event::Tick(seconds))?;
+        self.second += u64::from(seconds);
+        Ok(())
+    }
+
+    /// Lets the seconds pass up to this one, at most a day in a step.
+    fn catch_up<P: Ports>(&mut self, ports: &mut P, place: usize, now: u64) -> Result<(), DeviceEnd>
+        ensures served { (f : Machine) (before : Option Traffic) (pending : List Heard)
+            → IsServing f before pending None self.old.device self.old.second self.old.recording
+            (P.told ports.old place)
+            → OnOk result (IsServing f before pending None self.new.device self.new.second self.new.recording
+            (P.told ports.new place)) }
+        ensures refused { (f : Machine) (before : Option Traffic) (pending : List Heard)
+            → IsServing f before pending None self.old.device self.old.second self.old.recording
+            (P.told ports.old place)
+            → IfErr result (λ end. IsServing f before pending (Some end) self.new.device self.new.second
+            self.new.recording (P.told ports.new place)) }
+        ensures others { (e : ℕ) → e ≢ place → Carries (P.told ports.old e) (P.told ports.new e) no_traffic }
+        ensures asked { AreRead (P.asked ports.old) (P.asked ports.new) [] }
+        ensures second { self.old.second ≤ now → OnOk result (self.new.second ≡ now) }
+        ensures most { (most : ℕ) → self.old.second ≤ most → now ≤ most → self.new.second ≤ most }
+        ensures end { self.new.end ≡ self.old.end }
+    {
+        while self.second < now {
+            let seconds = (now - self.second).min(MOST_SECONDS) as u32;
+            self.tick(ports, place, seconds)?;
+        }
+        Ok(())
+    }
+
+    /// Lets the device receive what its port handed out at this second.
+    fn take_packet<P: Ports>(
+        &mut self,
+        ports: &mut P,
+        place: usize,
+        now: u64,
+        packet: Packet,
+    ) -> Result<(), DeviceEnd>
+        ensures served { (f : Machine) (before : Option Traffic)
+            → IsServing f before (record { second = now; packet = packet } ∷ []) None self.old.device self.old.second
+            self.old.recording (P.told ports.old place) → self.old.second ≤ now
+            → OnOk result (IsServing f before [] None self.new.device self.new.second self.new.recording
+            (P.told ports.new place)) }
+        ensures refused { (f : Machine) (before : Option Traffic)
+            → IsServing f before (record { second = now; packet = packet } ∷ []) None self.old.device self.old.second
+            self.old.recording (P.told ports.old place)
+            → IfErr result (λ end. IsServing f before (record { second = now; packet = packet } ∷ []) (Some end)
+            self.new.device self.new.second self.new.recording (P.told ports.new place)) }
+        ensures others { (e : ℕ) → e ≢ place → Carries (P.told ports.old e) (P.told ports.new e) no_traffic }
+        ensures asked { AreRead (P.asked ports.old) (P.asked ports.new) [] }
+        ensures second { self.old.second ≤ now → OnOk result (self.new.second ≡ now) }
+        ensures most { (most : ℕ) → self.old.second ≤ most → now ≤ most → self.new.second ≤ most }
+        ensures end { self.new.end ≡ self.old.end }
+    {
+        self.catch_up(ports, place, now)?;
+        self.take_event(
+            ports,
+            place,
+            Event::Recv {
+                server: packet.server,
+                bytes: packet.bytes,
+            },
+        )
+    }
+
+    /// Notes whether the device goes on, and when it is due then. `Err`: no memory was left.
+    fn settle(&mut self, taken: Result<(), DeviceEnd>) -> Result<(), AllocError>
+        requires { self.old.end ≡ None }
+        ensures device { self.new.device ≡ self.old.device }
+        ensures second { self.new.second ≡ self.old.second }
+        ensures recording { self.new.recording ≡ self.old.recording }
+        ensures ok { OnOk taken ((self.new.end ≡ None) × IsDue self.new.device self.new.due) }
+        ensures ended { IfErr taken (λ end. self.new.end ≡ Some end) }
+        ensures memory { self.new.end ≡ Some DeviceEnd.Memory → is_err result ≡ true }
+    {
+        match taken {
+            Ok(()) => {
+                self.due = self.device.due();
+                Ok(())
+            }
+            Err(end) => {
+                self.end = Some(end);
+                match end {
+                    DeviceEnd::Memory => Err(AllocError),
+                    DeviceEnd::Port | DeviceEnd::Spent => Ok(()),
+                }
+            }
+        }
+    }
+
+    /// Lets the device receive what its port has just handed out, at this second. One that has ended does not hear it.
+    /// `Err`: no memory was left.
+    pub(crate) fn hear<P: Ports>(
+        &mut self,
+        ports: &mut P,
+        place: usize,
+        now: u64,
+        packet: Packet,
+    ) -> Result<(), AllocError>
+        ensures served { (class : Template) (before between : Option Traffic)
+            → IsServed class before self.old false between
+            → Carries between (P.told ports.old place) (handed_at now packet) → self.old.second ≤ now
+            → IsServed class before self.new (is_err result) (P.told ports.new place) }
+        ensures others { (e : ℕ) → e ≢ place → Carries (P.told ports.old e) (P.told ports.new e) no_traffic }
+        ensures asked { AreRead (P.asked ports.old) (P.asked ports.new) [] }
+        ensures second { self.old.second ≤ now → self.new.end ≡ None → self.new.second ≡ now }
+        ensures most { (most : ℕ) → self.old.second ≤ most → now ≤ most → self.new.second ≤ most }
+    {
+        match self.end {
+            None => {
+                let taken = self.take_packet(ports, place, now, packet);
+                self.settle(taken)
+            }
+            Some(_) => Ok(()),
+        }
+    }
+
+    /// Brings the device to this second. `Err`: no memory was left.
+    pub(crate) fn reach<P: Ports>(
+        &mut self,
+        ports: &mut P,
+        place: usize,
+        now: u64,
+    ) -> Result<(), AllocError>
+        ensures served { (class : Template) (before : Option Traffic)
+            → IsServed class before self.old false (P.told ports.old place)
+            → IsServed class before self.new (is_err result) (P.told ports.new place) }
+        ensures others { (e : ℕ) → e ≢ place → Carries (P.told ports.old e) (P.told ports.new e) no_traffic }
+        ensures asked { AreRead (P.asked ports.old) (P.asked ports.new) [] }
+        ensures second { self.old.second ≤ now → self.new.end ≡ None → self.new.second ≡ now }
+        ensures over { self.old.end ≢ None → self.new ≡ self.old }
+        ensures most { (most : ℕ) → self.old.second ≤ most → now ≤ most → self.new.second ≤ most }
+    {
+        match self.end {
+            None => {
+                let taken = self.catch_up(ports, place, now);
+                self.settle(taken)
+            }
+            Some(_) => Ok(()),
+        }
+    }
+
+    /// Brings the device to this second, if it is due then or before. `Err`: no memory was left.
+    pub(crate) fn sweep<P: Ports>(
+        &mut self,
+        ports: &mut P,
+        place: usize,
+        now: u64,
+    ) -> Result<(), AllocError>
+        ensures served { (class : Template) (before : Option Traffic)
+            → IsServed class before self.old false (P.told ports.old place)
+            → IsServed class before self.new (is_err result) (P.told ports.new place) }
+        ensures others { (e : ℕ) → e ≢ place → Carries (P.told ports.old e) (P.told ports.new e) no_traffic }
+        ensures asked { AreRead (P.asked ports.old) (P.asked ports.new) [] }
+        ensures most { (most : ℕ) → self.old.second ≤ most → now ≤ most → self.new.second ≤ most }
+        ensures swept { (class : Template) (before : Option Traffic)
+            → IsServed class before self.old false (P.told ports.old place)
+            → self.new.end ≡ None → IfSome self.new.due (λ d. now < d) }
+    {
+        match self.due {
+            None => Ok(()),
+            Some(due) => {
+                if now < due {
+                    return Ok(());
+                }
+                self.reach(ports, place, now)
+            }
+        }
+    }
+
+    /// Notes that the port of the device failed.
+    pub(crate) fn fail(&mut self)
+        ensures served { (class : Template) (before between after : Option Traffic)
+            → IsServed class before self.old false between → Carries between after failed_once
+            → IsServed class before self.new false after }
+        ensures second { self.new.second ≡ self.old.second }
+        ensures ended { self.new.end ≢ None }
+    {
+        match self.end {
+            None => self.end = Some(DeviceEnd::Port),
+            Some(_) => {}
+        }
+    }
+}

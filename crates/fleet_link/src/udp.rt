@@ -1,0 +1,364 @@
+//! Ports over UDP: a socket for each device. Nothing is claimed of what a socket carries, so these ports tell nothing.
+ghost use Rattle.std.specs.Prelude.{◌≡◌, None, Ok, IfOk, OnErr};
+ghost use Rattle.fleet_link.specs.Counting.{counts_after, counts_if, none_counted, IsSentOrLost};
+
+use crate::directory::{Directory, FixedServer};
+use crate::ports::{Arrival, Ports, PortsFault, Receipt};
+use live_link::Packet;
+use mio::net::UdpSocket;
+use mio::{Events, Interest, Poll, Token};
+use octets::Bytes;
+use scenario_image::Scenario;
+use std::alloc::{AllocError, AllocFailed, Global};
+use std::collections::VecDeque;
+use std::io;
+use std::io::ErrorKind;
+use std::net::{IpAddr, Net, SocketAddr};
+use std::time::Duration;
+
+/// The most bytes of a datagram that is received.
+const MOST_BYTES: usize = 1500;
+
+/// How many ports the system names at once.
+const MOST_EVENTS: usize = 1024;
+
+/// The number of the system's error where a process has too many files.
+const TOO_MANY_FILES: i32 = 24;
+
+/// Why the ports of a fleet could not be had.
+#[derive(Clone, Copy, Debug, PartialEq, Eq)]
+pub enum BindFault {
+    /// The last of them would be past 65,535.
+    PastLast,
+    /// This one is in use.
+    Taken(u16),
+    /// There are too many files for one more: `ulimit -n` says how many a process may have.
+    TooManyFiles(u16),
+    /// This one could not be had for another reason.
+    Refused(u16),
+    /// The system cannot wait for datagrams.
+    Failed,
+    /// No memory was left.
+    Memory,
+}
+
+/// How many datagrams were received, sent, dropped (they came from no account, or were too long) and lost (the system
+/// refused to send them, or the address of the account is not known).
+#[derive(Clone, Copy, Debug, PartialEq, Eq)]
+pub struct Counts {
+    pub received: u64,
+    pub sent: u64,
+    pub dropped: u64,
+    pub lost: u64,
+}
+
+/// The socket of a device.
+#[derive(Drop)]
+struct Door {
+    socket: UdpSocket,
+    directory: Directory,
+    /// Whether its place is in the queue, or it failed: then it never comes there again.
+    queued: bool,
+}
+
+/// The sockets of a fleet.
+#[derive(Drop)]
+pub struct UdpPorts {
+    alloc: Global,
+    poll: Poll,
+    events: Events,
+    doors: Vec<Door>,
+    servers: Vec<FixedServer>,
+    /// The places of those that may have a datagram: the system names each once, until it was read to its end.
+    queue: VecDeque<usize>,
+    /// Room for one byte more than may be received, so that a longer datagram shows.
+    buffer: Vec<u8>,
+    counts: Counts,
+}
+
+impl From<AllocError> for BindFault {
+    fn from(_e: AllocError) -> BindFault {
+        BindFault::Memory
+    }
+}
+
+impl<T: Drop> From<AllocFailed<T>> for BindFault {
+    fn from(_refused: AllocFailed<T>) -> BindFault {
+        BindFault::Memory
+    }
+}
+
+impl From<AllocError> for PortsFault {
+    fn from(_e: AllocError) -> PortsFault {
+        PortsFault::Memory
+    }
+}
+
+impl<T: Drop> From<AllocFailed<T>> for PortsFault {
+    fn from(_refused: AllocFailed<T>) -> PortsFault {
+        PortsFault::Memory
+    }
+}
+
+/// Why a port could not be had.
+fn refusal(port: u16, error: &io::Error) -> BindFault {
+    if error.raw_os_error() == Some(TOO_MANY_FILES) {
+        return BindFault::TooManyFiles(port);
+    }
+    match error.kind() {
+        ErrorKind::OutOfMemory => BindFault::Memory,
+        ErrorKind::AddrInUse => BindFault::Taken(port),
+        _ => BindFault::Refused(port),
+    }
+}
+
+/// The accounts of the class of a device.
+fn accounts_of(scenario: &Scenario, device: u16) -> &[u16] {
+    let Some((class, _)) = scenario.row(device) else {
+        return &[];
+    };
+    match scenario.class(class) {
+        None => &[],
+        Some(class) => class.accounts(),
+    }
+}
+
+/// The socket of a device at this address.
+fn open_door<R: Net>(
+    rt: &R,
+    alloc: Global,
+    poll: &Poll,
+    address: SocketAddr,
+    place: usize,
+    accounts: &[u16],
+    servers: &[FixedServer],
+) -> Result<Door, BindFault> {
+    let directory = Directory::new(alloc, accounts, servers)?;
+    let mut socket = match UdpSocket::bind(rt, address) {
+        Ok(socket) => socket,
+        Err(error) => return Err(refusal(address.port(), &error)),
+    };
+    match poll
+        .registry()
+        .register(&mut socket, Token(place), Interest::READABLE)
+    {
+        Ok(()) => {}
+        Err(error) => return Err(refusal(address.port(), &error)),
+    }
+    Ok(Door {
+        socket,
+        directory,
+        queued: false,
+    })
+}
+
+/// What the system gave when a socket was asked.
+enum Given {
+    /// A datagram of this length from this address.
+    Datagram(usize, SocketAddr),
+    /// Nothing, until the system names the socket again.
+    Nothing,
+    /// The call is to be made again.
+    Interrupted,
+    Failed,
+}
+
+/// Asks a socket for a datagram.
+fn ask_socket(socket: &UdpSocket, buffer: &mut [u8]) -> Given {
+    match socket.recv_from(buffer) {
+        Ok((count, address)) => Given::Datagram(count, address),
+        Err(error) => match error.kind() {
+            ErrorKind::WouldBlock | ErrorKind::TimedOut => Given::Nothing,
+            ErrorKind::Interrupted => Given::Interrupted,
+            _ => Given::Failed,
+        },
+    }
+}
+
+impl UdpPorts {
+    /// A socket for each device of a scenario, at this address: the first at this port, the next at the one after it,
+    /// and so on. No address of an account is known but those of servers that are fixed at a port.
+    pub fn bind<R: Net>(
+        rt: &R,
+        alloc: Global,
+        scenario: &Scenario,
+        ip: IpAddr,
+        port: u16,
+        servers: Vec<FixedServer>,
+    ) -> Result<UdpPorts, BindFault>
+        ensures { IfOk result (λ ports. ports.counts ≡ none_counted) }
+    {
+        let devices = scenario.rows();
+        if devices > usize::from(u16::MAX - port) + 1 {
+            return Err(BindFault::PastLast);
+        }
+        let poll = match Poll::new(rt) {
+            Ok(poll) => poll,
+            Err(_) => return Err(BindFault::Failed),
+        };
+        let mut doors = Vec::with_capacity(alloc, devices)?;
+        for place in 0..devices {
+            let address = SocketAddr::new(ip, port.saturating_add(place as u16));
+            let accounts = accounts_of(scenario, place as u16);
+            doors.push(open_door(
+                rt,
+                alloc,
+                &poll,
+                address,
+                place,
+                accounts,
+                servers.as_slice(),
+            )?)?;
+        }
+        Ok(UdpPorts {
+            alloc,
+            poll,
+            events: Events::with_capacity(alloc, MOST_EVENTS)?,
+            doors,
+            servers,
+            queue: VecDeque::with_capacity(alloc, devices)?,
+            buffer: Vec::from_elem(alloc, 0u8, MOST_BYTES + 1)?,
+            counts: Counts {
+                received: 0,
+                sent: 0,
+                dropped: 0,
+                lost: 0,
+            },
+        })
+    }
+
+    /// How many datagrams went through the ports.
+    pub fn counts(&self) -> Counts
+        ensures { result ≡ self.now.counts }
+    {
+        self.counts
+    }
+
+    /// Puts the sockets that the system named into the queue, each once.
+    fn queue_named(&mut self) -> Result<(), AllocError>
+        ensures { self.new.counts ≡ self.old.counts }
+    {
+        for event in self.events.iter() {
+            let place = event.token().0;
+            if let Some(door) = self.doors.get_mut(place) {
+                if !door.queued {
+                    door.queued = true;
+                    self.queue.push_back(place)?;
+                }
+            }
+        }
+        Ok(())
+    }
+
+    /// What comes of a datagram that has come to a device.
+    fn take_datagram(
+        &mut self,
+        place: usize,
+        count: usize,
+        address: SocketAddr,
+    ) -> Result<Receipt, AllocError>
+        ensures counted { IfOk result (λ receipt. self.new.counts ≡ counts_after self.old.counts (Ok receipt)) }
+        ensures same { OnErr result (self.new.counts ≡ self.old.counts) }
+    {
+        let account = match self.doors.get_mut(place) {
+            Some(door) if count <= MOST_BYTES => {
+                door.directory.account_of(self.servers.as_slice(), address)
+            }
+            _ => None,
+        };
+        match account {
+            Some(server) if count <= self.buffer.len() => {
+                let bytes = Bytes::from_slice(self.alloc, &self.buffer[..count])?;
+                self.counts.received = self.counts.received.saturating_add(1);
+                Ok(Receipt::Arrived(Arrival {
+                    device: place,
+                    packet: Packet { server, bytes },
+                }))
+            }
+            _ => {
+                self.counts.dropped = self.counts.dropped.saturating_add(1);
+                Ok(Receipt::Dropped)
+            }
+        }
+    }
+
+    /// Asks the socket at this place, which was taken from the queue. None: it has nothing.
+    fn ask_at(&mut self, place: usize) -> Result<Option<Receipt>, AllocError>
+        ensures counted { IfOk result (λ receipt. self.new.counts ≡ counts_if self.old.counts receipt) }
+        ensures same { OnErr result (self.new.counts ≡ self.old.counts) }
+    {
+        let Some(door) = self.doors.get_mut(place) else {
+            return Ok(None);
+        };
+        match ask_socket(&door.socket, self.buffer.as_mut_slice()) {
+            Given::Nothing => {
+                door.queued = false;
+                Ok(None)
+            }
+            Given::Failed => Ok(Some(Receipt::Failed(place))),
+            Given::Interrupted => {
+                self.queue.push_back(place)?;
+                Ok(None)
+            }
+            Given::Datagram(count, address) => {
+                self.queue.push_back(place)?;
+                Ok(Some(self.take_datagram(place, count, address)?))
+            }
+        }
+    }
+}
+
+impl Ports for UdpPorts {
+    ghost told = { λ _ _. None };
+
+    ghost asked = { λ _. None };
+
+    /// What a socket of the queue has, one after another: so none that has much keeps the others waiting.
+    fn receive(&mut self, _second: u64) -> Result<Receipt, PortsFault>
+        ensures { self.new.counts ≡ counts_after self.old.counts result }
+    {
+        for _asked in 0..self.queue.len() {
+            let Some(place) = self.queue.pop_front() else {
+                return Ok(Receipt::Nothing);
+            };
+            if let Some(receipt) = self.ask_at(place)? {
+                return Ok(receipt);
+            }
+        }
+        Ok(Receipt::Nothing)
+    }
+
+    /// What cannot be sent is lost: the address of the account is not known, or the system refuses it.
+    fn send(&mut self, device: usize, server: u16, bytes: &[u8])
+        ensures { IsSentOrLost self.old.counts self.new.counts }
+    {
+        let sent = match self.doors.get(device) {
+            None => false,
+            Some(door) => match door.directory.address_of(server) {
+                None => false,
+                Some(address) => door.socket.send_to(bytes, address).is_ok(),
+            },
+        };
+        if sent {
+            self.counts.sent = self.counts.sent.saturating_add(1);
+        } else {
+            self.counts.lost = self.counts.lost.saturating_add(1);
+        }
+    }
+
+    /// It does not wait where a socket is in the queue.
+    fn wait(&mut self, millis: u32) -> Result<(), PortsFault>
+        ensures { self.new.counts ≡ self.old.counts }
+    {
+        let millis = if self.queue.is_empty() { millis } else { 0 };
+        match self.poll.poll(
+            &mut self.events,
+            Some(Duration::from_millis(u64::from(millis))),
+        ) {
+            Ok(()) => {}
+            Err(_) => return Err(PortsFault::Failed),
+        }
+        self.queue_named()?;
+        Ok(())
+    }
+}
