@@ -5,6 +5,9 @@ mod answers;
 mod came;
 mod case_file;
 mod escaping;
+mod form;
+mod in_json;
+mod items;
 mod judged;
 mod junit;
 mod lines;
@@ -19,6 +22,8 @@ mod words;
 
 pub use answers::{test, titles};
 pub use case_file::CaseFile;
+pub use form::ReportForm;
+pub use in_json::json_report;
 pub use judged::Judged;
 pub use junit::junit_text;
 pub use playing::play;

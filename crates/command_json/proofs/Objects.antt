@@ -1,0 +1,54 @@
+-- What is told of a fault as an object, put together from its parts.
+use Rattle.std.proofs.Common.{◌≡◌, ℕ, List, Option, None, option_map, inl, inr, refl}
+use Rattle.std.specs.Io.KnownBytes.{Appends}
+use Rattle.trace_json.specs.declared.notes.FaultParts.{FaultParts}
+use Rattle.trace_json.specs.Notes.{fault_json}
+use Rattle.trace_json.specs.Writing.{json_line}
+use Rattle.command_files.specs.FaultLine.{place_of}
+use Rattle.command_files.specs.Refusals.{IsReported}
+use Rattle.command_files.specs.World.{StreamFaults, Streams}
+use Rattle.command_files.specs.declared.fault.Fault.{Fault}
+use Rattle.command_json.specs.Told.{ArePartsOf, IsFaultObject, IsObjectLine, IsRefusedWord, IsToldInJson, memory_line}
+use Rattle.command_json.specs.Told.{object_name, refusal_cause, refused_file, refused_line}
+
+pub object_line : (about : Option (List ℕ)) (fault : Fault) (parts : FaultParts) (text : List ℕ)
+    → parts.name.now ≡ object_name fault → parts.line ≡ refused_line fault → parts.place ≡ place_of fault
+    → option_map (λ x. x.now) parts.cause ≡ refusal_cause fault
+    → IsRefusedWord fault about (option_map (λ x. x.now) parts.word)
+    → option_map (λ x. x.now) parts.file ≡ refused_file fault about → text ≡ json_line (fault_json parts)
+    → IsObjectLine about fault text
+object_line about fault parts text name line place cause word file is = (
+  parts,
+  record { name = name; line = line; place = place; cause = cause; word = word; file = file },
+  is,
+)
+
+pub printed_so : (about : Option (List ℕ)) (fault : Fault) (text : List ℕ) (before after : Option (List ℕ))
+    → IsObjectLine about fault text → Appends before after text
+    → (text : List ℕ) × IsFaultObject about fault text × Appends before after text
+printed_so about fault text before after is appends = (text, inl is, appends)
+
+pub printed_memory : (about : Option (List ℕ)) (fault : Fault) (text : List ℕ) (before after : Option (List ℕ))
+    → text ≡ memory_line → Appends before after text
+    → (text : List ℕ) × IsFaultObject about fault text × Appends before after text
+printed_memory about fault text before after is appends = (text, inr is, appends)
+
+pub unprinted_so : (about : Option (List ℕ)) (fault : Fault) (text : List ℕ) (refuses : List ℕ → Type 0)
+    → IsObjectLine about fault text → refuses text
+    → (text : List ℕ) × IsFaultObject about fault text × refuses text
+unprinted_so about fault text refuses is refused = (text, inl is, refused)
+
+pub unprinted_memory : (about : Option (List ℕ)) (fault : Fault) (text : List ℕ) (refuses : List ℕ → Type 0)
+    → text ≡ memory_line → refuses text
+    → (text : List ℕ) × IsFaultObject about fault text × refuses text
+unprinted_memory about fault text refuses is refused = (text, inr is, refused)
+
+pub told : (faults : StreamFaults) (before after : Streams) (about : Option (List ℕ)) (fault : Fault)
+    → ((text : List ℕ) × IsFaultObject about fault text × Appends before.output after.output text)
+    → IsReported faults before after about → IsToldInJson faults before after about fault
+told faults before after about fault (text, is, printed) reported = (text, is, inl (printed, reported))
+
+pub untold : (faults : StreamFaults) (before after : Streams) (about : Option (List ℕ)) (fault : Fault)
+    → ((text : List ℕ) × IsFaultObject about fault text × faults.output_refuses text)
+    → after.errors ≡ before.errors → IsToldInJson faults before after about fault
+untold faults before after about fault (text, is, refused) same = (text, is, inr (refused, same))
