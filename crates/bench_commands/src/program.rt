@@ -246,13 +246,13 @@ fn answer_words<
 >(
     rt: &R,
     alloc: Global,
-    asked: Asked<'a>,
+    wanted: Asked<'a>,
     files: &mut F,
     input: &mut I,
     output: &mut O,
     errors: &mut E,
 ) -> Result<Status, Refusal<'a>>
-    ensures done { (words : List (List ℕ)) → IsReadAs words asked.entry → IfOk result (IsFinished
+    ensures done { (words : List (List ℕ)) → IsReadAs words wanted.entry → IfOk result (IsFinished
         (record { holds = F.holds files.old; fails = F.fails files.old; refuses = F.refuses })
         (record { input_fails = I.fails; output_refuses = O.refuses; errors_refuse = E.refuses })
         (record {
@@ -272,7 +272,7 @@ fn answer_words<
           };
         })
         words) }
-    ensures refused { (words : List (List ℕ)) → IsReadAs words asked.entry → IfErr result (λ r. IsUnfinished
+    ensures refused { (words : List (List ℕ)) → IsReadAs words wanted.entry → IfErr result (λ r. IsUnfinished
         (record { holds = F.holds files.old; fails = F.fails files.old; refuses = F.refuses })
         (record { input_fails = I.fails; output_refuses = O.refuses; errors_refuse = E.refuses })
         (record {
@@ -293,7 +293,7 @@ fn answer_words<
         })
         words r.fault) }
 {
-    match asked {
+    match wanted {
         Asked::Live(asked) => live(rt, alloc, asked, files, output),
         Asked::Log { server } => {
             let answer = say_input(alloc, input, server)?;

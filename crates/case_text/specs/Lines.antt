@@ -69,10 +69,14 @@ abbrev pub event_from : Option Statement → Result Event Cause
 event_from None = Err Missing
 event_from (Some s) = event_by s
 
+-- the Empty ACK arrives
+abbrev pub ack_event : Ack → Event
+ack_event a = event.Recv a.server (ack_datagram a.mid)
+
 -- the event that a line says, by what it says that is `ack S MID`
 abbrev pub event_or : List ℕ → Option Ack → Result Event Cause
 event_or line None = statement_of (words line) >>= event_from
-event_or line (Some a) = Ok (event.Recv a.server (ack_datagram a.mid))
+event_or line (Some a) = Ok (ack_event a)
 
 abbrev pub event_of : List ℕ → Result Event Cause
 event_of line = event_or line (said_ack (words line))

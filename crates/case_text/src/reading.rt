@@ -1,17 +1,16 @@
 //! What a line of a case of a scenario is.
 
-ghost use Rattle.std.specs.Prelude.{◌≡◌, ◌++◌, ◌∷◌, [], false, IfOk, Ok};
+ghost use Rattle.std.specs.Prelude.{◌≡◌, ◌++◌, ◌∷◌, [], false, None, IfOk};
 ghost use Rattle.std.specs.List.{repeat};
 ghost use Rattle.std.specs.String.{string_bytes};
-ghost use Rattle.device_machine.specs.declared.event.Event.TheVariants as event;
 ghost use Rattle.scenario_words.specs.Words.{parts, words};
-ghost use Rattle.scenario_words.specs.Reading.{◌>>=◌, Gives};
+ghost use Rattle.scenario_words.specs.Reading.{Gives};
 ghost use Rattle.scenario_statements.specs.declared.statement.Statement.TheVariants as says;
 ghost use Rattle.scenario_statements.specs.Acks.{ack_datagram};
 ghost use Rattle.scenario_statements.specs.Grammar.{statement_of};
 ghost use Rattle.scenario_statements.specs.Spelling.{line_of};
-ghost use Rattle.case_text.specs.Lines.{answer_of, aside_of, asking_of, beside, counted_of, event_by, event_from};
-ghost use Rattle.case_text.specs.Lines.{event_of, is_marked, line_in_text, marked_of, part_by, part_of, question_line_of};
+ghost use Rattle.case_text.specs.Lines.{ack_event, answer_of, aside_of, asking_of, beside, counted_of, event_by, event_of};
+ghost use Rattle.case_text.specs.Lines.{event_or, is_marked, line_in_text, marked_of, part_by, part_of, question_line_of};
 ghost use Rattle.case_text.specs.Lines.{recorded_of, stated_in, text_line_of, text_of, text_part, unmarked_of};
 ghost use Rattle.case_text.specs.Marks.{Finds};
 
@@ -106,8 +105,8 @@ fn event_by(alloc: Global, statement: Statement) -> Result<Event, Cause>
 }
 
 /// The Empty ACK that arrives.
-fn acked(alloc: Global, ack: Ack) -> Result<Event, Cause>
-    ensures { Gives (λ e. e) result (Ok (event.Recv ack.server (ack_datagram ack.mid))) }
+fn ack_event(alloc: Global, ack: Ack) -> Result<Event, AllocError>
+    ensures { IfOk result (λ e. e ≡ ack_event ack) }
 {
     let bytes = ack_bytes(alloc, ack.mid)?;
     Ok(Event::Recv {
@@ -118,7 +117,7 @@ fn acked(alloc: Global, ack: Ack) -> Result<Event, Cause>
 
 /// The event of the statement of a line.
 fn stated_event(alloc: Global, line: &[u8]) -> Result<Event, Cause>
-    ensures { Gives (λ e. e) result (statement_of (words line.now) >>= event_from) }
+    ensures { Gives (λ e. e) result (event_or line.now None) }
 {
     match read_statement(alloc, line)? {
         Some(statement) => event_by(alloc, statement),
@@ -131,7 +130,7 @@ fn event_of(alloc: Global, line: &[u8]) -> Result<Event, Cause>
     ensures { Gives (λ e. e) result (event_of line.now) }
 {
     match said_ack(line) {
-        Some(ack) => acked(alloc, ack),
+        Some(ack) => Ok(ack_event(alloc, ack)?),
         None => stated_event(alloc, line),
     }
 }

@@ -22,8 +22,10 @@ use Rattle.scenario_words.specs.declared.cause.Cause.TheVariants.{Limit, Range}
 use Rattle.scenario_words.specs.Number.{number_of}
 use Rattle.scenario_words.specs.Reading.{◌>>=◌, ended, word_by}
 use Rattle.scenario_words.proofs.NumberLaws.{number_of-law}
+use Rattle.scenario_words.proofs.PathLaws.{bind_ok}
 use Rattle.scenario_mnemonics.specs.declared.mnemonic.Mnemonic.{Mnemonic}
 use Rattle.scenario_mnemonics.specs.Messages.{IsGood, datagram_of, fits_mnemonic}
+use Rattle.scenario_statements.specs.declared.acks.Ack.{Ack}
 use Rattle.scenario_statements.specs.declared.statement.Statement.{Statement}
 use Rattle.scenario_statements.specs.declared.statement.Statement.TheVariants as says
 use Rattle.scenario_statements.specs.Grammar.{statement_of}
@@ -31,7 +33,7 @@ use Rattle.scenario_statements.specs.Spelling.{line_of}
 use Rattle.trace_text.specs.Lines.{said_line}
 use Rattle.command_files.specs.declared.answer.Answer.{Answer}
 use Rattle.command_words.specs.declared.arrival.Arrival.{Arrival}
-use Rattle.scenario_statements.specs.Acks.{ack_datagram, ack_line}
+use Rattle.scenario_statements.specs.Acks.{ack_datagram, ack_from, ack_line}
 use Rattle.command_words.specs.Again.{AcksAreFound, AcksAreSaidAgain, IsSaidAgain, MnemonicsAreFound}
 use Rattle.command_words.specs.Again.{MnemonicsAreSaidAgain, OthersAreSaidAgain}
 use Rattle.command_words.specs.Saying.{said_text}
@@ -106,22 +108,30 @@ denoted_so (w ∷ ws) s a is_said h = elim (cases_Bool (bytes_eq w (codes "ack")
       ∙ h
 ]
 
--- the datagram of `ack S MID`
-abbrev acked : ℕ → ℕ → Arrival
-acked server mid = record { server = server; bytes = ack_datagram mid }
+-- `ack S MID`, and its datagram
+abbrev acking : ℕ → ℕ → Ack
+acking server mid = record { server = server; mid = mid }
+
+abbrev acked : Ack → Arrival
+acked x = record { server = x.server; bytes = ack_datagram x.mid }
+
+ack_from_is : (server mid : ℕ) (x : Ack) → mid < 65536 → ack_from (decimal server ∷ decimal mid ∷ []) ≡ Ok x
+    → mid ≡ x.mid
+ack_from_is server mid x small h =
+    let s = word_here (number_of 1 65534 (decimal server)) (decimal mid ∷ [])
+    (λ s. word_by (number_of 0 65535) s.1 >>= (λ m. ended m.1 >>= (λ e. Ok (acking s.0 m.0)))) x h in
+    let m = word_here (number_of 0 65535 (decimal mid)) [] (λ m. ended m.1 >>= (λ e. Ok (acking s.0 m.0))) x s.2 in
+    let same : acking s.0 m.0 ≡ x = ended_same [] (acking s.0 m.0) x m.2 in
+    let n = (number_of-law 0 65535 m.0 (decimal mid) (omega arith)).0 m.1 in
+    let number : mid ≡ m.0 = decimal_injective mid m.0 (omega arith) (omega (arith, n.2)) n.0 in
+    number ∙ ap (λ (x : Ack). x.mid) same
 
 ack_is : (server mid : ℕ) (a : Arrival) → mid < 65536 → ack (decimal server ∷ decimal mid ∷ []) ≡ arrived a
     → ack_datagram mid ≡ a.bytes
 ack_is server mid a small h =
-    let s = word_here (number_of 1 65534 (decimal server)) (decimal mid ∷ [])
-    (λ s. word_by (number_of 0 65535) s.1 >>= (λ m. ended m.1 >>= (λ e. arrived (acked s.0 m.0)))) (Some a) h in
-    let m = word_here (number_of 0 65535 (decimal mid)) []
-    (λ m. ended m.1 >>= (λ e. arrived (acked s.0 m.0))) (Some a) s.2 in
-    let same : Some (acked s.0 m.0) ≡ Some a = ended_same [] (Some (acked s.0 m.0)) (Some a) m.2 in
-    let one : acked s.0 m.0 ≡ a = cc in
-    let n = (number_of-law 0 65535 m.0 (decimal mid) (omega arith)).0 m.1 in
-    let number : mid ≡ m.0 = decimal_injective mid m.0 (omega arith) (omega (arith, n.2)) n.0 in
-    ap ack_datagram number ∙ ap (λ (x : Arrival). x.bytes) one
+    let from = bind_ok (ack_from (decimal server ∷ decimal mid ∷ [])) (λ x. arrived (acked x)) (Some a) h in
+    let one : acked from.0 ≡ a = cc (from.2) in
+    ap ack_datagram (ack_from_is server mid from.0 small from.1) ∙ ap (λ (x : Arrival). x.bytes) one
 
 good_of : (ws : List (List ℕ)) (server : ℕ) (m : Mnemonic) → statement_of ws ≡ Ok (Some (says.Request server m))
     → fits_mnemonic m ≡ true → IsGood m
