@@ -7,3 +7,4 @@ pub mod WithoutMemory
 pub mod ObservationLines
 pub mod ReplyParts
 pub mod CutLines
+pub mod Whys

@@ -15,4 +15,4 @@ pub mod Events
 pub mod Devices
 pub mod Going
 pub mod Places
-pub mod Latest
+pub mod Preceding
