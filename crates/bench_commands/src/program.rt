@@ -41,9 +41,9 @@ use trace_text::Selection;
 /// - `live`: a device of the row's class makes at most as many turns as were asked for, from its start; the line of its
 ///   session is printed, and the image of its steps is made, if that was asked for.
 /// - Status 1, and a fault: exactly its line is printed, where the words ask for JSON its object as a line, and then at
-///   most one line goes to `errors`, or the stream did not take it, and `errors` got nothing. What was left at it is said too: nothing made and nothing printed where
-///   memory ran out or the words were refused; the file made where its text could not be printed; and how far a
-///   conversation or a session came.
+///   most one line goes to `errors`, or the stream did not take it, and `errors` got nothing. What was left at it is
+///   said too: nothing made and nothing printed where memory ran out or the words were refused; the file made where its
+///   text could not be printed; and how far a conversation or a session came.
 pub fn command<R: Threads + Wait + Sync + Net + Clock, F: Files, I: Input, O: Output, E: Output>(
     rt: &R,
     alloc: Global,

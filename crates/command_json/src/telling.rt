@@ -32,8 +32,8 @@ fn print_object<O: Output>(
     }
 }
 
-/// Prints the object of a fault as a line, and then, for people, what it is about. Where the first is not taken there is
-/// no second. It has no input, of which nothing is said.
+/// Prints the object of a fault as a line, and then, for people, what it is about. Where the first is not taken there
+/// is no second. It has no input, of which nothing is said.
 #[tactic(auto, using(crate::proofs::Objects::told, crate::proofs::Objects::untold))]
 pub fn tell_in_json<O: Output, E: Output>(
     alloc: Global,

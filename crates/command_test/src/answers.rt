@@ -47,9 +47,9 @@ pub fn titles<'a, F: Files>(
     Ok(Answer::printed(Status::Done, text))
 }
 
-/// `test FILE ..`: the report of the cases, each of which is played, or the same as TAP or as JSON Lines; with words, of
-/// those whose titles begin with them. It is a fault if there are none. A JUnit report goes to a file besides, if it has
-/// a path.
+/// `test FILE ..`: the report of the cases, each of which is played, or the same as TAP or as JSON Lines; with words,
+/// of those whose titles begin with them. It is a fault if there are none. A JUnit report goes to a file besides, if it
+/// has a path.
 #[tactic(auto, using(crate::proofs::Built::tested, crate::proofs::Faults::unread, crate::proofs::Faults::unchosen, crate::proofs::Faults::memory))]
 pub fn test<'a, F: Files>(
     alloc: Global,

@@ -79,7 +79,8 @@ fn differing_from(
 
 fn refused(alloc: Global, test: &TestCase, line: usize, cause: Cause) -> Result<String, AllocError>
     ensures { IfOk result (λ t. string_bytes t ≡ json_line
-        (test_json test.now (Some (differing_at test.now (refused_line test.now line) (refusal_words line cause ∷ []))))) }
+        (test_json test.now
+        (Some (differing_at test.now (refused_line test.now line) (refusal_words line cause ∷ []))))) }
 {
     let words = refusal_words(alloc, line, cause)?;
     let mut items = Vec::new(alloc);
