@@ -1,9 +1,11 @@
 -- What is told of a fault as an object, put together from its parts.
-use Rattle.std.proofs.Common.{◌≡◌, ℕ, List, Option, None, option_map, inl, inr, refl}
+use Rattle.std.proofs.Common.{◌≡◌, ℕ, List, Option, codes, option_map, inl, inr, refl, ◌∙◌}
 use Rattle.std.specs.Io.KnownBytes.{Appends}
 use Rattle.trace_json.specs.declared.notes.FaultParts.{FaultParts}
 use Rattle.trace_json.specs.Notes.{fault_json}
 use Rattle.trace_json.specs.Writing.{json_line}
+use Rattle.json.specs.Print.{escape_byte}
+use Rattle.scenario_words.specs.Words.{ended_line}
 use Rattle.command_files.specs.FaultLine.{place_of}
 use Rattle.command_files.specs.Refusals.{IsReported}
 use Rattle.command_files.specs.World.{StreamFaults, Streams}
@@ -23,15 +25,20 @@ object_line about fault parts text name line place cause word file is = (
   is,
 )
 
+-- the line of a lack of memory, as it is printed
+memory_is : ended_line (codes "{\"fault\":\"memory\"}") ≡ memory_line
+unfolding json_line escape_byte
+memory_is = refl
+
 pub printed_so : (about : Option (List ℕ)) (fault : Fault) (text : List ℕ) (before after : Option (List ℕ))
     → IsObjectLine about fault text → Appends before after text
     → (text : List ℕ) × IsFaultObject about fault text × Appends before after text
 printed_so about fault text before after is appends = (text, inl is, appends)
 
 pub printed_memory : (about : Option (List ℕ)) (fault : Fault) (text : List ℕ) (before after : Option (List ℕ))
-    → text ≡ memory_line → Appends before after text
+    → text ≡ ended_line (codes "{\"fault\":\"memory\"}") → Appends before after text
     → (text : List ℕ) × IsFaultObject about fault text × Appends before after text
-printed_memory about fault text before after is appends = (text, inr is, appends)
+printed_memory about fault text before after is appends = (text, inr (is ∙ memory_is), appends)
 
 pub unprinted_so : (about : Option (List ℕ)) (fault : Fault) (text : List ℕ) (refuses : List ℕ → Type 0)
     → IsObjectLine about fault text → refuses text
@@ -39,9 +46,9 @@ pub unprinted_so : (about : Option (List ℕ)) (fault : Fault) (text : List ℕ)
 unprinted_so about fault text refuses is refused = (text, inl is, refused)
 
 pub unprinted_memory : (about : Option (List ℕ)) (fault : Fault) (text : List ℕ) (refuses : List ℕ → Type 0)
-    → text ≡ memory_line → refuses text
+    → text ≡ ended_line (codes "{\"fault\":\"memory\"}") → refuses text
     → (text : List ℕ) × IsFaultObject about fault text × refuses text
-unprinted_memory about fault text refuses is refused = (text, inr is, refused)
+unprinted_memory about fault text refuses is refused = (text, inr (is ∙ memory_is), refused)
 
 pub told : (faults : StreamFaults) (before after : Streams) (about : Option (List ℕ)) (fault : Fault)
     → ((text : List ℕ) × IsFaultObject about fault text × Appends before.output after.output text)

@@ -6,7 +6,7 @@ ghost use Rattle.command_test.specs.Came.{answer_line, came_items, came_lines};
 ghost use Rattle.command_test.specs.declared.came.Form.TheVariants as forms;
 
 /// What came has the same answers in JSON as in the list of a block in TAP.
-#[tactic(auto, using(crate::proofs::Items::of_tap))]
+#[tactic(auto, using(crate::proofs::OfTap::of_tap))]
 pub fn items_are_those_of_tap()
     ensures { (came : Came) → came_lines forms.Items came ≡ flat_map (answer_line forms.Items) (came_items came) }
 {}
