@@ -1,7 +1,6 @@
 -- The answer to `why D`, put together from its parts.
-use Rattle.std.proofs.Common.{◌≡◌, ℕ, ◌<◌, ◌≤◌, List, length, Option, None, Some, Result, Ok, Err, IfOk, sym, subst, arith}
-use Rattle.std.proofs.Common.{codes}
-use Rattle.std.specs.String.{string_bytes}
+use Rattle.std.proofs.Common.{◌≡◌, ℕ, ◌<◌, ◌≤◌, List, length, Option, Some, Result, Ok, Err, IfOk, codes, sym, subst}
+use Rattle.std.proofs.Common.{arith}
 use Rattle.device_machine.specs.State.{Device, Machine, Shows}
 use Rattle.device_machine.specs.declared.event.Event.TheVariants.{Recv}
 use Rattle.scenario_image.specs.declared.step.Step.{Step}
@@ -29,9 +28,14 @@ why_nowhere v d text past is = record {
 }
 
 -- a datagram arrived
-pub why_arrived : {E : Type 0} (state : Option Machine) (x : Device) (server : ℕ) (bytes : List ℕ)
-    (Answers : List ℕ → Type 0) (r : Result (List ℕ) E) → ShowsState state x
-    → ((f : Machine) → Shows x f → IfOk r (IsWhyLine f server bytes))
-    → ((text : List ℕ) → IsWhyOf (Some (Event (Recv server bytes))) state text → Answers text) → IfOk r Answers
-why_arrived state x server bytes Answers (Ok text) (f, is, shows) why told = told text (f, is, why f shows)
-why_arrived state x server bytes Answers (Err e) shown why told = tt
+pub why_arrived : {T E : Type 0}
+    → (said : T → List ℕ) (v : Session) (d : ℕ) (step : Option Step) (server : ℕ) (bytes : List ℕ) (x : Device)
+    (r : Result T E) → d < length v.scenario.rows → step ≡ step_shown v.scenario v.entries v.place d
+    → step ≡ Some (Event (Recv server bytes)) → ShowsState (before_shown v.scenario v.entries v.place d) x
+    → ((f : Machine) → Shows x f → IfOk r (λ text. IsWhyLine f server bytes (said text)))
+    → IfOk r (λ text. IsWhyAnswer v d (said text))
+why_arrived said v d step server bytes x (Ok text) row is came (f, before, shows) why =
+    why_there v d (said text) step row is
+    (subst (λ s. IsWhyOf s (before_shown v.scenario v.entries v.place d) (said text)) (sym came)
+    (f, before, why f shows))
+why_arrived said v d step server bytes x (Err e) row is came shown why = tt

@@ -24,6 +24,7 @@ fn why_line(alloc: Global, device: &Device, server: u16, bytes: &[u8]) -> Result
 
 /// `why D`: why the device handled the datagram of its latest entry as it did, in the state right before it;
 /// `no datagram` where none arrived there, `no step` before its first entry; `no device` exactly if there is no row.
+#[tactic(auto, using(crate::proofs::Whys::why_there, crate::proofs::Whys::why_nowhere))]
 pub fn show_why(alloc: Global, debugger: &Debugger, device: u16) -> Result<String, AllocError>
     ensures { IfOk result (λ text. IsWhyAnswer debugger.now device (string_bytes text)) }
 {
