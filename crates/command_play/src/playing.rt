@@ -20,8 +20,8 @@ use trace_reasons::selected_reasons;
 use trace_text::{Selection, SelectionFault, selected_text};
 
 /// `play FILE [--device N] [--from N] [--to N] [--json] [--why]`: the serial run of the scenario of a file, whose text
-/// or image the file is. Prints those entries that are asked for, as text, as text with reasons, or as JSON Lines, and how
-/// the run ended; the status is 0 also where it stalled.
+/// or image the file is. Prints those entries that are asked for, as text, as text with reasons, or as JSON Lines, and
+/// how the run ended; the status is 0 also where it stalled.
 #[tactic(auto, using(crate::proofs::Played::played_at, crate::proofs::Played::refused_file, crate::proofs::Played::unplayed_at))]
 pub fn play<'a, F: Files>(
     alloc: Global,

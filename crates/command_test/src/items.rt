@@ -13,7 +13,7 @@ use std::alloc::{AllocError, Global};
 /// Adds the words of an answer.
 pub(crate) fn put_item(items: &mut Vec<String>, words: String) -> Result<(), AllocError>
     ensures { OnOk result (map (λ w. string_bytes w) items.new.items
-        ≡ map (λ w. string_bytes w) items.old.items ++ string_bytes words.entry ∷ []) }
+        ≡ map (λ w. string_bytes w) items.old.items ++ string_bytes words ∷ []) }
 {
     items.push(words)?;
     Ok(())
