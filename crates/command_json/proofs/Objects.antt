@@ -1,5 +1,6 @@
 -- What is told of a fault as an object, put together from its parts.
-use Rattle.std.proofs.Common.{◌≡◌, ℕ, List, Option, codes, option_map, inl, inr, refl, ◌∙◌}
+use Rattle.std.proofs.Common.{◌≡◌, ℕ, List, Option, Result, Ok, Err, OnErr, OnOk, codes, option_map, inl, inr}
+use Rattle.std.proofs.Common.{refl}
 use Rattle.std.specs.Io.KnownBytes.{Appends}
 use Rattle.trace_json.specs.declared.notes.FaultParts.{FaultParts}
 use Rattle.trace_json.specs.Notes.{fault_json}
@@ -35,20 +36,23 @@ pub printed_so : (about : Option (List ℕ)) (fault : Fault) (text : List ℕ) (
     → (text : List ℕ) × IsFaultObject about fault text × Appends before after text
 printed_so about fault text before after is appends = (text, inl is, appends)
 
-pub printed_memory : (about : Option (List ℕ)) (fault : Fault) (text : List ℕ) (before after : Option (List ℕ))
-    → text ≡ ended_line (codes "{\"fault\":\"memory\"}") → Appends before after text
-    → (text : List ℕ) × IsFaultObject about fault text × Appends before after text
-printed_memory about fault text before after is appends = (text, inr (is ∙ memory_is), appends)
+pub memory_printed : {T E : Type 0} → (about : Option (List ℕ)) (fault : Fault) (result : Result T E)
+    (before after : Option (List ℕ))
+    → OnOk result (Appends before after (ended_line (codes "{\"fault\":\"memory\"}")))
+    → OnOk result ((text : List ℕ) × IsFaultObject about fault text × Appends before after text)
+memory_printed about fault (Ok x) before after h = (ended_line (codes "{\"fault\":\"memory\"}"), inr memory_is, h)
+memory_printed about fault (Err e) before after h = tt
 
 pub unprinted_so : (about : Option (List ℕ)) (fault : Fault) (text : List ℕ) (refuses : List ℕ → Type 0)
     → IsObjectLine about fault text → refuses text
     → (text : List ℕ) × IsFaultObject about fault text × refuses text
 unprinted_so about fault text refuses is refused = (text, inl is, refused)
 
-pub unprinted_memory : (about : Option (List ℕ)) (fault : Fault) (text : List ℕ) (refuses : List ℕ → Type 0)
-    → text ≡ ended_line (codes "{\"fault\":\"memory\"}") → refuses text
-    → (text : List ℕ) × IsFaultObject about fault text × refuses text
-unprinted_memory about fault text refuses is refused = (text, inr (is ∙ memory_is), refused)
+pub memory_refused : {T E : Type 0} → (about : Option (List ℕ)) (fault : Fault) (result : Result T E)
+    (refuses : List ℕ → Type 0) → OnErr result (refuses (ended_line (codes "{\"fault\":\"memory\"}")))
+    → OnErr result ((text : List ℕ) × IsFaultObject about fault text × refuses text)
+memory_refused about fault (Ok x) refuses h = tt
+memory_refused about fault (Err e) refuses h = (ended_line (codes "{\"fault\":\"memory\"}"), inr memory_is, h)
 
 pub told : (faults : StreamFaults) (before after : Streams) (about : Option (List ℕ)) (fault : Fault)
     → ((text : List ℕ) × IsFaultObject about fault text × Appends before.output after.output text)

@@ -1,6 +1,7 @@
 //! A fault as an object in JSON, in the place of its line.
 #![tactic(auto)]
 
+mod cases;
 mod object;
 mod parts;
 mod telling;

@@ -1,11 +1,12 @@
 //! What the object of a fault has.
 ghost use Rattle.std.specs.Prelude.{◌≡◌, IfOk, option_map};
 ghost use Rattle.std.specs.String.{string_bytes};
-ghost use Rattle.command_files.specs.FaultLine.{case_cause, case_word, place_of, word_with_cause};
+ghost use Rattle.command_files.specs.FaultLine.{place_of};
 ghost use Rattle.command_json.specs.Told.{IsRefusedWord, object_name, refusal_cause, refused_file, refused_line};
 
+use crate::cases::case_words;
 use byte_layout::LayoutFault;
-use case_text::{CaseFault, Why as CaseWhy};
+use case_text::CaseFault;
 use command_files::{Fault, Refusal, Why};
 use scenario_asm::AsmFault;
 use scenario_words::cause_words;
@@ -45,12 +46,6 @@ pub(crate) fn refused_place(fault: Fault) -> Option<u64>
     }
 }
 
-fn case_words(alloc: Global, why: CaseWhy) -> Result<String, AllocError>
-    ensures { IfOk result (λ t. string_bytes t ≡ word_with_cause (case_word why) (case_cause why)) }
-{
-    format!(in alloc; "{why}")
-}
-
 /// Why the line is refused.
 pub(crate) fn refusal_cause(alloc: Global, fault: Fault) -> Result<Option<String>, AllocError>
     ensures { IfOk result (λ o. option_map (λ t. string_bytes t) o ≡ refusal_cause fault) }
@@ -66,7 +61,7 @@ pub(crate) fn refusal_cause(alloc: Global, fault: Fault) -> Result<Option<String
 
 /// The file that a fault is about.
 pub(crate) fn refused_file<'a>(fault: Fault, about: Option<&'a str>) -> Option<&'a str>
-    ensures { option_map (λ x. x.now) result ≡ refused_file fault (option_map (λ x. x.now) about) }
+    ensures { option_map (λ x. x.now) result ≡ refused_file fault (option_map (λ x. x.now) about.entry) }
 {
     match fault {
         Fault::Hex | Fault::NoSuchCase | Fault::NoDatagram => None,
@@ -80,7 +75,7 @@ pub(crate) fn refused_word<'a>(
     about: Option<&'a str>,
     blamed: Option<&'a str>,
 ) -> Option<&'a str>
-    ensures { IsRefusedWord fault (option_map (λ x. x.now) about) (option_map (λ x. x.now) result) }
+    ensures { IsRefusedWord fault (option_map (λ x. x.now) about.entry) (option_map (λ x. x.now) result) }
 {
     match fault {
         Fault::Hex | Fault::NoSuchCase | Fault::NoDatagram => about,

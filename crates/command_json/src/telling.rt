@@ -1,9 +1,8 @@
 //! What is said in JSON where something was refused.
-ghost use Rattle.std.specs.Prelude.{◌≡◌, IfSome, List, None, OnErr, OnOk, option_map, ℕ};
+ghost use Rattle.std.specs.Prelude.{◌≡◌, List, None, OnErr, OnOk, option_map, ℕ};
 ghost use Rattle.std.specs.Io.KnownBytes.{Appends};
-ghost use Rattle.std.specs.String.{string_bytes};
 ghost use Rattle.command_files.specs.Refusals.{IsReported};
-ghost use Rattle.command_json.specs.Told.{IsFaultObject, IsToldInJson, memory_line};
+ghost use Rattle.command_json.specs.Told.{IsFaultObject, IsToldInJson};
 
 use crate::object::object_line;
 use command_files::files::FileFault;
@@ -14,7 +13,7 @@ use std::alloc::Global;
 const MEMORY: &str = "{\"fault\":\"memory\"}\n";
 
 /// Prints the object of a fault; where no memory is left for it, that of a lack of memory.
-#[tactic(auto, using(crate::proofs::Objects::printed_so, crate::proofs::Objects::printed_memory, crate::proofs::Objects::unprinted_so, crate::proofs::Objects::unprinted_memory))]
+#[tactic(auto, using(crate::proofs::Objects::printed_so, crate::proofs::Objects::unprinted_so))]
 fn print_object<O: Output>(
     alloc: Global,
     refusal: &Refusal,
